@@ -1,4 +1,4 @@
-# The words of relayplum for bash. Source this file, or put it, under the name relayplum, into the folder
+# Completions of relayplum for bash. Source this file, or put it, under the name relayplum, into the folder
 # bash-completion/completions of ~/.local/share or /usr/share.
 _relayplum() {
     local word=${COMP_WORDS[COMP_CWORD]} words='' launcher='' first=1

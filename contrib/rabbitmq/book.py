@@ -46,17 +46,17 @@ def main():
     parser.add_argument('place', metavar='I', type=int, help='which of the script\'s subscribers, from 1')
     client.add_words(parser)
     parser.add_argument('--quiet', type=float, default=1, metavar='SECONDS', help='ends it; %(default)s')
-    words = parser.parse_args()
-    channel = client.connect(client.parameters_of(words.url)).channel()
-    queue = client.queue_of(words.name, words.place)
+    arguments = parser.parse_args()
+    channel = client.connect(client.parameters_of(arguments.url)).channel()
+    queue = client.queue_of(arguments.name, arguments.place)
     book, tag = Book(), None
-    for delivery, properties, body in channel.consume(queue, inactivity_timeout=words.quiet):
+    for delivery, properties, body in channel.consume(queue, inactivity_timeout=arguments.quiet):
         tag = tag if delivery is None else delivery.delivery_tag
         book.ended = delivery is not None and properties.type == END
         if delivery is None or book.ended:
             break
         book.take(body)
-    print(*book.lines(words.place), sep='\n', flush=True)
+    print(*book.lines(arguments.place), sep='\n', flush=True)
     if tag is not None:
         channel.basic_ack(tag, multiple=True)
     channel.connection.close()

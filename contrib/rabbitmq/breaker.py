@@ -1,5 +1,5 @@
 #!/usr/bin/env python3
-"""A proxy before RabbitMQ that breaks the connection after every Nth publish, beginning with the first.
+"""A proxy before RabbitMQ that breaks the connection after every Nth publish, from the first on.
 
     contrib/rabbitmq/breaker.py BROKER_PORT N
 
@@ -121,8 +121,8 @@ def read_words():
     parser = argparse.ArgumentParser(description=__doc__, formatter_class=argparse.RawDescriptionHelpFormatter)
     parser.add_argument('port', metavar='BROKER_PORT', type=count_of, help='the port of the broker, on this machine')
     parser.add_argument('every', metavar='N', type=count_of, help='after every Nth publish the connection breaks')
-    words = parser.parse_args()
-    return words.port, words.every
+    arguments = parser.parse_args()
+    return arguments.port, arguments.every
 
 
 def main():

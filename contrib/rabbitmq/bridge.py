@@ -11,7 +11,7 @@ confirmed: that one may come twice, so a reader keeps an event only if its times
 
 With --start-after events up to the timestamp N are left out. With --resume the last confirmed timestamp is kept in the
 file SAVED, and events up to it are left out by the next bridge; both are for a SAVED that isn't there yet. With --end
-each queue is told in the end that nothing follows.
+each queue gets an end mark in the end.
 """
 import argparse
 import contextlib
@@ -71,7 +71,7 @@ class Bridge:
         """Declares the exchange, and behind it one for each subscriber, which its queue is bound to.
 
         AMQP can't say which bindings there are. Those of an exchange end with it, so the subscribers' exchanges are made
-        anew, and what an earlier script bound takes nothing more. What others bound to the first exchange stays.
+        again, and what an earlier script bound takes nothing more. What others bound to the first exchange stays.
         """
         channel.exchange_declare(self.name, exchange_type='headers', durable=True)
         for place in range(1, stream.MOST_SUBSCRIBERS + 1):
@@ -95,7 +95,7 @@ class Bridge:
                 self.lost += 1
                 self.close()
                 if tried == self.tries:
-                    raise Stop(f'given up after {tried} tries: {error!r}') from error
+                    raise Stop(f'failed after {tried} tries: {error!r}') from error
                 wait = min(FIRST_WAIT * 2 ** (tried - 1), LONGEST_WAIT)
                 say(f'no confirm: {error!r}; again in {wait:.1f} s')
                 time.sleep(wait)
@@ -112,7 +112,7 @@ class Bridge:
         self.until_done(lambda: self.channel.basic_publish(self.name, '', body, properties))
 
     def end(self):
-        """Tells each queue that nothing follows, straight and by no binding."""
+        """Sends each queue an end mark, straight and by no binding."""
         properties = pika.BasicProperties(app_id=APP_ID, type=END, delivery_mode=PERSISTENT)
         for place in range(1, len(self.bindings) + 1):
             queue = queue_of(self.name, place)
@@ -141,27 +141,27 @@ def count_of(word):
 
 
 def read_words():
-    """The words of the command line."""
+    """The arguments of the command line."""
     parser = argparse.ArgumentParser(description='Sends what `relayplum messages FILE` prints to RabbitMQ.')
     parser.add_argument('script', metavar='FILE', help='the script whose messages come on standard input')
     client.add_words(parser)
-    parser.add_argument('--tries', type=count_of, default=10, help='of one message before it gives up; %(default)s')
+    parser.add_argument('--tries', type=count_of, default=10, help='of one message before it fails; %(default)s')
     parser.add_argument('--start-after', type=timestamp_of, metavar='N', help='leaves out events up to this timestamp')
     parser.add_argument('--resume', metavar='SAVED', help='keeps in this file how far it is, and goes on from there')
-    parser.add_argument('--end', action='store_true', help='tells each queue in the end that nothing follows')
+    parser.add_argument('--end', action='store_true', help='sends each queue an end mark in the end')
     return parser.parse_args()
 
 
 def main():
-    words = read_words()
-    bindings = stream.read_bindings(words.script)
-    bridge = Bridge(client.parameters_of(words.url), words.name, bindings, words.tries)
-    progress = relay.progress_of(words.resume, words.name, words.start_after)
+    arguments = read_words()
+    bindings = stream.read_bindings(arguments.script)
+    bridge = Bridge(client.parameters_of(arguments.url), arguments.name, bindings, arguments.tries)
+    progress = relay.progress_of(arguments.resume, arguments.name, arguments.start_after)
     start = progress.timestamp
     sys.stdin.reconfigure(encoding='latin-1')
     sent, left_out = relay.relay(stream.read_messages(sys.stdin), bridge.send, progress)
     bridge.open()
-    if words.end:
+    if arguments.end:
         bridge.end()
     bridge.close()
     say(f'{sent} messages confirmed, {left_out} left out up to {start}, {bridge.lost} connections lost')

@@ -1,13 +1,13 @@
-"""What the scripts here tell a person, and how they end."""
+"""What the scripts here print for a person, and how they end."""
 import os
 import pathlib
 import sys
 
-FAILED, BAD_WORDS = 1, 2
+FAILED, USAGE_ERROR = 1, 2
 
 
 class Stop(Exception):
-    """Why a script can't go on, in a sentence, and the exit status that tells of it."""
+    """Why a script can't go on, in a sentence, and the exit status for it."""
 
     def __init__(self, sentence, status=FAILED):
         super().__init__(sentence)
@@ -15,7 +15,7 @@ class Stop(Exception):
 
 
 def say(sentence):
-    """Tells a sentence on standard error, under the script's name."""
+    """Prints a sentence on standard error, under the script's name."""
     print(f'{pathlib.Path(sys.argv[0]).stem}: {sentence}', file=sys.stderr, flush=True)
 
 

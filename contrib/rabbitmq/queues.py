@@ -1,13 +1,13 @@
 #!/usr/bin/env python3
-"""Empties the queues that the bridge filled, and lays what they held beside what Relayplum says of the same script.
+"""Empties the queues that the bridge filled, and lays what they held beside what Relayplum prints for the same script.
 
-    contrib/rabbitmq/queues.py FILE MESSAGES BOOKS [--url URL] [--name NAME] [--repeats] [--after N]
+    contrib/rabbitmq/queues.py FILE MESSAGES BOOKS [--url URL] [--name NAME] [--duplicates] [--after N]
 
 MESSAGES is what `relayplum messages FILE` printed, and BOOKS what `relayplum books FILE` did. Of each subscriber are
 compared: the bodies that its binding takes, in their order; the headers and properties beside each; and the count, the
-last timestamp and the book of one who keeps an event only if it is later than all before. Without --repeats a queue
+last timestamp and the book of one who keeps an event only if it is later than all before. Without --duplicates a queue
 holds each body once. With it some queue has to hold one twice, and only what is kept is compared. With --after only
-events after the timestamp N are wanted, and BOOKS says nothing of them. Queues of subscribers that the script hasn't
+events after the timestamp N are wanted, and BOOKS has nothing of them. Queues of subscribers that the script hasn't
 have to be empty.
 
 The exchanges and the queues are deleted behind it. Ends with 1 where something differs.
@@ -45,7 +45,7 @@ def reported(lines):
 
 
 class Comparison:
-    """Counts what differs, and says it."""
+    """Counts what differs, and prints it."""
 
     def __init__(self):
         self.failed = 0
@@ -61,12 +61,12 @@ def shown(properties):
     return (properties.app_id, properties.content_type, properties.delivery_mode, properties.timestamp, properties.headers)
 
 
-def compare(comparison, place, feed, report, held, repeats):
+def compare(comparison, place, feed, report, held, duplicates):
     """Compares what a queue held with the feed of its binding and with the subscriber's report, where there is one; how
-    many of its deliveries were repeats."""
+    many of its deliveries were duplicates."""
     subscriber = f'  subscriber {place}'
     bodies = [body for _, body in held]
-    if not repeats:
+    if not duplicates:
         comparison.same(f'{subscriber}: bodies', [message.body for message in feed], bodies)
     beside = {message.body: shown(bridge.properties_of(message)) for message in feed}
     for properties, body in held:
@@ -76,43 +76,43 @@ def compare(comparison, place, feed, report, held, repeats):
     comparison.same(f'{subscriber}: bodies that are kept', [message.body for message in feed], kept)
     if report is not None:
         comparison.same(f'{subscriber}: count, last timestamp and book', report, list(book.lines(place)))
-    print(f'{subscriber}: {len(held)} deliveries, {len(held) - len(kept)} of them repeats; {len(kept)} events kept')
+    print(f'{subscriber}: {len(held)} deliveries, {len(held) - len(kept)} of them duplicates; {len(kept)} events kept')
     return len(held) - len(kept)
 
 
 def read_words():
-    """The words of the command line."""
-    parser = argparse.ArgumentParser(description='Compares the queues with what Relayplum says of the script.')
+    """The arguments of the command line."""
+    parser = argparse.ArgumentParser(description='Compares the queues with what Relayplum prints for the script.')
     for name in ('script', 'messages', 'books'):
         parser.add_argument(name)
     client.add_words(parser)
-    parser.add_argument('--repeats', action='store_true')
+    parser.add_argument('--duplicates', action='store_true')
     parser.add_argument('--after', type=int, default=0)
     return parser.parse_args()
 
 
 def main():
-    words = read_words()
-    with open(words.messages, encoding='ascii') as lines:
-        messages = [message for message in stream.read_messages(lines) if message.timestamp > words.after]
-    with open(words.books, encoding='ascii') as lines:
+    arguments = read_words()
+    with open(arguments.messages, encoding='ascii') as lines:
+        messages = [message for message in stream.read_messages(lines) if message.timestamp > arguments.after]
+    with open(arguments.books, encoding='ascii') as lines:
         reports = reported(lines.read().splitlines())
-    bindings = stream.read_bindings(words.script)
-    channel = client.connect(client.parameters_of(words.url)).channel()
+    bindings = stream.read_bindings(arguments.script)
+    channel = client.connect(client.parameters_of(arguments.url)).channel()
     comparison = Comparison()
-    repeats = 0
+    duplicates = 0
     for place, (binding, report) in enumerate(zip(bindings, reports, strict=True), 1):
         feed = [message for message in messages if stream.takes(binding, message.headers)]
-        held = take_all(channel, queue_of(words.name, place))
-        repeats += compare(comparison, place, feed, None if words.after else report, held, words.repeats)
+        held = take_all(channel, queue_of(arguments.name, place))
+        duplicates += compare(comparison, place, feed, None if arguments.after else report, held, arguments.duplicates)
     for place in range(1, stream.MOST_SUBSCRIBERS + 1):
-        left = channel.queue_delete(queue_of(words.name, place)).method.message_count
+        left = channel.queue_delete(queue_of(arguments.name, place)).method.message_count
         comparison.same(f'  queue {place}: left in it', 0, left)
-        channel.exchange_delete(queue_of(words.name, place))
-    channel.exchange_delete(words.name)
+        channel.exchange_delete(queue_of(arguments.name, place))
+    channel.exchange_delete(arguments.name)
     channel.connection.close()
-    if words.repeats and messages:
-        comparison.same('some queue holds a repeat', True, repeats > 0)
+    if arguments.duplicates and messages:
+        comparison.same('some queue holds a duplicate', True, duplicates > 0)
     sys.exit(1 if comparison.failed else 0)
 
 

@@ -32,7 +32,7 @@ import console
 import stream
 from breaker import CONFIRM, METHOD, method_of, read_frame
 from client import pika
-from console import BAD_WORDS, Stop
+from console import USAGE_ERROR, Stop
 from pika import frame, spec
 
 PROGRAM = pathlib.Path(__file__).resolve().parent.parent.parent / 'crates/cdc_app/out/cdc_app'
@@ -55,22 +55,22 @@ class Wire:
         login = f'\0{parameters.credentials.username}\0{parameters.credentials.password}'
         self.send(b'AMQP\0\0\x09\x01')
         self.answer()
-        self.tell(spec.Connection.StartOk(client_properties={}, response=login), channel=0)
+        self.send_method(spec.Connection.StartOk(client_properties={}, response=login), channel=0)
         tune = self.answer()
-        self.tell(spec.Connection.TuneOk(tune.channel_max, tune.frame_max, heartbeat=0), channel=0)
+        self.send_method(spec.Connection.TuneOk(tune.channel_max, tune.frame_max, heartbeat=0), channel=0)
         self.ask(spec.Connection.Open(virtual_host=parameters.virtual_host), channel=0)
         self.ask(spec.Channel.Open())
 
     def send(self, data):
         self.socket.sendall(data)
 
-    def tell(self, method, channel=CHANNEL):
+    def send_method(self, method, channel=CHANNEL):
         """Sends a method."""
         self.send(frame.Method(channel, method).marshal())
 
     def ask(self, method, channel=CHANNEL):
         """Sends a method that is answered; the answer."""
-        self.tell(method, channel)
+        self.send_method(method, channel)
         return self.answer()
 
     def answer(self):
@@ -127,7 +127,7 @@ def publish(wire, packets, window):
 
 
 def subscribe(parameters, queue, events, ready, finished):
-    """A subscriber: reads so many events, and says when it has read the last."""
+    """A subscriber: reads so many events, and reports when it has read the last."""
     wire = Wire(parameters)
     wire.ask(spec.Basic.Qos(prefetch_count=PREFETCH))
     wire.ask(spec.Basic.Consume(queue=queue))
@@ -139,7 +139,7 @@ def subscribe(parameters, queue, events, ready, finished):
         if int(event['timestamp']) > last:
             last, applied = int(event['timestamp']), applied + 1
         if tag % ACKNOWLEDGES_EACH == 0 or applied == events:
-            wire.tell(spec.Basic.Ack(tag, multiple=True))
+            wire.send_method(spec.Basic.Ack(tag, multiple=True))
     finished.put(time.monotonic())
 
 
@@ -157,8 +157,8 @@ class Theirs:
         channel = client.connect(self.parameters).channel()
         queues = self.declare(channel)
         ready, finished = multiprocessing.Queue(), multiprocessing.Queue()
-        words = (len(self.packets), ready, finished)
-        subscribers = [multiprocessing.Process(target=subscribe, args=(self.parameters, it, *words)) for it in queues]
+        arguments = (len(self.packets), ready, finished)
+        subscribers = [multiprocessing.Process(target=subscribe, args=(self.parameters, it, *arguments)) for it in queues]
         for it in subscribers:
             it.start()
         for _ in subscribers:
@@ -192,14 +192,14 @@ class Ours:
     """The program, which runs the script."""
 
     def __init__(self, program, script, events, subscribers):
-        self.words = [program, 'run', script, '--prefetch', str(PREFETCH)]
+        self.arguments = [program, 'run', script, '--prefetch', str(PREFETCH)]
         self.events = events
         self.subscribers = subscribers
 
     def rate(self, window):
         """Events a second at a window."""
         begun = time.monotonic()
-        found = subprocess.run([*self.words, '--window', str(window)], capture_output=True, text=True, check=True).stdout
+        found = subprocess.run([*self.arguments, '--window', str(window)], capture_output=True, text=True, check=True).stdout
         took = time.monotonic() - begun
         if found.count(f' applied {self.events} ') != self.subscribers:
             raise Stop(f'a run came to something else: {found[-500:]}')
@@ -228,7 +228,7 @@ def shown(rates):
 
 
 def read_words():
-    """The words of the command line."""
+    """The arguments of the command line."""
     parser = argparse.ArgumentParser(description=__doc__, formatter_class=argparse.RawDescriptionHelpFormatter)
     parser.add_argument('--program', default=str(PROGRAM))
     parser.add_argument('--url', default=os.environ.get('BROKER_URL', client.DEFAULT_URL))
@@ -237,28 +237,28 @@ def read_words():
     parser.add_argument('--times', type=int, default=15)
     parser.add_argument('--durable', action='store_true')
     parser.add_argument('--theirs', action='store_true')
-    words = parser.parse_args()
-    words.program = str(pathlib.Path(words.program).resolve())
-    if not os.access(words.program, os.X_OK):
-        raise Stop(f'there is no {words.program}: `./relayplum books FILE` builds it', BAD_WORDS)
-    return words
+    arguments = parser.parse_args()
+    arguments.program = str(pathlib.Path(arguments.program).resolve())
+    if not os.access(arguments.program, os.X_OK):
+        raise Stop(f'there is no {arguments.program}: `./relayplum books FILE` builds it', USAGE_ERROR)
+    return arguments
 
 
 def main():
-    words = read_words()
+    arguments = read_words()
     with tempfile.TemporaryDirectory() as room:
         script = pathlib.Path(room) / 'rates.script'
-        script.write_text('\n'.join(script_of(words.events, words.subscribers)) + '\n')
-        messages = messages_of(words.program, script)
-        if len(messages) != words.events:
-            raise Stop(f'{len(messages)} messages in the place of {words.events}')
-        sides = {'RabbitMQ': Theirs(words.url, script, messages, words.durable)}
-        if not words.theirs:
-            sides['Relayplum'] = Ours(words.program, script, words.events, words.subscribers)
-        kept = 'on disk' if words.durable else 'in memory'
-        print(f'{words.events} events, {words.subscribers} subscribers, {words.times} times; RabbitMQ keeps messages {kept}')
+        script.write_text('\n'.join(script_of(arguments.events, arguments.subscribers)) + '\n')
+        messages = messages_of(arguments.program, script)
+        if len(messages) != arguments.events:
+            raise Stop(f'{len(messages)} messages in the place of {arguments.events}')
+        sides = {'RabbitMQ': Theirs(arguments.url, script, messages, arguments.durable)}
+        if not arguments.theirs:
+            sides['Relayplum'] = Ours(arguments.program, script, arguments.events, arguments.subscribers)
+        kept = 'on disk' if arguments.durable else 'in memory'
+        print(f'{arguments.events} events, {arguments.subscribers} subscribers, {arguments.times} times; RabbitMQ keeps messages {kept}')
         rates = {(side, window): [] for window in WINDOWS for side in sides}
-        for _ in range(words.times):
+        for _ in range(arguments.times):
             for side, window in rates:
                 rates[side, window].append(sides[side].rate(window))
         for (side, window), found in rates.items():

@@ -5,7 +5,7 @@ import re
 from console import Stop, say
 
 GREATEST = 2 ** 63 - 1
-TELLS_EACH = 1000
+REPORTS_EACH = 1000
 RECORD = re.compile(r'relayplum-bridge 1 (0|[1-9][0-9]{0,18}) ([^\n]+)\n')
 LONGEST_RECORD = 2048
 
@@ -22,7 +22,7 @@ class Progress:
 
 
 class SavedProgress(Progress):
-    """The same, in a file too, which says of which exchange it is."""
+    """The same, in a file too, which has the exchange that it is of."""
 
     def __init__(self, path, name, start):
         """Goes on from what the file holds. Where there is none, from `start`, or from 0 where that is None; it is
@@ -80,6 +80,6 @@ def relay(messages, send, progress):
         send(message)
         progress.save(message.timestamp)
         sent += 1
-        if sent % TELLS_EACH == 0:
+        if sent % REPORTS_EACH == 0:
             say(f'{sent} messages confirmed, up to {message.timestamp}')
     return sent, left_out

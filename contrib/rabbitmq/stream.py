@@ -1,8 +1,8 @@
-"""What a script says to a bridge: its messages, as `relayplum messages` prints them, and its bindings."""
+"""What a script has for a bridge: its messages, as `relayplum messages` prints them, and its bindings."""
 import json
 from dataclasses import dataclass
 
-from console import BAD_WORDS, Stop
+from console import USAGE_ERROR, Stop
 
 MOST_SUBSCRIBERS = 8
 # The headers in their order. The kind of an event is a text, all others are whole numbers, in messages as in bindings:
@@ -78,11 +78,11 @@ def read_bindings(path):
                 if words[:1] == ['subscriber'] and not line.startswith('#'):
                     bindings.append(binding_of(*words[1:]))
     except OSError as error:
-        raise Stop(f'the script {path} can\'t be read: {error.strerror}', BAD_WORDS) from None
+        raise Stop(f'the script {path} can\'t be read: {error.strerror}', USAGE_ERROR) from None
     except (ValueError, TypeError):
-        raise Stop(f'{path}:{number}: no binding: {line.rstrip()}', BAD_WORDS) from None
+        raise Stop(f'{path}:{number}: no binding: {line.rstrip()}', USAGE_ERROR) from None
     if not 1 <= len(bindings) <= MOST_SUBSCRIBERS:
-        raise Stop(f'{path} has {len(bindings)} lines `subscriber`: a script has 1 to {MOST_SUBSCRIBERS}', BAD_WORDS)
+        raise Stop(f'{path} has {len(bindings)} lines `subscriber`: a script has 1 to {MOST_SUBSCRIBERS}', USAGE_ERROR)
     return bindings
 
 
@@ -93,7 +93,7 @@ def takes(binding, headers):
 
 
 def tables(binding):
-    """The tables of headers that say in RabbitMQ what the binding says; where it takes nothing, there is none.
+    """The tables of headers that mean in RabbitMQ what the binding means; where it takes nothing, there is none.
 
     A table has each key once, and a binding may have it twice: under `any` the second goes into a table of its own,
     since a message that two tables take comes to the queue once; under `all` two values of one key take nothing.

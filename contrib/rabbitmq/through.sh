@@ -1,8 +1,8 @@
 #!/usr/bin/env bash
-# Sends events through a broker, and compares what its queues hold with what Relayplum says. check.sh runs it.
+# Sends events through a broker, and compares what its queues hold with what Relayplum prints. check.sh runs it.
 #   contrib/rabbitmq/with_server.sh contrib/rabbitmq/through.sh PROGRAM
 # Each script of examples/, and bindings.script: whole; with a connection that breaks after every 2nd and after every 3rd
-# publish, beginning with the first; and up to the end mark, into books. Then two-phase.script with a consumer that is
+# publish, from the first on; and up to the end mark, into books. Then two-phase.script with a consumer that is
 # ended, with a late start, with bridges that are ended and resumed, with bindings that change, and with logins that the
 # broker refuses.
 set -uo pipefail
@@ -46,12 +46,12 @@ wrong() {
     failed=$((failed + 1))
     printf 'failed: %s\n' "$1"
 }
-# What Relayplum says of a script.
+# What Relayplum prints for a script.
 ask() {
     "$program" messages "$1" >"$room/messages" 2>>"$room/errors"
     "$program" books "$1" >"$room/books" 2>>"$room/errors"
 }
-# Sends what is in $room/messages: FILE, and the bridge's words; prints what it says last. The status is the bridge's.
+# Sends what is in $room/messages: FILE, and the bridge's arguments; prints what it printed last. The status is the bridge's.
 bridge() {
     local status
     "$python" "$here/bridge.py" "$@" --name "$name" <"$room/messages" >"$room/printed" 2>"$room/said"
@@ -89,7 +89,7 @@ for every in 2 3; do
         start_breaker "$every"
         bridge "$script" --url "$broken" || wrong 'the bridge'
         stop_breaker
-        queues "$script" --repeats
+        queues "$script" --duplicates
     done
 done
 
@@ -134,18 +134,18 @@ print(sum(int(json.loads(body)["timestamp"]) <= int(sys.argv[1]) for body in lis
 done
 
 name=resumed
-echo 'two-phase, a bridge that gives up at each lost connection, and another that resumes'
+echo 'two-phase, a bridge that fails at each lost connection, and another that resumes'
 starts=1
 start_breaker 2
 until bridge "$two_phase" --url "$broken" --tries 1 --resume "$room/saved"; do
-    grep -q 'given up after 1 tries' "$room/said" || { wrong "it didn't give up, but: $(cat "$room/said")"; break; }
+    grep -q 'failed after 1 tries' "$room/said" || { wrong "it didn't fail, but: $(cat "$room/said")"; break; }
     starts=$((starts + 1))
 done
 stop_breaker
 [ "$starts" = 8 ] || wrong "$starts bridges in the place of 8"
 wanted 0 '^bridge: 0 messages confirmed, 7 left out up to 2000000000, 0 connections lost$' "$two_phase" --url "$straight" --resume "$room/saved"
 wanted 1 'holds 2000000000 already' "$two_phase" --url "$straight" --resume "$room/saved" --start-after 2000
-queues "$two_phase" --repeats
+queues "$two_phase" --duplicates
 
 name=both
 echo 'two-phase, a late start that is resumed'

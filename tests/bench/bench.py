@@ -7,8 +7,8 @@ the one that LLVM makes, which is built first, as `./relayplum --optimised` does
 The scripts have 1,000 events, as many as a script has room for, as many between 5,000 accounts, and as many for eight
 subscribers. Of each command that works on one thread Valgrind counts the instructions, which other work on the machine
 doesn't change; `run` looks for messages while it waits, so its instructions say nothing. The most memory is what the
-system says of a run (spent.c, which wants `cc`). By the clock the commands of a script are run in turn, --times times
-(15, and no fewer count as a measure): the least and the middle, with the load before and after.
+system has of a run (spent.c, which wants `cc`). For the wall-clock times the commands of a script are run in turn, --times
+times (15, and no fewer count as a measure): the least and the median, with the load before and after.
 
 The table is compared with the last one of docs/MEASURED.md: what takes a fiftieth more instructions or memory is named.
 With --write it is put there, at the top, with the commit. Limits that fail are those of tests/checks/cost.py, which the gate
@@ -35,7 +35,7 @@ from build.jobs import OPTIMISING
 from build.program import Program
 
 MEASURED = rooms.TOP / 'docs/MEASURED.md'
-HEAD = '| Script | Command | Instructions | of each event | Memory, MB | Least, s | Middle, s | Processors, s |'
+HEAD = '| Script | Command | Instructions | of each event | Memory, MB | Least, s | Median, s | Processors, s |'
 # What may be more than in the last table before it is named.
 MORE = 1.02
 
@@ -86,10 +86,10 @@ def commands_of(subscribers, has_steps):
     return found
 
 
-def instructions(program, words, folder):
+def instructions(program, arguments, folder):
     """What Valgrind counts of a run."""
     with tempfile.NamedTemporaryFile(dir=folder) as out:
-        counting.counted([*counting.tool_words('cachegrind', out.name), program, *words], out.name)
+        counting.counted([*counting.tool_arguments('cachegrind', out.name), program, *arguments], out.name)
         return counting.total_of(out.name)
 
 
@@ -111,14 +111,14 @@ class Bench:
         (folder / 'bench.steps').write_text(steps)
         commands = commands_of(subscribers, len(steps) <= scripts.SCRIPT_BYTES)
         counted = {
-            it: self.pool.submit(instructions, self.program, [self.within(folder, word) for word in words], folder)
-            for it, words in commands.items() if not it.startswith('run')
+            it: self.pool.submit(instructions, self.program, [self.within(folder, argument) for argument in arguments], folder)
+            for it, arguments in commands.items() if not it.startswith('run')
         }
         counts = {it: future.result() for it, future in counted.items()}
         runs = {it: [] for it in commands}
         for _ in range(self.times):
-            for it, words in commands.items():
-                runs[it].append(self.meter.run([self.program, *words], folder))
+            for it, arguments in commands.items():
+                runs[it].append(self.meter.run([self.program, *arguments], folder))
         for it, found in runs.items():
             walls, used, memory = zip(*found)
             self.rows[name, it] = (
@@ -126,14 +126,14 @@ class Bench:
             )
 
     @staticmethod
-    def within(folder, word):
-        return str(folder / word) if word.startswith('bench.') else word
+    def within(folder, argument):
+        return str(folder / argument) if argument.startswith('bench.') else argument
 
     def table(self):
         lines = [HEAD, re.sub('[^|]+', '---', HEAD)]
-        for (name, command), (count, events, memory, least, middle, used) in self.rows.items():
+        for (name, command), (count, events, memory, least, median, used) in self.rows.items():
             total, each = (f'{count:,}', f'{count / events:,.0f}') if count else ('', '')
-            lines.append(f'| {name} | `{command}` | {total} | {each} | {memory:.1f} | {least:.3f} | {middle:.3f} | {used:.3f} |')
+            lines.append(f'| {name} | `{command}` | {total} | {each} | {memory:.1f} | {least:.3f} | {median:.3f} | {used:.3f} |')
         return '\n'.join(lines) + '\n'
 
 
@@ -151,7 +151,7 @@ def last_table():
 
 
 def changes(rows, before):
-    """What takes more than in the last table, in words."""
+    """What takes more than in the last table, a line each."""
     for (name, command), (count, _, memory, *_) in rows.items():
         old_count, old_memory = before.get((name, command), (None, None))
         if count and old_count and count > MORE * old_count:
@@ -180,14 +180,14 @@ def optimised():
     return program.path
 
 
-def main(words):
+def main(arguments):
     parser = rooms.parser_of(__doc__, default=None)
     parser.add_argument('--times', type=int, default=15)
     parser.add_argument('--jobs', type=int, default=2)
     parser.add_argument('--only', action='append', choices=SCRIPTS)
     parser.add_argument('--write', action='store_true')
-    given = parser.parse_args(words)
-    options = rooms.options_of(parser, [*words, '--program', given.program or optimised()])
+    given = parser.parse_args(arguments)
+    options = rooms.options_of(parser, [*arguments, '--program', given.program or optimised()])
     before = os.getloadavg()[0]
     with rooms.room('bench-') as folder:
         bench = Bench(options.program, folder, options.times, options.jobs)
@@ -196,7 +196,7 @@ def main(words):
     processors = len(os.sched_getaffinity(0))
     title = f'## `{commit()}`, {datetime.date.today()}: the benchmark\n'
     load = f'a load of {before:.1f} before and {os.getloadavg()[0]:.1f} after'
-    about = f'By `tests/bench/bench.py`, {options.times} runs of each by the clock, {processors} processors, {load}.\n'
+    about = f'By `tests/bench/bench.py`, {options.times} wall-clock runs of each, {processors} processors, {load}.\n'
     print(bench.table(), end='')
     more = [*changes(bench.rows, last_table())]
     print('\n'.join(['bench: more than in the last table:', *more] if more else ['bench: nothing takes more than in the last table']))

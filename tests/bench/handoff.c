@@ -44,13 +44,13 @@ static void *answer(void *nothing) {
     return nothing;
 }
 
-int main(int count, char **words) {
+int main(int count, char **arguments) {
     struct timespec begun, ended;
     pthread_t other;
     if (count != 4) return 2;
-    times = strtoul(words[1], NULL, 10);
-    looks = strtoul(words[2], NULL, 10);
-    yields = strtoul(words[3], NULL, 10);
+    times = strtoul(arguments[1], NULL, 10);
+    looks = strtoul(arguments[2], NULL, 10);
+    yields = strtoul(arguments[3], NULL, 10);
     if (times == 0 || pthread_create(&other, NULL, answer, NULL) != 0) return 1;
     clock_gettime(CLOCK_MONOTONIC, &begun);
     for (unsigned turn = 0; turn < times; turn++) {

@@ -4,11 +4,11 @@
     tests/bench/speed.py [--program PATH] [--times N] [--processors N]
     tests/bench/speed.py --hand-offs
 
-For 1, 2, 4 and 8 subscribers, and for 1 client and 4: the least and the middle of the wall times and of the processor
+For 1, 2, 4 and 8 subscribers, and for 1 client and 4: the least and the median of the wall-clock times and of the CPU
 times, commands in turn, the most memory, and how many events a second come from the first line of the script to the
-printed book; then how many times as long a run took as the `books` just before it, in the middle and over all. Other work on the machine shows in all of them, in the
-least ones least; under `chrt -f 10`, which root may say, it hardly does. Where other machines of the host take from the
-processors, a `books` on one of them finds it quiet sooner than a run on four: then the pairs say more than the least ones.
+printed book; then how many times as long a run took as the `books` just before it, by the median and over all. Other
+work on the machine shows in all of them, in the least ones least; under `chrt -f 10`, which root may use, it hardly does.
+Where other machines of the host take from the processors, a `books` on one of them finds it quiet sooner than a run on four: then the pairs say more than the least ones.
 
 With --hand-offs, what a thread's hand-off to another takes on this machine by itself (handoff.c): where the one that
 waits sleeps, where it looks first, and where it leaves its processor to others first, on one processor and between two.
@@ -31,7 +31,7 @@ SIZES = [(1, 1), (1, 2), (1, 4), (1, 8), (4, 1), (4, 8)]
 
 
 def full_script(clients, subscribers):
-    """As many transfers as a script has room for, a thousand a batch, and how many they are. The clients hand in batches in
+    """As many transfers as a script has room for, a thousand a batch, and how many they are. The clients submit batches in
     turn, each between two accounts of its own."""
     lines = ['subscriber all'] * subscribers
     for client in range(1, clients + 1):
@@ -61,22 +61,22 @@ def print_hand_offs(times=50_000, looks=256, yields=64):
         ways = ('sleeps', 0, 0), (f'looks {looks} times', looks, 0), (f'yields {yields} times', 0, yields)
         for how, *counts in ways:
             for processors in (1, 2):
-                words = [program, *map(str, (times, *counts))]
+                arguments = [program, *map(str, (times, *counts))]
                 leave = rooms.on_processors(processors)
-                found = subprocess.run(words, capture_output=True, text=True, check=True, preexec_fn=leave)
+                found = subprocess.run(arguments, capture_output=True, text=True, check=True, preexec_fn=leave)
                 took = found.stdout.strip()
                 print(f'processors {processors}, one that waits {how}: {took} microseconds a hand-off')
 
 
-def main(words):
+def main(arguments):
     parser = rooms.parser_of(__doc__)
     parser.add_argument('--times', type=int, default=9)
     parser.add_argument('--processors', type=int, default=4)
     parser.add_argument('--hand-offs', action='store_true')
-    if parser.parse_args(words).hand_offs:
+    if parser.parse_args(arguments).hand_offs:
         print_hand_offs()
         return
-    options = rooms.options_of(parser, words)
+    options = rooms.options_of(parser, arguments)
     with rooms.room('speed-') as folder:
         meter = spent.Meter(folder)
         for clients, subscribers in SIZES:
@@ -91,14 +91,14 @@ def main(words):
             for command, found in times.items():
                 wall, used, memory = ([one[part] for one in found] for part in (0, 1, 2))
                 print(
-                    f'{what}, {command}: wall {min(wall):.2f} s, {statistics.median(wall):.2f} in the middle; processors'
-                    f' {min(used):.2f} s, {statistics.median(used):.2f} in the middle; memory {max(memory) / 1e6:.1f} MB;'
+                    f'{what}, {command}: wall-clock {min(wall):.2f} s, median {statistics.median(wall):.2f}; CPU'
+                    f' {min(used):.2f} s, median {statistics.median(used):.2f}; memory {max(memory) / 1e6:.1f} MB;'
                     f' {events / min(wall):,.0f} events a second'
                 )
             walls = [[one[0] for one in times[command]] for command in ('run', 'books')]
-            middle = statistics.median(run / books for run, books in zip(*walls))
+            median = statistics.median(run / books for run, books in zip(*walls))
             print(
-                f'{what}, run beside books: {middle:.2f} times as long in the middle,'
+                f'{what}, run beside books: {median:.2f} times as long by the median,'
                 f' {sum(walls[0]) / sum(walls[1]):.2f} over all'
             )
 

@@ -1,9 +1,9 @@
-/* Runs a program, and says what that took. A process that Python starts has had Python's own memory before it became
+/* Runs a program, and prints what that took. A process that Python starts has had Python's own memory before it became
    the program, and the system counts that as its most; this one has next to none.
 
-     spent PROGRAM WORD..
+     spent PROGRAM ARGUMENT..
 
-   Prints the seconds by the clock, those of processor time, and the most memory in KiB. What the program writes to
+   Prints the wall-clock seconds, the seconds of CPU time, and the most memory in KiB. What the program writes to
    standard output goes nowhere; its exit status is this one's. tests/bench/spent.py builds and runs it. */
 #define _GNU_SOURCE
 #include <fcntl.h>
@@ -21,7 +21,7 @@ static double seconds(struct timeval time) {
     return time.tv_sec + time.tv_usec / 1e6;
 }
 
-int main(int count, char **words) {
+int main(int count, char **arguments) {
     struct timespec begun, ended;
     struct rusage used;
     int status;
@@ -31,7 +31,7 @@ int main(int count, char **words) {
     if (child == 0) {
         int nowhere = open("/dev/null", O_WRONLY);
         if (nowhere < 0 || dup2(nowhere, STDOUT_FILENO) < 0) _exit(126);
-        execv(words[1], words + 1);
+        execv(arguments[1], arguments + 1);
         _exit(127);
     }
     if (child < 0 || wait4(child, &status, 0, &used) != child) return 1;

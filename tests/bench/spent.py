@@ -1,4 +1,4 @@
-"""What a run of a program takes: time by the clock, processor time and the most memory."""
+"""What a run of a program takes: wall-clock time, CPU time and the most memory."""
 import collections
 import pathlib
 import subprocess
@@ -14,14 +14,14 @@ class Meter:
     """Runs programs by spent.c, which it builds in a folder."""
 
     def __init__(self, folder):
-        self.words = [str(pathlib.Path(folder) / 'spent')]
-        subprocess.run(['cc', '-O2', '-Wall', '-Werror', '-o', *self.words, SOURCE], check=True)
+        self.command = [str(pathlib.Path(folder) / 'spent')]
+        subprocess.run(['cc', '-O2', '-Wall', '-Werror', '-o', *self.command, SOURCE], check=True)
 
-    def run(self, words, folder, processors=None):
-        """The seconds by the clock, those of processor time and the most bytes of a run, which has to end well."""
+    def run(self, arguments, folder, processors=None):
+        """The seconds of wall-clock time, those of CPU time and the most bytes of a run, which has to end well."""
         leave = rooms.on_processors(processors)
-        ran = subprocess.run([*self.words, *words], cwd=folder, stdout=subprocess.PIPE, text=True, preexec_fn=leave)
+        ran = subprocess.run([*self.command, *arguments], cwd=folder, stdout=subprocess.PIPE, text=True, preexec_fn=leave)
         if ran.returncode:
-            sys.exit(f'{" ".join(map(str, words))}: status {ran.returncode}')
+            sys.exit(f'{" ".join(map(str, arguments))}: status {ran.returncode}')
         wall, used, memory = ran.stdout.split()
         return Spent(float(wall), float(used), 1024 * int(memory))

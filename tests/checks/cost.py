@@ -7,7 +7,7 @@
 The parts are accounts-2 and accounts-5000 (`books` on more and more transfers), full (a script of the greatest size),
 subscribers (what each further one takes), phases (pending transfers, posts and a pulse), chains (transfers that are linked),
 log (reads of the log under `simulate`) and memory (the bytes that `books` asks for). Valgrind counts, so other work on the
-machine disturbs no figure. All of it takes some minutes of processor time. The last line is 'N passed, M failed', of the figures
+machine disturbs no figure. All of it takes some minutes of CPU time. The last line is 'N passed, M failed', of the figures
 that have limits; exit status 1 where one is over, 2 where nothing could be counted.
 """
 import concurrent.futures
@@ -23,11 +23,11 @@ sys.dont_write_bytecode = True
 sys.path.insert(0, os.path.join(os.path.dirname(os.path.realpath(__file__)), "..", "common"))
 import ending
 import rooms
-from counting import bytes_of, counted, tool_words, total_of
+from counting import bytes_of, counted, tool_arguments, total_of
 from scripts import BATCH_ITEMS, SCRIPT_BYTES, TRANSFERS, batches, most_transfers, opened, script, single_phase, transfer
 
 # The limits.
-GROWTH = 3.0  # per cent, of what a further transfer costs, for each doubling
+MORE = 3.0  # per cent, of what a further transfer costs, for each doubling
 EXPONENT = 1.02
 FULL = 40_000  # instructions for each transfer of a full script, of the program that LLVM makes
 OWN = 1.25  # how many times these the program may take that Rattle's own compiler makes, as it does of records
@@ -35,11 +35,13 @@ FURTHER = 20_000  # instructions for each transfer and each subscriber beyond th
 LINKED = 1.05  # what a transfer of a chain may cost, in single-phase transfers
 FAILED = 2.0  # what an item of a chain may cost that fails at its end, in single-phase transfers
 TIMES = 2.0  # what an item of two phases may cost, in single-phase transfers
-SEARCH = 500  # instructions that a poll may take more for each doubling of the log; what the heap takes differs by that much
+# Instructions that a poll may take more for each doubling of the log. What the heap takes (malloc and the moves of a realloc)
+# differs by up to 900 from one size to the next; a search from the front would take 3,750 more at the first doubling.
+SEARCH = 1_200
 BYTES_EXPONENT = 1.05  # of the bytes that growing lists ask for in all
 FIRST = 395_000  # bytes that the first transfer may ask for: a segment of the log has room for 1,024 events
 
-NOTED = 1.5  # what a transfer may cost in a script whose moments go back, in those of one that doesn't
+NOTED = 1.5  # what a transfer may cost if the timestamps of the script decrease, in those of a script whose timestamps don't
 
 # The timestamp of the first batch of posts: after those of transfers, and before a timeout of a second ends.
 POSTS = 20_000_000
@@ -90,16 +92,16 @@ class Counter:
     def run(self, tool, text, steps):
         self.made += 1
         base = f"{self.folder}/{self.made}"
-        words = ["books", f"{base}.script"]
+        arguments = ["books", f"{base}.script"]
         with open(f"{base}.script", "w") as file:
             file.write(text)
         if len(text) > SCRIPT_BYTES:
             sys.exit(f"cost: a script of {len(text)} bytes is too long")
         if steps is not None:
-            words = ["simulate", f"{base}.script", f"{base}.steps"]
+            arguments = ["simulate", f"{base}.script", f"{base}.steps"]
             with open(f"{base}.steps", "w") as file:
                 file.write(steps)
-        return self.pool.submit(counted, [*tool_words(tool, f"{base}.out"), self.program, *words], f"{base}.out")
+        return self.pool.submit(counted, [*tool_arguments(tool, f"{base}.out"), self.program, *arguments], f"{base}.out")
 
     def total(self, text, steps=None):
         """A future of the instructions that the run takes."""
@@ -130,7 +132,7 @@ class Table:
         print(line, flush=True)
 
 
-def growth_of(counter, table, accounts, sizes):
+def scaling(counter, table, accounts, sizes):
     """What a further transfer costs between one size and the next, and how this grows."""
     runs = [counter.total(script(accounts, size)) for size in [0, *sizes]]
     totals = [total_of(run.result()) for run in runs]
@@ -145,27 +147,27 @@ def growth_of(counter, table, accounts, sizes):
         exponent = math.log((total - none) / (totals[at - 1] - none)) / math.log(size / sizes[at - 1])
         table.row(f"{size:,} transfers", total, exponent, EXPONENT)
         spans.append((sizes[at - 1], size, (total - totals[at - 1]) / (size - sizes[at - 1])))
-    table.head(f"books, {accounts:,} accounts: instructions of a further transfer; its growth for each doubling")
+    table.head(f"books, {accounts:,} accounts: instructions of a further transfer; how much more for each doubling")
     before = None
     for low, high, each in spans:
-        middle = (low + high) / 2
+        midpoint = (low + high) / 2
         what = f"from {low:,} to {high:,} transfers"
         if before is None:
             table.row(what, round(each))
         else:
-            doublings = math.log2(middle / before[0])
-            growth = ((each / before[1]) ** (1 / doublings) - 1) * 100
-            table.row(what, round(each), growth, GROWTH, " %")
-        before = (middle, each)
+            doublings = math.log2(midpoint / before[0])
+            more = ((each / before[1]) ** (1 / doublings) - 1) * 100
+            table.row(what, round(each), more, MORE, " %")
+        before = (midpoint, each)
 
 
 def accounts_2(counter, table):
-    growth_of(counter, table, 2, [1_000, 2_000, 4_000, 8_000, 12_000])
+    scaling(counter, table, 2, [1_000, 2_000, 4_000, 8_000, 12_000])
 
 
 def accounts_5000(counter, table):
     # From 2,500 transfers on every account stands in the book.
-    growth_of(counter, table, 5_000, [2_500, 5_000, most_transfers(5_000)])
+    scaling(counter, table, 5_000, [2_500, 5_000, most_transfers(5_000)])
 
 
 def full(counter, table):
@@ -174,7 +176,7 @@ def full(counter, table):
     table.head(f"books, a full script of 2 accounts and {count:,} transfers: instructions; of each transfer")
     table.row("from its text to the printed book", total, total / count, counter.full)
     back = total_of(counter.total(script(2, count, 1)).result())
-    table.row("the same at moments that go back, which is noted", back, back / total, NOTED)
+    table.row("the same at decreasing timestamps, which is noted", back, back / total, NOTED)
 
 
 def subscribers(counter, table):
@@ -242,7 +244,7 @@ def phases(counter, table):
     table.row(f"{count:,} single-phase transfers", round(single))
     for what, name, without, items in (
         ("pending transfers, all with one timeout", "ordered", "none", count),
-        ("pending transfers, their ends out of order", "scattered", "none", count),
+        ("pending transfers that expire out of order", "scattered", "none", count),
         ("posts of these, out of order", "posted", "scattered", count),
         ("a pulse over all of these", "pulsed", "scattered", count),
         ("a pulse over those that are left after as many posts", "rest", "half", count // 2),
@@ -293,8 +295,8 @@ def top(counter, count):
     out = counter.run("callgrind", script(2, most_transfers(2)), None).result()
     for inclusive in ("yes", "no"):
         print(f"\n{'with all that they call' if inclusive == 'yes' else 'by themselves'}")
-        told = subprocess.run(["callgrind_annotate", f"--inclusive={inclusive}", out], capture_output=True, text=True)
-        lines = [line for line in told.stdout.splitlines() if re.match(r"\s*[\d,]+ \(", line)]
+        ran = subprocess.run(["callgrind_annotate", f"--inclusive={inclusive}", out], capture_output=True, text=True)
+        lines = [line for line in ran.stdout.splitlines() if re.match(r"\s*[\d,]+ \(", line)]
         print("\n".join(line[:160] for line in lines[:count + 1]))
 
 
@@ -302,12 +304,12 @@ COUNTS = {"accounts-2": accounts_2, "accounts-5000": accounts_5000, "full": full
           "phases": phases, "chains": chains, "log": log, "memory": memory}
 
 
-def main(words):
+def main(arguments):
     parser = rooms.parser_of_first(__doc__)
     parser.add_argument("--jobs", type=int, default=2)
     parser.add_argument("--only", action="append", choices=COUNTS)
     parser.add_argument("--top", type=int)
-    options = rooms.options_of(parser, words)
+    options = rooms.options_of(parser, arguments)
     if shutil.which("valgrind") is None:
         print("cost: there is no valgrind (Debian package valgrind), and nothing else counts instructions whatever the load")
         return 2

@@ -1,11 +1,11 @@
 #!/usr/bin/env python3
 """docs/DEFINITIONS.md: the definitions that a reader has to believe, made from the comments of the definitions.
 
-  tests/checks/definitions.py            says whether the page is current
+  tests/checks/definitions.py            prints whether the page is current
   tests/checks/definitions.py --write    writes the page
 
-A crate's definitions stand in its specs/, each behind the comment that says what it is, or behind another one of
-which the same comment speaks; each file begins with a comment of its own. Told one by one are those that the clauses
+A crate's definitions stand in its specs/, each behind the comment that describes it, or behind another one of
+which the same comment speaks; each file begins with a comment of its own. Described one by one are those that the clauses
 of CARRIERS cite, and those that these cite in turn, but for what stands BESIDE the theorems. Of what else the clauses
 of COMMANDS need the page has the files with their first comments, and of the others that a public function's clause
 needs the files; one that only private contracts and proofs cite needs nobody's belief. Crates come in the order of
@@ -37,7 +37,7 @@ CARRIERS = [
 ]
 # The crates whose clauses say what a command does.
 COMMANDS = ["cdc_commands", "cdc_run_command", "cdc_json", "cdc_app"]
-# What those clauses cite and the theorems aren't about: what the bytes of files and the words of a binding say, rule by
+# What those clauses cite and the theorems aren't about: what the bytes of files and the words of a binding mean, rule by
 # rule as docs/FORMATS.md has it, and which fault a run answers. A crate, or a file of one.
 BESIDE = {
     "cdc_script",
@@ -55,12 +55,12 @@ HEAD = """\
 What a reader has to believe: the contracts say that the code does what these definitions say. They stand in the \
 `specs/` folders, in antt. In a definition a number is a whole number of any size, and nothing wraps. Each file names \
 the public document that its rules come from, where there is one; the rest is this product's own choice. PROOFS.md \
-says in which order to read those that the theorems rest on.
+gives the order in which to read those that the theorems rest on.
 
-Told one by one is what the two theorems need: what the clauses of `World`, of `books`, `simulate_command` and \
+Described one by one is what the two theorems need: what the clauses of `World`, of `books`, `simulate` and \
 `run_command`, and of `run` with its config, its plan and its laws on one client cite, and what that cites in turn. \
 What only the commands, or a promise of a single crate, need beside it is named by file at the end, with what the \
-code of a world keeps; it is told in the same way where it stands. A definition that private contracts and proofs \
+code of a world keeps; its comments describe it in the same way. A definition that private contracts and proofs \
 alone cite isn't here: nobody has to believe it.
 
 This page is made from the comments of the definitions (`tests/checks/definitions.py --write`).
@@ -75,14 +75,14 @@ type, in these files:
 READ = """\
 ## What the commands need besides
 
-What the bytes of scripts and step files, the words of a binding and those of the command line say, what `messages`, \
+What the bytes of scripts and step files, the words of a binding and the arguments of the command line mean, what `messages`, \
 a check and a fault print, and which fault a run answers. FORMATS.md has the rules of it.
 """
 OTHERS = """\
 ## What single crates promise besides
 
 Whoever relies on a promise of one crate has to believe these files too, or so many more definitions of those above. \
-Each says in its first lines what it is about.
+The first lines of each describe what it is about.
 """
 # What begins a definition, with its name; what imports some, and what a module is called.
 KINDS = "abbrev|unfoldable|record|data|inductive|relation|opaque|alias"
@@ -243,7 +243,7 @@ def sentence(text):
     return text if text.endswith(".") else f"{text}."
 
 
-def told_of(file, names):
+def lines_of(file, names):
     """Returns what is said of these definitions of a file: the names of those with one comment, and the comment."""
     found, comment = [], ""
     for it in file.definitions.values():
@@ -263,7 +263,7 @@ def page():
             if os.path.basename(path) != "Lib.antt":
                 files[crate, path] = File(crate, path)
     beside = TIES | {(of, path) for of, path in files if {of, f"{of}/{path}"} & BESIDE}
-    told, all_of_them = needed(files, cited_by_clauses(CARRIERS), beside), needed(files, cited_by_clauses())
+    described, all_of_them = needed(files, cited_by_clauses(CARRIERS), beside), needed(files, cited_by_clauses())
     of_commands = needed(files, cited_by_clauses([*CARRIERS, *COMMANDS]), TIES)
     lines, named, said, others = [HEAD], [], [], []
     for crate in crates():
@@ -273,9 +273,9 @@ def page():
             if of_file and has_names_alone(of_file):
                 named.append(f"`{crate}` {file.path}")
                 continue
-            here = {it for it in of_file if (crate, file.path, it) in told}
+            here = {it for it in of_file if (crate, file.path, it) in described}
             if here:
-                parts.append(f"### {file.path}\n\n{sentence(file.about)}\n\n{''.join(told_of(file, here))}")
+                parts.append(f"### {file.path}\n\n{sentence(file.about)}\n\n{''.join(lines_of(file, here))}")
             elif any((crate, file.path, it) in of_commands for it in of_file):
                 said.append(f"- `{crate}` {file.path}: {sentence(file.about)}")
                 continue
@@ -288,11 +288,11 @@ def page():
     return "\n".join([*lines, NAMES, f"{', '.join(named)}.\n", READ, *said, "", OTHERS, *others, ""])
 
 
-def main(words):
+def main(arguments):
     asked = argparse.ArgumentParser(description=__doc__, formatter_class=argparse.RawDescriptionHelpFormatter)
     asked.add_argument("--write", action="store_true", help="writes the page")
     text = page()
-    if asked.parse_args(words).write:
+    if asked.parse_args(arguments).write:
         with open(f"{TOP}/{PAGE}", "w", encoding="utf-8") as file:
             file.write(text)
     is_current = read(f"{TOP}/{PAGE}") == text

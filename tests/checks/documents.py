@@ -1,19 +1,23 @@
 #!/usr/bin/env python3
-"""The documents beside the repository: what they name exists, and the tables of promises stay short.
+"""The documents beside the repository: what they name exists, the tables of promises stay short, and the terms are the field's.
 
 - Each word in backquotes that looks like a file of this repository is one, in README.md, docs/*.md and the other pages
   of OF_TODAY; each name in backquotes that has an underscore, a capital inside or `::` stands in some source.
   docs/MEASURED.md is left out of both: each of its blocks is of a commit of its own.
 - A clause that docs/PROOFS.md names is one of some function; a cell of a table there has at most 300 characters.
-- The files of definitions that PROOFS.md has a reader believe, and the definitions that it picks of them, are told in
+- The files of definitions that PROOFS.md has a reader believe, and the definitions that it picks of them, stand in
   docs/DEFINITIONS.md.
+- No identifier, comment, diagnostic, help text or name of a file uses a term of tests/checks/terms.txt. Of must-fail/ only
+  the names are looked at, and the documents (*.md) only with --prose.
 
-  tests/checks/documents.py
+  tests/checks/documents.py [--prose]
+  tests/checks/documents.py --terms [--prose] [PATH..]    only the terms, in these files and folders, and each place
 
 Prints each check that fails; the last line is 'documents: N checks, M failed'. Needs Python 3.8 or later.
 """
 import argparse
 import fnmatch
+import itertools
 import os
 import re
 import sys
@@ -22,6 +26,7 @@ sys.dont_write_bytecode = True
 TOP = os.path.realpath(f"{os.path.dirname(os.path.realpath(__file__))}/../..")
 sys.path.insert(0, f"{TOP}/tests/common")
 import ending
+import terms
 
 MOST = 300
 OF_TODAY = ["README.md", "docs/*.md", "contrib/*/README.md"]
@@ -33,6 +38,14 @@ LOOKS_LIKE_A_FILE = re.compile(rf"\.?[\w./*-]+\.(?:{ENDINGS})|\.?[\w.-]+(?:/[\w.
 STAND_INS = re.compile(r"NAME|CRATE|FUNCTION|METHOD|FILE|STEPS|PATH|PROGRESS|\bout/|^/|^\d|\.\.\.?$")
 # What is of the toolchain or of a format, and stands in no source here.
 OF_OTHERS = {"CRATES.md", "application/json", "fast_float"}
+# The files that are looked at for terms, besides the documents; and those of which only the name is: edits, which have code
+# as it was and as it would be wrong, bytes that the program prints, the list itself, and one that has the names of edits.
+WITH_TERMS = [f"{it}*" for it in (
+    "crates/", "crates.txt", "tests/", "tools/", "contrib/", "completions/", "examples/", ".ci/", "relayplum", "docs/relayplum.1",
+    "docs/help/")]
+NAMES_ALONE = ["*.edit", "*.stdout", "*.status", "*.md", "crates/*/stdout", terms.FILE, "tests/mutants.txt"]
+# How many places of a text are printed, unless only the terms are asked for.
+MOST_PLACES = 5
 
 
 def all_files():
@@ -50,7 +63,7 @@ def read(path):
 
 
 def quoted_in(text):
-    """Returns the words in backquotes of a page, each with its line, without what stands in blocks."""
+    """Returns what stands in backquotes on a page, each with its line, without what stands in blocks."""
     found, is_block = [], False
     for at, line in enumerate(text.split("\n"), 1):
         if line.lstrip().startswith("```"):
@@ -82,7 +95,7 @@ class Tree:
         return any(it.endswith(f"/{word}") for it in self.ends)
 
     def has_names(self, word):
-        """Returns whether each name in a word stands in some source; words that are no names aren't looked at."""
+        """Returns whether each name in a word stands in some source; a word that is no name isn't looked at."""
         if not re.fullmatch(r"[A-Za-z_][\w:.'-]*(\(\))?", word):
             return True
         names = re.findall(r"[A-Za-z_][A-Za-z0-9_]*", word)
@@ -108,7 +121,7 @@ def checks(tree):
                 yield tree.has_file(word), f"{page}:{at}: there is no {word}"
             else:
                 yield tree.has_names(word), f"{page}:{at}: no source has {word}"
-    proofs, told = read("docs/PROOFS.md"), read("docs/DEFINITIONS.md")
+    proofs, definitions = read("docs/PROOFS.md"), read("docs/DEFINITIONS.md")
     for at, line in enumerate(proofs.split("\n"), 1):
         for names in re.findall(r"clauses? ((?:`\w+`(?:, | and )?)+)", line):
             for it in re.findall(r"\w+", names.replace(" and ", " ")):
@@ -116,11 +129,11 @@ def checks(tree):
         for cell in cells_of(line) if line.startswith("|") else []:
             yield len(cell) <= MOST, f"docs/PROOFS.md:{at}: a cell of more than {MOST} characters: {cell[:60]}"
     for crate, file, names in believed_in(proofs):
-        of_crate = told.partition(f"## `{crate}`\n")[2].partition("\n## ")[0]
+        of_crate = definitions.partition(f"## `{crate}`\n")[2].partition("\n## ")[0]
         part = of_crate.partition(f"### {file}\n")[2].partition("\n###")[0]
-        yield bool(part), f"docs/PROOFS.md has a reader believe {file} of {crate}, which isn't told"
+        yield bool(part), f"docs/PROOFS.md has a reader believe {file} of {crate}, which isn't in docs/DEFINITIONS.md"
         for it in names:
-            yield f"**{it}**" in part, f"docs/PROOFS.md has a reader believe {it} of {crate}, which isn't told"
+            yield f"**{it}**" in part, f"docs/PROOFS.md has a reader believe {it} of {crate}, which isn't in docs/DEFINITIONS.md"
 
 
 def believed_in(proofs):
@@ -134,10 +147,46 @@ def believed_in(proofs):
                 yield crate, path.rpartition("specs/")[2], re.findall(r"\w+", picked)
 
 
-def main(words):
-    argparse.ArgumentParser(description=__doc__, formatter_class=argparse.RawDescriptionHelpFormatter).parse_args(words)
+def with_terms(tree, paths, prose):
+    """Returns the files whose text is looked at for terms, and the files and folders whose name is."""
+    is_asked = lambda path: not paths or any(path == it or path.startswith(f"{it}/") for it in paths)
+    is_prose = lambda path: prose and path.endswith(".md")
+    has_terms = lambda path: is_prose(path) or any(fnmatch.fnmatch(path, it) for it in WITH_TERMS)
+    files = [it for it in tree.files if is_asked(it) and has_terms(it)]
+    folders = {it[:at] for it in files for at in range(len(it)) if it[at] == "/"}
+    texts = [it for it in files if is_prose(it) or not any(fnmatch.fnmatch(it, of) for of in NAMES_ALONE)]
+    return texts, sorted({*files, *(it for it in folders if is_asked(it))})
+
+
+def checks_of_terms(tree, paths, prose, most):
+    """Gives a check for each text and each name; what is printed of one has at most so many places."""
+    try:
+        known = terms.terms_in(read(terms.FILE))
+    except terms.Unreadable as why:
+        yield False, str(why)
+        return
+    texts, names = with_terms(tree, paths, prose)
+    for path in names:
+        places = [f"{path}: the name has '{what}': {instead}" for what, instead in terms.found_in_name(path, known)]
+        yield not places, "\nfailed: ".join(places)
+    for path in texts:
+        places = [f"{path}:{at}: '{what}': {instead}" for at, what, instead in sorted(terms.found_in(path, read(path), known))]
+        shown = places if most is None or len(places) <= most else [*places[:most], f"{path}: {len(places) - most} places more"]
+        yield not places, "\nfailed: ".join(shown)
+
+
+def main(arguments):
+    parser = argparse.ArgumentParser(description=__doc__, formatter_class=argparse.RawDescriptionHelpFormatter)
+    parser.add_argument("--prose", action="store_true", help="looks for the terms in the documents too")
+    parser.add_argument("--terms", action="store_true", help="looks only for the terms, and prints each place")
+    parser.add_argument("paths", nargs="*", metavar="PATH", help="with --terms: only in these files and folders")
+    asked = parser.parse_args(arguments)
+    if asked.paths and not asked.terms:
+        parser.error("PATH goes with --terms")
+    tree, paths = Tree(), [os.path.relpath(it, TOP) for it in asked.paths]
     passed, failed = 0, 0
-    for is_right, said in checks(Tree()):
+    found = [] if asked.terms else checks(tree)
+    for is_right, said in itertools.chain(found, checks_of_terms(tree, paths, asked.prose, None if asked.terms else MOST_PLACES)):
         passed, failed = passed + is_right, failed + (not is_right)
         if not is_right:
             print(f"failed: {said}")

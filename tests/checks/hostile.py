@@ -3,13 +3,13 @@
 
     tests/checks/hostile.py [PROGRAM]    PROGRAM: crates/cdc_app/out/cdc_app
 
-Each case has a folder of its own. A run that is refused says so in the last line of standard output, names the file on standard
+Each case has a folder of its own. A run that is refused reports it in the last line of standard output, names the file on standard
 error, and leaves the folder as it was; one that isn't leaves the record, in the file that was named, and no other file. If the
 check is run as root, the program is run as nobody, so that modes and owners count.
 
 Runs that may not have all their threads, or whose address space is small, are out of memory. A run that comes while another
-one is held in a save is refused; without a C compiler, cc, that part is left out, and a line says so. Then runs are ended in
-the middle, by SIGTERM and by a standard output that nobody reads any more: the file holds a whole record, or isn't there; the
+one is held in a save is refused; without a C compiler, cc, that part is left out, and a line reports it. Then runs are ended
+halfway, by SIGTERM and by a standard output that nobody reads any more: the file holds a whole record, or isn't there; the
 file next to it holds at most a prefix of a record, and the next run removes it.
 
 The last line is `hostile: N passed, M failed`; the status is 1 where one failed.
@@ -51,13 +51,13 @@ NO_MEMORY = b"fault: out_of_memory\n"
 EXHAUSTED = b"fault: sessions_exhausted\n"
 GREATEST = 2**64 - 1
 RECORD = re.compile(rb"tb-cdc 2 (0|[1-9][0-9]*) (0|[1-9][0-9]*) (0|[1-9][0-9]*)\n")
-# A beginning of a record, as a save leaves it that was broken off.
-BEGINNING = re.compile(rb"(t|tb|tb-|tb-c|tb-cd|tb-cdc|tb-cdc [0-9 ]*\n?)?")
+# A prefix of a record, as a save leaves it that was broken off.
+PREFIX = re.compile(rb"(t|tb|tb-|tb-c|tb-cd|tb-cdc|tb-cdc [0-9 ]*\n?)?")
 TRANSFERS, ENDED = 60, 10  # of the long runs; how many of them are ended by each means
 
 
 def record(session, timestamp, start=0):
-    """The text of a record of progress."""
+    """The text of a progress record."""
     return b"tb-cdc 2 %d %d %d\n" % (session, timestamp, start)
 
 
@@ -114,16 +114,16 @@ class Hostile:
         os.chmod(path, mode)
         self.give(path)
 
-    def make(self, folder, name, how, *words):
-        how(*words, f"{folder}/{name}")
+    def make(self, folder, name, how, *arguments):
+        how(*arguments, f"{folder}/{name}")
         self.give(f"{folder}/{name}")
 
     # -- runs
 
     def start(self, folder, saved, script="script", env=None, **limits):
-        words = [self.program, "run", script, "--progress", saved]
+        arguments = [self.program, "run", script, "--progress", saved]
         how = {"stdin": subprocess.DEVNULL, "stdout": subprocess.PIPE, "stderr": subprocess.PIPE, "env": env}
-        return subprocess.Popen(words, cwd=folder, preexec_fn=lambda: as_nobody(**limits), **how)
+        return subprocess.Popen(arguments, cwd=folder, preexec_fn=lambda: as_nobody(**limits), **how)
 
     def end(self, run):
         """How a run ended: its status, and what it printed; and what it said on standard error."""
@@ -272,7 +272,7 @@ def kept(hostile):
 
 
 def wants_memory(hostile, what, begins=True, **limits):
-    """A run under limits comes to its end, or says that it wants memory, and leaves a whole record or none. One of which nobody
+    """A run under limits comes to its end, or fails as out of memory, and leaves a whole record or none. One of which nobody
     knows whether the system can begin it at all may also end before it has printed anything."""
     folder = hostile.folder()
     ended, errors = hostile.end(hostile.start(folder, "saved", **limits))
@@ -350,11 +350,11 @@ def goes_on(hostile, what, folder):
 
 
 def is_whole(folder, saved=True):
-    """A record, or none; and beside it at most the beginning of one."""
+    """A record, or none; and beside it at most a prefix of one."""
     left = contents(folder)
     held, new = left.pop("saved", None), left.pop("saved.new", None)
     ours = held is None or RECORD.fullmatch(held[1])
-    return bool(ours and (new is None or BEGINNING.fullmatch(new[1])) and set(left) == {"script", "long"}) or (held, new, set(left))
+    return bool(ours and (new is None or PREFIX.fullmatch(new[1])) and set(left) == {"script", "long"}) or (held, new, set(left))
 
 
 def ended_runs(hostile, seed=1):
@@ -382,8 +382,8 @@ def ended_runs(hostile, seed=1):
         goes_on(hostile, how, folder)
 
 
-def main(words):
-    program = rooms.options_of(rooms.parser_of_first(__doc__), words).program
+def main(arguments):
+    program = rooms.options_of(rooms.parser_of_first(__doc__), arguments).program
     with rooms.room("hostile-") as room:
         hostile = Hostile(program, room)
         for part in (unreachable, unwritable, no_record, in_the_way, kept, few_threads, small_spaces, a_run_while_another_is_on, two_runs, ended_runs):

@@ -1,5 +1,5 @@
 #!/usr/bin/env python3
-"""Runs the program with --json on each row of tests/rows: what it prints says what the row's text says.
+"""Runs the program with --json on each row of tests/rows: what it prints means what the row's text means.
 
   tests/checks/json_text.py [PROGRAM] [WORD]    PROGRAM: crates/cdc_app/out/cdc_app; WORD: only rows with this in their names
 
@@ -42,8 +42,8 @@ def yes(value):
     return {True: "yes", False: "no"}[value]
 
 
-def text_of(line, told):
-    """Returns the lines of text that an object stands for. `told` is the subscriber that was told of last."""
+def text_of(line, current):
+    """Returns the lines of text that an object stands for. `current` is the subscriber whose lines these are."""
     kind = line["kind"]
     if tuple(line) != ("kind", *MEMBERS[kind]):
         raise ValueError(f"the members of {line}")
@@ -59,8 +59,8 @@ def text_of(line, told):
         how_far = f"applied {line['applied']} last {line['last']} ended {yes(line['ended'])} closed {yes(line['closed'])}"
         return f"subscriber {line['subscriber']} {how_far}"
     if kind == "account":
-        if line["subscriber"] != told:
-            raise ValueError(f"{line} behind subscriber {told}")
+        if line["subscriber"] != current:
+            raise ValueError(f"{line} behind subscriber {current}")
         return "account " + " ".join(line[it] for it in MEMBERS[kind][1:])
     if kind == "message":
         if tuple(line["headers"]) != HEADERS:
@@ -80,25 +80,25 @@ def text_of(line, told):
 
 def rendered(printed):
     """Returns the text that printed objects stand for."""
-    text, told = "", None
+    text, current = "", None
     for line in printed.decode().splitlines():
         said = json.loads(line)
         if short(said) != line:
             raise ValueError(f"{line} has another form than {short(said)}")
         if said["kind"] == "subscriber":
-            told = said["subscriber"]
-        text += text_of(said, told) + "\n"
+            current = said["subscriber"]
+        text += text_of(said, current) + "\n"
     return text.encode()
 
 
 def complaint(program, name, parts, folder):
     """Returns what is wrong with a row, or None."""
-    words = rows.read(name, "args").decode().splitlines() or ["run", "-"]
-    given = rows.read(name, "script") if "script" in parts and "-" in words else b""
+    arguments = rows.read(name, "args").decode().splitlines() or ["run", "-"]
+    given = rows.read(name, "script") if "script" in parts and "-" in arguments else b""
     paths = rows.paths_of(name, parts, folder)
-    words = [paths.get(it, it) for it in [*words, "--json"]]
+    arguments = [paths.get(it, it) for it in [*arguments, "--json"]]
     try:
-        ran = subprocess.run([program, *words], input=given, capture_output=True, timeout=rows.SECONDS, cwd=folder)
+        ran = subprocess.run([program, *arguments], input=given, capture_output=True, timeout=rows.SECONDS, cwd=folder)
     except subprocess.TimeoutExpired:
         return f"it hasn't ended after {rows.SECONDS} seconds"
     status, wanted = int(rows.read(name, "status")), rows.read(name, "stdout")
@@ -112,4 +112,4 @@ def complaint(program, name, parts, folder):
 
 
 if __name__ == "__main__":
-    ending.run(lambda words: rows.try_rows("json_text", __doc__, complaint, words))
+    ending.run(lambda arguments: rows.try_rows("json_text", __doc__, complaint, arguments))

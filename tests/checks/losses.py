@@ -35,22 +35,22 @@ def read(part):
         return file.read()
 
 
-def complaint(program, words):
-    """Returns what is wrong with a run of these words, or None."""
+def complaint(program, arguments):
+    """Returns what is wrong with a run of these arguments, or None."""
     try:
-        ran = subprocess.run([program, *words], input=read("script"), capture_output=True, timeout=SECONDS)
+        ran = subprocess.run([program, *arguments], input=read("script"), capture_output=True, timeout=SECONDS)
     except subprocess.TimeoutExpired:
-        return f"{' '.join(words)}: it hasn't ended after {SECONDS} seconds"
+        return f"{' '.join(arguments)}: it hasn't ended after {SECONDS} seconds"
     if (ran.returncode, ran.stdout) == (0, read("stdout")):
         return None
-    return f"{' '.join(words)}: status {ran.returncode}, {ran.stdout[-300:]!r}, {ran.stderr[-200:]!r}"
+    return f"{' '.join(arguments)}: status {ran.returncode}, {ran.stdout[-300:]!r}, {ran.stderr[-200:]!r}"
 
 
-def main(words):
-    program = rooms.options_of(rooms.parser_of_first(__doc__), words).program
+def main(arguments):
+    program = rooms.options_of(rooms.parser_of_first(__doc__), arguments).program
     runs = [["run", "-", "--window", str(window), *fault] for window in WINDOWS for fault in FAULTS]
     with concurrent.futures.ThreadPoolExecutor(JOBS) as pool:
-        wrong = [it for it in pool.map(lambda words: complaint(program, words), runs) if it]
+        wrong = [it for it in pool.map(lambda arguments: complaint(program, arguments), runs) if it]
     for it in wrong:
         print(f"failed: {it}")
     print(f"losses: {len(runs) - len(wrong)} passed, {len(wrong)} failed")

@@ -15,13 +15,13 @@ top=$(cd "$(dirname "${BASH_SOURCE[0]}")/../.." && pwd)
 . "$top/tests/common/help.sh"
 program=$(realpath "${1:-$top/crates/cdc_app/out/cdc_app}")
 page=$top/docs/relayplum.1
-bash_words=$top/completions/relayplum.bash
-zsh_words=$top/completions/_relayplum
-fish_words=$top/completions/relayplum.fish
+bash_file=$top/completions/relayplum.bash
+zsh_file=$top/completions/_relayplum
+fish_file=$top/completions/relayplum.fish
 failed=0
 checks=0
 
-# Compares two lists of words, in whatever order.
+# Compares two lists, in whatever order.
 same() {
     checks=$((checks + 1))
     [ "$2" == "$3" ] && return
@@ -34,7 +34,7 @@ sorted() { LC_ALL=C sort -u; }
 # The flags among some text, each a word of its own.
 flags_in() { grep -oE -- "(^|[^a-zA-Z0-9-])--?[a-zA-Z][a-z-]*" | grep -oE -- '--?[a-zA-Z][a-z-]*' | sorted; }
 
-# What the help of some words has: its commands, and the flags at the beginning of its options.
+# What the help for some arguments has: its commands, and the flags at the start of its options.
 commands() { "$program" --help | sed -n '/^Commands:/,/^$/s/^  \([a-z]*\)  .*/\1/p' | sorted; }
 flags() { "$program" "$@" --help | sed -n '/^Options:/,/^$/s/^ *\(-[^ ].*\)/\1/p' | sed 's/  .*//' | flags_in; }
 
@@ -43,7 +43,7 @@ with_flags=$(grep -v '^help$' <<<"$all_commands")
 all_flags=$({ flags; for command in $with_flags; do flags "$command"; done; } | sorted)
 launcher_flags=$("$program" --help | sed -n '/^Launcher options/,/^$/s/^  \(-[^ ].*\)/\1/p' | sed 's/  .*//' | flags_in)
 
-# The page: its lists of commands and of options, and what else it says of flags.
+# The page: its lists of commands and of options, and which other flags it names.
 part() { sed -n "/^\.SH $1\$/,/^\.SH/p" "$page" | sed 's/\\-/-/g'; }
 same 'the page: commands' "$all_commands" "$(part COMMANDS | grep -A 1 '^\.TP' | sed -n 's/^\.BR \([a-z]*\) .*/\1/p' | sorted)"
 same 'the page: synopsis' "$all_commands" "$(part SYNOPSIS | sed -n 's/^\.B relayplum \([a-z]*\).*/\1/p' | sorted)"
@@ -52,7 +52,7 @@ same 'the page: launcher options' "$launcher_flags" "$(part 'LAUNCHER OPTIONS' |
 same 'the page: flags anywhere' "$(sorted <<<"$all_flags"$'\n'"$launcher_flags")" "$(sed 's/\\-/-/g' "$page" | flags_in)"
 
 # bash: what is offered, by the function itself.
-. "$bash_words"
+. "$bash_file"
 offered() { offered_to relayplum "$@"; }
 offered_to() {
     COMP_WORDS=("$@")
@@ -77,27 +77,27 @@ for flag in $launcher_flags; do
 done
 same 'bash: the launcher, the folder' "$top/crates" "$(offered_to ./relayplum --optimised --install "$top/crate")"
 
-# zsh: what its file says, command by command; `$help` and its like stand for a list further up.
-zsh_list() { sed -n "/^    $1=/p" "$zsh_words" | flags_in; }
-same 'zsh: launcher options' "$launcher_flags" "$(sed -n "/^ *launcher=(/,/^ *)/s/^ *'\(--[a-z-]*\)\[.*/\1/p" "$zsh_words" | sorted)"
-same 'zsh: commands' "$all_commands" "$(sed -n "/^    commands=(/,/^    )/s/^ *'\([a-z]*\):.*/\1/p" "$zsh_words" | sorted)"
-same 'zsh: the first word' "$(flags)" "$({ zsh_list help; grep -- '--version' "$zsh_words" | flags_in; } | sorted)"
+# zsh: what its file has, command by command; `$help` and its like stand for a list further up.
+zsh_list() { sed -n "/^    $1=/p" "$zsh_file" | flags_in; }
+same 'zsh: launcher options' "$launcher_flags" "$(sed -n "/^ *launcher=(/,/^ *)/s/^ *'\(--[a-z-]*\)\[.*/\1/p" "$zsh_file" | sorted)"
+same 'zsh: commands' "$all_commands" "$(sed -n "/^    commands=(/,/^    )/s/^ *'\([a-z]*\):.*/\1/p" "$zsh_file" | sorted)"
+same 'zsh: the first word' "$(flags)" "$({ zsh_list help; grep -- '--version' "$zsh_file" | flags_in; } | sorted)"
 for command in $with_flags; do
-    found=$(sed -n "/^        ($command)\$/,/;;/p" "$zsh_words")
+    found=$(sed -n "/^        ($command)\$/,/;;/p" "$zsh_file")
     lists=$(grep -oE '\$[a-z]+' <<<"$found" | tr -d '$')
     same "zsh: $command" "$(flags "$command")" "$({ for list in $lists; do zsh_list "$list"; done; flags_in <<<"$found"; } | sorted)"
 done
 
 # fish: the same, a line for each word; those that aren't of a command are of all of them.
 fish_flags() { sed -nE 's/.* -s ([a-zA-Z]) -l ([a-z-]+) .*/-\1 --\2/p; s/.*'"'"' -l ([a-z-]+) .*/--\1/p' | tr ' ' '\n' | sorted; }
-same 'fish: commands' "$all_commands" "$(sed -n 's/.*-n __fish_use_subcommand -f -a \([a-z]*\) .*/\1/p' "$fish_words" | sorted)"
-same 'fish: the first word' "$(flags)" "$(grep -e '-n __fish_use_subcommand' -e "-n 'not " "$fish_words" | fish_flags)"
+same 'fish: commands' "$all_commands" "$(sed -n 's/.*-n __fish_use_subcommand -f -a \([a-z]*\) .*/\1/p' "$fish_file" | sorted)"
+same 'fish: the first word' "$(flags)" "$(grep -e '-n __fish_use_subcommand' -e "-n 'not " "$fish_file" | fish_flags)"
 for command in $with_flags; do
     same "fish: $command" "$(flags "$command")" \
-        "$(grep -e "'__fish_seen_subcommand_from [a-z ]*\b$command\b" -e "-n 'not " "$fish_words" | fish_flags)"
+        "$(grep -e "'__fish_seen_subcommand_from [a-z ]*\b$command\b" -e "-n 'not " "$fish_file" | fish_flags)"
 done
 
-same 'fish: launcher options' "$launcher_flags" "$(grep -e "; and __relayplum_may_be_launcher' -l " "$fish_words" | fish_flags)"
+same 'fish: launcher options' "$launcher_flags" "$(grep -e "; and __relayplum_may_be_launcher' -l " "$fish_file" | fish_flags)"
 
 # The launcher: each of these options is in its sources, in quotes.
 for flag in $launcher_flags; do
@@ -110,13 +110,13 @@ done
 # docs/help: a text for the program, one for its version, and one for each command.
 for name in relayplum version $with_flags; do
     case $name in
-    relayplum) words=(--help) ;;
-    version) words=(--version) ;;
-    *) words=("$name" --help) ;;
+    relayplum) arguments=(--help) ;;
+    version) arguments=(--version) ;;
+    *) arguments=("$name" --help) ;;
     esac
-    ! $writes || "$program" "${words[@]}" >"$top/docs/help/$name.txt"
+    ! $writes || "$program" "${arguments[@]}" >"$top/docs/help/$name.txt"
     checks=$((checks + 1))
-    "$program" "${words[@]}" | cmp -s - "$top/docs/help/$name.txt" && continue
+    "$program" "${arguments[@]}" | cmp -s - "$top/docs/help/$name.txt" && continue
     failed=$((failed + 1))
     printf 'failed: docs/help/%s.txt is not what the program prints (tests/checks/pages.sh --write writes it)\n' "$name"
 done

@@ -17,7 +17,7 @@ sys.path.insert(0, f"{top}/tools")
 from build import parts, proved
 from build.crates import Sums, crates_of
 from build.toolchain import Toolchain
-name, words = sys.argv[3], sys.argv[4:]
+name, arguments = sys.argv[3], sys.argv[4:]
 crates = crates_of(top)
 crate = next(it for it in crates if it.name == name)
 toolchain, have = Toolchain(), proved.Proved(top)
@@ -30,14 +30,14 @@ def put(file, text):
     os.makedirs(os.path.dirname(file), exist_ok=True)
     with open(file, "w") as out:
         out.write(text)
-put(f"{record}/verdict", "logic=" + ("open" if "open" in words else "proved"))
+put(f"{record}/verdict", "logic=" + ("open" if "open" in arguments else "proved"))
 put(f"{record}/inputs", "".join(f'file "{it}" {sum}\n' for it, sum in crate.sums().items()))
 def keep():
     shutil.rmtree(f"{os.environ['DO']}/records/{name}", ignore_errors=True)
     shutil.copytree(record, f"{os.environ['DO']}/records/{name}")
 keep()
 if not crate.is_program:
-    big = open(f"{kit}/rlibs/index.rlib/big").read() if "copy" in words else "own\n"
+    big = open(f"{kit}/rlibs/index.rlib/big").read() if "copy" in arguments else "own\n"
     texts = [("part/Rattle-cdc_own", big), ("part/Rattle-index", "one\ntwo\n"), ("part/Rattle-index-some", "line 1\nmine\nline 3\n")]
     at, rows = 0, []
     for part, text in texts:
@@ -56,7 +56,7 @@ if not crate.is_program:
     os.makedirs(have.folder, exist_ok=True)
     all_parts.write(all_parts.load())
 have.write(crate, "record", proved.packed(record, proved.files_in(record)), key, **said)
-if "library" in words:
+if "library" in arguments:
     files = proved.Files("toolchain", f"{kit}/rlibs", ["index.rlib"])
     have.write(crate, "library", proved.pack_library(library, files, proved.Files("crate", top, [])), key, **said)
 PROVED
@@ -147,6 +147,27 @@ from_scratch
 call ./link --from-records books x
 has 'records: a check that is killed is no refusal' '^relayplum: the system ended the check of high' "$err"
 rm "$DO/high"
+# An interrupt while a crate is built from its record: what was started ends, nothing is refused, and the next call builds.
+echo 'echo $$ >"$DO/high.id.new"; mv "$DO/high.id.new" "$DO/high.id"; exec sleep 100000' >"$DO/high"
+rm -f "$DO/high.id"
+from_scratch
+python3 -c 'import os, signal, sys; signal.signal(signal.SIGINT, signal.default_int_handler); os.execv(sys.argv[1], sys.argv[1:])' \
+    "$room/top/relayplum" --from-records books x 2>"$room/err" &
+started=$!
+until_there "$DO/high.id"
+kill -INT "$started"
+{ sleep 120 && kill -9 "$started"; } 2>/dev/null &
+guard=$!
+wait "$started"
+check 'records: an interrupt: its status' 130 $?
+kill "$guard"
+lacks 'records: an interrupt is no refusal' 'the system ended\|refused\|not taken\|isn.t proved\|Traceback' "$(cat "$room/err")"
+check 'records: an interrupt: what it started is ended' gone \
+    "$({ ! kill -0 "$(cat "$DO/high.id")" 2>/dev/null || [ "$(cut -d' ' -f3 "/proc/$(cat "$DO/high.id")/stat")" = Z ]; } && echo gone)"
+rm "$DO"/high "$DO/high.id"
+call ./link --from-records books x
+check 'records: after an interrupt the next call builds, from the record' 'high: record' "$(grep '^high: record' <<<"$calls")"
+check 'records: after an interrupt the program runs' 'run with books x' "$out"
 echo 'kit-3 logic l1' >"$room/kit/KIT-ID"
 from_scratch
 call ./link --from-records books x
@@ -181,7 +202,7 @@ fails() { # fails NAME PATTERN: the last call has failed, with a line
     has "$1" "^records: FAILED: not $2" "$out"
     check "$1: status" 1 "$status"
 }
-anew() { # writes all that proved/ has, of what stands here
+write_all() { # writes all that proved/ has, of what stands here
     rm -rf "$room/top/proved"
     write low library
     write high library
@@ -190,7 +211,7 @@ anew() { # writes all that proved/ has, of what stands here
 }
 gate
 check 'check: where there is nothing, there is nothing to compare' '1 passed, 0 failed' "$(tail -n 1 <<<"$out")"
-anew
+write_all
 call "$room/top/tools/records"
 check 'records are listed' 'low: record current, library current
 high: record current, library current
@@ -206,36 +227,36 @@ check 'check: an eighth from scratch' 1 "$(($(grep -c 'from scratch' <<<"$out") 
 echo different >"$DO/records/high/notes"
 gate --all
 fails 'check: a record that comes out otherwise' 'the record of high from scratch is the one in proved/$'
-anew
+write_all
 echo different >"$room/top/crates/high/out/rlib/high.rlib/lib"
 gate
 fails 'check: a library that comes out otherwise' 'high as its record makes it is what `rt ci` has built'
 fails 'check: a packed library that is another' 'the library of high as it is packed is what `rt ci` has built$'
-anew
+write_all
 echo '# another' >>"$program.by-rattle"
 gate
 fails 'check: a program that comes out otherwise' 'cdc_app as its record makes it is what `rt ci` has built'
-anew
+write_all
 write high open
 echo 'kit-9 logic l1' >"$room/kit/KIT-ID"
 gate
 fails 'check: a spoilt record that another kit of the same logic wrote' 'the record of high, which is of what stands here: the toolchain refuses it'
 echo 'kit-1 logic l1' >"$room/kit/KIT-ID"
-anew
+write_all
 printf x >>"$room/top/proved/low.record.tar.xz"
 gate
 fails 'check: a record that was changed' 'the record of low, which is of what stands here: it isn.t the file that'
-anew
+write_all
 echo '// more' >>"$room/top/crates/high/src/lib.rt"
 gate
 check 'check: a stale record fails nothing' 0 "$status"
 has 'check: it is named' '^records: that of high is stale: it is of other sources' "$out"
-anew
+write_all
 write low copy
 gate
 fails 'check: what the toolchain has stands in proved/ once more' 'nothing above 2 KB of proved/ stands in a library of the toolchain$'
 has 'check: it is named' '^  low.record: part/Rattle-cdc_own$' "$out"
-anew
+write_all
 truncate -s 50000000 "$room/top/proved/more"
 gate
 fails 'check: more than 50 MB' 'proved/ has 50,0[0-9,]* bytes, of at most 50,000,000$'

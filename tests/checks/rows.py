@@ -3,10 +3,10 @@
 
   tests/checks/rows.py [PROGRAM] [WORD]    PROGRAM: crates/cdc_app/out/cdc_app; WORD: only rows with this in their names
 
-A row NAME is the files NAME.args, with a word of the command line on each line, NAME.stdout and NAME.status, and as far
-as it needs them NAME.script, NAME.steps and NAME.progress. A word FILE or STEPS stands for the path of the script or of
+A row NAME is the files NAME.args, with one argument on each line, NAME.stdout and NAME.status, and as far
+as it needs them NAME.script, NAME.steps and NAME.progress. An argument FILE or STEPS stands for the path of the script or of
 the step file, and PROGRESS for that of a file that holds what NAME.progress does, or that isn't there where there is no
-such part. The word `-`, and a row without words, have the script on standard input. Prints each row that fails, and
+such part. The argument `-`, and a row without arguments, have the script on standard input. Prints each row that fails, and
 what differs.
 """
 import os
@@ -54,7 +54,7 @@ def first_difference(wanted, found):
 
 
 def paths_of(name, parts, folder):
-    """Returns the paths that words of a row stand for; what it holds of progress is copied to the folder."""
+    """Returns the paths that arguments of a row stand for; what it holds of progress is copied to the folder."""
     saved = f"{folder}/{name}.progress"
     if "progress" in parts:
         shutil.copyfile(f"{ROWS}/{name}.progress", saved)
@@ -63,15 +63,15 @@ def paths_of(name, parts, folder):
 
 def complaint(program, name, parts, folder):
     """Returns what is wrong with a row, or None."""
-    words = read(name, "args").decode().splitlines()
-    for word, part in (("FILE", "script"), ("STEPS", "steps"), ("-", "script")):
-        if word in words and part not in parts:
+    arguments = read(name, "args").decode().splitlines()
+    for argument, part in (("FILE", "script"), ("STEPS", "steps"), ("-", "script")):
+        if argument in arguments and part not in parts:
             return f"it has no file .{part}"
-    given = read(name, "script") if "script" in parts and ("-" in words or not words) else b""
+    given = read(name, "script") if "script" in parts and ("-" in arguments or not arguments) else b""
     paths = paths_of(name, parts, folder)
-    words = [paths.get(it, it) for it in words]
+    arguments = [paths.get(it, it) for it in arguments]
     try:
-        ran = subprocess.run([program, *words], input=given, capture_output=True, timeout=SECONDS, cwd=folder)
+        ran = subprocess.run([program, *arguments], input=given, capture_output=True, timeout=SECONDS, cwd=folder)
     except subprocess.TimeoutExpired:
         return f"it hasn't ended after {SECONDS} seconds"
     status, wanted = int(read(name, "status")), read(name, "stdout")
@@ -80,12 +80,12 @@ def complaint(program, name, parts, folder):
     return None if ran.stdout == wanted else first_difference(wanted, ran.stdout)
 
 
-def try_rows(step, text, complaint, words):
+def try_rows(step, text, complaint, arguments):
     """Tries the rows that the command line names, prints each that fails and a last line of this name, and returns the status.
     The text is the script's help."""
     parser = rooms.parser_of_first(text)
     parser.add_argument("word", nargs="?", default="", metavar="WORD", help="only rows with this in their names")
-    options = rooms.options_of(parser, words)
+    options = rooms.options_of(parser, arguments)
     program, word = options.program, options.word
     found = {name: parts for name, parts in rows().items() if word in name}
     failed = 0
@@ -100,4 +100,4 @@ def try_rows(step, text, complaint, words):
 
 
 if __name__ == "__main__":
-    ending.run(lambda words: try_rows("rows", __doc__, complaint, words))
+    ending.run(lambda arguments: try_rows("rows", __doc__, complaint, arguments))

@@ -6,7 +6,7 @@
 - `--help` prints help, nothing on standard error, and ends with status 0: also without pika, which the scripts of
   contrib/rabbitmq need for all else.
 - Nobody reads the help, or there is no standard output: no traceback.
-- A check that needs a command for one part says what it leaves out if that is missing, and the Debian package that has it.
+- A check that needs a command for one part prints what it leaves out if that is missing, and the Debian package that has it.
 
 The last line is 'scripts: N passed, M failed'; the status is 1 if one failed.
 """
@@ -28,10 +28,10 @@ SECONDS, JOBS = 300, 2
 # Scripts without help: they take no arguments. And one that has its help from argparse alone, and ends with a traceback if
 # nobody reads it: its bytes are part of a record.
 WITHOUT_HELP = {"tests/checks/launcher.sh", "tests/checks/proved.sh"}
-WITH_TRACEBACK = {"tests/wrong_bodies.py"}
+WITH_TRACEBACK = {"tests/mutants.py"}
 # Which scripts need the newer Python, since they read the model, and which need rt even for their help.
 OF_MODEL = {f"tests/{it}.py" for it in ("checks/soak", "checks/stress", "checks/kill", "bench/speed", "common/model")}
-WITH_RT = {"tests/wrong_bodies.py"}
+WITH_RT = {"tests/mutants.py"}
 passed, failures = 0, []
 
 
@@ -55,11 +55,11 @@ def scripts():
     return sorted(set(found) - WITHOUT_HELP)
 
 
-def call(words, env, stdout=subprocess.PIPE, **how):
+def call(arguments, env, stdout=subprocess.PIPE, **how):
     """Runs a command in an empty folder, and returns its status, what it printed and what it said on standard error."""
     with tempfile.TemporaryDirectory(prefix="scripts-") as folder:
         how = {"cwd": folder, "env": env, "stdin": subprocess.DEVNULL, "stderr": subprocess.PIPE, "timeout": SECONDS, **how}
-        ran = subprocess.run(words, stdout=stdout, **how)
+        ran = subprocess.run(arguments, stdout=stdout, **how)
     return ran.returncode, (ran.stdout or b"").decode(), ran.stderr.decode()
 
 
@@ -72,18 +72,18 @@ def unread():
 
 def helps(name, env):
     """Tries the help of a script. Returns what was wanted and found, each with what it shows."""
-    words = [f"{TOP}/{name}", "--help"]
-    status, printed, errors = call(words, env)
+    arguments = [f"{TOP}/{name}", "--help"]
+    status, printed, errors = call(arguments, env)
     found = [(f"{name} --help", (0, True, ""), (status, len(printed) > 50, errors))]
     if name in WITH_TRACEBACK:
         return found
     writer = unread()
     try:
-        errors = call(words, env, stdout=writer)[2]
+        errors = call(arguments, env, stdout=writer)[2]
     finally:
         os.close(writer)
     found.append((f"{name} --help, which nobody reads", False, "Traceback" in errors or "Exception" in errors))
-    errors = call(words, env, stdout=None, preexec_fn=lambda: os.close(1))[2]
+    errors = call(arguments, env, stdout=None, preexec_fn=lambda: os.close(1))[2]
     found.append((f"{name} --help, without a standard output", False, "Traceback" in errors or "Exception" in errors))
     return found
 
@@ -104,26 +104,26 @@ def parts_left_out():
         printed = call([f"{TOP}/tests/checks/guide.sh", "/bin/true"], env)[1]
         same("guide, without jq", True, " blocks: there is no jq (Debian package jq)\nguide: " in printed)
         same("jq is named as elsewhere", "there is no jq (Debian package jq)", needs.no_command("jq"))
-        words = f"import sys; sys.path.insert(0, '{TOP}/tests/common'); import holding; holding.library_in('.', 'stress', 'a part')"
-        ended = call([sys.executable, "-c", words], env)
+        arguments = f"import sys; sys.path.insert(0, '{TOP}/tests/common'); import holding; holding.library_in('.', 'stress', 'a part')"
+        ended = call([sys.executable, "-c", arguments], env)
         same("stress and hostile, without cc", (0, f"stress: not tried: a part: {needs.no_command('cc')}\n", ""), ended)
         same("cc is named with its package", "there is no cc (Debian package gcc)", needs.no_command("cc"))
 
 
-def main(words):
-    argparse.ArgumentParser(description=__doc__, formatter_class=argparse.RawDescriptionHelpFormatter).parse_args(words)
+def main(arguments):
+    argparse.ArgumentParser(description=__doc__, formatter_class=argparse.RawDescriptionHelpFormatter).parse_args(arguments)
     names = scripts()
     with tempfile.TemporaryDirectory(prefix="scripts-pika-") as folder:
         with open(f"{folder}/pika.py", "w", encoding="utf-8") as file:
             file.write("raise ImportError\n")
         env = dict(os.environ, PYTHONPATH=f"{folder}:{os.environ.get('PYTHONPATH', '')}", PYTHONDONTWRITEBYTECODE="1")
-        # (what is written at once fails at once, where argparse says nothing of it)
+        # (what is written at once fails at once, where argparse prints nothing of it)
         env.pop("PYTHONUNBUFFERED", None)
         if needs.python_version() < (3, 10):
             print("scripts: not tried: the scripts that read the model, which need Python 3.10")
             names = [it for it in names if it not in OF_MODEL]
         if shutil.which("rt") is None:
-            print(f"scripts: not tried: tests/wrong_bodies.py: {needs.no_command('rt')}")
+            print(f"scripts: not tried: tests/mutants.py: {needs.no_command('rt')}")
             names = [it for it in names if it not in WITH_RT]
         with concurrent.futures.ThreadPoolExecutor(JOBS) as pool:
             for found in pool.map(lambda name: helps(name, env), names):

@@ -4,11 +4,11 @@
     tests/checks/soak.py --seed S --count N [--seconds T] [--program PATH] [--jobs J]
     tests/checks/soak.py --seed S --case K
 
-A case is a script, a step file and the words of a run, made of the seed and the case's number alone. The program runs
+A case is a script, a step file and the arguments of a run, made of the seed and the case's number alone. The program runs
 on it under `books`, `messages`, `simulate` and `run`; output and exit status have to be the model's, and under `run`
 the progress that is saved. Batches of several clients may come to the ledger in any order that keeps each client's:
 which it was is taken from what `run` printed (orders.py), and that has to be what the model does in this order. Where
-they differ, lines are left out while the difference stays, and what is left is printed with the words that bring it
+they differ, lines are left out while the difference stays, and what is left is printed with the arguments that bring it
 back; of a run it may take some tries. In the end, and where the soak is stopped (SIGTERM, Ctrl-C), it prints how often
 each result, fault, step and answer came up, and which never did.
 
@@ -38,7 +38,7 @@ MOST_TRIES = 2000  # runs while a difference is shrunk
 LONGEST_SHRINKING = 120  # seconds
 MOST_SHOWN = 3  # differences that are shrunk and shown
 MAX = model.GREATEST_128
-END_OF_TIME = model.GREATEST_MOMENT
+END_OF_TIME = model.GREATEST_TIMESTAMP
 
 
 # ---------------------------------------------------------------- Random scripts
@@ -66,7 +66,7 @@ class ScriptMaker:
         self.ledger = model.Ledger()
         self.lines = []
         self.asked = []  # every transfer that was asked for
-        self.moment = 0  # the timestamp of the item that is written
+        self.timestamp = 0  # the timestamp of the item that is written
         self.has_huge_amounts = rng.random() < 0.35
         self.is_late = rng.random() < 0.2
         self.limited = rng.choice([0.1, 0.1, 0.7])  # the share of accounts with flags
@@ -117,19 +117,19 @@ class ScriptMaker:
         now = self.next_now(kind)
         self.lines.append(f'{kind} {zeros(self.rng)}{now}')
         if kind == 'pulse':
-            self.hand_in(model.Batch(kind, now, 1))
+            self.submit(model.Batch(kind, now, 1))
             return
         links = self.links(count)
         base = max(now, self.ledger.last + 1)
         fits = base + len(links) - 1 <= END_OF_TIME
         before, is_well, is_careful = None, True, False
         for place, is_linked in enumerate(links):
-            self.moment = base + place
+            self.timestamp = base + place
             if before is None:
                 before, is_well, is_careful = self.ledger.mark(), True, is_linked and self.chance(0.7)
             item = self.linked(self.item(kind, is_careful), is_linked)
             self.lines.append(line_of(item, kind[:-1], self.rng))
-            is_well = is_well and fits and self.ledger.take_item(kind, item, self.moment) == 0
+            is_well = is_well and fits and self.ledger.take_item(kind, item, self.timestamp) == 0
             if not is_well:
                 self.ledger.undo(before)
             if not model.is_linked(item):
@@ -167,7 +167,7 @@ class ScriptMaker:
     def would_be_taken(self, kind, item):
         if kind == 'accounts':
             return model.account_result(self.ledger, item) == 'ok'
-        return model.transfer_result(self.ledger, item, self.moment) == 'ok'
+        return model.transfer_result(self.ledger, item, self.timestamp) == 'ok'
 
     def large_batch(self):
         """As many items as a batch may have, or one more."""
@@ -175,9 +175,9 @@ class ScriptMaker:
         now = self.ledger.last + 1
         self.lines.append(f'accounts {now}')
         self.lines += ['account id=0'] * count
-        self.hand_in(model.Batch('accounts', now, 1, [model.NewAccount()] * count))
+        self.submit(model.Batch('accounts', now, 1, [model.NewAccount()] * count))
 
-    def hand_in(self, batch):
+    def submit(self, batch):
         try:
             self.ledger.submit(batch)
         except model.BatchRefused:
@@ -330,7 +330,7 @@ class ScriptMaker:
     def timeout(self):
         if self.chance(0.5):
             return 0
-        to_the_end = (END_OF_TIME - self.moment) // model.SECOND + self.rng.randint(0, 1)
+        to_the_end = (END_OF_TIME - self.timestamp) // model.SECOND + self.rng.randint(0, 1)
         if self.is_late and self.chance(0.5) and to_the_end >= 0:
             return min(to_the_end, 2**32 - 1)
         return self.rng.choice([1, 1, 2, 2, 3, 2**32 - 1])
@@ -442,7 +442,7 @@ class StepMaker:
         self.world = model.World(script.bindings, script.batches, window)
         self.arrived = 0  # the greatest number of a packet that came
         self.answered = 0  # the greatest number of a confirm that came
-        self.begins_late = rng.random() < 1 / 3  # whether the first session is told where to start
+        self.begins_late = rng.random() < 1 / 3  # whether the first session is asked to start late
         moods = [0.2, 1, 1, 1, 3]
         self.weights = {word: weight * rng.choice(moods) for word, weight in self.WEIGHTS.items()}
         self.is_calm = rng.random() < 0.3
@@ -497,10 +497,10 @@ class StepMaker:
             case 'close_ledger':
                 return world.ledger.closed
             case 'poll':
-                all_told = session is not None and session.after() >= last_of(world.ledger)
-                return all_told and not world.ledger.closed
+                has_all = session is not None and session.after() >= last_of(world.ledger)
+                return has_all and not world.ledger.closed
             case 'save':
-                return session is not None and world.progress == (session.number, session.moment())
+                return session is not None and world.progress == (session.number, session.timestamp())
             case 'arrive':
                 return step.numbers[0] <= self.arrived
             case 'answer':
@@ -558,7 +558,7 @@ class StepMaker:
         if word == 'answer':
             return (self.look_alike() or self.of_line(self.answered, len(self.world.confirms)),)
         if word == 'start at':
-            return (moment_near(self.rng, self.world.ledger),)
+            return (timestamp_near(self.rng, self.world.ledger),)
         if model.STEPS[word] == 0:
             return ()
         subscriber = self.rng.randint(1, len(self.world.seats))
@@ -598,11 +598,11 @@ def last_of(ledger):
     return ledger.events[-1].timestamp if ledger.events else 0
 
 
-def moment_near(rng, ledger):
-    """A moment to start after: that of an event or the one before it, the first or the last of all, or one to come."""
-    moments = [event.timestamp + rng.choice([0, 0, 0, -1]) for event in ledger.events]
+def timestamp_near(rng, ledger):
+    """A timestamp to start after: that of an event or the one before it, the first or the last of all, or one to come."""
+    timestamps = [event.timestamp + rng.choice([0, 0, 0, -1]) for event in ledger.events]
     later = [ledger.last + rng.choice([0, 1, 1000, model.SECOND])]
-    return min(max(rng.choice(moments * 2 + later + [0, rng.choice([0, END_OF_TIME])]), 0), END_OF_TIME)
+    return min(max(rng.choice(timestamps * 2 + later + [0, rng.choice([0, END_OF_TIME])]), 0), END_OF_TIME)
 
 
 # The steps that a calm play has few of.
@@ -613,7 +613,7 @@ FAULTY = ('crash', 'rewind', 'break', 'ack', 'close')
 
 
 class PlanMaker:
-    """Chooses the words of a run. Most counts name something that there is."""
+    """Chooses the arguments of a run. Most counts name something that there is."""
 
     def __init__(self, rng, script):
         self.rng = rng
@@ -621,16 +621,16 @@ class PlanMaker:
         self.events = self.ledger.events
         self.subscribers = len(script.bindings)
 
-    def words(self):
-        words = words_of_window(self.rng) + self.prefetch() + self.start()
+    def arguments(self):
+        arguments = arguments_of_window(self.rng) + self.prefetch() + self.start()
         for option in ('--lose-confirm', '--lose-publish', '--restart-after'):
             for _ in range(self.rng.choice([0, 0, 1, 1, 2, 4])):
-                words += (option, f'{zeros(self.rng)}{self.count()}')
+                arguments += (option, f'{zeros(self.rng)}{self.count()}')
         for _ in range(self.rng.choice([0, 0, 1, 2, 4])):
-            words += ('--repeat', f'{self.subscriber()}:{self.count()}')
+            arguments += ('--repeat', f'{self.subscriber()}:{self.count()}')
         for _ in range(self.rng.choice([0, 0, 0, 1, 2])):
-            words += ('--close', f'{self.subscriber()}:{self.count()}')
-        return words
+            arguments += ('--close', f'{self.subscriber()}:{self.count()}')
+        return arguments
 
     def prefetch(self):
         if self.rng.random() < 0.5:
@@ -641,7 +641,7 @@ class PlanMaker:
         """Where the first session starts, in one run of three."""
         if self.rng.random() < 2 / 3:
             return ()
-        return ('--start-after', f'{zeros(self.rng)}{moment_near(self.rng, self.ledger)}')
+        return ('--start-after', f'{zeros(self.rng)}{timestamp_near(self.rng, self.ledger)}')
 
     def count(self):
         """A count of events or packets, or a position."""
@@ -653,14 +653,14 @@ class PlanMaker:
         return self.rng.randint(1, self.subscribers + (self.rng.random() < 0.05))
 
     def progress(self, starts_late):
-        """What was saved by an earlier run, if anything was; the less where this one is told where to start."""
+        """What was saved by an earlier run, if anything was; less often if this one is given a start."""
         if self.rng.random() < (0.9 if starts_late else 0.5):
             return None
-        moments = [0] + [event.timestamp + self.rng.choice([0, 0, 0, -1]) for event in self.events]
-        moments += [END_OF_TIME] * (self.rng.random() < 0.05)
-        moment = min(max(self.rng.choice(moments), 0), END_OF_TIME)
-        start = self.rng.choice([0, moment, min(self.rng.choice(moments), moment)])
-        return self.rng.choice([0, 1, 7, 2**63]), moment, max(start, 0)
+        timestamps = [0] + [event.timestamp + self.rng.choice([0, 0, 0, -1]) for event in self.events]
+        timestamps += [END_OF_TIME] * (self.rng.random() < 0.05)
+        timestamp = min(max(self.rng.choice(timestamps), 0), END_OF_TIME)
+        start = self.rng.choice([0, timestamp, min(self.rng.choice(timestamps), timestamp)])
+        return self.rng.choice([0, 1, 7, 2**63]), timestamp, max(start, 0)
 
 
 # ---------------------------------------------------------------- Broken lines and odd layouts
@@ -809,8 +809,8 @@ class Spoiler:
 class Case:
     script: bytes
     steps: bytes
-    words_of_window: tuple
-    plan: tuple  # words of a run
+    arguments_of_window: tuple
+    plan: tuple  # the arguments of a run
     saves: bool  # whether it keeps its progress in a file
     progress: tuple  # what stands there before, if anything does
     version: int  # in the text of which version
@@ -820,10 +820,10 @@ def case_of(seed, number):
     rng = random.Random(f'{seed} {number}')
     lines = ScriptMaker(rng).script()
     spoiler = Spoiler(rng)
-    window = words_of_window(rng)
+    window = arguments_of_window(rng)
     steps = StepMaker(rng, script_of(lines), number_of(window)).steps()
     runs = PlanMaker(rng, script_of(lines))
-    plan = runs.words()
+    plan = runs.arguments()
     saves = rng.random() < 0.5
     progress = runs.progress('--start-after' in plan) if saves else None
     version = 1 if progress is not None and progress[2] == 0 and rng.random() < 0.7 else 2
@@ -836,14 +836,14 @@ def case_of(seed, number):
     return Case(script, step_file, window, plan, saves, progress, version)
 
 
-def words_of_window(rng):
-    """How many events a session waits for, as words: none, or a number, a small one as often as any."""
+def arguments_of_window(rng):
+    """How many events a session waits for, as arguments: none, or a number, a small one as often as any."""
     return rng.choice([(), ('--window', '1'), ('--window', f'{rng.randint(2, 5)}'), ('--window', f'{rng.randint(1, 64)}')])
 
 
-def number_of(words_of_window):
-    """The number that these words say."""
-    return int(words_of_window[1]) if words_of_window else 1
+def number_of(arguments_of_window):
+    """The number in these arguments."""
+    return int(arguments_of_window[1]) if arguments_of_window else 1
 
 
 def script_of(lines):
@@ -854,21 +854,21 @@ COMMANDS = ('books', 'messages', 'simulate', 'run')
 
 
 def report_of(command, case, found):
-    """What the model says of a command; of a run in the order of batches that what it printed allows."""
+    """What the model has for a command; of a run in the order of batches that what it printed allows."""
     if command == 'books':
         return model.books(case.script)
     if command == 'messages':
         return model.messages(case.script)
     if command == 'simulate':
-        return model.simulate(case.script, case.steps, number_of(case.words_of_window))
+        return model.simulate(case.script, case.steps, number_of(case.arguments_of_window))
     printed = found.text.decode('ascii', 'replace')
     return orders.report_of_run(case.script, model.plan_of(case.plan), case.progress, printed, found.record if case.saves else None)
 
 
-def words_of(command, case):
-    """The words of the program for a command over the files in the folder where it runs."""
+def arguments_of(command, case):
+    """The arguments of the program for a command over the files in the folder where it runs."""
     if command == 'simulate':
-        return ['simulate', 'soak.script', 'soak.steps', *case.words_of_window]
+        return ['simulate', 'soak.script', 'soak.steps', *case.arguments_of_window]
     if command == 'run':
         return ['run', 'soak.script', *case.plan, *(['--progress', 'soak.progress'] if case.saves else [])]
     return [command, 'soak.script']
@@ -910,7 +910,7 @@ class Runner:
     def run(self, command, case):
         try:
             run = subprocess.run(
-                [self.program, *words_of(command, case)],
+                [self.program, *arguments_of(command, case)],
                 cwd=self.folder,
                 stdin=subprocess.DEVNULL,
                 stdout=subprocess.PIPE,
@@ -928,9 +928,9 @@ def wanted(report, case):
     text = report.text.encode('ascii')
     if report.progress is None or not case.saves:
         return [Found(text, report.status, record_of(case.progress, case.version))]
-    session, moment, start = report.progress
+    session, timestamp, start = report.progress
     return [
-        Found(text, report.status, record_of((number, moment, start)))
+        Found(text, report.status, record_of((number, timestamp, start)))
         for number in range(session, session + report.more_sessions + 1)
     ]
 
@@ -998,8 +998,8 @@ def without_lines(case, part, differs):
     return replace(case, **{part: b''.join(lines)})
 
 
-def file_in_words(name, data):
-    """Shell words that write a file."""
+def file_in_shell(name, data):
+    """Shell code that writes a file."""
     is_plain = all(byte == 10 or 32 <= byte <= 126 for byte in data)
     if is_plain and (data == b'' or data.endswith(b'\n')):
         return f"cat >{name} <<'END'\n{data.decode('ascii')}END\n"
@@ -1007,17 +1007,17 @@ def file_in_words(name, data):
     return f"printf '{escaped}' >{name}\n"
 
 
-def told(seed, number, command, case, report, found):
+def report_on(seed, number, command, case, report, found):
     """A difference, and how to bring it back."""
     text = f'case {number} of seed {seed} differs under {command}; it comes back with\n'
     text += f'    tests/checks/soak.py --seed {seed} --case {number}\n'
     text += 'and, shrunk, with\n'
-    text += file_in_words('soak.script', case.script)
+    text += file_in_shell('soak.script', case.script)
     if command == 'simulate':
-        text += file_in_words('soak.steps', case.steps)
+        text += file_in_shell('soak.steps', case.steps)
     if command == 'run' and case.progress is not None:
-        text += file_in_words('soak.progress', record_of(case.progress, case.version))
-    text += ' '.join(['relayplum', *words_of(command, case)]) + '\n'
+        text += file_in_shell('soak.progress', record_of(case.progress, case.version))
+    text += ' '.join(['relayplum', *arguments_of(command, case)]) + '\n'
     if command == 'run':
         text += 'no order of the batches allows what was found; wanted in the order of the file\n'
     for name, outcome in [('wanted', one) for one in wanted(report, case)] + [('found', found)]:
@@ -1040,7 +1040,7 @@ ANSWERS = {
     'arrive': ['connected', 'earlier connection', 'accepted', 'wrong connection', 'wrong tag'],
     'answer': ['counted', 'confirmed already', 'of another session'],
     'save': ['moved', 'the same'],
-    'send': ['handed out'],
+    'send': ['delivered'],
     'rewind': ['moved', 'the same'],
     'break': [
         'deliveries lost, cursor moved',
@@ -1235,7 +1235,7 @@ def show(program, room, seed, number, command):
         case = shrunk(runner, command, case_of(seed, number))
         runner.write(case)
         found = runner.run(command, case)
-        print(told(seed, number, command, case, report_of(command, case, found), found), flush=True)
+        print(report_on(seed, number, command, case, report_of(command, case, found), found), flush=True)
 
 
 class Stopped(Exception):
@@ -1255,7 +1255,7 @@ class Soak:
         self.runs = 0
         self.differing = 0
         self.began = time.monotonic()
-        self.told_last = self.began
+        self.reported_last = self.began
 
     def chunks(self):
         """The numbers of the cases, some at a time, until there are enough or the time is up."""
@@ -1278,23 +1278,23 @@ class Soak:
             self.differing += 1
             if self.differing <= MOST_SHOWN:
                 show(self.options.program, self.room, self.options.seed, number, command)
-        if time.monotonic() - self.told_last >= 60:
-            self.told_last = time.monotonic()
+        if time.monotonic() - self.reported_last >= 60:
+            self.reported_last = time.monotonic()
             print(f'soak: {self.cases} cases, {self.differing} differ', file=sys.stderr, flush=True)
 
     def run(self):
         waiting = collections.deque()
         with multiprocessing.Pool(self.options.jobs, ignore_signals) as pool:
             for numbers in self.chunks():
-                words = (self.options.program, self.room, self.options.seed, numbers)
-                waiting.append((numbers, pool.apply_async(run_chunk, words)))
+                arguments = (self.options.program, self.room, self.options.seed, numbers)
+                waiting.append((numbers, pool.apply_async(run_chunk, arguments)))
                 if len(waiting) > self.options.jobs + 1:
                     taken, result = waiting.popleft()
                     self.take_in(taken, result.get())
             for taken, result in waiting:
                 self.take_in(taken, result.get())
 
-    def told(self):
+    def report(self):
         took = time.monotonic() - self.began
         text = f'soak: seed {self.options.seed}, {self.cases} cases, {took:.0f} s\n'
         return text + summary(self.counts) + f'soak: {self.runs - self.differing} passed, {self.differing} failed'
@@ -1311,8 +1311,8 @@ def run_case(options):
     case = case_of(options.seed, options.case)
     record = record_of(case.progress, case.version)
     files = {'soak.script': case.script, 'soak.steps': case.steps, 'soak.progress': record}
-    print(''.join(file_in_words(name, data) for name, data in files.items() if data is not None))
-    print('\n'.join(' '.join(['relayplum', *words_of(command, case)]) for command in COMMANDS) + '\n')
+    print(''.join(file_in_shell(name, data) for name, data in files.items() if data is not None))
+    print('\n'.join(' '.join(['relayplum', *arguments_of(command, case)]) for command in COMMANDS) + '\n')
     _, runs, differing = run_chunk(options.program, None, options.seed, [options.case])
     for number, command in differing:
         show(options.program, None, options.seed, number, command)
@@ -1320,21 +1320,21 @@ def run_case(options):
     return 1 if differing else 0
 
 
-def options_of(words):
+def options_of(arguments):
     parser = rooms.parser_of(__doc__)
     parser.add_argument('--seed', type=int, default=1)
     parser.add_argument('--count', type=int)
     parser.add_argument('--seconds', type=float)
     parser.add_argument('--case', type=int, help='this case alone')
     parser.add_argument('--jobs', type=int, default=2)
-    options = rooms.options_of(parser, words)
+    options = rooms.options_of(parser, arguments)
     if options.count is None and options.seconds is None:
         options.count = 1000
     return options
 
 
-def main(words):
-    options = options_of(words)
+def main(arguments):
+    options = options_of(arguments)
     if options.case is not None:
         return run_case(options)
     with rooms.room('soak-') as room:
@@ -1347,7 +1347,7 @@ def main(words):
             print('soak: stopped', flush=True)
         finally:
             signal.signal(signal.SIGTERM, signal.SIG_IGN)
-            print(soak.told(), flush=True)
+            print(soak.report(), flush=True)
     return 1 if soak.differing else 0
 
 

@@ -22,7 +22,7 @@ sys.path.insert(0, os.path.join(os.path.dirname(os.path.realpath(__file__)), "..
 import ending
 import rooms
 
-# A script whose book is good, and says so.
+# A script whose book is good, and reports it.
 SCRIPT = b"subscriber all\n"
 PAGE = 4096
 F_SETPIPE_SZ = 1031  # the module fcntl has it from Python 3.10 on
@@ -62,23 +62,23 @@ def behaviour_of_a_broken_stream():
     same("a connection that is reset", str([SCRIPT, "failure", b""]), str(read))
 
 
-def run(words, stdin, stdout=subprocess.PIPE):
-    return subprocess.run([program, *words], stdin=stdin, stdout=stdout, stderr=subprocess.PIPE, timeout=SECONDS)
+def run(arguments, stdin, stdout=subprocess.PIPE):
+    return subprocess.run([program, *arguments], stdin=stdin, stdout=stdout, stderr=subprocess.PIPE, timeout=SECONDS)
 
 
 def reads_that_fail():
     with tempfile.NamedTemporaryFile(suffix=".steps") as steps:
         steps.write(b"start\n")
         steps.flush()
-        for words in (["books", "-"], ["messages", "-"], ["simulate", "-", steps.name]):
+        for arguments in (["books", "-"], ["messages", "-"], ["simulate", "-", steps.name]):
             with broken_stream(SCRIPT) as stream:
-                ran = run(words, stream)
-            same(f"{words[0]}, a read that fails: status", 1, ran.returncode)
-            same(f"{words[0]}, a read that fails: standard output", b"fault: read_fault\n", ran.stdout)
-            same(f"{words[0]}, a read that fails: why", True, b"standard input" in ran.stderr and b"reset" in ran.stderr)
+                ran = run(arguments, stream)
+            same(f"{arguments[0]}, a read that fails: status", 1, ran.returncode)
+            same(f"{arguments[0]}, a read that fails: standard output", b"fault: read_fault\n", ran.stdout)
+            same(f"{arguments[0]}, a read that fails: why", True, b"standard input" in ran.stderr and b"reset" in ran.stderr)
 
 
-def stop_for_a_moment(process):
+def stop_for_a_while(process):
     """Stops a process, waits until it stands still or has ended, and lets it go on."""
     process.send_signal(signal.SIGSTOP)
     os.waitid(os.P_PID, process.pid, os.WSTOPPED | os.WEXITED | os.WNOWAIT)
@@ -95,7 +95,7 @@ def a_read_that_is_interrupted():
         # once it waits for more of the script, a stop ends it; one that comes before that changes nothing
         until = time.monotonic() + SECONDS
         while process.poll() is None and time.monotonic() < until:
-            stop_for_a_moment(process)
+            stop_for_a_while(process)
             time.sleep(0.02)
         sender.close()
         out, err = process.communicate(timeout=SECONDS)
@@ -138,9 +138,9 @@ def writes_that_fail():
             same(f"{command}, a write that fails: nothing else is said", 1, ran.stderr.count(b"\n"))
 
 
-def main(words):
+def main(arguments):
     global program
-    program = rooms.options_of(rooms.parser_of_first(__doc__), words).program
+    program = rooms.options_of(rooms.parser_of_first(__doc__), arguments).program
     behaviour_of_a_broken_stream()
     reads_that_fail()
     a_read_that_is_interrupted()

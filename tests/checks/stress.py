@@ -4,21 +4,22 @@
     tests/checks/stress.py [--program PATH] [--runs N] [--seed S] [--processors P]
     tests/checks/stress.py [--program PATH] --times N [--tests PATH] [--processors P]
 
-Each run is of a script of 1 to 4 clients and 1 to 8 subscribers: a short one, drawn anew, or one of some 500 transfers. Its
-plan loses confirms and publishes, restarts the connector, lets queues go back and closes subscribers, at random counts,
+Each run is of a script of 1 to 4 clients and 1 to 8 subscribers: a short one, drawn at random, or one of some 500 transfers. Its
+plan loses confirms and publishes, restarts the connector, lets queues rewind and closes subscribers, at random counts,
 on two processors or on four, or on P; its sessions wait for one event, or for up to 64. Of a short one the
 output has to be what the outside model (model.py) has for the order of batches that the output allows (orders.py); two
-of three start after a moment. A long one closes nothing, and its first book tells the order of its batches: the output has to be what `books` prints of a
-script in this order. Half of the runs save their progress to a file; from the record that is left, the plan did what it
-says, where the window is 1. What `--trace` tells of each has to agree with its plan and with what it printed (told.py). A run that takes longer than SECONDS hangs, and has failed. One run more is held for a while,
-in its first save (holding.py), and must take no processor time meanwhile.
+of three start after a timestamp. A long one closes nothing, and its first book has the order of its batches: the
+output has to be what `books` prints of a script in this order. Half of the runs save their progress to a file; by the
+record that is left, the plan did what it names, if the window is 1. The trace of each has to agree with its plan and with what it printed (traces.py). A run that
+takes longer than SECONDS hangs, and has failed. One run more is held for a while, in its first save (holding.py), and must
+take no CPU time meanwhile.
 
-Then four clients hand in 1,000 transfers each, a batch a transfer, and it is printed how many batches of one client came
+Then four clients submit 1,000 transfers each, a batch a transfer, and it is printed how many batches of one client came
 to the ledger in a row, at the most: nothing is claimed of that.
 
 With --times there are no random plans: each of a few runs is done so often in a row, and has to come to what the
 outside model allows; and where --tests names the tests of cdc_run_tests, as `rt test` builds them, those that show that
-the ends work at the same time are run as often.
+the actors work at the same time are run as often.
 
 The last line is `stress: N passed, M failed`; exit status 1 where one failed.
 """
@@ -38,7 +39,7 @@ import holding
 import model
 import orders
 import rooms
-import told
+import traces
 from rooms import on_processors, shortened
 from scripts import long_script
 
@@ -48,7 +49,7 @@ MOST_HOLDS = 300
 PROCESSORS = (2, 4)
 MOST_SHOWN = 3  # failures that are shown
 TRANSFERS = 500  # of a long script, about
-# Lines of a report: how many events the first subscriber has applied, the last one's moment; a batch.
+# Lines of a report: how many events the first subscriber has applied, the last one's timestamp; a batch.
 FIRST = re.compile(r'(?m)^subscriber 1 applied (\d+) last (\d+) ')
 LAST = re.compile(r'(?m)(?<= )last \d+')
 BATCH = re.compile(r'^batch \d+')
@@ -106,15 +107,15 @@ def four_clients():
     return '\n'.join(lines) + '\n'
 
 
-# The runs that are repeated, by name.
-REPEATED = {
+# The runs that --times does again and again, by name.
+AGAIN = {
     'a lost confirm and a restart': (SHORT, ['--window', '2', '--lose-confirm', '1', '--restart-after', '2']),
     'one client and two subscribers of all events': (TWO_OF_ALL, []),
     'two clients': (TWO_CLIENTS, []),
     'four clients and eight subscribers': (four_clients(), ['--window', '64', '--restart-after', '2']),
     'a subscriber closes': (SHORT, ['--close', '1:2']),
 }
-TESTS = ('overlap::two_ends_at_once', 'overlap::twelve_ends_at_once')
+TESTS = ('overlap::two_actors_at_once', 'overlap::twelve_actors_at_once')
 
 
 class Runner:
@@ -125,11 +126,11 @@ class Runner:
         self.failed = 0
         self.errors = ''  # standard error of the last run that ended well
 
-    def run(self, words, script, processors=max(PROCESSORS)):
+    def run(self, arguments, script, processors=max(PROCESSORS)):
         """Standard output, or why there is none."""
         try:
             ran = subprocess.run(
-                [self.program, *words],
+                [self.program, *arguments],
                 cwd=self.folder,
                 input=script.encode('ascii'),
                 stdout=subprocess.PIPE,
@@ -153,7 +154,7 @@ class Runner:
         if self.failed <= MOST_SHOWN:
             print(f'failed: {what}\nwanted: {shortened(wanted[0])}\nfound: {shortened(found)}', flush=True)
 
-    def told(self):
+    def report(self):
         print(f'stress: {self.passed} passed, {self.failed} failed', flush=True)
         return 1 if self.failed else 0
 
@@ -187,13 +188,13 @@ class Script:
         return '\n'.join(sum((self.batches[place][2] for place in order), lines)) + '\n'
 
     def order_in(self, printed):
-        """The places of the batches in the order that the first book of a run tells; those that open accounts come first.
-        None where it tells no order."""
-        told = orders.told_of(printed)
+        """The places of the batches in the order that the first book of a run has; those that open accounts come first.
+        None if it has no order."""
+        report = orders.report_in(printed)
         places = {account: place for place, (_, account, _) in enumerate(self.batches) if account}
-        if told is None or not told[1]:
+        if report is None or not report[1]:
             return None
-        found = [places[account] for account in told[1][0].accounts if account in places]
+        found = [places[account] for account in report[1][0].accounts if account in places]
         openers = [place for place, (_, account, _) in enumerate(self.batches) if not account]
         return openers + found if len(found) == len(places) else None
 
@@ -225,22 +226,22 @@ def transfer_of(rng, number, client, debit, credit, pending):
     )
 
 
-def script_of(rng, clients, subscribers, batches, most_items, moments):
-    """A script of so many clients and subscribers, each client with so many batches of transfers, at such moments."""
+def script_of(rng, clients, subscribers, batches, most_items, timestamps):
+    """A script of so many clients and subscribers, each client with so many batches of transfers, at such timestamps."""
     script = Script(bindings_of(rng, clients, subscribers))
     turns = [client for client in range(1, clients + 1) for _ in range(batches + 1)]
     rng.shuffle(turns)
-    handed = dict.fromkeys(turns, 0)
+    submitted = dict.fromkeys(turns, 0)
     pending = {client: [] for client in turns}
     number = 0
     for client in turns:
         first = 10_000 * client
-        if handed[client] == 0:
+        if submitted[client] == 0:
             # A batch has 1,000 items at most.
             script.add(client, 0, opening(client, range(first, first + min(batches + 1, model.MOST_ITEMS))))
         else:
-            own, others = first + handed[client], first + 1 + rng.randrange(handed[client])
-            lines = [f'transfers {rng.choice(moments)}']
+            own, others = first + submitted[client], first + 1 + rng.randrange(submitted[client])
+            lines = [f'transfers {rng.choice(timestamps)}']
             for item in range(rng.randint(1, most_items)):
                 number += 1
                 # The first one is never a post, which moves nothing off the batch's own account.
@@ -249,7 +250,7 @@ def script_of(rng, clients, subscribers, batches, most_items, moments):
                 credit = credit if credit != debit else first + (debit == first)
                 lines.append(transfer_of(rng, number, client, debit, credit, waiting))
             script.add(client, own, lines)
-        handed[client] += 1
+        submitted[client] += 1
     return script
 
 
@@ -257,28 +258,28 @@ def script_of(rng, clients, subscribers, batches, most_items, moments):
 
 
 def count_of(rng, events):
-    """Of a packet, or a position: anywhere, at the beginning, or about the end."""
+    """Of a packet, or a position: anywhere, at the start, or about the end."""
     most = events + 2
     return rng.choice([rng.randint(1, most), rng.randint(1, min(most, 5)), rng.randint(max(1, most - 3), most)])
 
 
 def plan_of(rng, events, subscribers, closes):
-    """The words of a plan for so many events; it may close subscribers, but for the first."""
-    words = ['--window', str(rng.choice([1, 1, 1, 2, 8, 64])), '--prefetch', str(rng.choice([1, 2, 3, 8, 8, 64]))]
+    """The arguments of a plan for so many events; it may close subscribers, but for the first."""
+    arguments = ['--window', str(rng.choice([1, 1, 1, 2, 8, 64])), '--prefetch', str(rng.choice([1, 2, 3, 8, 8, 64]))]
     for option in ('--lose-confirm', '--lose-publish', '--restart-after'):
         for _ in range(rng.choice([0, 1, 2, 5, 20])):
-            words += [option, str(count_of(rng, events))]
+            arguments += [option, str(count_of(rng, events))]
     for _ in range(rng.choice([0, 1, 2, 5, 20])):
-        words += ['--repeat', f'{rng.randint(1, subscribers)}:{count_of(rng, events)}']
+        arguments += ['--repeat', f'{rng.randint(1, subscribers)}:{count_of(rng, events)}']
     for _ in range(rng.choice([0, 0, 1, 2, 4]) if closes and subscribers > 1 else 0):
-        words += ['--close', f'{rng.randint(2, subscribers)}:{count_of(rng, events)}']
-    return words
+        arguments += ['--close', f'{rng.randint(2, subscribers)}:{count_of(rng, events)}']
+    return arguments
 
 
 def records_of(report):
     """The bytes of the progress that a run may save last, by a report of the model."""
-    session, moment, start = report.progress
-    return [b'tb-cdc 2 %d %d %d\n' % (session + more, moment, start) for more in range(report.more_sessions + 1)]
+    session, timestamp, start = report.progress
+    return [b'tb-cdc 2 %d %d %d\n' % (session + more, timestamp, start) for more in range(report.more_sessions + 1)]
 
 
 class Stress:
@@ -289,20 +290,20 @@ class Stress:
         self.rng = rng
 
     def drawn(self):
-        """A script, and the words of a plan for it."""
+        """A script, and the arguments of a plan for it."""
         clients, subscribers = self.rng.randint(1, 4), self.rng.randint(1, 8)
         script = self.script(clients, subscribers)
-        self.told = f'{clients} clients, {subscribers} subscribers'
+        self.size = f'{clients} clients, {subscribers} subscribers'
         events = len(re.findall('(?m)^transfer ', script.text()))
         return script, plan_of(self.rng, events, subscribers, self.closes) + self.start()
 
     def start(self):
-        """The words for where the first session starts."""
+        """The arguments for where the first session starts."""
         return []
 
 
 class Short(Stress):
-    """Few transfers, at moments of any order; the model judges them."""
+    """Few transfers, at timestamps of any order; the model has their report."""
 
     name, closes = 'short', True
 
@@ -312,8 +313,8 @@ class Short(Stress):
     def start(self):
         if self.rng.random() < 1 / 3:
             return []
-        moment = self.rng.choice([0, 1000, 2000, 5000]) + self.rng.randint(-1, 8)
-        return ['--start-after', str(max(moment, 0))]
+        timestamp = self.rng.choice([0, 1000, 2000, 5000]) + self.rng.randint(-1, 8)
+        return ['--start-after', str(max(timestamp, 0))]
 
     def wanted(self, script, plan, saves, printed, left=None):
         report = orders.report_of_run(script.text().encode('ascii'), model.plan_of(plan), None, printed, left)
@@ -324,7 +325,7 @@ class Short(Stress):
 
 
 class Long(Stress):
-    """TRANSFERS in all, a batch each ten; `books` judges them. Which moment the last event of a subscriber of some events
+    """TRANSFERS in all, a batch each ten; `books` has their report. Which timestamp the last event of a subscriber of some events
     has hangs on when the accounts of the other clients were opened, so that isn't looked at."""
 
     name, closes = 'long', False
@@ -377,16 +378,16 @@ def run_stress(options, runner):
         saves = rng.random() < 0.5
         progress = runner.folder / 'stress.progress'
         progress.unlink(missing_ok=True)
-        words = ['run', '-', '--trace', *plan, *(['--progress', progress.name] if saves else [])]
+        arguments = ['run', '-', '--trace', *plan, *(['--progress', progress.name] if saves else [])]
         begun = time.monotonic()
-        printed = runner.run(words, script.text(), processors)
+        printed = runner.run(arguments, script.text(), processors)
         times.setdefault((stress.name, processors), []).append(time.monotonic() - begun)
         errors = runner.errors
         left = progress.read_bytes() if progress.exists() else None
-        what = f'run {number} of seed {options.seed}, a {stress.name} script on {processors} processors, {stress.told}: '
+        what = f'run {number} of seed {options.seed}, a {stress.name} script on {processors} processors, {stress.size}: '
         wanted = stress.wanted(script, plan, saves, printed, left)
-        runner.note(what + ' '.join(words), wanted, (stress.shown(printed), left))
-        runner.note(what + ' '.join(words) + ': what is told', [[]], told.complaints(plan, printed, errors))
+        runner.note(what + ' '.join(arguments), wanted, (stress.shown(printed), left))
+        runner.note(what + ' '.join(arguments) + ': trace', [[]], traces.complaints(plan, printed, errors))
     run_waiting(runner)
     for (name, processors), seconds in sorted(times.items()):
         mean = sum(seconds) / len(seconds)
@@ -419,7 +420,7 @@ def run_fair(options, runner):
 
 
 def ticks(process):
-    """The processor time that a process has taken, in hundredths of a second."""
+    """The CPU time that a process has taken, in hundredths of a second."""
     fields = pathlib.Path(f'/proc/{process.pid}/stat').read_text().rpartition(')')[2].split()
     return int(fields[11]) + int(fields[12])
 
@@ -431,7 +432,7 @@ def is_asleep(process):
 
 
 def has_rested(process):
-    """Whether all threads of a process sleep, and it takes no processor time in some HOLD seconds. Those that aren't held may
+    """Whether all threads of a process sleep, and it takes no CPU time in some HOLD seconds. Those that aren't held may
     have something to do first, for at most MOST_HOLDS times as long: a last guard."""
     for _ in range(MOST_HOLDS):
         before, slept = ticks(process), is_asleep(process)
@@ -451,9 +452,9 @@ def run_waiting(runner):
     pipe = runner.folder / 'hold'
     os.mkfifo(pipe)
     (runner.folder / 'stress.script').write_text(script)
-    words = [runner.program, 'run', 'stress.script', '--progress', 'held']
+    arguments = [runner.program, 'run', 'stress.script', '--progress', 'held']
     env = holding.environment(library)
-    with subprocess.Popen(words, cwd=runner.folder, stdout=subprocess.PIPE, env=env) as run:
+    with subprocess.Popen(arguments, cwd=runner.folder, stdout=subprocess.PIPE, env=env) as run:
         held = holding.wait_until_held(run, pipe)
         rested = held is not None and has_rested(run)
         if held is not None:
@@ -471,12 +472,12 @@ def run_waiting(runner):
 
 def run_repeated(options, runner):
     processors = options.processors or max(PROCESSORS)
-    for name, (script, words) in REPEATED.items():
-        plan = model.plan_of(words)
+    for name, (script, arguments) in AGAIN.items():
+        plan = model.plan_of(arguments)
         wanted = {}  # what the model has, by what was found
         seen = {}
         for time_ in range(1, options.times + 1):
-            found = runner.run(['run', '-', *words], script, processors)
+            found = runner.run(['run', '-', *arguments], script, processors)
             seen[found] = seen.get(found, 0) + 1
             if found not in wanted:
                 wanted[found] = orders.report_of_run(script.encode('ascii'), plan, None, found).text
@@ -491,27 +492,27 @@ def run_repeated(options, runner):
 def run_test(test, options, runner, processors):
     leave = on_processors(processors)
     for time_ in range(1, options.times + 1):
-        words = [options.tests, test]
-        ran = subprocess.run(words, cwd=runner.folder, capture_output=True, timeout=SECONDS, preexec_fn=leave)
+        arguments = [options.tests, test]
+        ran = subprocess.run(arguments, cwd=runner.folder, capture_output=True, timeout=SECONDS, preexec_fn=leave)
         found = ran.returncode if ran.returncode == 0 else (ran.returncode, ran.stdout[-500:], ran.stderr[-500:])
         runner.note(f'{test}, time {time_}', [0], found)
     print(f'{test}: {options.times} times on {processors} processors', flush=True)
 
 
-def options_of(words):
+def options_of(arguments):
     parser = rooms.parser_of(__doc__)
     parser.add_argument('--runs', type=int, default=200)
     parser.add_argument('--seed', type=int, default=1)
     parser.add_argument('--times', type=int)
     parser.add_argument('--tests')
     parser.add_argument('--processors', type=int)
-    options = rooms.options_of(parser, words)
+    options = rooms.options_of(parser, arguments)
     options.tests = options.tests and str(pathlib.Path(options.tests).resolve())
     return options
 
 
-def main(words):
-    options = options_of(words)
+def main(arguments):
+    options = options_of(arguments)
     with rooms.room('stress-') as folder:
         runner = Runner(options.program, folder)
         begun = time.monotonic()
@@ -520,7 +521,7 @@ def main(words):
         else:
             run_repeated(options, runner)
         print(f'stress: {time.monotonic() - begun:.0f} s')
-        return runner.told()
+        return runner.report()
 
 
 if __name__ == '__main__':

@@ -5,20 +5,20 @@ import subprocess
 import sys
 
 
-def tool_words(tool, out):
+def tool_arguments(tool, out):
     if tool == "memcheck":
         return ["valgrind", "--leak-check=no", "--undef-value-errors=no", f"--log-file={out}"]
-    words = ["valgrind", "--quiet", f"--tool={tool}"]
+    arguments = ["valgrind", "--quiet", f"--tool={tool}"]
     if tool == "cachegrind":
-        return words + ["--cache-sim=no", f"--cachegrind-out-file={out}"]
-    return words + [f"--callgrind-out-file={out}"]
+        return arguments + ["--cache-sim=no", f"--cachegrind-out-file={out}"]
+    return arguments + [f"--callgrind-out-file={out}"]
 
 
-def counted(words, out):
+def counted(arguments, out):
     """Runs it, and returns the file that Valgrind wrote; a run that doesn't end well stops all."""
-    ran = subprocess.run(words, capture_output=True)
+    ran = subprocess.run(arguments, capture_output=True)
     if ran.returncode != 0 or b"refused" in ran.stdout:
-        print(f"cost: {' '.join(words)}: status {ran.returncode}\n{ran.stdout[:300]!r}\n{ran.stderr[:300]!r}")
+        print(f"cost: {' '.join(arguments)}: status {ran.returncode}\n{ran.stdout[:300]!r}\n{ran.stderr[:300]!r}")
         os._exit(2)
     return out
 

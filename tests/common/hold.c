@@ -1,5 +1,5 @@
 // Holds a program in one fsync until the pipe `hold` in its folder has been opened for writing and closed again: the thread
-// that asked for it sleeps meanwhile. HOLD_AT says in which fsync, counted from 1, which is the default. holding.py builds it
+// that asked for it sleeps meanwhile. HOLD_AT names the fsync, counted from 1, the default. holding.py builds it
 // as a library and preloads it.
 #define _GNU_SOURCE
 #include <fcntl.h>

@@ -46,10 +46,10 @@ def check(headers, body):
     return int(event['timestamp'])
 
 
-def main(words):
+def main(arguments):
     parser = argparse.ArgumentParser(description=__doc__, formatter_class=argparse.RawDescriptionHelpFormatter)
     parser.add_argument('events', type=int, metavar='EVENTS', help='how many messages there have to be')
-    events = parser.parse_args(words).events
+    events = parser.parse_args(arguments).events
     lines = sys.stdin.read().split('\n')
     assert lines.pop() == '', 'the last line has no end'
     assert len(lines) == 2 * events, f'{len(lines)} lines'

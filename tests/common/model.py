@@ -1,7 +1,7 @@
 #!/usr/bin/env python3
 """Relayplum from outside: ledger, messages, bindings, broker, sessions, subscribers and printed text in plain Python.
 
-Written from docs/FORMATS.md and the public documents that it names, and from nothing in crates/, so that it can be
+Written from docs/FORMATS.md and the public documents that it names, without a look into crates/, so that it can be
 laid beside the program: `soak.py` compares the two on random scripts. Balances are sums over all entries, a queue is
 what the broker accepted cut by a binding, and so on: it is meant to be read, and to be right on scripts of some
 hundred lines.
@@ -27,7 +27,7 @@ MOST_PAIRS = 10
 MOST_SUBSCRIBERS = 8
 CLIENTS = (1, 2, 3, 4)
 GREATEST_128 = 2**128 - 1
-GREATEST_MOMENT = 2**63 - 1
+GREATEST_TIMESTAMP = 2**63 - 1
 SECOND = 1_000_000_000
 
 
@@ -175,7 +175,7 @@ class Stored:
 
     @property
     def end(self):
-        """The moment when a pending transfer expires; None without a timeout."""
+        """The timestamp when a pending transfer expires; None without a timeout."""
         if self.request.timeout == 0:
             return None
         return self.timestamp + self.request.timeout * SECOND
@@ -247,7 +247,7 @@ class Ledger:
             raise BatchRefused('batch_too_large')
         items = self.due(batch.now) if batch.kind == 'pulse' else batch.items
         base = max(batch.now, self.last + 1)
-        if items and base + len(items) - 1 > GREATEST_MOMENT:
+        if items and base + len(items) - 1 > GREATEST_TIMESTAMP:
             raise BatchRefused('timestamps_exhausted')
         if items:
             self.last = base + len(items) - 1
@@ -490,7 +490,7 @@ def plain_result(ledger, asked, timestamp):
     if credits > GREATEST_128:
         return 'overflows_credits'
     end = Stored(asked, timestamp).end
-    if end is not None and end > GREATEST_MOMENT:
+    if end is not None and end > GREATEST_TIMESTAMP:
         return 'overflows_timeout'
     if debit_account.flags & DEBITS_LIMITED and debits > debit.credits_posted:
         return 'exceeds_credits'
@@ -643,7 +643,7 @@ class Broker:
         self.acked = [0] * len(bindings)
 
     def arrive(self, packet):
-        """What becomes of a packet: connected, accepted, or why it is passed over."""
+        """What becomes of a packet: connected, accepted, or why it is ignored."""
         if isinstance(packet, Connect):
             if packet.session <= self.connection:
                 return 'earlier connection'
@@ -671,10 +671,10 @@ class Broker:
         self.cursors[place] = max(self.cursors[place], self.acked[place] + 1)
 
 
-def begun(progress, moment=None):
-    """What is saved when a session starts: its number, its base and the start. `moment` is the start that was asked for."""
+def begun(progress, timestamp=None):
+    """What is saved when a session starts: its number, its base and the start. `timestamp` is the start that was asked for."""
     if progress is None:
-        return 1, moment or 0, moment or 0
+        return 1, timestamp or 0, timestamp or 0
     session, timestamp, start = progress
     return session + 1, timestamp, start
 
@@ -700,7 +700,7 @@ class Session:
         return self.window - unconfirmed
 
     def after(self):
-        """The moment after which it asks."""
+        """The timestamp after which it asks."""
         return self.offered[-1].timestamp if self.offered else self.base
 
     def next_packet(self):
@@ -725,14 +725,14 @@ class Session:
         self.confirmed.add(confirm.tag)
         return True
 
-    def moment(self):
+    def timestamp(self):
         """The timestamp of the last event such that it and each earlier one were confirmed, or the base."""
-        moment = self.base
+        timestamp = self.base
         for tag, event in enumerate(self.offered, start=1):
             if tag not in self.confirmed:
                 break
-            moment = event.timestamp
-        return moment
+            timestamp = event.timestamp
+        return timestamp
 
 
 class Subscriber:
@@ -821,7 +821,7 @@ class Seat:
 class World:
     def __init__(self, bindings, batches, window):
         self.ledger = Ledger()
-        self.batches = list(batches)  # those that were not handed in yet
+        self.batches = list(batches)  # those that were not submitted yet
         self.window = window
         self.progress = None  # what the store holds: session, timestamp and start
         self.session = None
@@ -877,11 +877,11 @@ class World:
         self.ledger.closed = True
         return 'closed already' if was_closed else 'closed'
 
-    def start(self, moment=None):
+    def start(self, timestamp=None):
         enabled_where(self.session is None)
-        if moment is not None and self.progress is not None:
+        if timestamp is not None and self.progress is not None:
             raise StepRefused('start_not_allowed')
-        self.progress = begun(self.progress, moment)
+        self.progress = begun(self.progress, timestamp)
         self.session = Session(*self.progress, self.window)
         return 'first session' if self.session.number == 1 else 'later session'
 
@@ -926,7 +926,7 @@ class World:
     def save(self):
         enabled_where(self.session is not None)
         before = self.progress
-        self.progress = (self.session.number, self.session.moment(), self.session.start)
+        self.progress = (self.session.number, self.session.timestamp(), self.session.start)
         return 'the same' if self.progress == before else 'moved'
 
     def seat(self, number):
@@ -940,7 +940,7 @@ class World:
         enabled_where(position <= len(self.broker.queue(place)))
         self.broker.cursors[place] += 1
         seat.flight.append(position)
-        return 'handed out'
+        return 'delivered'
 
     def rewind(self, number):
         self.seat(number)
@@ -988,7 +988,7 @@ class World:
 class Plan:
     """The faults of a run. Each count begins with 1 and is over the whole run.
 
-    How many deliveries may be on their way, and which queues go back, shows nowhere, and how many events a session waits
+    How many deliveries may be on their way, and which queues rewind, shows nowhere, and how many events a session waits
     for in the numbers of sessions alone.
     """
 
@@ -997,7 +997,7 @@ class Plan:
     restart_after: tuple = ()
     close: tuple = ()  # pairs of a subscriber and a number of applied events
     window: int = 1
-    start: int = None  # the moment that the first session is told to start after
+    start: int = None  # the timestamp after which the first session is to start
 
     def breaks(self):
         """How many of its faults can end a session, at the most."""
@@ -1014,13 +1014,13 @@ def published(events, plan, progress):
     An item is sent again, by the next session, where the publish or its confirm was lost and where the connector was
     to restart right after it; what was saved until then stays.
     """
-    session, moment, start = (0, plan.start or 0, plan.start or 0) if progress is None else progress
+    session, timestamp, start = (0, plan.start or 0, plan.start or 0) if progress is None else progress
     sent = 0
     taken = []
     is_done = False
     while not is_done:
         session += 1
-        for item in [event for event in events if event.timestamp > moment] + [END_MARK]:
+        for item in [event for event in events if event.timestamp > timestamp] + [END_MARK]:
             sent += 1
             is_confirmed = sent not in plan.lose_publish
             if is_confirmed:
@@ -1031,11 +1031,11 @@ def published(events, plan, progress):
             if item is END_MARK:
                 is_done = True
             else:
-                moment = item.timestamp
-    return taken, (session, moment, start)
+                timestamp = item.timestamp
+    return taken, (session, timestamp, start)
 
 
-def heard(items, binding, close_after):
+def received(items, binding, close_after):
     """A subscriber that was handed these items, as far as its binding lets them through."""
     subscriber = Subscriber()
     for item in items:
@@ -1124,7 +1124,7 @@ def value_of(digits):
 
 
 def lines_of(data):
-    """The words of each line that says something, with the line's number."""
+    """The words of each line that has any, with the line's number."""
     if len(data) > MOST_BYTES:
         raise Fault(0, 'too_long')
     pieces = data.split(b'\n')
@@ -1259,12 +1259,12 @@ def read_step(words):
 
 
 def read_start(words):
-    """What follows the word of a start that isn't alone: `at` and a moment up to the greatest timestamp."""
+    """What follows the word of a start that isn't alone: `at` and a timestamp up to the greatest timestamp."""
     if words.take() != 'at':
         raise words.fault('wrong_count')
-    moment = words.number(words.take(), 63)
+    timestamp = words.number(words.take(), 63)
     words.end()
-    return Step('start at', (moment,))
+    return Step('start at', (timestamp,))
 
 
 # ---------------------------------------------------------------- Commands and printed text
@@ -1407,32 +1407,32 @@ def run(script_data, plan=Plan(), progress=None, order=None):
     if plan.window == 1:
         items, progress = published(ledger.events, plan, progress)
     else:
-        # What is sent again, and by which session, hangs on how far the connector is when it hears of a fault.
+        # What is sent again, and by which session, hangs on how far the connector is when it receives a fault.
         items, progress = published(ledger.events, Plan(start=plan.start), progress)
         more = plan.breaks()
     text = batch_lines(batches)
     for number, binding in enumerate(script.bindings, start=1):
-        text += subscriber_lines(number, heard(items, binding, plan.close_after(number)))
+        text += subscriber_lines(number, received(items, binding, plan.close_after(number)))
     return Report(text, 0, batches=batches, progress=progress, more_sessions=more)
 
 
-def plan_of(words):
-    """The plan that these words of the command line say."""
-    told = {'--lose-confirm': [], '--lose-publish': [], '--restart-after': [], '--close': []}
+def plan_of(arguments):
+    """The plan that these arguments ask for."""
+    given = {'--lose-confirm': [], '--lose-publish': [], '--restart-after': [], '--close': []}
     window, start = 1, None
-    for word, value in zip(words[::2], words[1::2]):
-        if word == '--close':
+    for argument, value in zip(arguments[::2], arguments[1::2]):
+        if argument == '--close':
             subscriber, _, count = value.partition(':')
-            told[word].append((int(subscriber), int(count)))
-        elif word in told:
-            told[word].append(int(value))
-        elif word == '--window':
+            given[argument].append((int(subscriber), int(count)))
+        elif argument in given:
+            given[argument].append(int(value))
+        elif argument == '--window':
             window = int(value)
-        elif word == '--start-after':
+        elif argument == '--start-after':
             start = int(value)
-        elif word not in ('--repeat', '--prefetch'):
+        elif argument not in ('--repeat', '--prefetch'):
             sys.exit(__doc__)
-    return Plan(*(tuple(counts) for counts in told.values()), window=window, start=start)
+    return Plan(*(tuple(counts) for counts in given.values()), window=window, start=start)
 
 
 def bytes_of(name):
@@ -1442,16 +1442,16 @@ def bytes_of(name):
         return file.read()
 
 
-def main(words):
+def main(arguments):
     window = 1
-    if words[:1] == ['run'] and len(words) >= 2:
-        report = run(bytes_of(words[1]), plan_of(words[2:]))
+    if arguments[:1] == ['run'] and len(arguments) >= 2:
+        report = run(bytes_of(arguments[1]), plan_of(arguments[2:]))
         sys.stdout.write(report.text)
         return report.status
-    if len(words) >= 2 and words[-2] == '--window':
-        window = int(words[-1])
-        words = words[:-2]
-    match words:
+    if len(arguments) >= 2 and arguments[-2] == '--window':
+        window = int(arguments[-1])
+        arguments = arguments[:-2]
+    match arguments:
         case ['-h' | '--help']:
             print(__doc__)
             return 0

@@ -15,7 +15,7 @@ SOURCES = {
 
 
 def no_command(command):
-    """Says that a command is missing, and where it comes from."""
+    """Returns that a command is missing, and where it comes from."""
     return f"there is no {command} ({SOURCES[command]})"
 
 

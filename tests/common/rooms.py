@@ -23,9 +23,9 @@ def parser_of_first(text):
     return parser
 
 
-def options_of(parser, words):
-    """What the arguments say; the program by its whole path."""
-    options = parser.parse_args(words)
+def options_of(parser, arguments):
+    """What the arguments ask for; the program by its whole path."""
+    options = parser.parse_args(arguments)
     options.program = str(pathlib.Path(options.program).resolve())
     if not os.path.isfile(options.program) or not os.access(options.program, os.X_OK):
         parser.error(f'{options.program} is no program; `./relayplum books examples/first-transfer.script` builds it')

@@ -25,8 +25,8 @@ def long_script(transfers, a_batch):
 
 
 def batches(kind, lines, start):
-    """The text of as many batches as these requests need, the first at this moment, and each behind the one before it: a script
-    that goes back is noted, which takes a second ledger."""
+    """The text of as many batches as these requests need, the first at this timestamp, and each behind the one before it: a script
+    of decreasing timestamps is noted, which takes a second ledger."""
     return "".join(f"{kind} {start + at}\n" + "".join(lines[at:at + BATCH_ITEMS]) for at in range(0, len(lines), BATCH_ITEMS))
 
 
@@ -54,9 +54,9 @@ def most_transfers(accounts, more=""):
     """How many transfers between these accounts a script has room for, behind so much more text."""
     low, high = 0, SCRIPT_BYTES
     while high - low > 1:
-        middle = (low + high) // 2
-        if len(more) + len(script(accounts, middle)) <= SCRIPT_BYTES:
-            low = middle
+        midpoint = (low + high) // 2
+        if len(more) + len(script(accounts, midpoint)) <= SCRIPT_BYTES:
+            low = midpoint
         else:
-            high = middle
+            high = midpoint
     return low

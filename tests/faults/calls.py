@@ -1,8 +1,8 @@
-"""Has each growth of one call refused in turn, for the calls that no command makes: a part of sweep.py.
+"""Has each allocation of one call refused in turn, for the calls that no command makes: a part of sweep.py.
 
-The program is cdc_calls, which makes the value first, says `made` on standard error, and makes the call then, once more
-where it was refused. A growth that is refused before that ends the program with a fault and nothing printed, or changes nothing
-where it is one of those that read the words: a run with a word that names no call tells how many these are. Each one
+The program is cdc_calls, which makes the value first, prints `made` on standard error, and makes the call then, once more
+where it was refused. An allocation that is refused before that ends the program with a fault and nothing printed, or changes nothing
+where it is one of those that read the arguments: a run whose argument names no call shows how many these are. Each one
 that comes after `made` is the call's own: the first call is refused, the second gives what it gives without a refusal.
 """
 import os
@@ -11,8 +11,8 @@ import threading
 
 SECONDS = 300  # that a run may take: a last guard against one that hangs
 NAMES = ["items", "batch", "results", "delivery", "packet", "binding", "body"]
-# The statuses: the value wasn't made, the words name no call, and something couldn't be said.
-NOT_MADE, BAD_WORDS, NOT_SAID = 2, 8, 9
+# The statuses: the value wasn't made, the arguments name no call, and something couldn't be printed.
+NOT_MADE, BAD_ARGUMENTS, NOT_PRINTED = 2, 8, 9
 MADE = b"made\n"
 
 
@@ -39,20 +39,20 @@ class Sweep:
             self.failures.append(f"failed: {what}")
 
     def reading(self):
-        """How many growths it takes to read the words."""
+        """How many allocations it takes to read the arguments."""
         calls = os.path.join(self.room, "calls-none")
         ended = self.run("none", CALLS=calls)
-        if ended != (BAD_WORDS, b"", False):
+        if ended != (BAD_ARGUMENTS, b"", False):
             self.fail(f"cdc_calls none: {ended}")
         return self.counted(calls)
 
     def counted(self, calls):
-        """How many growths a run made."""
+        """How many allocations a run made."""
         with open(calls, "rb") as file:
-            return int(dict(line.split() for line in file)[b"growth"])
+            return int(dict(line.split() for line in file)[b"allocation"])
 
-    def growths(self, name):
-        """The numbers of growths in a run that has none refused, and what it prints."""
+    def allocations(self, name):
+        """The numbers of allocations in a run that has none refused, and what it prints."""
         calls = os.path.join(self.room, f"calls-{name}")
         status, printed, made = self.run(name, CALLS=calls)
         refused, _, value = printed.partition(b"\n")
@@ -61,21 +61,21 @@ class Sweep:
         return range(1, self.counted(calls) + 1), value
 
     def sweep(self, pool):
-        words = self.reading()
+        arguments = self.reading()
         for name in NAMES:
-            numbers, value = self.growths(name)
+            numbers, value = self.allocations(name)
             own = []
-            for number, ended in zip(numbers, pool.map(lambda it: self.run(name, FAULT=f"growth:{it}"), numbers)):
-                if number <= words:
+            for number, ended in zip(numbers, pool.map(lambda it: self.run(name, FAULT=f"allocation:{it}"), numbers)):
+                if number <= arguments:
                     right = ended == (0, b"refused 0\n" + value, True) or ended[0] == NOT_MADE and not ended[1]
                 elif ended[2]:
                     own.append(number)
                     right = ended == (0, b"refused 1\n" + value, True)
                 else:
-                    right = ended[0] in (NOT_MADE, NOT_SAID) and not ended[1]
+                    right = ended[0] in (NOT_MADE, NOT_PRINTED) and not ended[1]
                 if not right:
-                    self.fail(f"cdc_calls {name}, growth:{number}: {ended}")
+                    self.fail(f"cdc_calls {name}, allocation:{number}: {ended}")
             # The call comes last, and it grows.
             if not own or own != list(numbers)[-len(own):]:
-                self.fail(f"cdc_calls {name}: its own growths are {own} of {len(numbers)}")
-            print(f"cdc_calls {name}: {len(numbers)} growths, {len(own)} of them the call's", flush=True)
+                self.fail(f"cdc_calls {name}: its own allocations are {own} of {len(numbers)}")
+            print(f"cdc_calls {name}: {len(numbers)} allocations, {len(own)} of them the call's", flush=True)

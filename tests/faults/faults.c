@@ -1,12 +1,12 @@
-/* Makes one call of the C library fail, or all of them fall short, as a plan says. sweep.py builds it and has it loaded
+/* Makes one call of the C library fail, or all of them fall short, as a plan asks. sweep.py builds it and has it loaded
  * before the C library.
  *
- *   FAULT   words, of which the first is KIND:N, if one is:
- *           KIND:N   the call of this kind that comes as number N, from 1, is refused: growth (memory is asked for),
+ *   FAULT   the plan: words, of which the first is KIND:N, if one is:
+ *           KIND:N   the call of this kind that comes as number N, from 1, is refused: allocation (memory is asked for),
  *                    open, read, write, sync, rename or thread (a thread is started)
  *           on-thread:THREAD:N   the Nth allocation on one thread is refused; threads are numbered from 1, in the order in
  *                    which they are started
- *           after    what is refused is done first, if it isn't a growth or a thread, and answered as refused all the same
+ *           after    what is refused is done first, if it isn't an allocation or a thread, and answered as refused all the same
  *           end      in the place of the answer the process ends, with the status 70
  *           short    a read gives one byte, and a write takes one
  *   CALLS   a path: when the process ends, this file gets the number of calls of each kind, a line each
@@ -29,8 +29,8 @@
 #include <sys/syscall.h>
 #include <unistd.h>
 
-enum kind { GROWTH, OPEN, READ, WRITE, SYNC, RENAME, THREAD, KINDS };
-static const char *const names[KINDS] = {"growth", "open", "read", "write", "sync", "rename", "thread"};
+enum kind { ALLOCATION, OPEN, READ, WRITE, SYNC, RENAME, THREAD, KINDS };
+static const char *const names[KINDS] = {"allocation", "open", "read", "write", "sync", "rename", "thread"};
 static long counts[KINDS];
 
 /* The C library's own, under the names that it keeps for those who stand before it. */
@@ -49,9 +49,9 @@ static const char *plan(void) {
     return read_plan;
 }
 
-static int says(const char *word) { return strstr(plan(), word) != NULL; }
+static int asks(const char *word) { return strstr(plan(), word) != NULL; }
 
-static int is_short(void) { return says("short"); }
+static int is_short(void) { return asks("short"); }
 
 /* The number of this thread, which is 0 for the first one of the process, and of its allocations so far. */
 static __thread long thread_number, own_allocations;
@@ -63,10 +63,10 @@ static int fails_on_thread(void) {
     return sscanf(plan(), "on-thread:%ld:%ld", &thread, &number) == 2 && thread == thread_number && number == own_allocations;
 }
 
-/* Counts a call, and says whether it is the one that fails. */
+/* Counts a call, and returns whether it is the one that fails. */
 static int fails(enum kind kind) {
     long number = __atomic_add_fetch(&counts[kind], 1, __ATOMIC_SEQ_CST);
-    if (kind == GROWTH && strncmp(plan(), "on-thread:", 10) == 0) return fails_on_thread();
+    if (kind == ALLOCATION && strncmp(plan(), "on-thread:", 10) == 0) return fails_on_thread();
     size_t length = strlen(names[kind]);
     if (strncmp(plan(), names[kind], length) != 0 || plan()[length] != ':') return 0;
     return atol(plan() + length + 1) == number;
@@ -98,7 +98,7 @@ static const char *path_of(int file, char *path, size_t size) {
     return path;
 }
 
-__attribute__((destructor)) static void tell(void) {
+__attribute__((destructor)) static void report(void) {
     char text[256];
     size_t used = 0;
     for (int kind = 0; kind < KINDS; kind++)
@@ -108,15 +108,15 @@ __attribute__((destructor)) static void tell(void) {
 
 /* A program that may have threads ends by this, past all destructors. */
 void _exit(int status) {
-    tell();
+    report();
     for (;;) syscall(SYS_exit_group, status);
 }
 
 /* ---- memory */
 
-/* Ends the process where the plan says so. */
+/* Ends the process if the plan asks for it. */
 static void end_here(void) {
-    if (says("end")) _exit(70);
+    if (asks("end")) _exit(70);
 }
 
 static void *no_memory(void) {
@@ -125,14 +125,14 @@ static void *no_memory(void) {
     return NULL;
 }
 
-void *malloc(size_t size) { return fails(GROWTH) ? no_memory() : __libc_malloc(size); }
+void *malloc(size_t size) { return fails(ALLOCATION) ? no_memory() : __libc_malloc(size); }
 
-void *calloc(size_t count, size_t size) { return fails(GROWTH) ? no_memory() : __libc_calloc(count, size); }
+void *calloc(size_t count, size_t size) { return fails(ALLOCATION) ? no_memory() : __libc_calloc(count, size); }
 
-void *realloc(void *old, size_t size) { return fails(GROWTH) ? no_memory() : __libc_realloc(old, size); }
+void *realloc(void *old, size_t size) { return fails(ALLOCATION) ? no_memory() : __libc_realloc(old, size); }
 
 void *memalign(size_t alignment, size_t size) {
-    return fails(GROWTH) ? no_memory() : __libc_memalign(alignment, size);
+    return fails(ALLOCATION) ? no_memory() : __libc_memalign(alignment, size);
 }
 
 void *aligned_alloc(size_t alignment, size_t size) { return memalign(alignment, size); }
@@ -157,7 +157,7 @@ enum refusal { NONE, BEFORE, AFTER };
 
 static enum refusal refusal_of(enum kind kind) {
     if (!fails(kind)) return NONE;
-    return says("after") ? AFTER : BEFORE;
+    return asks("after") ? AFTER : BEFORE;
 }
 
 /* The answer of a call that is done: its own, or as if it weren't. */
@@ -170,7 +170,7 @@ static int open_at(int folder, const char *path, int flags, mode_t mode) {
     return (int)answer(how, syscall(SYS_openat, folder, path, flags, mode), EACCES);
 }
 
-/* Says the fourth argument of an open, where there is one. */
+/* Returns the fourth argument of an open, where there is one. */
 #define MODE_OF(last, flags, mode)                                                                                     \
     mode_t mode = 0;                                                                                                   \
     if ((flags) & (O_CREAT | O_TMPFILE)) {                                                                             \
@@ -255,14 +255,14 @@ int unlinkat(int folder, const char *path, int flags) { return removed(folder, p
 /* ---- threads */
 
 /* What each thread runs, by its number. */
-static struct beginning {
+static struct thread_start {
     void *(*start)(void *);
     void *with;
-} beginnings[64];
+} starts[64];
 
 static void *begin(void *number) {
     thread_number = (long)number;
-    return beginnings[thread_number].start(beginnings[thread_number].with);
+    return starts[thread_number].start(starts[thread_number].with);
 }
 
 int pthread_create(pthread_t *thread, const pthread_attr_t *how, void *(*start)(void *), void *with) {
@@ -270,8 +270,8 @@ int pthread_create(pthread_t *thread, const pthread_attr_t *how, void *(*start)(
     if (!own) *(void **)&own = dlsym(RTLD_NEXT, "pthread_create");
     if (!fails(THREAD)) {
         long number = counts[THREAD];
-        if (number >= (long)(sizeof beginnings / sizeof *beginnings)) abort();
-        beginnings[number] = (struct beginning){start, with};
+        if (number >= (long)(sizeof starts / sizeof *starts)) abort();
+        starts[number] = (struct thread_start){start, with};
         return own(thread, how, begin, (void *)number);
     }
     end_here();

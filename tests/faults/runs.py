@@ -1,14 +1,14 @@
-"""Has each growth, each start of a thread and each call beneath a save or a load of progress fail in turn under `run`: a part
+"""Has each allocation, each start of a thread and each call beneath a save or a load of progress fail in turn under `run`: a part
 of sweep.py.
 
-- A growth that is refused is want of memory, whichever thread it was on, or changes nothing; a thread that can't be started is
-  want of memory. Standard error names the end that met it, and each end of a run meets one. No end that heard of it hides
-  it, and no run waits for good.
-- A run of one client with one event in its window saves four records, one after another; the trace of a good run says which
+- An allocation that is refused makes the run fail, whichever thread it was on, or changes nothing. A thread that can't be started makes it
+  fail too. Both are reported as out of memory. Standard error names the actor that failed, and each actor fails once. No actor
+  that received the failure of another one hides it, and no run waits for good.
+- A run of one client with one event in its window saves four records, one after another; the trace of a good run has which
   call is of which save. Where one of these calls is refused, or done and answered as refused, or where the process ends there,
   before the call or after it:
   - the file holds the record of the save before, whole, or what it held at the start; only from the rename on it holds the new one;
-  - beside it is nothing, or the beginning of a record;
+  - beside it is nothing, or a prefix of a record;
   - the run is refused by the store, and standard error names the file;
   - the next run goes on from what the file holds: it prints what comes after that, and leaves the last record alone.
   The same while each write takes one byte, so that what is beside the file may end anywhere.
@@ -52,9 +52,9 @@ CASES = [
     ("two clients, two subscribers", ALL + OTHERS + TWO_CLIENTS, OF_TWO + OTHERS_KEPT, (1, 2), []),
     ("two clients, one subscriber", ALL + TWO_CLIENTS, OF_TWO, (1,), []),
     ("objects", ALL + HOLD_AND_POST, BATCHES + ALL_KEPT, (2,), ["--json"]),
-    ("told", ALL + POSTED + HOLD_AND_POST, BATCHES + ALL_KEPT + POSTED_KEPT, (2,), ["--explain", "--trace"]),
+    ("traced", ALL + POSTED + HOLD_AND_POST, BATCHES + ALL_KEPT + POSTED_KEPT, (2,), ["--explain", "--trace"]),
 ]
-# What a run of the first script prints that goes on from a moment.
+# What a run of the first script prints that goes on from a timestamp.
 LATER = {
     0: BATCHES + ALL_KEPT + POSTED_KEPT,
     2000: BATCHES + ALL_KEPT.replace("applied 3", "applied 2") + POSTED_KEPT,
@@ -62,17 +62,17 @@ LATER = {
     + NONE_KEPT.format(2),
     3001: BATCHES + NONE_KEPT.format(1) + NONE_KEPT.format(2),
 }
-MOMENTS = sorted(LATER)
+TIMESTAMPS = sorted(LATER)
 KIND_OF = {"open": "open", "look": "open", "read": "read", "write": "write", "sync": "sync", "rename": "rename"}
 HOW = ["", " after", " end", " after end"]
 RECORD = re.compile(rb"tb-cdc (?:1 (?=\d+ \d+\n)|2 (?=\d+ \d+ \d+\n))(\d+) (\d+)(?: 0)?\n")
 WANTED = re.compile(r"relayplum: out_of_memory: (no memory was left|no thread could be started)(?: for ([a-z]+(?: [a-z]+| \d+)))?\n")
-# The lines of a trace where the run had no memory to note all that it tells of.
+# The lines of a trace where the run ran out of memory for some of it.
 LACKING = re.compile(
-    rb"there was no memory to tell of all publishes|again \d: there was no memory to tell of all"
-    rb"|subscriber \d: \d+ deliver(?:y|ies), \d+ applied, each once; the other (?:one|\d+) came again, .*"
+    rb"out of memory: not all publishes are listed|again \d: out of memory: not all are listed"
+    rb"|subscriber \d: \d+ deliver(?:y|ies), \d+ applied, each once; the other (?:one|\d+), if not redelivered, .*"
 )
-BEGINNING = re.compile(rb"(t|tb|tb-|tb-c|tb-cd|tb-cdc|tb-cdc [0-9 ]*\n?)?")
+PREFIX = re.compile(rb"(t|tb|tb-|tb-c|tb-cd|tb-cdc|tb-cdc [0-9 ]*\n?)?")
 
 
 def record(session, timestamp):
@@ -97,16 +97,16 @@ def contents(path):
 
 
 def places_of(script):
-    """The ends of a run of a script, in the order of their places."""
+    """The actors of a run of a script, in the order of their places."""
     lines = script.splitlines()
     clients = sorted({int(it.split()[1]) for it in lines if it.startswith("client ")} or {1})
     subscribers = range(1, 1 + sum(it.startswith("subscriber ") for it in lines))
     return ["the ledger", *[f"client {it}" for it in clients], "the connector", "the broker", *[f"subscriber {it}" for it in subscribers]]
 
 
-def is_told(errors, told_of):
-    """Whether standard error tells of a run what it does without a refusal, less what lacked memory."""
-    return all(line in told_of.splitlines() or LACKING.fullmatch(line) for line in errors.splitlines())
+def is_reported(errors, whole):
+    """Whether standard error has of a run what it has without a refusal, less what there was no memory for."""
+    return all(line in whole.splitlines() or LACKING.fullmatch(line) for line in errors.splitlines())
 
 
 def as_text(printed):
@@ -148,56 +148,56 @@ class Sweep:
         os.mkdir(made)
         return made
 
-    def run(self, script, words, folder=None, **plan):
+    def run(self, script, arguments, folder=None, **plan):
         """Runs a script under a plan. Answers the status and what was printed, and what standard error said."""
         with self.lock:
             self.runs += 1
         env = dict(os.environ, LD_PRELOAD=self.library, **plan)
-        words = [self.program, "run", "-", *words]
+        arguments = [self.program, "run", "-", *arguments]
         try:
-            done = subprocess.run(words, input=script.encode(), capture_output=True, env=env, cwd=folder, timeout=SECONDS)
+            done = subprocess.run(arguments, input=script.encode(), capture_output=True, env=env, cwd=folder, timeout=SECONDS)
         except subprocess.TimeoutExpired:
             return ("none", f"it hasn't ended after {SECONDS} seconds"), b""
-        return (done.returncode, as_text(done.stdout) if "--json" in words else done.stdout), done.stderr
+        return (done.returncode, as_text(done.stdout) if "--json" in arguments else done.stdout), done.stderr
 
-    # -- growths and threads
+    # -- allocations and threads
 
     def sweep_case(self, pool, name, script, printed, window, asked):
-        """Each growth and each start of a thread is refused."""
-        words = ["--window", str(window), *asked]
+        """Each allocation and each start of a thread is refused."""
+        arguments = ["--window", str(window), *asked]
         reads = (lambda text: text) if script.count("client") < 2 else settled
         is_right = lambda ended: ended[0] == 0 and reads(ended[1].decode()) == printed
-        calls, folder = {"growth": 0, "thread": 0}, self.folder()
-        # (how many growths there are hangs on the threads)
+        calls, folder = {"allocation": 0, "thread": 0}, self.folder()
+        # (how many allocations there are hangs on the threads)
         for _ in range(3):
-            ended, told_of = self.run(script, words, CALLS=os.path.join(folder, "calls"))
+            ended, whole = self.run(script, arguments, CALLS=os.path.join(folder, "calls"))
             if not is_right(ended):
                 self.fail(f"{name}, window {window}, no fault: {ended}")
             found = dict(line.split() for line in contents(os.path.join(folder, "calls")).decode().splitlines())
             calls = {kind: max(count, int(found[kind])) for kind, count in calls.items()}
-        told, places = {}, places_of(script)
+        counts, places = {}, places_of(script)
         plans = [f"{kind}:{number}" for kind, count in calls.items() for number in range(1, count + 1)]
-        for plan, (ended, errors) in zip(plans, pool.map(lambda plan: self.run(script, words, FAULT=plan), plans)):
+        for plan, (ended, errors) in zip(plans, pool.map(lambda plan: self.run(script, arguments, FAULT=plan), plans)):
             said = WANTED.fullmatch(errors.decode())
             refused = ended == NO_MEMORY and said is not None
             kind, number = plan.split(":")
             if refused and kind == "thread":
-                # (the last end is started first)
+                # (the last actor is started first)
                 refused = said.groups() == ("no thread could be started", places[-int(number)])
             elif refused and said[1] == "no memory was left":
                 refused = said[2] in (None, *places)
             elif refused:
                 # (to start a thread takes some memory too)
                 refused = said[2] in places
-            if not refused and not (kind == "growth" and is_right(ended) and is_told(errors, told_of)):
+            if not refused and not (kind == "allocation" and is_right(ended) and is_reported(errors, whole)):
                 self.fail(f"{name}, window {window}, {plan}: {ended}, {errors!r}")
-            told[refused] = told.get(refused, 0) + 1
+            counts[refused] = counts.get(refused, 0) + 1
         if calls["thread"] != len(places):
             self.fail(f"{name}, window {window}: {calls['thread']} threads were started, not {len(places)}")
-        is_unmoved = lambda ended, errors: is_right(ended) and is_told(errors, told_of)
-        self.sweep_threads(pool, f"{name}, window {window}", lambda plan: self.run(script, words, FAULT=plan), places, is_unmoved)
-        ends = f"{told.get(True, 0)} ended it, {told.get(False, 0)} changed nothing"
-        print(f"run, {name}, window {window}: {calls['growth']} growths, {calls['thread']} threads ({ends})", flush=True)
+        is_unmoved = lambda ended, errors: is_right(ended) and is_reported(errors, whole)
+        self.sweep_threads(pool, f"{name}, window {window}", lambda plan: self.run(script, arguments, FAULT=plan), places, is_unmoved)
+        outcomes = f"{counts.get(True, 0)} ended it, {counts.get(False, 0)} changed nothing"
+        print(f"run, {name}, window {window}: {calls['allocation']} allocations, {calls['thread']} threads ({outcomes})", flush=True)
 
     def sweep_threads(self, pool, what, run, places, is_unmoved):
         """The first allocations of each thread are refused. These belong to one actor, however the threads are scheduled: either
@@ -241,8 +241,8 @@ class Sweep:
                 counts[kind] = counts.get(kind, 0) + 1
                 found.append((kind, counts[kind], os.path.basename(path), saved))
             saved += what == "rename"
-        if saved != len(MOMENTS):
-            self.fail(f"a run saves {saved} records, not {len(MOMENTS)}")
+        if saved != len(TIMESTAMPS):
+            self.fail(f"a run saves {saved} records, not {len(TIMESTAMPS)}")
         return found
 
     def failing_call(self, name, start, call, how, short):
@@ -251,22 +251,22 @@ class Sweep:
         folder, plan = self.place(start), f"{kind}:{number}{how}{short}"
         ended, errors = self.saving(folder, FAULT=plan)
         session = int(RECORD.fullmatch(start[0])[1]) + 1 if start[0] else 1
-        records = [start[0], *(record(session, moment) for moment in MOMENTS)]
+        records = [start[0], *(record(session, timestamp) for timestamp in TIMESTAMPS)]
         wanted = records[saved + (kind == "rename" and "after" in how)]
         holds, beside = (contents(os.path.join(folder, it)) for it in ("saved", "saved.new"))
         if "end" in how:
             right = ended == ENDED
         else:
             right = ended == STORE and b"saved: store: " in errors and errors.count(b"\n") == 1
-        if not right or holds != wanted or not (beside is None or BEGINNING.fullmatch(beside)):
+        if not right or holds != wanted or not (beside is None or PREFIX.fullmatch(beside)):
             self.fail(f"{name}, {plan} of {path}: {ended}, {errors!r}; saved: {holds!r}, wanted {wanted!r}; beside it {beside!r}")
             return
         before = RECORD.fullmatch(holds) if holds else None
-        moment = int(before[2]) if before else 0
+        timestamp = int(before[2]) if before else 0
         ended, _ = self.saving(folder)
         left = [contents(os.path.join(folder, it)) for it in ("saved", "saved.new")]
-        last = record(int(before[1]) + 1 if before else 1, MOMENTS[-1])
-        if ended != (0, LATER[moment].encode()) or left != [last, None]:
+        last = record(int(before[1]) + 1 if before else 1, TIMESTAMPS[-1])
+        if ended != (0, LATER[timestamp].encode()) or left != [last, None]:
             self.fail(f"{name}, {plan} of {path}, the next run: {ended}, {left}")
 
     def sweep_saves(self, pool, name, start):
@@ -276,35 +276,35 @@ class Sweep:
         if start == STARTS["an old record"]:
             writes = [it for it in self.calls_of(start, " short") if it[0] == "write" and it[2] == "saved.new"]
             tries += [(it, how, " short") for it in writes for how in ("", " after end")]
-            self.sweep_growths(pool, name, start)
+            self.sweep_allocations(pool, name, start)
         list(pool.map(lambda it: self.failing_call(name, start, *it), tries))
         for kind in ("open", "read", "write", "sync", "rename"):
             if kind not in {it[0] for it in of_file}:
                 self.fail(f"{name}: a run that saves does no {kind}")
         print(f"run, {name}: {len(of_file)} calls of the file of progress, {len(tries)} tries", flush=True)
 
-    def refused_growth(self, name, start, number):
-        """A growth of a run that saves is refused: the file holds a whole record, or what it held, and the next run goes on."""
+    def refused_allocation(self, name, start, number):
+        """An allocation of a run that saves is refused: the file holds a whole record, or what it held, and the next run goes on."""
         folder = self.place(start)
-        ended, errors = self.saving(folder, FAULT=f"growth:{number}")
+        ended, errors = self.saving(folder, FAULT=f"allocation:{number}")
         holds, beside = (contents(os.path.join(folder, it)) for it in ("saved", "saved.new"))
         found = RECORD.fullmatch(holds)
         right = ended == NO_MEMORY and b"out_of_memory" in errors or ended == (0, LATER[0].encode())
         if not right or not found or int(found[2]) not in LATER or beside is not None:
-            self.fail(f"{name}, growth:{number}: {ended}, {errors!r}; saved: {holds!r}; beside it {beside!r}")
+            self.fail(f"{name}, allocation:{number}: {ended}, {errors!r}; saved: {holds!r}; beside it {beside!r}")
             return
         ended, _ = self.saving(folder)
         if ended != (0, LATER[int(found[2])].encode()):
-            self.fail(f"{name}, growth:{number}, the next run: {ended}")
+            self.fail(f"{name}, allocation:{number}, the next run: {ended}")
 
-    def sweep_growths(self, pool, name, start):
-        """Each growth of a run that saves its progress is refused."""
+    def sweep_allocations(self, pool, name, start):
+        """Each allocation of a run that saves its progress is refused."""
         folder = self.place(start)
         self.saving(folder, CALLS=os.path.join(folder, "calls"))
         found = dict(line.split() for line in contents(os.path.join(folder, "calls")).decode().splitlines())
-        numbers = range(1, int(found["growth"]) + 1)
-        list(pool.map(lambda number: self.refused_growth(name, start, number), numbers))
-        print(f"run, {name}: {len(numbers)} growths", flush=True)
+        numbers = range(1, int(found["allocation"]) + 1)
+        list(pool.map(lambda number: self.refused_allocation(name, start, number), numbers))
+        print(f"run, {name}: {len(numbers)} allocations", flush=True)
 
     def sweep(self, pool):
         for name, script, printed, windows, asked in CASES:

@@ -1,25 +1,25 @@
 #!/usr/bin/env python3
-"""Makes each growth, each read and each write of the program fail in turn, and looks how it ends.
+"""Makes each allocation, each read and each write of the program fail in turn, and looks how it ends.
 
   tests/faults/sweep.py [--as-built] [PROGRAM [CALLS]]    PROGRAM: crates/cdc_app/out/cdc_app
                                                           CALLS: cdc_calls, from the same tree as PROGRAM
 
 A small library, faults.c, is built and loaded before the C library; it refuses the call that a plan names. For every
 run below, and for every call of it in turn:
-- a growth that is refused ends it with the one line of want of memory and status 1. Under `simulate` it refuses a step
+- an allocation that is refused ends it with the one line of out_of_memory and status 1. Under `simulate` it refuses a step
   where it is the step's own: what is then printed is the state that the steps before it make when they are played
-  alone. Each kind of step that always takes memory is refused so at some of its growths. Steps that are made by chance
-  stand on standard error as they are without a refusal, or the command gives up.
-- a growth that is refused once all is printed changes neither that nor the status; what standard error tells with
-  `--explain`, `--trace` and `--diagram`, and the notes, is told whole or not at all. Of a step that lacked memory none of
-  it is told.
+  alone. Each kind of step that always takes memory is refused so at some of its allocations. Random steps
+  stand on standard error as they are without a refusal, or the command fails.
+- an allocation that is refused once all is printed changes neither that nor the status; what standard error has with
+  `--explain`, `--trace` and `--diagram`, and the notes, is printed whole or not at all. Of a step that ran out of memory
+  none of it is printed.
 - a read that is refused ends it with the one line of read_fault and status 1;
-- a write that is refused ends it with status 1, a beginning of what it prints, and the write_fault on standard error;
+- a write that is refused ends it with status 1, a prefix of what it prints, and the write_fault on standard error;
   one of standard error's changes nothing that is printed, nor the status;
 - reads and writes that fall short change nothing.
 Then the same of runs on threads, with each start of a thread and each call beneath a save or a load of progress: runs.py;
-and each growth of the calls that no command makes is refused, by the program cdc_calls: calls.py.
-With --as-built the part of cdc_calls is left out where that isn't built, and a line says so; `rt ci` builds it, and `rt run`
+and each allocation of the calls that no command makes is refused, by the program cdc_calls: calls.py.
+With --as-built the part of cdc_calls is left out where that isn't built, and a line reports that; `rt ci` builds it, and `rt run`
 in its crate, and `relayplum` doesn't.
 It needs a C compiler, `cc`. The last line is 'faults: N runs, M failed'; the status is 0 where none failed.
 """
@@ -53,11 +53,11 @@ REFUSED = {
     ),
 }
 STEPS = re.compile(rb'^(steps \d+ of \d+|{"kind":"steps","done":\d+,"of":\d+})\n', re.M)
-# The last line of standard error where a command gave up.
-GAVE_UP = b"relayplum: out_of_memory: no memory was left\n"
-TOLD = {"--explain", "--trace", "--diagram"}
+# The last line of standard error where a command failed.
+FAILED = b"relayplum: out_of_memory: no memory was left\n"
+REPORTING = {"--explain", "--trace", "--diagram"}
 # The kinds of steps that always take memory.
-GROWING = {b"batch", b"poll", b"publish", b"arrive", b"send", b"take"}
+ALLOCATING = {b"batch", b"poll", b"publish", b"arrive", b"send", b"take"}
 # The program, the library that refuses calls, and the folder for what runs read and write.
 program = library = room = None
 failures = []
@@ -70,7 +70,7 @@ def example(name):
 
 
 EVERY = os.path.join(HERE, "every-request.script")
-# The words of each run, and the file that is its standard input, if there is one.
+# The arguments of each run, and the file that is its standard input, if there is one.
 CASES = [
     (["books", example("two-phase.script")], None),
     (["books", EVERY], None),
@@ -106,12 +106,12 @@ def built_library(folder):
 class Run:
     """How a run of the program ended: its status, what it printed, and what it said on standard error."""
 
-    def __init__(self, words, stdin, **plan):
+    def __init__(self, arguments, stdin, **plan):
         with counting:
             counts["runs"] += 1
         env = dict(os.environ, LD_PRELOAD=library, **plan)
         with open(stdin or os.devnull, "rb") as given:
-            done = subprocess.run([program, *words], stdin=given, capture_output=True, env=env, timeout=SECONDS)
+            done = subprocess.run([program, *arguments], stdin=given, capture_output=True, env=env, timeout=SECONDS)
         self.end = (done.returncode, done.stdout)
         self.errors = done.stderr
 
@@ -119,43 +119,43 @@ class Run:
 class Case:
     """A run of the program without a fault, and each with one."""
 
-    def __init__(self, number, words, stdin):
-        self.words, self.stdin = words, stdin
-        self.name = " ".join(os.path.basename(it) for it in words)
+    def __init__(self, number, arguments, stdin):
+        self.arguments, self.stdin = arguments, stdin
+        self.name = " ".join(os.path.basename(it) for it in arguments)
         self.folder = os.path.join(room, str(number))
         os.mkdir(self.folder)
         calls = os.path.join(self.folder, "calls")
-        self.is_json = "--json" in words
-        self.good = Run(words, stdin, CALLS=calls)
+        self.is_json = "--json" in arguments
+        self.good = Run(arguments, stdin, CALLS=calls)
         with open(calls, "rb") as file:
             self.calls = {kind.decode(): int(count) for kind, count in (line.split() for line in file)}
         self.played = {}
         self.made = b""
-        if words[0] == "simulate":
-            if "--random" in words:
+        if arguments[0] == "simulate":
+            if "--random" in arguments:
                 text = self.good.errors
-                # (comments behind the last step say what came of the play)
+                # (comments behind the last step report what came of the play)
                 self.made = text[: re.match(rb"(?:.*\n)*(?!#).*\n", text).end()]
             else:
-                with open(words[2], "rb") as file:
+                with open(arguments[2], "rb") as file:
                     text = file.read()
             self.steps = [line for line in text.split(b"\n") if line.strip() and line[:1] != b"#"]
-        self.told_errors = self.errors_where_told()
+        self.whole_errors = self.errors_with_reports()
 
-    def errors_where_told(self):
-        """What standard error may have once all is printed: what is told and the notes, each whole or not at all. Where
+    def errors_with_reports(self):
+        """What standard error may have once all is printed: the reports and the notes, each whole or not at all. Where
         nothing is asked for, it may be anything."""
-        if not TOLD & set(self.words):
+        if not REPORTING & set(self.arguments):
             return None
-        plain = Run([it for it in self.words if it not in TOLD], self.stdin).errors
+        plain = Run([it for it in self.arguments if it not in REPORTING], self.stdin).errors
         notes = b"".join(line for line in plain.splitlines(True) if b": note: " in line)
-        told = self.good.errors[: len(self.good.errors) - len(notes)]
-        if self.good.errors != told + notes or not told:
-            failures.append(f"failed: {self.name}: without a refusal standard error isn't what is told and then the notes")
-        return {told + notes, told, notes, b""}
+        reports = self.good.errors[: len(self.good.errors) - len(notes)]
+        if self.good.errors != reports + notes or not reports:
+            failures.append(f"failed: {self.name}: without a refusal standard error isn't the reports and then the notes")
+        return {reports + notes, reports, notes, b""}
 
     def run(self, plan):
-        return Run(self.words, self.stdin, FAULT=plan)
+        return Run(self.arguments, self.stdin, FAULT=plan)
 
     def fail(self, plan, run):
         failures.append(
@@ -168,36 +168,36 @@ class Case:
             steps = os.path.join(self.folder, f"{done}.steps")
             with open(steps, "wb") as file:
                 file.write(b"".join(step + b"\n" for step in self.steps[:done]))
-            words = [*self.words[:2], steps] + (["--json"] if self.is_json else [])
-            self.played[done] = STEPS.sub(b"", Run(words, self.stdin).end[1])
+            arguments = [*self.arguments[:2], steps] + (["--json"] if self.is_json else [])
+            self.played[done] = STEPS.sub(b"", Run(arguments, self.stdin).end[1])
         return self.played[done]
 
     def refused_step(self, run):
-        """The number of the step that was refused for want of memory, where the rest is as it has to be; else None."""
+        """The number of the step that was refused as out of memory, where the rest is as it has to be; else None."""
         found = REFUSED[self.is_json].search(run.end[1])
-        if self.words[0] != "simulate" or run.end[0] != 1 or not found:
+        if self.arguments[0] != "simulate" or run.end[0] != 1 or not found:
             return None
         done, count, refused = map(int, found.groups())
         rest = run.end[1][: found.start()] + run.end[1][found.end() :]
         return refused if count == len(self.steps) and refused == done + 1 and rest == self.after(done) else None
 
     def no_memory(self):
-        """How a command ends that lacks memory: as text, too, where it does before its words are read."""
+        """How a command ends that runs out of memory: as text, too, where it does before its arguments are read."""
         return [NO_MEMORY, NO_MEMORY_JSON] if self.is_json else [NO_MEMORY]
 
     def errors_are_right(self, step, run):
-        """Whether standard error is as it has to be where a growth was refused."""
+        """Whether standard error is as it has to be where an allocation was refused."""
         if run.end in self.no_memory():
-            return run.errors.endswith(GAVE_UP)
-        if self.told_errors is None:
+            return run.errors.endswith(FAILED)
+        if self.whole_errors is None:
             return run.errors.startswith(self.made)
         if step is None:
-            return run.errors in self.told_errors
-        return b"out_of_memory" in run.errors and not any(told and told in run.errors for told in self.told_errors)
+            return run.errors in self.whole_errors
+        return b"out_of_memory" in run.errors and not any(it and it in run.errors for it in self.whole_errors)
 
-    def growths(self, pool):
-        """Each growth is refused in turn."""
-        plans = [f"growth:{n}" for n in range(1, self.calls["growth"] + 1)]
+    def allocations(self, pool):
+        """Each allocation is refused in turn."""
+        plans = [f"allocation:{n}" for n in range(1, self.calls["allocation"] + 1)]
         ended = list(zip(plans, pool.map(self.run, plans)))
         steps = [self.refused_step(run) for _, run in ended]
         for step, (plan, run) in zip(steps, ended):
@@ -205,13 +205,13 @@ class Case:
                 self.fail(plan, run)
         found = [step for step in steps if step is not None]
         if found != sorted(found):
-            failures.append(f"failed: {self.name}: growths that come later are refused at earlier steps")
-        if self.words[0] == "simulate" and "--check" not in self.words:
-            for word in sorted(GROWING - {self.steps[step - 1].split()[0] for step in found}):
-                failures.append(f"failed: {self.name}: no step `{word.decode()}` is refused for want of memory")
-        told = Counter("refused a step" if step else "ended the command" if run.end in self.no_memory() else "changed nothing"
+            failures.append(f"failed: {self.name}: allocations that come later are refused at earlier steps")
+        if self.arguments[0] == "simulate" and "--check" not in self.arguments:
+            for kind in sorted(ALLOCATING - {self.steps[step - 1].split()[0] for step in found}):
+                failures.append(f"failed: {self.name}: no step `{kind.decode()}` is refused as out of memory")
+        counted = Counter("refused a step" if step else "ended the command" if run.end in self.no_memory() else "changed nothing"
                        for step, (_, run) in zip(steps, ended))
-        return f"{len(plans)} growths ({', '.join(f'{count} {what}' for what, count in sorted(told.items()))})"
+        return f"{len(plans)} allocations ({', '.join(f'{count} {what}' for what, count in sorted(counted.items()))})"
 
     def reads(self, pool):
         """Each read is refused in turn."""
@@ -241,7 +241,7 @@ class Case:
     def sweep(self, pool):
         if self.good.end[0] != 0:
             self.fail("no fault", self.good)
-        parts = [self.growths(pool), self.reads(pool), self.writes(pool)]
+        parts = [self.allocations(pool), self.reads(pool), self.writes(pool)]
         self.short()
         print(f"{self.name}: {', '.join(parts)}", flush=True)
 
@@ -257,23 +257,23 @@ def caller_of(options):
     return None
 
 
-def options_of(words):
+def options_of(arguments):
     parser = rooms.parser_of_first(__doc__)
     parser.add_argument("calls", nargs="?", metavar="CALLS", help="default: cdc_calls, from the same tree as PROGRAM")
     parser.add_argument("--as-built", action="store_true", help="leaves the part of cdc_calls out if that isn't built")
-    return rooms.options_of(parser, words)
+    return rooms.options_of(parser, arguments)
 
 
-def main(words):
+def main(arguments):
     global program, library, room
-    options = options_of(words)
+    options = options_of(arguments)
     program = options.program
     caller = caller_of(options)
     with rooms.room("faults-") as room:
         library = built_library(room)
         with ThreadPoolExecutor(JOBS) as pool:
-            for number, (words, stdin) in enumerate(CASES):
-                Case(number, words, stdin).sweep(pool)
+            for number, (arguments, stdin) in enumerate(CASES):
+                Case(number, arguments, stdin).sweep(pool)
             parts = [runs.Sweep(program, library, room)]
             parts += [calls.Sweep(caller, library, room)] if caller else []
             for part in parts:

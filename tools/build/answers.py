@@ -74,15 +74,15 @@ def unknown(help, commands, arguments):
         wrong = f"there is no command {first}: the commands are {', '.join(commands)}"
     else:
         flags, rest = help.flags(first), iter(arguments[1:])
-        for word in rest:
-            flag = word.partition("=")[0]
-            if word == "--":
+        for argument in rest:
+            flag = argument.partition("=")[0]
+            if argument == "--":
                 break
-            if word.startswith("-") and word != "-":
+            if argument.startswith("-") and argument != "-":
                 if flag not in flags:
                     wrong = f"{first} has no flag {flag}"
                     break
-                if flags[flag] and "=" not in word:
+                if flags[flag] and "=" not in argument:
                     next(rest, None)
     if wrong is None:
         return None

@@ -95,13 +95,13 @@ class Build:
 
     def run(self, crate, *commands):
         """Runs commands in the crate's folder, each in a process group of its own, until one fails, and returns its status."""
-        for words in commands:
+        for arguments in commands:
             with open(self.log(crate), "ab") as out:
                 how = {"cwd": self.sources.folder(crate), "stdin": subprocess.DEVNULL, "stdout": out, "stderr": subprocess.STDOUT}
                 with self.alone:
                     if self.children is None:
                         raise Interrupted
-                    child = subprocess.Popen(words, start_new_session=True, **how)
+                    child = subprocess.Popen(arguments, start_new_session=True, **how)
                     self.children.add(child)
                 if self.is_ahead(crate):
                     give_way(child.pid)
@@ -120,9 +120,9 @@ class Build:
         """Returns whether another crate has more work behind it."""
         return self.behind[crate.name] < max((self.behind[it.name] for it in self.crates if it.name not in self.how), default=0)
 
-    def commands(self, crate, words):
+    def commands(self, crate, arguments):
         """Returns the commands that make the crate's library, or the program."""
-        build = [self.toolchain.rattle, "build", *self.toolchain.words(crate, self.at), *words]
+        build = [self.toolchain.rattle, "build", *self.toolchain.arguments(crate, self.at), *arguments]
         if not crate.is_program:
             return [[*build, "-o", self.library(crate)]]
         to = self.library(crate)
@@ -140,7 +140,7 @@ class Build:
         unpack_library(text, self.unpack_record(crate), self.library(crate), {"toolchain": f"{self.toolchain.at}/rlibs", "crate": self.at})
 
     def from_record(self, crate):
-        """Has the toolchain make the crate of its sources and the record of its proof, which it compares."""
+        """Has the toolchain make the crate of its sources and its proof record, which it compares."""
         record = self.unpack_record(crate)
         if self.run(crate, *self.commands(crate, ["--crate-checked", record])):
             with open(self.log(crate), encoding="utf-8", errors="replace") as it:
@@ -183,7 +183,7 @@ class Build:
         if self.take(crate, LIBRARY, self.from_library):
             how, done = LIBRARY, "unpacked as built"
         elif self.take(crate, RECORD, self.from_record):
-            how, done = RECORD, "built from the record of its proof"
+            how, done = RECORD, "built from its proof record"
         else:
             say(f"proving {crate.name}, {self.count(crate)}")
             if self.prove(crate, jobs):

@@ -59,7 +59,7 @@ class Parts:
         return self.libraries[name]
 
     def candidates(self, name):
-        """Yields the parts of a name, of the library that the name says first, then of the others."""
+        """Yields the parts of a name, of the library that the name begins with, then of the others."""
         own = OF_TOOLCHAIN.match(name)
         for library in dict.fromkeys([*([own[1]] if own else []), *self.names]):
             part = self.library(library).part(name)

@@ -13,7 +13,7 @@ from .jobs import LIBRARY, OPTIMISING, PROOF, QUICK, RECORD, Build, Interrupted,
 from .proved import Stale
 from .toolchain import Toolchain
 
-# How the ways are named where the program says how it was built.
+# How the ways are named where the program prints how it was built.
 WAYS = {LIBRARY: "the libraries in proved/", RECORD: "the proof records in proved/", PROOF: "proofs made here"}
 COMPILERS = {QUICK: "Rattle's own compiler", OPTIMISING: "LLVM"}
 
@@ -29,7 +29,7 @@ class Program:
         self.path, self.built, self.stamps = f"{self.out}/{APP}", f"{self.out}/{APP}.built", f"{self.out}/{APP}.stamps"
 
     def note(self):
-        """Returns what the note says, or nothing where there is none."""
+        """Returns what the note has, or nothing where there is none."""
         with contextlib.suppress(OSError, ValueError):
             with open(self.built, encoding="utf-8") as it:
                 note = json.load(it)
@@ -81,7 +81,7 @@ class Program:
         except Interrupted:
             raise KeyboardInterrupt from None
         self.put(build)
-        tell(build)
+        report(build)
         say(f"built in {int(time.monotonic() - begun)} s")
 
     def put(self, build):
@@ -125,7 +125,7 @@ def commits_of(build):
     return sorted({build.proved.commit(it) for it in build.crates if build.made_by[it.name] != PROOF})
 
 
-def tell(build):
+def report(build):
     """Prints how the crates were made, and why a library or a record was not taken."""
     taken = [it for it in build.crates if build.made_by[it.name] != PROOF]
     if taken:

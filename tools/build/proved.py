@@ -1,4 +1,4 @@
-"""What proved/ holds of each crate: the record of its proof, and its library as built. A record is what a check of the crate
+"""What proved/ holds of each crate: its proof record, and its library as built. A record is what a check of the crate
 wrote; the toolchain makes the library from it and the sources without proving them again. A library is taken as it is."""
 import hashlib
 import io

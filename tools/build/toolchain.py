@@ -36,16 +36,16 @@ class Toolchain:
         """Returns the folder of one of the toolchain's libraries."""
         return f"{self.at}/rlibs/{name}.rlib"
 
-    def words(self, crate, libraries):
-        """Returns the arguments that say which crate it is, and over which libraries."""
-        words = ["--crate-name", crate.name, "src/main.rt" if crate.is_program else "src/lib.rt"]
+    def arguments(self, crate, libraries):
+        """Returns the arguments that name the crate and the libraries below it."""
+        arguments = ["--crate-name", crate.name, "src/main.rt" if crate.is_program else "src/lib.rt"]
         for it in ["std", *crate.of_toolchain]:
-            words += ["--extern", f"{it}={self.library(it)}"]
+            arguments += ["--extern", f"{it}={self.library(it)}"]
         for it in crate.straight:
-            words += ["--extern", f"{it}={libraries}/{it}.rlib"]
-        words += ["-L", f"dependency={self.at}/rlibs", "-L", f"dependency={libraries}"]
-        words += ["--antt-project", f"{self.at}/rattle/logic/antt-project.json"]
-        return [*words, "--links", f"{crate.name}="]
+            arguments += ["--extern", f"{it}={libraries}/{it}.rlib"]
+        arguments += ["-L", f"dependency={self.at}/rlibs", "-L", f"dependency={libraries}"]
+        arguments += ["--antt-project", f"{self.at}/rattle/logic/antt-project.json"]
+        return [*arguments, "--links", f"{crate.name}="]
 
     def proving(self, jobs):
         return ["--logic-built", f"{self.at}/logic_built", "--jobs", str(jobs)]
@@ -54,8 +54,8 @@ class Toolchain:
         return ["--toolchain", f"{self.at}/toolchain", "--backend", compiler]
 
     def linking(self, made, program):
-        words = [self.link, "--target", "x86_64-unknown-linux-gnu", "--toolchain", f"{self.at}/toolchain", "-o", program, made]
-        return [*words, f"{self.at}/c/libos_c.a", f"{self.at}/c/liblibc_c.a"]
+        arguments = [self.link, "--target", "x86_64-unknown-linux-gnu", "--toolchain", f"{self.at}/toolchain", "-o", program, made]
+        return [*arguments, f"{self.at}/c/libos_c.a", f"{self.at}/c/liblibc_c.a"]
 
 
 def build_id(file):

@@ -18,19 +18,19 @@ def handed_on(arguments):
     """Returns the `--data` arguments, and the arguments of the program. The run has a folder of its own, so each file that is read
     is handed on as a copy, and one that is written by its whole path."""
     data, handed, before = [], [], ""
-    for place, word in enumerate(arguments):
+    for place, argument in enumerate(arguments):
         if before == "--progress":
-            handed.append(os.path.realpath(word))
-        elif word.startswith("--diagram=") and word != "--diagram=-":
-            handed.append(f"--diagram={os.path.realpath(word.partition('=')[2])}")
-        elif place > 0 and before not in NUMBERED and (place, word) != (1, "-") and os.path.isfile(word):
+            handed.append(os.path.realpath(argument))
+        elif argument.startswith("--diagram=") and argument != "--diagram=-":
+            handed.append(f"--diagram={os.path.realpath(argument.partition('=')[2])}")
+        elif place > 0 and before not in NUMBERED and (place, argument) != (1, "-") and os.path.isfile(argument):
             # (`rt try` takes a name up to its first equals sign)
-            name = f"{len(data) // 2 + 1}-{os.path.basename(word).replace('=', '-')}"
-            data += ["--data", f"{name}={os.path.realpath(word)}"]
+            name = f"{len(data) // 2 + 1}-{os.path.basename(argument).replace('=', '-')}"
+            data += ["--data", f"{name}={os.path.realpath(argument)}"]
             handed.append(name)
         else:
-            handed.append(word)
-        before = word
+            handed.append(argument)
+        before = argument
     return data, handed
 
 

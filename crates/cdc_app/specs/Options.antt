@@ -1,4 +1,4 @@
--- What the words of the command line ask for.
+-- What the arguments of the command line ask for.
 use Rattle.std.specs.Prelude.{◌≡◌, ℕ, false, List, None, codes}
 use Rattle.cdc_run.specs.Plans.{HasNoFaults}
 use Rattle.cdc_types.specs.Windows.{IsWindow}
@@ -10,23 +10,23 @@ use Rattle.cdc_app.specs.declared.command_line.Form.TheVariants.{Text}
 use Rattle.cdc_app.specs.declared.command_line.OptionsFault.{OptionsFault}
 use Rattle.cdc_app.specs.declared.command_line.OptionsFault.TheVariants.{BadWords, OutOfMemory}
 
--- the plan of a run of which nothing else is said: a window of one event, a prefetch of 8, no fault and no start
+-- the plan of a run without any option: a window of one event, a prefetch of 8, no fault and no start
 pub record IsDefaultPlan (plan : RunPlan) : Type 0 where
   pub window : plan.window ≡ 1
   pub prefetch : plan.prefetch ≡ 8
   pub faults : HasNoFaults plan.faults
   pub start : plan.start ≡ None
 
--- the command `run` over the file of this name, by the default plan, with its progress in memory, printed as text, and
--- nothing told beside it
+-- the command `run` over the file of this name, by the default plan, with its progress in memory, printed as text,
+-- and without further diagnostics
 abbrev pub IsRun : List ℕ → Options → Type 0
 IsRun name (Books file explain form) = ⊥
 IsRun name (Messages file form) = ⊥
-IsRun name (Simulate file steps window telling form) = ⊥
-IsRun name (Random file window chances telling form) = ⊥
-IsRun name (Run file plan progress telling form) =
+IsRun name (Simulate file steps window diagnostics form) = ⊥
+IsRun name (Random file window chances diagnostics form) = ⊥
+IsRun name (Run file plan progress diagnostics form) =
     (file.now ≡ name) × (IsDefaultPlan plan × ((progress ≡ None)
-    × ((telling ≡ record { explain = false; trace = false }) × (form ≡ Text))))
+    × ((diagnostics ≡ record { explain = false; trace = false }) × (form ≡ Text))))
 IsRun name (Check file steps has_diagram form) = ⊥
 IsRun name (Explain text) = ⊥
 
@@ -34,9 +34,9 @@ IsRun name (Explain text) = ⊥
 abbrev pub IsWithinLimits : Options → Type 0
 IsWithinLimits (Books file explain form) = Unit {0}
 IsWithinLimits (Messages file form) = Unit {0}
-IsWithinLimits (Simulate file steps window telling form) = IsWindow window
-IsWithinLimits (Random file window chances telling form) = IsWindow window
-IsWithinLimits (Run file plan progress telling form) = IsPlan plan
+IsWithinLimits (Simulate file steps window diagnostics form) = IsWindow window
+IsWithinLimits (Random file window chances diagnostics form) = IsWindow window
+IsWithinLimits (Run file plan progress diagnostics form) = IsPlan plan
 IsWithinLimits (Check file steps has_diagram form) = Unit {0}
 IsWithinLimits (Explain text) = Unit {0}
 

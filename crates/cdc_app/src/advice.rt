@@ -1,50 +1,50 @@
-//! What standard error says to a person, beside the fault's line on standard output.
+//! What standard error reports, besides the fault's line on standard output.
 
 ghost use Rattle.std.specs.Prelude.{◌↔◌, ◌≡◌, IsTrue};
 ghost use Rattle.std.specs.IoError.{error_kind};
 
 use crate::kept::Seen;
 use crate::progress_advice::trouble;
-use crate::run_places::{Met, Shown};
+use crate::run_places::Shown;
 use crate::sources::STANDARD_INPUT;
+use cdc_actors::RunFault;
 use cdc_commands::{Ending, ProgramFault};
-use cdc_ends::RunFault;
-use cdc_run::Place;
+use cdc_diagnostics::{script_fault_sentence, steps_fault_sentence};
+use cdc_run::{Met, Place};
 use cdc_script::ScriptFault;
-use cdc_telling::{FaultTold, script_fault_told, steps_fault_told};
 use std::alloc::AllocError;
 use std::io;
 use std::io::ErrorKind;
 
-/// Says why a command gave up that has read no file. Where that can't be said the exit status still tells.
+/// Reports why a command failed that has read no file. If that can't be written, the exit status still shows it.
 pub fn advise(rt: &HostRuntime, ending: Ending) {
     let _ = advice(rt, shown_name(STANDARD_INPUT), ending);
 }
 
-/// Says why a command over a script gave up or refused it: the place, the fault's name, and what is wrong there or what
-/// the system said.
+/// Reports why a command over a script failed or refused it: the place, the fault's name, and what is wrong there or
+/// what the system reported.
 pub fn advise_on_script(rt: &HostRuntime, script: Seen<'_>, ending: Ending) {
     let _ = match ending {
         Ending::BadScript(fault) => {
-            let told = match script.bytes {
-                Some(bytes) => script_fault_told(rt.alloc(), bytes, fault),
+            let sentence = match script.bytes {
+                Some(bytes) => script_fault_sentence(rt.alloc(), bytes, fault),
                 None => Err(AllocError),
             };
-            advice_on_file(rt, shown_name(script.name), fault, told)
+            advice_on_file(rt, shown_name(script.name), fault, sentence)
         }
         _ => advice(rt, shown_name(script.name), ending),
     };
 }
 
-/// The same of a command over a script and a step file.
+/// The same for a command over a script and a step file.
 pub fn advise_on_steps(rt: &HostRuntime, script: Seen<'_>, steps: Seen<'_>, ending: Ending) {
     match ending {
         Ending::BadSteps(fault) => {
-            let told = match steps.bytes {
-                Some(bytes) => steps_fault_told(rt.alloc(), bytes, fault),
+            let sentence = match steps.bytes {
+                Some(bytes) => steps_fault_sentence(rt.alloc(), bytes, fault),
                 None => Err(AllocError),
             };
-            let _ = advice_on_file(rt, steps.name, fault, told);
+            let _ = advice_on_file(rt, steps.name, fault, sentence);
         }
         Ending::Failed(ProgramFault::ReadFault(_)) if steps.failed && !script.failed => {
             let _ = advice(rt, steps.name, ending);
@@ -53,15 +53,16 @@ pub fn advise_on_steps(rt: &HostRuntime, script: Seen<'_>, steps: Seen<'_>, endi
     }
 }
 
-/// The same of a run, whose progress is in the file of that name, or in memory; of a fault that an end met also which.
+/// The same for a run, whose progress is in the file of that name, or in memory. For a fault that an actor met, it
+/// also names the actor.
 pub fn advise_on_run(
     rt: &HostRuntime,
     script: Seen<'_>,
     progress: Option<&str>,
-    met: Option<(Place, Met)>,
+    stop: Option<(Place, Met)>,
     ending: Ending,
 ) {
-    match (ending, progress, met) {
+    match (ending, progress, stop) {
         (Ending::Failed(ProgramFault::Store(error)), Some(saved), _) => {
             let name = error.name();
             let why = trouble(rt, saved, error);
@@ -74,7 +75,7 @@ pub fn advise_on_run(
     }
 }
 
-/// One line on a fault that was met at a place.
+/// Writes one line on a fault that the actor at a place met.
 fn advice_on_place(
     rt: &HostRuntime,
     script: Seen<'_>,
@@ -91,13 +92,13 @@ fn advice_on_place(
             eprintln!(rt; "relayplum: out_of_memory: no memory was left for {end}")
         }
         (ProgramFault::PeerGone, Met::Fault(RunFault::PeerGone)) => {
-            eprintln!(rt; "relayplum: peer_gone: another end was gone while {end} talked to it")
+            eprintln!(rt; "relayplum: peer_gone: another actor was gone while {end} talked to it")
         }
         _ => advice(rt, shown_name(script.name), Ending::Failed(fault)),
     }
 }
 
-/// A file as it is named to a person.
+/// A file's name as diagnostics show it.
 pub fn shown_name(file: &str) -> &str {
     if file == STANDARD_INPUT {
         "standard input"
@@ -114,7 +115,7 @@ pub fn is_reader_gone(error: io::Error) -> bool
     error.kind() == ErrorKind::BrokenPipe
 }
 
-/// One line, or nothing after a command that did all that was asked or lost its reader.
+/// Writes one line, or nothing after a command that did all that was asked or lost its reader.
 fn advice(rt: &HostRuntime, place: &str, ending: Ending) -> io::Result<()> {
     match ending {
         Ending::Done | Ending::BadWords => Ok(()),
@@ -141,7 +142,7 @@ fn advice(rt: &HostRuntime, place: &str, ending: Ending) -> io::Result<()> {
         }
         Ending::Failed(ProgramFault::PeerGone) => {
             eprintln!(rt;
-                "relayplum: peer_gone: an end of the run was gone while another one talked to it"
+                "relayplum: peer_gone: an actor of the run was gone while another one talked to it"
             )
         }
         Ending::Failed(ProgramFault::SessionsExhausted) => {
@@ -151,36 +152,37 @@ fn advice(rt: &HostRuntime, place: &str, ending: Ending) -> io::Result<()> {
         }
         Ending::Failed(ProgramFault::StartNotAllowed) => {
             eprintln!(rt;
-                "relayplum: start_not_allowed: progress is saved already, and says where the run goes on"
+                "relayplum: start_not_allowed: progress is saved already, and it fixes where the run goes on"
             )
         }
         Ending::Failed(ProgramFault::NotOneSystem) => {
             eprintln!(rt;
-                "relayplum: not_one_system: the ends of the run weren't those of one system"
+                "relayplum: not_one_system: the actors of the run weren't those of one system"
             )
         }
     }
 }
 
-/// The place and the name of a file's fault, and what is told of it, where there was memory for that.
+/// Writes the place and the name of a file's error, and a sentence on it, if there was memory for that.
 fn advice_on_file(
     rt: &HostRuntime,
     place: &str,
     fault: ScriptFault,
-    told: Result<FaultTold, AllocError>,
+    sentence: Result<String, AllocError>,
 ) -> io::Result<()> {
-    let ScriptFault { line, kind } = fault;
+    let ScriptFault {
+        line,
+        column,
+        kind,
+        ..
+    } = fault;
     let name = kind.name();
-    match told {
-        Ok(
-            FaultTold {
-                column,
-                sentence,
-                ..
-            },
-        ) if line != 0 => eprintln!(rt; "{place}:{line}:{column}: {name}: {sentence}"),
-        Ok(FaultTold { sentence, .. }) => eprintln!(rt; "{place}: {name}: {sentence}"),
-        Err(_) if line != 0 => eprintln!(rt; "{place}:{line}: {name}"),
+    match sentence {
+        Ok(sentence) if line != 0 => {
+            eprintln!(rt; "{place}:{line}:{column}: {name}: {sentence}")
+        }
+        Ok(sentence) => eprintln!(rt; "{place}: {name}: {sentence}"),
+        Err(_) if line != 0 => eprintln!(rt; "{place}:{line}:{column}: {name}"),
         Err(_) => eprintln!(rt; "{place}: {name}"),
     }
 }

@@ -1,4 +1,4 @@
-//! What the words of the command line can ask for, and why they ask for nothing.
+//! What the command line can ask for, and usage errors.
 
 ghost use Rattle.std.specs.Prelude.{◌≡◌};
 ghost use Rattle.cdc_app.specs.Options.{options_fault_number, options_fault_name};
@@ -8,49 +8,49 @@ use cdc_run_command::RunPlan;
 use std::alloc::AllocError;
 use thiserror::Error;
 
-/// What the words ask for.
+/// What the arguments ask for.
 #[derive(Drop)]
 pub enum Options<'a> {
     /// The results of the batches, and the books of the subscribers, of the script in this file; `-` is standard input.
     Books {
         file: &'a str,
-        /// Whether standard error says why each item wasn't accepted.
+        /// Whether standard error reports why each item wasn't accepted.
         explain: bool,
         form: Form,
     },
-    /// The messages of a script's events, of the script in this file; `-` is standard input.
+    /// The messages of the events of the script in this file; `-` is standard input.
     Messages {
         file: &'a str,
         form: Form,
     },
     /// The world that the steps of the second file lead to, over the batches of the script in the first; `-` as the
-    /// script is standard input. A session waits for so many events at a time.
+    /// script is standard input. A session waits for `window` events at a time.
     Simulate {
         file: &'a str,
         steps: &'a str,
         window: usize,
-        telling: Telling<'a>,
+        diagnostics: Diagnostics<'a>,
         form: Form,
     },
-    /// The same of steps that are made by chance.
+    /// The same with random steps.
     Random {
         file: &'a str,
         window: usize,
         chances: Chances,
-        telling: Telling<'a>,
+        diagnostics: Diagnostics<'a>,
         form: Form,
     },
-    /// The results of a script's batches and the books of its subscribers, of the script in this file, which is run on
-    /// threads; `-` is standard input. The connector saves its progress in the second file, or, where none is named, in
-    /// memory.
+    /// The results of the batches, and the books of the subscribers, of the script in this file, which is run on
+    /// threads; `-` is standard input. The connector saves its progress in the second file, or in memory if none is
+    /// named.
     Run {
         file: &'a str,
         plan: RunPlan,
         progress: Option<&'a str>,
-        telling: RunTelling,
+        diagnostics: RunDiagnostics,
         form: Form,
     },
-    /// Whether the script in the first file is good, and the step file, where one is named; `-` as the script is
+    /// Whether the script in the first file is valid, and the step file, if one is named; `-` as the script is
     /// standard input.
     Check {
         file: &'a str,
@@ -68,45 +68,43 @@ pub enum Options<'a> {
 /// The form of what is printed.
 #[derive(Clone, Copy, PartialEq, Eq)]
 pub enum Form {
-    /// Lines of text.
     Text,
     /// A JSON object in each line.
     Json,
 }
 
-/// What standard error tells of a simulation, beside its fault or the step that was refused.
+/// What standard error reports of a simulation, besides its fault or the step that was refused.
 #[derive(Clone, Copy)]
-pub struct Telling<'a> {
-    /// Whether it says why each item wasn't accepted.
+pub struct Diagnostics<'a> {
+    /// Whether it reports why each item wasn't accepted.
     pub explain: bool,
-    /// Whether it says what each step did.
+    /// Whether it reports what each step did.
     pub trace: bool,
-    /// The file that gets the steps as a diagram; `-` is standard error.
+    /// The file that gets the steps as a diagram; `-` is standard error. None if no diagram is asked for.
     pub diagram: Option<&'a str>,
 }
 
-/// What standard error tells of a run, beside its fault and the faults asked for that never came.
+/// What standard error reports of a run, besides its fault and the planned faults that never came.
 #[derive(Clone, Copy)]
-pub struct RunTelling {
-    /// Whether it says why each item wasn't accepted.
+pub struct RunDiagnostics {
+    /// Whether it reports why each item wasn't accepted.
     pub explain: bool,
-    /// Whether it says what was lost or sent again, and what came to each subscriber.
+    /// Whether it reports what was lost or sent again, and what came to each subscriber.
     pub trace: bool,
 }
 
-/// Why words ask for nothing.
+/// Why arguments ask for nothing.
 #[derive(Debug, Drop, Error)]
 pub enum OptionsFault {
-    /// No command has such words. The message says which word isn't one, and what was wanted.
+    /// A usage error. The message names the argument in error, and what was expected.
     #[error("{message}")]
     BadWords { message: String },
-    /// No memory was left.
     #[error("out of memory")]
     OutOfMemory,
 }
 
 impl OptionsFault {
-    /// The fault's number, from 1.
+    /// The fault's number, from 1 to 2.
     pub fn number(&self) -> u8
         ensures { result ≡ options_fault_number self.now }
     {
@@ -116,7 +114,7 @@ impl OptionsFault {
         }
     }
 
-    /// The fault's name.
+    /// The fault's name, such as `usage_error`.
     pub fn name(&self) -> &'static str
         ensures { result.now ≡ options_fault_name self.now }
     {

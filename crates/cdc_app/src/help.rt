@@ -1,10 +1,9 @@
-//! What the help of each command says behind its options.
+//! What the help of each command adds after its options.
 
-/// Of `books`.
 pub const BOOKS: &str = "\
-FILE is a script, and - is standard input. Its batches go to a ledger in the order of the file. Printed are the results
-of each batch, a number for each item, and then of each subscriber how far it is and its book: for each account its
-pending debits, posted debits, pending credits and posted credits.
+FILE is a script, and - is standard input. Its batches go to a ledger in the order of the file. The output is
+the results of each batch, a number for each item, and then for each subscriber how far it is and its book: for each
+account its pending debits, posted debits, pending credits and posted credits.
 
 A script is a text of lines:
   subscriber all
@@ -23,13 +22,12 @@ Examples:
 Exit status:
   0  all was done
   1  a read, a write or memory failed: the last line of standard output names the fault, unless a write failed
-  2  the words or the script are bad: standard error says what was expected, and where";
+  2  the arguments or the script are bad: standard error reports what was expected, and where";
 
-/// Of `messages`.
 pub const MESSAGES: &str = "\
-FILE is a script, and - is standard input. Its batches go to a ledger in the order of the file. Printed are of each
-event that it makes a line with the message's headers and its timestamp in seconds, and a line with its body, which is
-JSON.
+FILE is a script, and - is standard input. Its batches go to a ledger in the order of the file. The output
+is, for each event that it makes, a line with the message's headers and its timestamp in seconds, and a line with its
+body, which is JSON.
 
 Example:
   relayplum messages examples/first-transfer.script
@@ -37,17 +35,16 @@ Example:
 Exit status:
   0  all was done
   1  a read, a write or memory failed: the last line of standard output names the fault, unless a write failed
-  2  the words or the script are bad: standard error says what was expected, and where";
+  2  the arguments or the script are bad: standard error reports what was expected, and where";
 
-/// Of `simulate`.
 pub const SIMULATE: &str = "\
 FILE is a script, and - is standard input. STEPS is a file with one step of a simulation in each line: batch,
 close_ledger, start, start at N, crash, poll, publish, arrive K, answer K, save, send I, rewind I, break I, take I,
 ack I K or close I. I is a subscriber and its queue, K counts the packets, the confirms or a subscriber's
-acknowledgements ever sent, from 1, and N is a moment in nanoseconds.
+acknowledgements ever sent, from 1, and N is a timestamp in nanoseconds.
 
-The steps are taken in order, up to the first that is refused. Printed are the results of the batches that were taken,
-how many steps were done, what the session has saved, and of each subscriber how far it is and its book.
+The steps are taken in order, up to the first that is refused. The output is the results of the batches that were
+taken, how many steps were done, what the session has saved, and for each subscriber how far it is and its book.
 
 Examples:
   relayplum simulate examples/two-phase.script examples/two-phase.steps
@@ -57,13 +54,12 @@ Exit status:
   0  all was done
   1  a read, a write or memory failed: the last line of standard output names the fault, unless a write failed; or a
      step was refused
-  2  the words, the script or the steps are bad: standard error says what was expected, and where";
+  2  the arguments, the script or the steps are bad: standard error reports what was expected, and where";
 
-/// Of `run`.
 pub const RUN: &str = "\
 FILE is a script, and - is standard input. It is run on threads: the ledger, each client, the connector, the broker and
-each subscriber have one each. What goes wrong on the way is counted over the whole run, from 1. Printed is what the
-command books prints, of that run.
+each subscriber have one each. What goes wrong on the way is counted over the whole run, from 1. The output is what
+the command books prints, for that run.
 
 Examples:
   relayplum run examples/first-transfer.script --lose-confirm 1
@@ -73,4 +69,4 @@ Exit status:
   0  all was done
   1  a read, a write, memory, a thread, the store of progress or the run itself failed: the last line of standard
      output names the fault, unless a write failed
-  2  the words or the script are bad: standard error says what was expected, and where";
+  2  the arguments or the script are bad: standard error reports what was expected, and where";

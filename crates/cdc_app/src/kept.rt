@@ -1,35 +1,33 @@
-//! Readers and writers that keep a copy of the bytes that go through them.
+//! Readers that keep a copy of the bytes that go through them.
 
 use std::alloc::Global;
 use std::io;
-use std::io::{Read, Write};
+use std::io::Read;
 
-/// A reader or a writer, and a copy of the bytes that went through it.
+/// A reader, and a copy of the bytes that went through it.
 #[derive(Drop)]
 pub struct Kept<T> {
-    /// The reader or the writer.
     inner: T,
-    /// The bytes.
+    /// What went through, as far as there was memory for it.
     bytes: Vec<u8>,
-    /// Whether there was memory for all of them.
+    /// Whether there was memory for all of the bytes.
     whole: bool,
-    /// Whether a read has failed.
     failed: bool,
 }
 
 /// A file that a command has read.
 #[derive(Clone, Copy)]
 pub struct Seen<'a> {
-    /// Its name, as a person gave it.
+    /// Its name, as the command line gave it.
     pub name: &'a str,
-    /// Its bytes; nothing where there was no memory for all of them.
+    /// Its bytes. None if there was no memory for all of them.
     pub bytes: Option<&'a [u8]>,
     /// Whether a read failed.
     pub failed: bool,
 }
 
 impl<T> Kept<T> {
-    /// A reader or a writer that nothing went through.
+    /// A reader that nothing has gone through.
     pub fn new(alloc: Global, inner: T) -> Kept<T> {
         Kept {
             inner,
@@ -39,7 +37,7 @@ impl<T> Kept<T> {
         }
     }
 
-    /// What was read, of the file of this name.
+    /// What was read, as the file of this name.
     pub fn seen<'a>(&'a self, name: &'a str) -> Seen<'a> {
         Seen {
             name,
@@ -48,7 +46,7 @@ impl<T> Kept<T> {
         }
     }
 
-    /// The bytes that went through it; nothing where there was no memory for all of them.
+    /// The bytes that went through it. None if there was no memory for all of them.
     pub fn bytes(&self) -> Option<&[u8]> {
         if self.whole {
             Some(self.bytes.as_slice())
@@ -60,14 +58,6 @@ impl<T> Kept<T> {
     /// Copies what went through.
     fn keep(&mut self, piece: &[u8]) {
         self.whole = self.whole && self.bytes.extend_from_slice(piece).is_ok();
-    }
-}
-
-impl<T: Drop> Kept<T> {
-    /// The same, once it is used no more.
-    pub fn into_bytes(self) -> Option<Vec<u8>> {
-        let Kept { bytes, whole, .. } = self;
-        if whole { Some(bytes) } else { None }
     }
 }
 
@@ -83,17 +73,5 @@ impl<R: Read> Read for Kept<R> {
                 Err(error)
             }
         }
-    }
-}
-
-impl<W: Write> Write for Kept<W> {
-    fn write(&mut self, buf: &[u8]) -> io::Result<usize> {
-        let count = self.inner.write(buf)?;
-        self.keep(&buf[..count]);
-        Ok(count)
-    }
-
-    fn flush(&mut self) -> io::Result<()> {
-        self.inner.flush()
     }
 }

@@ -6,7 +6,7 @@ ghost use Rattle.cdc_run_command.specs.Plans.{IsPlan};
 
 mod advice;
 mod command_line;
-mod ended;
+mod diagnostics;
 mod help;
 mod kept;
 mod options;
@@ -20,25 +20,27 @@ mod run_traces;
 mod run_turns;
 mod slips;
 mod sources;
-mod telling;
 
-use advice::{advise, advise_on_run, advise_on_script, advise_on_steps};
-use cdc_commands::books::books;
+use advice::{advise, advise_on_run, advise_on_script, advise_on_steps, shown_name};
+use cdc_commands::books::{BooksEnded, books};
 use cdc_commands::check::{check, check_files};
 use cdc_commands::messages::messages;
-use cdc_commands::{Ending, ProgramFault, print_fault, print_text, simulate_command};
-use cdc_json::{
-    books_json_command, check_files_json_command, check_json_command, messages_json_command,
-    print_fault_json, simulate_json_command,
+use cdc_commands::simulate::simulate;
+use cdc_commands::{
+    Ended, Ending, ParsedBatches, ProgramFault, Tally, Text, print_fault, print_text,
 };
+use cdc_diagnostics::Observation;
+use cdc_json::Json;
 use cdc_progress::{FileStore, MemoryStore, ProgressStore};
-use cdc_run_command::{JsonRun, RunPlan, run_command, run_json_command};
-use cdc_telling::{Tally, count_lines};
-use ended::Ended;
-use kept::{Kept, Seen};
-use options::{Form, Options, OptionsFault, RunTelling, Telling, options};
+use cdc_run_command::{Ran, RunEnded, RunPlan, run_command};
+use diagnostics::{
+    EXPLAIN, asked, can_draw, explain_books, explain_run, hint, is_reported, note,
+    report_simulation,
+};
+use kept::Kept;
+use options::{Diagnostics, Form, Options, OptionsFault, RunDiagnostics, options};
 use random::run_random;
-use run_faults::{copy_faults, tell_missed};
+use run_faults::{copy_faults, report_missed};
 use run_traces::trace_run;
 use run_turns::Turns;
 use sources::Source;
@@ -48,39 +50,40 @@ use std::process::ExitCode;
 use std::sync::Wait;
 use std::thread::Threads;
 use std::{env, io};
-use telling::{
-    EXPLAIN, Inputs, can_draw, explain_books, explain_run, hint, is_told, note, tell_simulation,
-};
 
 fn main(rt: HostRuntime) -> ExitCode {
-    let ending = match words_of(&rt) {
-        Ok(words) => run_words(&rt, &rt, words.as_slice()),
+    let ending = match command_line_of(&rt) {
+        Ok(args) => run_arguments(&rt, &rt, args.as_slice()),
         Err(error) if error.kind() == io::ErrorKind::InvalidData => {
-            refuse_words(&rt, "error: a word is no UTF-8 text\n")
+            refuse_arguments(&rt, "error: an argument is not UTF-8 text\n")
         }
-        Err(_) => give_up(&rt, ProgramFault::OutOfMemory, Form::Text),
+        Err(_) => abort(&rt, ProgramFault::OutOfMemory, Form::Text),
     };
     ExitCode::from(ending.status())
 }
 
-/// The words of the command line, without the program's own name.
-fn words_of(rt: &HostRuntime) -> io::Result<Vec<String>> {
-    let words: Vec<String> = env::args(rt)?.skip(1).collect(rt.alloc())?;
-    Ok(words)
+/// The arguments, without the program's own name.
+fn command_line_of(rt: &HostRuntime) -> io::Result<Vec<String>> {
+    let args: Vec<String> = env::args(rt)?.skip(1).collect(rt.alloc())?;
+    Ok(args)
 }
 
-/// Does what the words ask for, where they ask for threads by `threads`.
-fn run_words<T: Threads + Wait + Sync>(rt: &HostRuntime, threads: &T, words: &[String]) -> Ending {
-    let texts: Result<Vec<&str>, AllocError> = words
+/// Does what the arguments ask for. `threads` starts the threads of a run.
+fn run_arguments<T: Threads + Wait + Sync>(
+    rt: &HostRuntime,
+    threads: &T,
+    args: &[String],
+) -> Ending {
+    let texts: Result<Vec<&str>, AllocError> = args
         .iter()
         .map(|word| word.as_str())
         .collect(rt.alloc());
     let Ok(texts) = texts else {
-        return give_up(rt, ProgramFault::OutOfMemory, Form::Text);
+        return abort(rt, ProgramFault::OutOfMemory, Form::Text);
     };
     if texts.is_empty() && rt.reader().is_terminal() {
         let _ = eprintln!(rt;
-            "relayplum: a script is read from standard input, up to its end; --help says what it is"
+            "relayplum: a script is read from standard input, up to its end; --help describes it"
         );
     }
     match options(rt.alloc(), texts.as_slice()) {
@@ -97,28 +100,28 @@ fn run_words<T: Threads + Wait + Sync>(rt: &HostRuntime, threads: &T, words: &[S
                 file,
                 steps,
                 window,
-                telling,
+                diagnostics,
                 form,
             },
-        ) => run_simulation(rt, file, steps, window, telling, form),
+        ) => run_simulation(rt, file, steps, window, diagnostics, form),
         Ok(
             Options::Run {
                 file,
                 plan,
                 progress,
-                telling,
+                diagnostics,
                 form,
             },
-        ) => run_on_threads(rt, threads, file, plan, progress, telling, form),
+        ) => run_on_threads(rt, threads, file, plan, progress, diagnostics, form),
         Ok(
             Options::Random {
                 file,
                 window,
                 chances,
-                telling,
+                diagnostics,
                 form,
             },
-        ) => run_random(rt, file, window, chances, telling, form),
+        ) => run_random(rt, file, window, chances, diagnostics, form),
         Ok(
             Options::Check {
                 file,
@@ -128,162 +131,181 @@ fn run_words<T: Threads + Wait + Sync>(rt: &HostRuntime, threads: &T, words: &[S
             },
         ) => run_check(rt, file, steps, has_diagram, form),
         Ok(Options::Explain { text }) => explain(rt, text.as_str()),
-        Err(OptionsFault::BadWords { message }) => refuse_words(rt, message.as_str()),
-        Err(OptionsFault::OutOfMemory) => give_up(rt, ProgramFault::OutOfMemory, Form::Text),
+        Err(OptionsFault::BadWords { message }) => refuse_arguments(rt, message.as_str()),
+        Err(OptionsFault::OutOfMemory) => abort(rt, ProgramFault::OutOfMemory, Form::Text),
     }
 }
 
-/// Runs `books` over the script of this name, and says on standard error why it gave up, or what wasn't accepted.
+/// Runs `books` over the script of this name, and reports on standard error why it failed, or what wasn't accepted.
 fn run_books(rt: &HostRuntime, file: &str, explain: bool, form: Form) -> Ending {
     let mut script = Kept::new(rt.alloc(), Source::of_script(rt, file));
-    let Ended { ending, tally } = print_books(rt, &mut script, form);
-    let seen = script.seen(file);
-    if let Ending::Done = ending {
-        tell_books(rt, seen, explain, tally);
-        note(rt, seen, false);
+    let BooksEnded {
+        ended: Ended {
+            ending,
+            tally,
+            notes,
+        },
+        parsed,
+    } = print_books(rt, &mut script, form);
+    if let (Ending::Done, Some(parsed)) = (ending, parsed) {
+        diagnose_books(rt, file, parsed, explain, tally);
+        note(rt, file, notes, true);
     }
-    advise_on_script(rt, seen, ending);
+    advise_on_script(rt, script.seen(file), ending);
     ending
 }
 
-/// Says what wasn't accepted of a script, and why, where that is asked for.
-fn tell_books(rt: &HostRuntime, script: Seen<'_>, explain: bool, tally: Option<Tally>) {
-    match script.bytes {
-        Some(bytes) if explain => explain_books(rt, script.name, bytes),
-        None if explain => {}
-        _ => {
-            if let Some(tally) = tally {
-                hint(rt, tally, EXPLAIN);
-            }
-        }
+/// Prints what wasn't accepted of a script's batches, and why, if that is asked for.
+fn diagnose_books(
+    rt: &HostRuntime,
+    file: &str,
+    parsed: ParsedBatches,
+    explain: bool,
+    tally: Tally,
+) {
+    if explain {
+        explain_books(rt, file, parsed);
+    } else {
+        hint(rt, tally, EXPLAIN);
     }
 }
 
-/// Prints what `books` says of a script.
-fn print_books(rt: &HostRuntime, script: &mut Kept<Source>, form: Form) -> Ended {
+fn print_books(rt: &HostRuntime, script: &mut Kept<Source>, form: Form) -> BooksEnded {
     let alloc = rt.alloc();
+    let mut writer = io::writer(rt);
     match form {
-        Form::Text => {
-            let mut printed = Kept::new(alloc, io::writer(rt));
-            let ending = books(alloc, script, &mut printed);
-            Ended::of_text(ending, printed.bytes())
-        }
-        Form::Json => Ended::of_json(books_json_command(alloc, script, &mut io::writer(rt))),
+        Form::Text => books(&Text, alloc, script, &mut writer),
+        Form::Json => books(&Json, alloc, script, &mut writer),
     }
 }
 
-/// Runs `messages` over the script of this name, and says on standard error why it gave up.
+/// Runs `messages` over the script of this name, and reports on standard error why it failed.
 fn run_messages(rt: &HostRuntime, file: &str, form: Form) -> Ending {
     let mut script = Kept::new(rt.alloc(), Source::of_script(rt, file));
     let mut writer = io::writer(rt);
-    let ending = match form {
-        Form::Text => messages(rt.alloc(), &mut script, &mut writer),
-        Form::Json => messages_json_command(rt.alloc(), &mut script, &mut writer).ending,
+    let Ended { ending, notes, .. } = match form {
+        Form::Text => messages(&Text, rt.alloc(), &mut script, &mut writer),
+        Form::Json => messages(&Json, rt.alloc(), &mut script, &mut writer),
     };
     let seen = script.seen(file);
     if let Ending::Done = ending {
-        note(rt, seen, false);
+        note(rt, file, notes, true);
     }
     advise_on_script(rt, seen, ending);
     ending
 }
 
-/// Runs `simulate` over the script and the step file of these names, and tells on standard error what is asked for, why
-/// a step was refused, or why the command gave up.
+/// Runs `simulate` over the script and the step file of these names, and reports on standard error what is asked for,
+/// why a step was refused, or why the command failed.
 fn run_simulation(
     rt: &HostRuntime,
     file: &str,
     steps: &str,
     window: usize,
-    telling: Telling<'_>,
+    diagnostics: Diagnostics<'_>,
     form: Form,
 ) -> Ending
     requires { IsWindow window }
 {
-    if !can_draw(rt, telling, &[file, steps]) {
+    if !can_draw(rt, diagnostics, &[file, steps]) {
         return Ending::BadWords;
     }
     let mut script = Kept::new(rt.alloc(), Source::of_script(rt, file));
     let mut step_file = Kept::new(rt.alloc(), Source::of_file(rt, steps));
-    let Ended { ending, tally } = print_simulation(rt, &mut script, &mut step_file, window, form);
-    let mut said = false;
-    if let (Some(script), Some(step_bytes)) = (script.bytes(), step_file.bytes()) {
-        let inputs = Inputs {
-            file,
-            script,
-            step_file: steps,
-            steps: step_bytes,
-            window,
-        };
-        said = is_told(ending, telling) && tell_simulation(rt, inputs, telling);
+    let mut observation = Observation::new(rt.alloc(), shown_name(file), asked(diagnostics));
+    let Ended {
+        ending,
+        tally,
+        notes,
+    } = print_simulation(
+        rt,
+        &mut script,
+        &mut step_file,
+        window,
+        form,
+        &mut observation,
+    );
+    let mut reported = false;
+    if is_reported(ending, diagnostics) {
+        if let Some(observed) = observation.finish(rt.alloc()) {
+            reported = report_simulation(rt, steps, &observed, diagnostics);
+        }
     }
     let seen = script.seen(file);
-    if !said {
+    if !reported {
         advise_on_steps(rt, seen, step_file.seen(steps), ending);
     }
     if let Ending::Done | Ending::Refused(_) = ending {
-        if let (Some(tally), false) = (tally, telling.explain) {
+        if !diagnostics.explain {
             hint(rt, tally, EXPLAIN);
         }
-        note(rt, seen, false);
+        note(rt, file, notes, true);
     }
     ending
 }
 
-/// Prints what `simulate` says of a script and a step file.
+/// Runs `simulate` over a script and a step file, with an observer.
 fn print_simulation(
     rt: &HostRuntime,
     script: &mut Kept<Source>,
     step_file: &mut Kept<Source>,
     window: usize,
     form: Form,
+    observation: &mut Observation<'_>,
 ) -> Ended
     requires { IsWindow window }
 {
     let alloc = rt.alloc();
+    let mut writer = io::writer(rt);
     match form {
-        Form::Text => {
-            let mut printed = Kept::new(alloc, io::writer(rt));
-            let ending = simulate_command(alloc, script, step_file, window, &mut printed);
-            Ended::of_text(ending, printed.bytes())
-        }
-        Form::Json => Ended::of_json(simulate_json_command(
+        Form::Text => simulate(
+            &Text,
             alloc,
             script,
             step_file,
             window,
-            &mut io::writer(rt),
-        )),
+            &mut writer,
+            observation,
+        ),
+        Form::Json => simulate(
+            &Json,
+            alloc,
+            script,
+            step_file,
+            window,
+            &mut writer,
+            observation,
+        ),
     }
 }
 
-/// How a run has ended, and what it has printed, or, where it has printed objects, would have printed as text; none
-/// where there was no memory for that.
-#[derive(Drop)]
-struct RunEnded {
-    ending: Ending,
-    printed: Option<Vec<u8>>,
-}
-
-/// Runs the script of this name on threads, with its progress in the file of that name or in memory, and says on
-/// standard error why the command gave up, or what wasn't accepted and which faults never came.
+/// Runs the script of this name on threads, with its progress in the file of that name or in memory, and reports on
+/// standard error why the command failed, or what wasn't accepted and which faults never came.
 fn run_on_threads<T: Threads + Wait + Sync>(
     rt: &HostRuntime,
     threads: &T,
     file: &str,
     plan: RunPlan,
     progress: Option<&str>,
-    telling: RunTelling,
+    diagnostics: RunDiagnostics,
     form: Form,
 ) -> Ending
     requires { IsPlan plan }
 {
     let Ok(faults) = copy_faults(rt.alloc(), &plan.faults) else {
-        return give_up(rt, ProgramFault::OutOfMemory, form);
+        return abort(rt, ProgramFault::OutOfMemory, form);
     };
     let turns = Turns::new();
     let mut script = Kept::new(rt.alloc(), Source::of_script(rt, file));
-    let RunEnded { ending, printed } = match progress {
+    let RunEnded {
+        ended: Ended {
+            ending,
+            tally,
+            notes,
+        },
+        ran,
+        stop,
+    } = match progress {
         None => {
             let store = MemoryStore::new();
             print_run(rt, threads, &mut script, plan, store, &turns, form)
@@ -293,31 +315,29 @@ fn run_on_threads<T: Threads + Wait + Sync>(
             print_run(rt, threads, &mut script, plan, store, &turns, form)
         }
     };
-    let seen = script.seen(file);
-    if let (Ending::Done, Some(printed)) = (ending, &printed) {
-        tell_run(rt, seen, telling, printed);
-        if telling.trace {
-            trace_run(rt, &turns, printed);
+    if let (Ending::Done, Some(ran)) = (ending, ran) {
+        let Ran {
+            owners,
+            lines,
+            report,
+        } = ran;
+        if diagnostics.explain {
+            explain_run(rt, file, owners.as_slice(), lines, &report);
+        } else {
+            hint(rt, tally, EXPLAIN);
         }
-        tell_missed(rt, &faults, &turns, printed);
+        if diagnostics.trace {
+            trace_run(rt, &turns, &report);
+        }
+        report_missed(rt, &faults, &report);
     }
     if let Ending::Done = ending {
-        note(rt, seen, true);
+        note(rt, file, notes, notes.has_one_client);
     }
-    advise_on_run(rt, seen, progress, turns.met(), ending);
+    advise_on_run(rt, script.seen(file), progress, stop, ending);
     ending
 }
 
-/// Says of a run that has printed this what wasn't accepted, and why, where that is asked for.
-fn tell_run(rt: &HostRuntime, script: Seen<'_>, telling: RunTelling, printed: &[u8]) {
-    match script.bytes {
-        Some(bytes) if telling.explain => explain_run(rt, script.name, bytes, printed),
-        None if telling.explain => {}
-        _ => hint(rt, count_lines(printed), EXPLAIN),
-    }
-}
-
-/// Prints what `run` says of a run of a script.
 fn print_run<T: Threads + Wait + Sync, S: ProgressStore + Send + Drop>(
     rt: &HostRuntime,
     threads: &T,
@@ -330,34 +350,32 @@ fn print_run<T: Threads + Wait + Sync, S: ProgressStore + Send + Drop>(
     requires { IsPlan plan }
 {
     let alloc = rt.alloc();
+    let mut writer = io::writer(rt);
     match form {
-        Form::Text => {
-            let mut printed = Kept::new(alloc, io::writer(rt));
-            let ending = run_command(threads, alloc, script, plan, store, turns, &mut printed);
-            RunEnded {
-                ending,
-                printed: printed.into_bytes(),
-            }
-        }
-        Form::Json => {
-            let JsonRun { ending, text } = run_json_command(
-                threads,
-                alloc,
-                script,
-                plan,
-                store,
-                turns,
-                &mut io::writer(rt),
-            );
-            RunEnded {
-                ending,
-                printed: Some(text),
-            }
-        }
+        Form::Text => run_command(
+            &Text,
+            threads,
+            alloc,
+            script,
+            plan,
+            store,
+            turns,
+            &mut writer,
+        ),
+        Form::Json => run_command(
+            &Json,
+            threads,
+            alloc,
+            script,
+            plan,
+            store,
+            turns,
+            &mut writer,
+        ),
     }
 }
 
-/// Judges the script of this name, and the step file, and says on standard error what is wrong.
+/// Validates the script of this name, and the step file if there is one, and reports on standard error what is wrong.
 fn run_check(
     rt: &HostRuntime,
     file: &str,
@@ -372,43 +390,41 @@ fn run_check(
     let mut writer = io::writer(rt);
     let Some(steps) = steps else {
         let ending = match form {
-            Form::Text => check(rt.alloc(), &mut script, &mut writer),
-            Form::Json => check_json_command(rt.alloc(), &mut script, &mut writer).ending,
+            Form::Text => check(&Text, rt.alloc(), &mut script, &mut writer),
+            Form::Json => check(&Json, rt.alloc(), &mut script, &mut writer),
         };
         advise_on_script(rt, script.seen(file), ending);
         return ending;
     };
     let mut step_file = Kept::new(rt.alloc(), Source::of_file(rt, steps));
     let ending = match form {
-        Form::Text => check_files(rt.alloc(), &mut script, &mut step_file, &mut writer),
-        Form::Json => {
-            check_files_json_command(rt.alloc(), &mut script, &mut step_file, &mut writer).ending
-        }
+        Form::Text => check_files(&Text, rt.alloc(), &mut script, &mut step_file, &mut writer),
+        Form::Json => check_files(&Json, rt.alloc(), &mut script, &mut step_file, &mut writer),
     };
     advise_on_steps(rt, script.seen(file), step_file.seen(steps), ending);
     ending
 }
 
-/// Prints what was asked about the program itself.
+/// Prints help or the version.
 fn explain(rt: &HostRuntime, text: &str) -> Ending {
     let ending = print_text(&mut io::writer(rt), text.as_bytes(), Ending::Done);
     advise(rt, ending);
     ending
 }
 
-/// Prints the fault of a command that didn't come as far as a file.
-fn give_up(rt: &HostRuntime, fault: ProgramFault, form: Form) -> Ending {
+/// Prints the fault of a command that failed before it read a file.
+fn abort(rt: &HostRuntime, fault: ProgramFault, form: Form) -> Ending {
     let mut writer = io::writer(rt);
     let ending = match form {
-        Form::Text => print_fault(&mut writer, fault),
-        Form::Json => print_fault_json(&mut writer, fault),
+        Form::Text => print_fault(&Text, &mut writer, fault),
+        Form::Json => print_fault(&Json, &mut writer, fault),
     };
     advise(rt, ending);
     ending
 }
 
-/// Says on standard error what is wrong with the words.
-fn refuse_words(rt: &HostRuntime, message: &str) -> Ending {
+/// Reports a usage error on standard error.
+fn refuse_arguments(rt: &HostRuntime, message: &str) -> Ending {
     let _ = eprint!(rt; "{message}");
     Ending::BadWords
 }

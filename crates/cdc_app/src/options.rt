@@ -1,13 +1,13 @@
-//! The words of the command line.
+//! The arguments of the command line.
 
 ghost use Rattle.std.specs.Prelude.{◌≡◌, length, codes, IfOk, IfSome, IsOkAnd};
 ghost use Rattle.cdc_types.specs.Windows.{IsWindow};
 ghost use Rattle.cdc_app.specs.Options.{IsRun, IsWithinLimits};
 
-pub use crate::command_line::{Form, Options, OptionsFault, RunTelling, Telling};
+pub use crate::command_line::{Diagnostics, Form, Options, OptionsFault, RunDiagnostics};
 use crate::help;
 use crate::random_options::{asked_chances, faults_option, random_option, steps_option};
-use crate::run_options::{default_plan, run_plan, run_words};
+use crate::run_options::{default_plan, run_arguments, run_plan};
 use crate::slips::push_tip;
 use crate::sources::STANDARD_INPUT;
 use cdc_message::decimal_up_to;
@@ -16,16 +16,15 @@ use clap::error::ErrorKind;
 use clap::{Arg, ArgAction, ArgMatches, Command, Error};
 use std::alloc::{AllocError, Global};
 
-/// The name of standard error as the file of a diagram.
+/// As the file of a diagram, this is standard error.
 pub const STANDARD_ERROR: &str = "-";
 
-/// What the program is for.
 const ABOUT: &str =
     "Change data capture: a script's batches go to a double-entry ledger, and its events are reported";
 
-/// What else a newcomer has to know.
+/// What `--help` adds after the commands.
 const MORE: &str = "\
-FILE is a script, and - is standard input. Without words the program acts as `run -`.
+FILE is a script, and - is standard input. Without arguments the program acts as `run -`.
 
 A script is a text of lines:
   subscriber all
@@ -42,7 +41,7 @@ goes wrong on the way is counted over the whole run, from 1.
 
 STEPS is a file with one step of a simulation in each line: batch, close_ledger, start, start at N, crash, poll,
 publish, arrive K, answer K, save, send I, rewind I, break I, take I, ack I K or close I. I is a subscriber and its
-queue, K counts the packets, the confirms or a subscriber's acknowledgements ever sent, from 1, and N is a moment in
+queue, K counts the packets, the confirms or a subscriber's acknowledgements ever sent, from 1, and N is a timestamp in
 nanoseconds.
 
 Launcher options, before the command:
@@ -67,33 +66,33 @@ Exit status:
   0  all was done
   1  a read, a write, memory, a thread, the store of progress or the run itself failed: the last line of standard
      output names the fault, unless a write failed; or a step of a simulation was refused
-  2  the words, the script or the steps are bad: standard error says what was expected, and where";
+  2  the arguments, the script or the steps are bad: standard error reports what was expected, and where";
 
-/// What the words of the program ask for, its own name not being one. Without words it is `run -`.
-pub fn options<'a>(alloc: Global, words: &'a [&'a str]) -> Result<Options<'a>, OptionsFault>
-    ensures none { length words.entry.now ≡ 0 → IsOkAnd result (IsRun (codes "-")) }
+/// What the arguments ask for, without the program's own name. Without arguments it is `run -`.
+pub fn options<'a>(alloc: Global, args: &'a [&'a str]) -> Result<Options<'a>, OptionsFault>
+    ensures none { length args.entry.now ≡ 0 → IsOkAnd result (IsRun (codes "-")) }
     ensures limits { IfOk result IsWithinLimits }
 {
-    if words.is_empty() {
+    if args.is_empty() {
         return Ok(Options::Run {
             file: STANDARD_INPUT,
             plan: default_plan(alloc),
             progress: None,
-            telling: RunTelling {
+            diagnostics: RunDiagnostics {
                 explain: false,
                 trace: false,
             },
             form: Form::Text,
         });
     }
-    match read_words(alloc, words) {
+    match read_arguments(alloc, args) {
         Ok(matches) => asked_by(alloc, &matches),
-        Err(error) => help_or_fault(alloc, words, &error),
+        Err(error) => help_or_fault(alloc, args, &error),
     }
 }
 
-/// What clap makes of the words.
-fn read_words<'a>(alloc: Global, words: &'a [&'a str]) -> Result<ArgMatches<'a>, Error> {
+/// The matches of clap. An error is also the answer to `--help` and `--version`.
+fn read_arguments<'a>(alloc: Global, args: &'a [&'a str]) -> Result<ArgMatches<'a>, Error> {
     let program = Command::new(alloc, "relayplum")
         .no_binary_name(true)
         .bin_name("relayplum")?
@@ -101,15 +100,14 @@ fn read_words<'a>(alloc: Global, words: &'a [&'a str]) -> Result<ArgMatches<'a>,
         .about(ABOUT)
         .after_help(MORE)
         .subcommand_required(true)
-        .subcommand(books_words(alloc)?)?
-        .subcommand(messages_words(alloc)?)?
-        .subcommand(simulate_words(alloc)?)?
-        .subcommand(run_words(alloc)?)?;
-    program.try_get_matches_from(words)
+        .subcommand(books_arguments(alloc)?)?
+        .subcommand(messages_arguments(alloc)?)?
+        .subcommand(simulate_arguments(alloc)?)?
+        .subcommand(run_arguments(alloc)?)?;
+    program.try_get_matches_from(args)
 }
 
-/// The command `books`.
-fn books_words<'a>(alloc: Global) -> Result<Command<'a>, AllocError> {
+fn books_arguments<'a>(alloc: Global) -> Result<Command<'a>, AllocError> {
     Command::new(alloc, "books")
         .about("Print the results of a script's batches and the books of its subscribers")
         .after_help(help::BOOKS)
@@ -119,8 +117,7 @@ fn books_words<'a>(alloc: Global) -> Result<Command<'a>, AllocError> {
         .arg(check_flag(alloc))
 }
 
-/// The command `messages`.
-fn messages_words<'a>(alloc: Global) -> Result<Command<'a>, AllocError> {
+fn messages_arguments<'a>(alloc: Global) -> Result<Command<'a>, AllocError> {
     Command::new(alloc, "messages")
         .about(
             "Print two lines for each event of a script: what its message is routed by, and its JSON body",
@@ -131,8 +128,7 @@ fn messages_words<'a>(alloc: Global) -> Result<Command<'a>, AllocError> {
         .arg(check_flag(alloc))
 }
 
-/// The command `simulate`.
-fn simulate_words<'a>(alloc: Global) -> Result<Command<'a>, AllocError> {
+fn simulate_arguments<'a>(alloc: Global) -> Result<Command<'a>, AllocError> {
     let steps = Arg::new(alloc, "STEPS")
         .required_unless_present("random")?
         .action(ArgAction::Set)
@@ -155,7 +151,7 @@ fn simulate_words<'a>(alloc: Global) -> Result<Command<'a>, AllocError> {
         .arg(check_flag(alloc))
 }
 
-/// The file of a script.
+/// The argument FILE, a script.
 pub fn script_argument<'a>(alloc: Global) -> Arg<'a> {
     Arg::new(alloc, "FILE")
         .required(true)
@@ -163,40 +159,35 @@ pub fn script_argument<'a>(alloc: Global) -> Arg<'a> {
         .help("The script; - is standard input")
 }
 
-/// The option `--window`.
 pub fn window_option<'a>(alloc: Global) -> Arg<'a> {
     Arg::new(alloc, "window")
         .long("window")
         .value_name("N")
         .action(ArgAction::Set)
-        .help("For how many events a session waits at a time: 1 to 64, or 1")
+        .help("Number of events that a session waits for at a time [1-64; default: 1]")
 }
 
-/// The flag `--explain`.
 pub fn explain_flag<'a>(alloc: Global) -> Arg<'a> {
     Arg::new(alloc, "explain")
         .long("explain")
         .action(ArgAction::SetTrue)
-        .help("Say on standard error why each item was not accepted")
+        .help("Print on standard error why each item was not accepted")
 }
 
-/// The flag `--check`.
 fn check_flag<'a>(alloc: Global) -> Arg<'a> {
     Arg::new(alloc, "check")
         .long("check")
         .action(ArgAction::SetTrue)
-        .help("Judge the files alone: print the first fault, or nothing")
+        .help("Validate the files only: print the first fault, or nothing")
 }
 
-/// The flag `--json`.
 pub fn json_flag<'a>(alloc: Global) -> Arg<'a> {
     Arg::new(alloc, "json")
         .long("json")
         .action(ArgAction::SetTrue)
-        .help("Print a JSON object in each line in the place of text")
+        .help("Print a JSON object on each line instead of text")
 }
 
-/// The form that the words ask for.
 fn asked_form(arguments: &ArgMatches<'_>) -> Form {
     if arguments.get_flag("json") {
         Form::Json
@@ -205,15 +196,13 @@ fn asked_form(arguments: &ArgMatches<'_>) -> Form {
     }
 }
 
-/// The flag `--trace`.
 fn trace_flag<'a>(alloc: Global) -> Arg<'a> {
     Arg::new(alloc, "trace")
         .long("trace")
         .action(ArgAction::SetTrue)
-        .help("Say on standard error what each step did")
+        .help("Print on standard error what each step did")
 }
 
-/// The option `--diagram`.
 fn diagram_option<'a>(alloc: Global) -> Arg<'a> {
     Arg::new(alloc, "diagram")
         .long("diagram")
@@ -227,7 +216,7 @@ fn diagram_option<'a>(alloc: Global) -> Arg<'a> {
         )
 }
 
-/// The command that the words name, with its files and its numbers.
+/// The command that the arguments name, with its files and its numbers.
 fn asked_by<'a>(alloc: Global, matches: &ArgMatches<'a>) -> Result<Options<'a>, OptionsFault>
     ensures { IfOk result IsWithinLimits }
 {
@@ -236,10 +225,10 @@ fn asked_by<'a>(alloc: Global, matches: &ArgMatches<'a>) -> Result<Options<'a>, 
             return asked_of(alloc, command, file, arguments);
         }
     }
-    Err(bad_words(alloc, "error: no command has such words\n")?)
+    Err(usage_error(alloc, "error: no command has such arguments\n")?)
 }
 
-/// What the words ask of a script by a command of this name.
+/// What the arguments ask of the command of this name, over this script.
 fn asked_of<'a>(
     alloc: Global,
     command: &str,
@@ -270,18 +259,18 @@ fn asked_of<'a>(
             file,
             plan: run_plan(alloc, arguments)?,
             progress: arguments.get_str("progress"),
-            telling: RunTelling {
+            diagnostics: RunDiagnostics {
                 explain: arguments.get_flag("explain"),
                 trace: arguments.get_flag("trace"),
             },
             form,
         }),
-        _ => Err(bad_words(alloc, "error: no command has such words\n")?),
+        _ => Err(usage_error(alloc, "error: no command has such arguments\n")?),
     }
 }
 
-/// A simulation of these files, with the window that a word says, or that of one event; where only a check is asked
-/// for, that of the files.
+/// A simulation of these files, with the window that is given, or that of one event. With `--check`, a check of the
+/// files.
 fn simulation<'a>(
     alloc: Global,
     file: &'a str,
@@ -303,12 +292,12 @@ fn simulation<'a>(
         file,
         steps,
         window,
-        telling: asked_telling(arguments),
+        diagnostics: asked_diagnostics(arguments),
         form: asked_form(arguments),
     })
 }
 
-/// A simulation of this file by steps that are made by chance, with the window that a word says, or that of one event.
+/// A simulation of this file by random steps, with the window that is given, or that of one event.
 fn random_simulation<'a>(
     alloc: Global,
     file: &'a str,
@@ -321,34 +310,34 @@ fn random_simulation<'a>(
         file,
         window,
         chances: asked_chances(alloc, arguments)?,
-        telling: asked_telling(arguments),
+        diagnostics: asked_diagnostics(arguments),
         form: asked_form(arguments),
     })
 }
 
-/// What the words ask standard error to tell of a simulation.
-fn asked_telling<'a>(arguments: &ArgMatches<'a>) -> Telling<'a> {
-    Telling {
+/// What the arguments ask standard error to report of a simulation.
+fn asked_diagnostics<'a>(arguments: &ArgMatches<'a>) -> Diagnostics<'a> {
+    Diagnostics {
         explain: arguments.get_flag("explain"),
         trace: arguments.get_flag("trace"),
         diagram: arguments.get_str("diagram"),
     }
 }
 
-/// The window that the words say, or that of one event.
+/// The window that the arguments give, or that of one event. A usage error if it isn't 1 to 64.
 pub fn asked_window(alloc: Global, arguments: &ArgMatches<'_>) -> Result<usize, OptionsFault>
     ensures { IfOk result IsWindow }
 {
     match read_window(arguments.get_str("window")) {
         Some(window) => Ok(window),
-        None => Err(bad_words(
+        None => Err(usage_error(
             alloc,
             "error: a window is 1 to 64\n\nFor more information, try '--help'.\n",
         )?),
     }
 }
 
-/// The window that a word says; where there is none, that of one event.
+/// The window that an argument gives, or that of one event if there is none. None if it isn't 1 to 64.
 fn read_window(word: Option<&str>) -> Option<usize>
     ensures { IfSome result IsWindow }
 {
@@ -363,8 +352,8 @@ fn read_window(word: Option<&str>) -> Option<usize>
     }
 }
 
-/// The fault of words that ask for nothing.
-pub fn bad_words(alloc: Global, message: &str) -> Result<OptionsFault, AllocError> {
+/// A usage error with this message.
+pub fn usage_error(alloc: Global, message: &str) -> Result<OptionsFault, AllocError> {
     let message = String::from_str(alloc, message)?;
     Ok(OptionsFault::BadWords { message })
 }
@@ -372,17 +361,17 @@ pub fn bad_words(alloc: Global, message: &str) -> Result<OptionsFault, AllocErro
 /// The commands, each with its flags.
 fn all_commands(alloc: Global) -> Result<Vec<Command<'static>>, AllocError> {
     let mut commands = Vec::new(alloc);
-    commands.push(books_words(alloc)?)?;
-    commands.push(messages_words(alloc)?)?;
-    commands.push(simulate_words(alloc)?)?;
-    commands.push(run_words(alloc)?)?;
+    commands.push(books_arguments(alloc)?)?;
+    commands.push(messages_arguments(alloc)?)?;
+    commands.push(simulate_arguments(alloc)?)?;
+    commands.push(run_arguments(alloc)?)?;
     Ok(commands)
 }
 
-/// What clap answers where it finds no command: help or the version, where the words ask for it, or what is wrong.
+/// What follows from clap's error: help or the version, if the arguments ask for it, or a usage error.
 fn help_or_fault<'a>(
     alloc: Global,
-    words: &[&str],
+    args: &[&str],
     error: &Error,
 ) -> Result<Options<'a>, OptionsFault>
     ensures { IfOk result IsWithinLimits }
@@ -395,7 +384,7 @@ fn help_or_fault<'a>(
         push_tip(
             alloc,
             &mut text,
-            words,
+            args,
             all_commands(alloc)?.as_slice(),
             error,
         )?;

@@ -1,4 +1,4 @@
-//! What is wrong with a file of progress, and what to do.
+//! What is wrong with a progress file, and what to do.
 
 use cdc_progress::StoreError;
 use cdc_types::Limits;
@@ -6,10 +6,9 @@ use std::fs;
 use std::fs::File;
 use std::io::Read;
 
-/// The greatest record, in bytes.
 const RECORD_BYTES: usize = Limits::PROGRESS_BYTES;
 
-/// What is wrong with the file of this name, which a store has met this error with, and what to do.
+/// What is wrong with the file of this name, for which a store has reported this error, and what to do.
 pub fn trouble(rt: &HostRuntime, saved: &str, error: StoreError) -> &'static str {
     match error {
         StoreError::ReadFault => unread(rt, saved),
@@ -24,7 +23,7 @@ pub fn trouble(rt: &HostRuntime, saved: &str, error: StoreError) -> &'static str
 
 /// What is wrong with a file that can't be read.
 fn unread(rt: &HostRuntime, saved: &str) -> &'static str {
-    // (it isn't opened: whoever opens a pipe waits for a writer)
+    // (it isn't opened, since opening a pipe waits for a writer)
     match fs::metadata(rt, saved) {
         Ok(data) if data.is_file() => {
             "it can't be read, or another run has it: let that one end, or name another file"
@@ -41,15 +40,15 @@ fn no_record(rt: &HostRuntime, saved: &str) -> &'static str {
     let mut head = [0u8; RECORD_BYTES + 1];
     let read = File::open(rt, saved).and_then(|mut file| file.read(&mut head));
     let Ok(count) = read else {
-        return "it holds no record of progress: name another file";
+        return "it holds no progress record: name another file";
     };
     match head.get(..count) {
         Some([]) => {
-            "it is empty, and no record of progress: name another file, or take it away to begin anew"
+            "it is empty, and no progress record: name another file, or remove it to start from scratch"
         }
         Some(bytes) if bytes.starts_with(b"tb-cdc ") => {
-            "it begins as a record of progress, and isn't a whole one: restore it, or take it away to begin anew"
+            "it begins as a progress record, and isn't a whole one: restore it, or remove it to start from scratch"
         }
-        _ => "it holds something else than a record of progress: name another file",
+        _ => "it holds something else than a progress record: name another file",
     }
 }

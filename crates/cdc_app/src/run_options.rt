@@ -1,4 +1,4 @@
-//! The words of the command `run`.
+//! The arguments of the command `run`.
 
 ghost use Rattle.std.specs.Prelude.{◌≡◌, ◌≤◌, All, IfOk, IfSome};
 ghost use Rattle.cdc_run_command.specs.Plans.{AreCounts, IsPlan, IsPrefetch};
@@ -7,20 +7,19 @@ ghost use Rattle.cdc_app.specs.Options.{IsDefaultPlan};
 use crate::command_line::OptionsFault;
 use crate::help;
 use crate::options::{
-    asked_window, bad_words, explain_flag, json_flag, script_argument, window_option,
+    asked_window, explain_flag, json_flag, script_argument, usage_error, window_option,
 };
 use cdc_message::decimal_up_to;
 use cdc_run::Faults;
 use cdc_run_command::RunPlan;
-use cdc_types::{Limits, Moment};
+use cdc_types::{EventTimestamp, Limits};
 use clap::{Arg, ArgAction, ArgMatches, Command};
 use std::alloc::{AllocError, Global};
 
-/// How many deliveries of a queue may be without an acknowledgement where no word says it.
+/// The limit of deliveries of a queue without an acknowledgement, if none is given.
 const DEFAULT_PREFETCH: u64 = 8;
 
-/// The command `run`.
-pub fn run_words<'a>(alloc: Global) -> Result<Command<'a>, AllocError> {
+pub fn run_arguments<'a>(alloc: Global) -> Result<Command<'a>, AllocError> {
     Command::new(alloc, "run")
         .about(
             "Run a script on threads, and print the results of its batches and the books of its subscribers",
@@ -48,7 +47,7 @@ pub fn run_words<'a>(alloc: Global) -> Result<Command<'a>, AllocError> {
             alloc,
             "repeat",
             "QUEUE:POSITION",
-            "Let a queue go back after it has first handed out a position",
+            "Rewind a queue after its first delivery of a position",
         ))?
         .arg(pair_option(
             alloc,
@@ -63,24 +62,24 @@ pub fn run_words<'a>(alloc: Global) -> Result<Command<'a>, AllocError> {
         .arg(json_flag(alloc))
 }
 
-/// The flag `--trace`.
 fn trace_flag<'a>(alloc: Global) -> Arg<'a> {
     Arg::new(alloc, "trace")
         .long("trace")
         .action(ArgAction::SetTrue)
-        .help("Say on standard error what was lost or sent again, and what came to each subscriber")
+        .help(
+            "Print on standard error what was lost or sent again, and what each subscriber received",
+        )
 }
 
-/// The option `--prefetch`.
 fn prefetch_option<'a>(alloc: Global) -> Arg<'a> {
     Arg::new(alloc, "prefetch")
         .long("prefetch")
         .value_name("N")
         .action(ArgAction::Set)
-        .help("How many deliveries of a queue may be without an acknowledgement: 1 to 64, or 8")
+        .help("Number of deliveries that a queue may have unacknowledged [1-64; default: 8]")
 }
 
-/// An option that says a count, and may be given several times.
+/// An option with a count, which may be given several times.
 fn count_option<'a>(alloc: Global, name: &'static str, help: &'static str) -> Arg<'a> {
     Arg::new(alloc, name)
         .long(name)
@@ -89,7 +88,7 @@ fn count_option<'a>(alloc: Global, name: &'static str, help: &'static str) -> Ar
         .help(help)
 }
 
-/// An option that says two numbers, and may be given several times.
+/// An option with two numbers, which may be given several times.
 fn pair_option<'a>(
     alloc: Global,
     name: &'static str,
@@ -103,29 +102,27 @@ fn pair_option<'a>(
         .help(help)
 }
 
-/// The option `--start-after`.
 fn start_option<'a>(alloc: Global) -> Arg<'a> {
     Arg::new(alloc, "start-after")
         .long("start-after")
         .value_name("N")
         .action(ArgAction::Set)
         .help(
-            "Start the first session after this moment, in nanoseconds, and tell later events alone",
+            "Start the first session after this timestamp, in nanoseconds, and report only later events",
         )
 }
 
-/// The option `--progress`.
 fn progress_option<'a>(alloc: Global) -> Arg<'a> {
     Arg::new(alloc, "progress")
         .long("progress")
         .value_name("SAVED")
         .action(ArgAction::Set)
         .help(
-            "The file that the connector saves its progress in, and goes on from; without one it is memory",
+            "File in which the connector saves its progress, and from which it resumes [default: memory]",
         )
 }
 
-/// The plan of a run where no word says otherwise: a window of one event, a prefetch of 8, no fault and no start.
+/// The plan of a run without any option: a window of one event, a prefetch of 8, no fault and no start.
 pub fn default_plan(alloc: Global) -> RunPlan
     ensures default { IsDefaultPlan result }
     ensures plan { IsPlan result }
@@ -138,7 +135,7 @@ pub fn default_plan(alloc: Global) -> RunPlan
     }
 }
 
-/// The plan of the run that the words ask for.
+/// The plan of the run that the arguments ask for, or a usage error.
 pub fn run_plan(alloc: Global, arguments: &ArgMatches<'_>) -> Result<RunPlan, OptionsFault>
     ensures { IfOk result IsPlan }
 {
@@ -154,28 +151,31 @@ pub fn run_plan(alloc: Global, arguments: &ArgMatches<'_>) -> Result<RunPlan, Op
     })
 }
 
-/// The moment after which the words ask the first session to start, if they do.
-fn asked_start(alloc: Global, arguments: &ArgMatches<'_>) -> Result<Option<Moment>, OptionsFault> {
+/// The timestamp after which the first session is to start. None if none is given.
+fn asked_start(
+    alloc: Global,
+    arguments: &ArgMatches<'_>,
+) -> Result<Option<EventTimestamp>, OptionsFault> {
     let Some(word) = arguments.get_str("start-after") else {
         return Ok(None);
     };
-    match moment_in(word) {
-        Some(moment) => Ok(Some(moment)),
-        None => Err(bad_words(
+    match timestamp_in(word) {
+        Some(start_time) => Ok(Some(start_time)),
+        None => Err(usage_error(
             alloc,
-            "error: a start is a moment in nanoseconds, 0 to 9223372036854775807\n\n\
+            "error: a start is a timestamp in nanoseconds, 0 to 9223372036854775807\n\n\
              For more information, try '--help'.\n",
         )?),
     }
 }
 
-/// The moment that a word says, in nanoseconds.
-fn moment_in(word: &str) -> Option<Moment> {
+/// The timestamp of an argument, in nanoseconds. None if it isn't one.
+fn timestamp_in(word: &str) -> Option<EventTimestamp> {
     let number = decimal_up_to(word.as_bytes(), u128::from(Limits::TIMESTAMP))?;
-    Moment::new(number as u64)
+    EventTimestamp::new(number as u64)
 }
 
-/// The prefetch that the words say, or 8.
+/// The prefetch that is given, or 8. A usage error if it isn't 1 to 64.
 fn asked_prefetch(alloc: Global, arguments: &ArgMatches<'_>) -> Result<u64, OptionsFault>
     ensures { IfOk result IsPrefetch }
 {
@@ -184,14 +184,14 @@ fn asked_prefetch(alloc: Global, arguments: &ArgMatches<'_>) -> Result<u64, Opti
     };
     match count_in(word, Limits::PREFETCH) {
         Some(prefetch) => Ok(prefetch),
-        None => Err(bad_words(
+        None => Err(usage_error(
             alloc,
             "error: a prefetch is 1 to 64\n\nFor more information, try '--help'.\n",
         )?),
     }
 }
 
-/// The faults that the words ask for.
+/// The planned faults, or a usage error.
 fn asked_faults(alloc: Global, arguments: &ArgMatches<'_>) -> Result<Faults, OptionsFault>
     ensures { IfOk result AreCounts }
 {
@@ -209,7 +209,7 @@ fn asked_faults(alloc: Global, arguments: &ArgMatches<'_>) -> Result<Faults, Opt
     })
 }
 
-/// The counts that an option says, in the order in which it is given.
+/// The counts of an option, in the order in which it is given.
 fn asked_counts(
     alloc: Global,
     arguments: &ArgMatches<'_>,
@@ -219,7 +219,7 @@ fn asked_counts(
 {
     match counts_in(alloc, arguments.get_strs(name))? {
         Some(counts) => Ok(counts),
-        None => Err(bad_words(
+        None => Err(usage_error(
             alloc,
             "error: what is lost, and where the connector restarts, is a number from 1\n\n\
              For more information, try '--help'.\n",
@@ -227,7 +227,7 @@ fn asked_counts(
     }
 }
 
-/// The pairs of numbers that an option says, in the order in which it is given.
+/// The pairs of numbers of an option, in the order in which it is given.
 fn asked_pairs(
     alloc: Global,
     arguments: &ArgMatches<'_>,
@@ -237,7 +237,7 @@ fn asked_pairs(
 {
     match pairs_in(alloc, arguments.get_strs(name))? {
         Some(pairs) => Ok(pairs),
-        None => Err(bad_words(
+        None => Err(usage_error(
             alloc,
             "error: QUEUE:POSITION and SUBSCRIBER:N are two numbers from 1\n\n\
              For more information, try '--help'.\n",
@@ -245,15 +245,15 @@ fn asked_pairs(
     }
 }
 
-/// The counts that the words of an option say, of which there may be none; nothing where one of them says no count.
-fn counts_in(alloc: Global, words: Option<&[&str]>) -> Result<Option<Vec<u64>>, AllocError>
+/// The counts among an option's values, of which there may be none. None if one of them isn't a count.
+fn counts_in(alloc: Global, args: Option<&[&str]>) -> Result<Option<Vec<u64>>, AllocError>
     ensures { IfOk result (λ found. IfSome found (λ counts. All (λ n. 1 ≤ n) counts.items)) }
 {
     let mut counts = Vec::new(alloc);
-    let Some(words) = words else {
+    let Some(args) = args else {
         return Ok(Some(counts));
     };
-    for word in words {
+    for word in args {
         let Some(count) = count_in(word, u64::MAX) else {
             return Ok(None);
         };
@@ -262,16 +262,16 @@ fn counts_in(alloc: Global, words: Option<&[&str]>) -> Result<Option<Vec<u64>>, 
     Ok(Some(counts))
 }
 
-/// The pairs that the words of an option say, of which there may be none; nothing where one of them says no pair.
-fn pairs_in(alloc: Global, words: Option<&[&str]>) -> Result<Option<Vec<(u64, u64)>>, AllocError>
+/// The pairs among an option's values, of which there may be none. None if one of them isn't a pair.
+fn pairs_in(alloc: Global, args: Option<&[&str]>) -> Result<Option<Vec<(u64, u64)>>, AllocError>
     ensures { IfOk result (λ found. IfSome found (λ pairs.
         All (λ p. (1 ≤ p.0) × (1 ≤ p.1)) pairs.items)) }
 {
     let mut pairs = Vec::new(alloc);
-    let Some(words) = words else {
+    let Some(args) = args else {
         return Ok(Some(pairs));
     };
-    for word in words {
+    for word in args {
         let Some(pair) = pair_in(word) else {
             return Ok(None);
         };
@@ -280,7 +280,7 @@ fn pairs_in(alloc: Global, words: Option<&[&str]>) -> Result<Option<Vec<(u64, u6
     Ok(Some(pairs))
 }
 
-/// The number from 1 to `greatest` that a word says.
+/// The number of an argument. None if it isn't one from 1 to `greatest`.
 fn count_in(word: &str, greatest: u64) -> Option<u64>
     ensures { IfSome result (λ n. (1 ≤ n) × (n ≤ greatest)) }
 {
@@ -292,7 +292,7 @@ fn count_in(word: &str, greatest: u64) -> Option<u64>
     }
 }
 
-/// The two numbers from 1 that a word says, which is parted at its first colon.
+/// The two numbers of an argument, separated at its first colon. None if they aren't numbers from 1.
 fn pair_in(word: &str) -> Option<(u64, u64)>
     ensures { IfSome result (λ p. (1 ≤ p.0) × (1 ≤ p.1)) }
 {

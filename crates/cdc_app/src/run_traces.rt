@@ -1,12 +1,13 @@
-//! What a run came to besides its report, on standard error. Where memory runs out for it, it isn't told.
+//! A trace of a run on standard error, besides its report. If memory runs out for a part of it, that part is missing.
 
-use crate::run_faults::Applied;
+use crate::run_faults::applied_by;
 use crate::run_turns::Turns;
-use cdc_telling::{repeat_lines, story_lines, subscriber_line};
+use cdc_diagnostics::{repeat_lines, story_lines, subscriber_line};
+use cdc_run::Report;
 
-/// Says what was lost and what was sent again in a run that has ended well and printed this, in the ledger's order,
-/// then which deliveries came again, and then of each subscriber how many came to it.
-pub fn trace_run(rt: &HostRuntime, turns: &Turns, printed: &[u8]) {
+/// Reports what was lost and what was sent again in a run that came to this report, in the ledger's order; then which
+/// deliveries were duplicates; and then for each subscriber how many deliveries came to it.
+pub fn trace_run(rt: &HostRuntime, turns: &Turns, report: &Report) {
     if let Some(story) = turns.story() {
         if let Ok(text) = story_lines(rt.alloc(), story) {
             let _ = eprint!(rt; "{text}");
@@ -15,13 +16,12 @@ pub fn trace_run(rt: &HostRuntime, turns: &Turns, printed: &[u8]) {
     for number in 1..9 {
         trace_repeats(rt, turns, number);
     }
-    let applied = Applied::in_text(printed);
     for number in 1..9 {
-        trace_subscriber(rt, turns, &applied, number);
+        trace_subscriber(rt, turns, report, number);
     }
 }
 
-/// Says which deliveries the subscriber of this number took for repeats.
+/// Reports which deliveries the subscriber of this number took for duplicates.
 fn trace_repeats(rt: &HostRuntime, turns: &Turns, number: u64) {
     if let Some(repeats) = turns.repeats(number) {
         if let Ok(text) = repeat_lines(rt.alloc(), number, repeats) {
@@ -30,9 +30,9 @@ fn trace_repeats(rt: &HostRuntime, turns: &Turns, number: u64) {
     }
 }
 
-/// Says how many deliveries came to the subscriber of this number, if there is one, and what it did with them.
-fn trace_subscriber(rt: &HostRuntime, turns: &Turns, applied: &Applied, number: u64) {
-    let Some(applied) = applied.by(number) else {
+/// Reports how many deliveries came to the subscriber of this number, if there is one, and what it did with them.
+fn trace_subscriber(rt: &HostRuntime, turns: &Turns, report: &Report, number: u64) {
+    let Some(applied) = applied_by(report, number) else {
         return;
     };
     let deliveries = turns.deliveries(number);

@@ -1,28 +1,28 @@
-//! What may have been meant by words of the command line that ask for nothing.
+//! What may have been meant by arguments that ask for nothing.
 
 use clap::error::ErrorKind;
 use clap::{Command, Error};
 use std::alloc::{AllocError, Global};
 
-/// Adds to a text on bad words what may have been meant: `books` before the name of a file, or, where a flag is another
+/// Adds to a usage error what may have been meant: `books` before the name of a file, or, if a flag is another
 /// command's, which one's.
 pub fn push_tip(
     alloc: Global,
     text: &mut String,
-    words: &[&str],
+    args: &[&str],
     commands: &[Command<'_>],
     error: &Error,
 ) -> Result<(), AllocError> {
     match error.kind() {
-        ErrorKind::InvalidSubcommand => push_books(text, words),
-        ErrorKind::UnknownArgument => push_owners(alloc, text, words, commands),
+        ErrorKind::InvalidSubcommand => push_books(text, args),
+        ErrorKind::UnknownArgument => push_owners(alloc, text, args, commands),
         _ => Ok(()),
     }
 }
 
-/// Where the first word looks like the name of a file, says that `books` takes it.
-fn push_books(text: &mut String, words: &[&str]) -> Result<(), AllocError> {
-    let Some(word) = words.first() else {
+/// If the first argument looks like the name of a file, adds that `books` takes it.
+fn push_books(text: &mut String, args: &[&str]) -> Result<(), AllocError> {
+    let Some(word) = args.first() else {
         return Ok(());
     };
     if !(*word == "-" || word.contains('.') || word.contains('/')) {
@@ -33,14 +33,14 @@ fn push_books(text: &mut String, words: &[&str]) -> Result<(), AllocError> {
     text.push_str("'?\n")
 }
 
-/// Of the first flag that the command lacks and others have, says which have it.
+/// For the first flag that the command doesn't have and others have, adds which have it.
 fn push_owners(
     alloc: Global,
     text: &mut String,
-    words: &[&str],
+    args: &[&str],
     commands: &[Command<'_>],
 ) -> Result<(), AllocError> {
-    let Some((command, rest)) = words.split_first() else {
+    let Some((command, rest)) = args.split_first() else {
         return Ok(());
     };
     for word in rest {

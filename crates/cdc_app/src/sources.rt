@@ -1,25 +1,23 @@
-//! Where commands read from.
+//! What commands read from.
 
 use std::fs::File;
 use std::io;
 use std::io::{Read, StdinLock};
 
-/// The name of standard input as the file of a script.
+/// As the file of a script, this is standard input.
 pub const STANDARD_INPUT: &str = "-";
 
-/// Standard input or a file. A file that can't be opened is missed only when it is read.
+/// Standard input or a file. A file that can't be opened fails only when it is read.
 #[derive(Drop)]
 pub enum Source {
-    /// Standard input.
     Standard(StdinLock<'static>),
-    /// A file.
     Open(File),
     /// Why a file can't be opened, which is the error of each read.
     Missed(io::Error),
 }
 
 impl Source {
-    /// The script of this name: `-` is standard input.
+    /// The script of this name; `-` is standard input.
     pub fn of_script(rt: &HostRuntime, name: &str) -> Source {
         if name == STANDARD_INPUT {
             Source::Standard(rt.reader())
@@ -28,7 +26,7 @@ impl Source {
         }
     }
 
-    /// The file of this name.
+    /// The file of this name; `-` is a file too.
     pub fn of_file(rt: &HostRuntime, name: &str) -> Source {
         match File::open(rt, name) {
             Ok(file) => Source::Open(file),

@@ -13,7 +13,7 @@ use Rattle.cdc_broker.specs.Queues.{QueueState, acknowledged, empty_queue, queue
 abbrev pub Holds : List Item → QueueState → Type 0
 Holds accepted q = q.items ≡ queue accepted q.binding
 
--- one more item goes to a queue where it belongs to it
+-- one more item is added to a queue if it belongs to the queue
 pub filter_push : (p : Item → Bool) (items : List Item) (item : Item)
     → filter p (items ++ item ∷ []) ≡ filter p items ++ (if p item then item ∷ [] else [])
 filter_push p items item = filter-append p items (item ∷ [])
@@ -39,7 +39,7 @@ Holds-queued accepted item q holds =
     ∙ sym (filter_push (takes_item q.binding) accepted item)
     ∙ ap (λ binding. queue (accepted ++ item ∷ []) binding) (sym (queued_binding (takes_item q.binding item) item q))
 
--- where each queue holds its own before, it does so after
+-- if each queue holds the items that belong to it before, it does so after
 pub HasAccepted-published : (s : BrokerState) (tag : ℕ) (item : Item) (accepted : List Item)
     → HasAccepted s accepted → HasAccepted (published tag item s) (accepted ++ item ∷ [])
 HasAccepted-published s tag item accepted has =
@@ -68,13 +68,13 @@ HasAccepted-acknowledged s i position true accepted inside has =
     (Holds-queue_of s i accepted inside has)
 HasAccepted-acknowledged s i position false accepted inside has = has
 
--- a queue that goes back
+-- a queue that rewinds
 pub HasAccepted-rewound : (s : BrokerState) (i : ℕ) (accepted : List Item) → i - 1 < length s.queues
     → HasAccepted s accepted → HasAccepted (with_queue i (rewound_queue (queue_of s i)) s) accepted
 HasAccepted-rewound s i accepted inside has =
     HasAccepted-with_queue s i (rewound_queue (queue_of s i)) accepted has (Holds-queue_of s i accepted inside has)
 
--- an item that is handed out stays in its queue
+-- an item that is delivered stays in its queue
 Holds-with_delivery : (accepted : List Item) (delivery : Option Delivery) (q : QueueState) → Holds accepted q
     → Holds accepted (with_delivery delivery q)
 Holds-with_delivery accepted None q holds = holds

@@ -12,7 +12,7 @@ use Rattle.cdc_message.specs.declared.items.Item.{Item}
 use Rattle.cdc_broker.specs.declared.queue.Mark.{Mark}
 use Rattle.cdc_broker.specs.Kept.{IsMark}
 
--- a place before which not all of the queue's items stand is inside the list
+-- if not all of the queue's items are before an index, the index is inside the list
 pub inside_by_count : (accepted : List Item) (binding : Arguments) (place : ℕ)
     → length (queue (take place accepted) binding) < length (queue accepted binding) → place < length accepted
 inside_by_count accepted binding place fewer =
@@ -42,12 +42,12 @@ counted accepted binding place item inside found is =
     length-filter_more (takes_item binding) accepted place item inside
     ∙ ap (λ b. length (queue (take place accepted) binding) + cond b 1 0) (ap (takes_item binding) (sym found) ∙ is)
 
--- what stands between two lists
+-- the element between two lists
 seam : {X : Type 0} (xs : List X) (x : X) (ys : List X) → slice_get (xs ++ x ∷ ys) (length xs) ≡ Some x
 seam [] x ys = refl
 seam (y ∷ xs) x ys = seam xs x ys
 
--- and it is the item of the queue after those that stand before it
+-- and its item is the next one of the queue after those before the index
 pub found_by_count : (accepted : List Item) (binding : Arguments) (place : ℕ) (item : Item) → place < length accepted
     → item ≡ get_or accepted place item → takes_item binding item ≡ true
     → slice_get accepted place
@@ -73,14 +73,14 @@ count_all_within accepted binding =
     let parts = length-filter_both tests (λ x. not (tests x)) (λ x. refl) accepted in
     omega arith
 
--- no more are counted than stand there
+-- no more items are counted than there are before the index
 pub count_within : (accepted : List Item) (binding : Arguments) (place : ℕ)
     → length (queue (take place accepted) binding) ≤ place
 count_within accepted binding place =
     let few = count_all_within (take place accepted) binding in
     omega (arith, length-take place accepted)
 
--- a mark stays one where the list grows
+-- a mark remains one when the list grows
 pub mark_stays : (accepted items : List Item) (binding : Arguments) (mark : Mark) → IsMark accepted binding mark
     → IsMark (accepted ++ items) binding mark
 mark_stays accepted items binding mark is =

@@ -1,4 +1,4 @@
--- The broker that a list of items and its queues stand for, and what a change makes of it.
+-- The broker that a list of items and its queues represent, and how a change of them changes it.
 use Rattle.std.proofs.Common.{◌≡◌, ℕ, zero, suc, ◌+◌, ◌-◌, ◌<◌, ◌≤◌, ◌^◌, Bool, true, false, List, [], ◌∷◌, ◌++◌, refl, sym, ap, ap₂, ◌∙◌, subst, length, length-append, map, get_or, append-nil, Option, Some, None, take, drop, arith}
 use Rattle.std.specs.Prelude.{All, is_some, nat_lt, slice_get, slice_set, if◌then◌else◌}
 use Rattle.std.specs.Option.{option_map}
@@ -52,7 +52,7 @@ module _ (connection : ℕ) (expected : Option ℕ) (accepted : List Item) (queu
       there = get_or-map (queue_state accepted) queues (i - 1) q (queue_state accepted q) inside
           ∙ ap (queue_state accepted) (sym found)
 
-  -- a queue that changes where the test holds, and stays as it is where it doesn't
+  -- a queue that changes if the test holds, and otherwise stays the same
   pub broker_of-set_if : (b : Bool) (q' : Queue) (after : QueueState)
       → queue_state accepted q' ≡ (if b then after else queue_state accepted q)
       → broker_of connection expected accepted (slice_set queues (i - 1) q')
@@ -111,15 +111,15 @@ order_by : (b : Bool) (accepted : List Item) (item : Item) (q : Queue) → IsInO
     → IsInOrder (accepted ++ item ∷ []) (if b then record q { len = q.len + 1 } else q)
 order_by true accepted item q order is =
     let len = order.len in
-    let there = order.handed_there in
+    let there = order.delivered_there in
     let more : length (queue (accepted ++ item ∷ []) q.binding) ≡ length (queue accepted q.binding ++ item ∷ []) =
     ap length is in
     record {
       len = omega (arith, length-append (queue accepted q.binding) (item ∷ []));
       acked = mark_stays accepted (item ∷ []) q.binding q.acked order.acked;
       cursor = mark_stays accepted (item ∷ []) q.binding q.cursor order.cursor;
-      handed_there = omega arith;
-      acked_handed = order.acked_handed;
+      delivered_there = omega arith;
+      acked_delivered = order.acked_delivered;
       past_acked = order.past_acked;
       next_at_most = order.next_at_most;
     }
@@ -127,8 +127,8 @@ order_by false accepted item q order is = record {
   len = order.len ∙ ap length (sym (is ∙ append-nil (queue accepted q.binding)));
   acked = mark_stays accepted (item ∷ []) q.binding q.acked order.acked;
   cursor = mark_stays accepted (item ∷ []) q.binding q.cursor order.cursor;
-  handed_there = order.handed_there;
-  acked_handed = order.acked_handed;
+  delivered_there = order.delivered_there;
+  acked_delivered = order.acked_delivered;
   past_acked = order.past_acked;
   next_at_most = order.next_at_most;
 }
@@ -142,7 +142,7 @@ counting_in_order accepted item queues in_order =
     order_by (takes_item q.binding item) accepted item q (in_order k d lt)
     (filter_push (takes_item q.binding) accepted item))
 
--- where the queues in front are changed, the next one is as it was
+-- when the queues before an index are changed, the next one is still unchanged
 pub at_front : (f : Queue → Queue) (queues : List Queue) (i : ℕ) (d : Queue) → i < length queues
     → get_or (map f (take i queues) ++ drop i queues) i d ≡ get_or queues i d
 at_front f [] i d inside = absurd (omega arith)
@@ -171,26 +171,26 @@ pub in_order_at : (accepted : List Item) (queues : List Queue) (i : ℕ) (q : Qu
     → q ≡ get_or queues i q → All (IsInOrder accepted) queues → IsInOrder accepted q
 in_order_at accepted queues i q inside found in_order = subst (IsInOrder accepted) (sym found) (in_order i q inside)
 
--- a queue that goes back stays in order
+-- a queue that rewinds stays in order
 pub rewound_in_order : (accepted : List Item) (q : Queue) → IsInOrder accepted q
     → IsInOrder accepted (record q { cursor = q.acked })
 rewound_in_order accepted q order = record {
   len = order.len;
   acked = order.acked;
   cursor = order.acked;
-  handed_there = order.handed_there;
-  acked_handed = order.acked_handed;
+  delivered_there = order.delivered_there;
+  acked_delivered = order.acked_delivered;
   past_acked = omega arith;
-  next_at_most = order.acked_handed;
+  next_at_most = order.acked_delivered;
 }
 
--- a list has something at a place before its end
+-- a list has an element at an index if and only if the index is below its length
 is_some-slice_get : {X : Type 0} (xs : List X) (i : ℕ) → is_some (slice_get xs i) ≡ nat_lt i (length xs)
 is_some-slice_get [] i = grind (arith, nat_tests)
 is_some-slice_get (x ∷ xs) zero = grind (arith, nat_tests)
 is_some-slice_get (x ∷ xs) (suc i) = is_some-slice_get xs i ∙ grind (arith, nat_tests)
 
--- an item that is wrapped is there where the item is
+-- an item that is wrapped is present if and only if the item is
 is_some-wrapped : (position : ℕ) (item : Option Item)
     → is_some (option_map (λ item. let d : Delivery = record { position = position; item = item } in d) item)
     ≡ is_some item

@@ -28,7 +28,7 @@ empty_broker bindings = record { connection = 0; expected = None; queues = map e
 abbrev pub takes_packet : BrokerState → Packet → Bool
 takes_packet s packet = is_taken_at s.connection s.expected packet
 
--- the broker under a new connection: tags begin anew
+-- the broker after a new connection: tags start at 1 again
 abbrev pub connected : ℕ → BrokerState → BrokerState
 connected connection s = record s { connection = connection; expected = Some 1 }
 
@@ -45,8 +45,8 @@ after_packet s (Publish session tag item) = published tag item s
 abbrev pub refusal_of : BrokerState → ℕ → Refusal
 refusal_of s connection = if connection == s.connection then WrongTag else WrongConnection
 
--- how a publish under this connection and tag is answered: it is taken, for which memory may run out, or passed over;
--- and the broker after it, which stays as it was where the publish isn't accepted
+-- the answer to a publish under this connection and tag, and the broker after it: the publish is taken, for which
+-- memory may run out, or ignored; unless it is accepted, the broker stays the same
 abbrev pub Publishes : BrokerState → ℕ → ℕ → Item → Result Taken AllocError → BrokerState → Type 0
 Publishes s connection tag item (Ok Accepted) s' =
     (takes_packet s (Publish connection tag item) ≡ true) × (s' ≡ published tag item s)
@@ -54,7 +54,7 @@ Publishes s connection tag item (Ok (Ignored refusal)) s' =
     (takes_packet s (Publish connection tag item) ≡ false) × (refusal ≡ refusal_of s connection) × (s' ≡ s)
 Publishes s connection tag item (Err _) s' = (takes_packet s (Publish connection tag item) ≡ true) × (s' ≡ s)
 
--- what stands for the binding of a queue that isn't there
+-- the binding of a queue that doesn't exist
 abbrev pub nobody : Arguments
 nobody = record { mode = mode.Any; pairs = [] }
 
@@ -66,7 +66,7 @@ queue_of s i = unwrap_or (slice_get s.queues (i - 1)) (empty_queue nobody)
 abbrev pub with_queue : ℕ → QueueState → BrokerState → BrokerState
 with_queue i q s = record s { queues = slice_set s.queues (i - 1) q }
 
--- the items that were accepted, one more where this one was
+-- the accepted items, with this one added if it was accepted
 abbrev pub accepted_after : List Item → Item → Result Taken AllocError → List Item
 accepted_after accepted item (Ok Accepted) = accepted ++ item ∷ []
 accepted_after accepted item (Ok (Ignored _)) = accepted

@@ -13,25 +13,25 @@ queue_state accepted q = record {
   binding = q.binding;
   items = queue accepted q.binding;
   cursor = record { next = q.cursor.position + 1; acked = q.acked.position };
-  handed = q.handed;
+  delivered = q.delivered;
 }
 
--- a mark's position counts the queue's items that stand before its place
+-- a mark's position is the number of the queue's items before its place
 pub record IsMark (accepted : List Item) (binding : Arguments) (mark : Mark) : Type 0 where
   pub within : mark.place ≤ length accepted
   pub counts : mark.position ≡ length (queue (take mark.place accepted) binding)
 
--- the length is that of the queue, and the marks are its own; only what is there was handed out, and only what was
--- handed out is acknowledged; the cursor is past what is acknowledged, and not past what was handed out
+-- the length is that of the queue, and the marks are its own; only existing items were delivered, and only delivered
+-- ones are acknowledged; the cursor is past all acknowledged items, and not past the delivered ones
 pub record IsInOrder (accepted : List Item) (q : Queue) : Type 0 where
   pub len : q.len ≡ length (queue accepted q.binding)
   pub acked : IsMark accepted q.binding q.acked
   pub cursor : IsMark accepted q.binding q.cursor
-  pub handed_there : q.handed ≤ q.len
-  pub acked_handed : q.acked.position ≤ q.handed
+  pub delivered_there : q.delivered ≤ q.len
+  pub acked_delivered : q.acked.position ≤ q.delivered
   pub past_acked : q.acked.position ≤ q.cursor.position
-  pub next_at_most : q.cursor.position ≤ q.handed
+  pub next_at_most : q.cursor.position ≤ q.delivered
 
--- the queue with one more item at the back of the list, which is counted where it belongs to it
+-- the queue after one more item at the back of the list, which counts if it belongs to the queue
 abbrev pub counting : Item → Queue → Queue
 counting item q = if takes_item q.binding item then record q { len = q.len + 1 } else q

@@ -1,4 +1,4 @@
-//! The broker as its callers see it.
+//! The public interface of the broker.
 
 ghost use Rattle.std.specs.Prelude.{◌≡◌, ◌^◌, ◌<◌, ◌≤◌, IsTrue, List, [], All, IfOk, OnOk, OnErr, is_some, not, if◌then◌else◌, length, map};
 ghost use Rattle.cdc_message.specs.declared.items.Item.{Item as SomeItem};
@@ -14,26 +14,27 @@ use cdc_message::{Delivery, Item};
 use std::alloc::{AllocError, Global};
 use std::marker::Model;
 
-/// Why a publish was passed over.
+/// Why the broker ignored a publish.
 #[derive(Clone, Copy, Debug, PartialEq, Eq)]
 pub enum Refusal {
-    /// It came under another connection than the current one.
+    /// The publish has the number of another connection than the current one.
     WrongConnection,
-    /// Its tag isn't the one that is taken next.
+    /// The publish doesn't have the tag that the broker takes next.
     WrongTag,
 }
 
-/// What became of a publish.
+/// The result of a publish.
 #[derive(Clone, Copy, Debug, PartialEq, Eq)]
 pub enum Taken {
-    /// Its item went to each queue that takes it.
+    /// The item was added to each queue that takes it.
     Accepted,
-    /// It changed nothing, and its item is gone.
+    /// The broker is unchanged, and the item was dropped.
     Ignored(Refusal),
 }
 
-/// A broker in memory, with a queue for each binding, numbered from 1. It holds each item that it has accepted once,
-/// whichever queues it belongs to. A clause sees the current connection, the tag that is taken next, and the queues.
+/// A broker in memory, with a queue for each binding, numbered from 1. It stores each accepted item once, no matter
+/// how many queues it belongs to. Contracts see the current connection, the tag that the broker takes next, and the
+/// queues.
 pub struct Broker {
     connection: u64,
     expected: Option<u64>,
@@ -41,7 +42,7 @@ pub struct Broker {
     queues: Vec<Queue>,
 }
 
-// By hand, so that whoever lets go of a broker calls this, and doesn't take it apart anew.
+// Implemented by hand: code that drops a broker then calls this function instead of repeating the drop of each field.
 impl Drop for Broker {
     fn drop(self) {
         let Broker {
@@ -70,7 +71,7 @@ impl Model for Broker {
     ghost invariant = { λ broker. All (IsInOrder broker.accepted.items) broker.queues.items };
 }
 
-/// The tag after this one; the greatest number of 64 bits is no tag.
+/// The tag after this one. `None` at the end: 2^64-1 is never a tag.
 fn tag_after(tag: u64) -> Option<u64>
     ensures { result ≡ next_tag tag }
 {
@@ -81,7 +82,7 @@ fn tag_after(tag: u64) -> Option<u64>
     }
 }
 
-/// Counts an item that comes to the back of the list, in the queues that it belongs to.
+/// Counts an item that is added to the back of the list, in the queues that it belongs to.
 fn count_in(queues: &mut [Queue], item: &Item)
     requires { All (λ q. q.len < 2 ^ 63) queues.old }
     ensures { queues.new ≡ map (counting item.now) queues.old }
@@ -92,7 +93,7 @@ fn count_in(queues: &mut [Queue], item: &Item)
 }
 
 impl Broker {
-    /// A broker with an empty queue for each binding, and no connection.
+    /// A broker with an empty queue for each binding, and no connection. The error is out of memory.
     pub fn new(alloc: Global, bindings: Vec<Binding>) -> Result<Broker, AllocError>
         ensures state { IfOk result (λ broker. broker ≡ empty_broker bindings.items) }
         ensures accepted { IfOk result (λ broker. HasAccepted broker []) }
@@ -109,8 +110,8 @@ impl Broker {
         })
     }
 
-    /// Takes a connection whose number is greater than the current one's (0 at first); tags begin at 1 again. Says
-    /// whether it was taken; nothing changes where it wasn't.
+    /// Takes a connection if its number is greater than the current one's, which is 0 at first. Tags then start at 1
+    /// again. Returns false, and changes nothing, if the connection isn't taken.
     pub fn connect(&mut self, connection: u64) -> bool
         ensures answer { result ≡ takes_packet self.old (Connect connection) }
         ensures state { self.new ≡ (if result then connected connection self.old else self.old) }
@@ -125,10 +126,10 @@ impl Broker {
         true
     }
 
-    /// Takes an item under the current connection's number and the tag that is taken next, which then rises by 1: an
-    /// event joins, at the back, the queues that take its headers, and an end mark joins all. A publish under another
-    /// number, or else with another tag, changes nothing, and none is taken under tag 2^64-1. Where memory runs out
-    /// nothing changes.
+    /// Takes an item if the publish has the current connection's number and the tag that is taken next. An event is
+    /// added to the queues whose bindings match its headers, and an end mark to all queues. The tag that is taken
+    /// next then rises by 1, up to 2^64-2: no publish is taken under the tag 2^64-1. Any other publish is ignored. If
+    /// memory runs out, nothing changes.
     pub fn publish(
         &mut self,
         alloc: Global,
@@ -153,7 +154,7 @@ impl Broker {
         Ok(Taken::Accepted)
     }
 
-    /// Whether queue `i` has an item to hand out next.
+    /// Whether queue `i` has an item to deliver next.
     pub fn has_next(&self, i: usize) -> bool
         requires first { 0 < i }
         requires last { i ≤ length self.now.queues }
@@ -162,8 +163,8 @@ impl Broker {
         self.queues[i - 1].has_next()
     }
 
-    /// Hands out the item at the cursor of queue `i`, with its position, and moves the cursor on; nothing, for which no
-    /// memory is needed, where no item stands there. Where memory runs out nothing changes.
+    /// Delivers the item at the cursor of queue `i`, with its position, and advances the cursor. Returns `None`,
+    /// without allocating, if there is no item at the cursor. If memory runs out, nothing changes.
     pub fn next_for(&mut self, alloc: Global, i: usize) -> Result<Option<Delivery>, AllocError>
         requires first { 0 < i }
         requires last { i ≤ length self.old.queues }
@@ -179,11 +180,11 @@ impl Broker {
     {
         let accepted = self.accepted.as_slice();
         let queue = &mut self.queues[i - 1];
-        queue.hand_out(alloc, accepted)
+        queue.deliver(alloc, accepted)
     }
 
-    /// Acknowledges all positions of queue `i` up to this one, and moves a cursor that stands at one of them past it.
-    /// False, with nothing changed, for position 0 and for one that wasn't handed out yet.
+    /// Acknowledges all positions of queue `i` up to this one. If the cursor is at one of them, it moves past them.
+    /// Returns false, and changes nothing, for position 0 and for a position that wasn't delivered yet.
     pub fn ack(&mut self, i: usize, position: u64) -> bool
         requires first { 0 < i }
         requires last { i ≤ length self.old.queues }
@@ -199,8 +200,7 @@ impl Broker {
         queue.ack(accepted, position)
     }
 
-    /// Goes back, in queue `i`, to the first position that isn't acknowledged: what was handed out from there on comes
-    /// again.
+    /// Rewinds queue `i` to the first unacknowledged position: everything delivered from there on is delivered again.
     pub fn rewind(&mut self, i: usize)
         requires first { 0 < i }
         requires last { i ≤ length self.old.queues }
@@ -212,7 +212,7 @@ impl Broker {
         queue.rewind();
     }
 
-    /// How many items have come to queue `i`, acknowledged ones too.
+    /// The number of items that were ever added to queue `i`, including the acknowledged ones.
     pub fn queue_len(&self, i: usize) -> u64
         requires first { 0 < i }
         requires last { i ≤ length self.now.queues }
@@ -221,7 +221,7 @@ impl Broker {
         self.queues[i - 1].len
     }
 
-    /// The position of queue `i` up to which all are acknowledged.
+    /// The position of queue `i` up to which all are acknowledged, 0 if none is.
     pub fn acked(&self, i: usize) -> u64
         requires first { 0 < i }
         requires last { i ≤ length self.now.queues }
@@ -230,21 +230,21 @@ impl Broker {
         self.queues[i - 1].acked.position
     }
 
-    /// The number of the current connection, 0 before the first.
+    /// The number of the current connection. 0 before the first one.
     pub fn connection(&self) -> u64
         ensures { result ≡ self.now.connection }
     {
         self.connection
     }
 
-    /// The tag that is taken next under the current connection; none before the first, and after tag 2^64-2.
+    /// The tag that is taken next under the current connection. `None` before the first connection, and after the tag
+    /// 2^64-2.
     pub fn next_tag(&self) -> Option<u64>
         ensures { result ≡ self.now.expected }
     {
         self.expected
     }
 
-    /// How many queues there are.
     pub fn queue_count(&self) -> usize
         ensures { result ≡ length self.now.queues }
     {

@@ -1,5 +1,5 @@
-//! A broker in memory: what a publisher sends under its session's number and rising tags goes to a queue for each
-//! binding, which hands it out and is told what was taken.
+//! A broker in memory. The connector publishes items under its session's number and rising tags. Each item is added
+//! to the queues whose bindings match it. A queue delivers its items and receives acknowledgements.
 #![tactic(auto)]
 
 mod broker;

@@ -1,4 +1,4 @@
-//! One queue: what belongs to a binding, of a list that all queues share.
+//! One queue: the items of a shared list that belong to its binding.
 
 ghost use Rattle.std.specs.Prelude.{◌≡◌, ◌+◌, ◌-◌, ◌^◌, ◌<◌, ◌≤◌, IsTrue, [], max, nat_lt, not, is_some, length, slice_get, IfOk, OnOk, OnErr, if◌then◌else◌};
 ghost use Rattle.cdc_match.specs.Queue.{queue, takes_item};
@@ -9,32 +9,31 @@ use cdc_match::Binding;
 use cdc_message::{Delivery, Item};
 use std::alloc::{AllocError, Global};
 
-/// How far a queue has come, in the list of all items and by its own count.
+/// How far a queue has come, as an index of the shared list and as a position of the queue.
 #[derive(Clone, Copy)]
 pub(crate) struct Mark {
-    /// How many items of the list it has come past.
+    /// The number of items of the list before the mark.
     pub(crate) place: usize,
-    /// How many of these belong to the queue: the position of the last one, or 0.
+    /// How many of these belong to the queue. It is the position of the last of them, or 0.
     pub(crate) position: u64,
 }
 
-/// The items that belong to a binding, at positions from 1 on. They stand in the list of all items.
+/// The items that belong to a binding, at positions from 1 on. They are stored in the list that all queues share.
 #[derive(Drop)]
 pub(crate) struct Queue {
-    /// Which items belong to it.
     pub(crate) binding: Binding,
-    /// How many belong to it.
+    /// The number of items that belong to the queue.
     pub(crate) len: u64,
-    /// The greatest position that was handed out.
-    pub(crate) handed: u64,
-    /// Up to where all are acknowledged.
+    /// The greatest position that was delivered.
+    pub(crate) delivered: u64,
+    /// All items before this mark are acknowledged.
     pub(crate) acked: Mark,
-    /// Up to where all are passed: what is handed out next comes after it.
+    /// The next item to deliver is the queue's first one after this mark.
     pub(crate) cursor: Mark,
 }
 
 impl Mark {
-    /// Before the first item.
+    /// The mark before the first item.
     const START: Mark = Mark {
         place: 0,
         position: 0,
@@ -42,7 +41,7 @@ impl Mark {
 }
 
 impl Queue {
-    /// A queue that nothing has come to.
+    /// An empty queue.
     pub(crate) fn new(binding: Binding) -> Queue
         ensures state { queue_state [] result ≡ empty_queue binding }
         ensures in_order { IsInOrder [] result }
@@ -50,13 +49,13 @@ impl Queue {
         Queue {
             binding,
             len: 0,
-            handed: 0,
+            delivered: 0,
             acked: Mark::START,
             cursor: Mark::START,
         }
     }
 
-    /// Whether the item belongs to the queue: an end mark belongs to each.
+    /// Whether the item belongs to the queue. An end mark belongs to every queue.
     fn wants(&self, item: &Item) -> bool
         ensures { result ≡ takes_item self.now.binding item.now }
     {
@@ -66,7 +65,7 @@ impl Queue {
         }
     }
 
-    /// Counts an item that comes to the back of the list, where it belongs to the queue.
+    /// Counts an item that is added to the back of the list, if it belongs to the queue.
     pub(crate) fn count(&mut self, item: &Item)
         requires { self.old.len < 2 ^ 63 }
         ensures { self.new ≡ counting item.now self.old }
@@ -76,14 +75,14 @@ impl Queue {
         }
     }
 
-    /// Whether an item comes after the cursor.
+    /// Whether the queue has an item after the cursor.
     pub(crate) fn has_next(&self) -> bool
         ensures { result ≡ nat_lt self.now.cursor.position self.now.len }
     {
         self.cursor.position < self.len
     }
 
-    /// Just past the next item after this mark that belongs to the queue.
+    /// The mark right after the queue's next item after `mark`. There is such an item.
     fn past_next(&self, accepted: &[Item], mark: Mark) -> Mark
         requires here { IsMark accepted.now self.now.binding mark }
         requires further { mark.position < length (queue accepted.now self.now.binding) }
@@ -103,8 +102,9 @@ impl Queue {
         }
     }
 
-    /// Hands out a copy of the item after the cursor, which moves on, or nothing where the cursor is past the items.
-    pub(crate) fn hand_out(
+    /// Delivers a copy of the item after the cursor, and advances the cursor. Returns `None` if no item follows the
+    /// cursor. If memory runs out, nothing changes.
+    pub(crate) fn deliver(
         &mut self,
         alloc: Global,
         accepted: &[Item],
@@ -125,7 +125,7 @@ impl Queue {
         }
         let next = self.past_next(accepted, self.cursor);
         let item = accepted[next.place - 1].try_copy(alloc)?;
-        self.handed = self.handed.max(next.position);
+        self.delivered = self.delivered.max(next.position);
         self.cursor = next;
         Ok(Some(Delivery {
             position: next.position,
@@ -133,7 +133,7 @@ impl Queue {
         }))
     }
 
-    /// Just past the item at this position, or further where more are acknowledged.
+    /// The mark right after the item at this position, or a later one if more items are acknowledged.
     fn acked_up_to(&self, accepted: &[Item], position: u64) -> Mark
         requires in_order { IsInOrder accepted.now self.now }
         requires there { position ≤ self.now.len }
@@ -147,7 +147,8 @@ impl Queue {
         mark
     }
 
-    /// Acknowledges all positions up to this one, if it was handed out.
+    /// Acknowledges all positions up to this one. Returns false, and changes nothing, if the position wasn't
+    /// delivered.
     pub(crate) fn ack(&mut self, accepted: &[Item], position: u64) -> bool
         requires { IsInOrder accepted.now self.old }
         ensures answer { result ≡ not (is_unknown (queue_state accepted.now self.old) position) }
@@ -156,7 +157,7 @@ impl Queue {
             else queue_state accepted.now self.old) }
         ensures in_order { IsInOrder accepted.now self.new }
     {
-        if position == 0 || position > self.handed {
+        if position == 0 || position > self.delivered {
             return false;
         }
         let acked = self.acked_up_to(accepted, position);
@@ -167,7 +168,7 @@ impl Queue {
         true
     }
 
-    /// Goes back to the first position that isn't acknowledged.
+    /// Rewinds to the first unacknowledged position.
     pub(crate) fn rewind(&mut self)
         ensures { self.new ≡ record self.old { cursor = self.old.acked } }
     {

@@ -1,11 +1,11 @@
-//! Makes one call that may lack memory on a fixed value, and makes it again where it was refused: a program for tests
-//! alone, which have the growths beneath it refused (tests/faults/sweep.py).
+//! Makes one call that may run out of memory on a fixed value, and makes it again if it was refused. This program is
+//! only for tests, which refuse allocations beneath it (tests/faults/sweep.py).
 //!
 //!   cdc_calls NAME    NAME: items, batch, results, delivery, packet, binding or body
 //!
-//! Before the call it says `made` on standard error. Then it prints what the last call gave, and how many were refused.
-//! It ends with 0 where that was done, with 2 where the value wasn't made or the words not read, with 4 where the last
-//! call was refused too, with 8 at other words, and with 9 where something couldn't be said.
+//! Before the call it prints `made` on standard error. Then it prints what the last call gave, and how many were
+//! refused. The exit status is 0 if all this was done, 2 if the value wasn't made or the arguments weren't read, 4 if
+//! the last call was refused too, 8 for other arguments, and 9 if a write failed.
 #![tactic(auto)]
 
 mod tries;
@@ -25,19 +25,19 @@ use tries::{
 /// Why the program didn't do what it was asked for.
 #[derive(Clone, Copy)]
 enum CallsFault {
-    /// There was no memory for the words, or the value wasn't made.
+    /// There was no memory for the arguments, or the value wasn't made.
     NotMade,
     /// The last call was refused.
     Refused,
-    /// The words name no call.
+    /// The arguments name no call.
     BadWords,
-    /// Standard output or standard error took no text.
-    NotSaid,
+    /// A write to standard output or standard error failed.
+    NotReported,
 }
 
 impl From<io::Error> for CallsFault {
     fn from(_error: io::Error) -> CallsFault {
-        CallsFault::NotSaid
+        CallsFault::NotReported
     }
 }
 
@@ -53,12 +53,12 @@ impl CallsFault {
             CallsFault::NotMade => 2,
             CallsFault::Refused => 4,
             CallsFault::BadWords => 8,
-            CallsFault::NotSaid => 9,
+            CallsFault::NotReported => 9,
         }
     }
 }
 
-// What was made. From here on the call's own growths come.
+// Reports that the value was made. From here on the allocations are the call's own.
 fn made<T: Drop>(rt: &HostRuntime, value: Option<T>) -> Result<T, CallsFault> {
     let Some(value) = value else {
         return Err(CallsFault::NotMade);
@@ -67,8 +67,8 @@ fn made<T: Drop>(rt: &HostRuntime, value: Option<T>) -> Result<T, CallsFault> {
     Ok(value)
 }
 
-// What the last call gave, where it wasn't refused. The number of the refusals is said.
-fn told<T: Drop>(rt: &HostRuntime, tried: Tried<T>) -> Result<T, CallsFault> {
+// Prints the number of refused calls. Returns what the last call gave, if it wasn't refused.
+fn report<T: Drop>(rt: &HostRuntime, tried: Tried<T>) -> Result<T, CallsFault> {
     let Tried { last, refused } = tried;
     println!(rt; "refused {refused}")?;
     Ok(last?)
@@ -76,7 +76,7 @@ fn told<T: Drop>(rt: &HostRuntime, tried: Tried<T>) -> Result<T, CallsFault> {
 
 fn try_items(rt: &HostRuntime) -> Result<(), CallsFault> {
     let items = made(rt, values::items(rt.alloc()))?;
-    let copy = told(rt, copied_items(rt.alloc(), &items))?;
+    let copy = report(rt, copied_items(rt.alloc(), &items))?;
     for number in copy.as_slice() {
         println!(rt; "item {number}")?;
     }
@@ -85,7 +85,7 @@ fn try_items(rt: &HostRuntime) -> Result<(), CallsFault> {
 
 fn try_batch(rt: &HostRuntime) -> Result<(), CallsFault> {
     let batch = made(rt, values::batch(rt.alloc()))?;
-    if let Batch::Accounts { now, items } = told(rt, copied_batch(rt.alloc(), &batch))? {
+    if let Batch::Accounts { now, items } = report(rt, copied_batch(rt.alloc(), &batch))? {
         println!(rt; "now {now}")?;
         for item in items.as_slice() {
             println!(rt; "account {} {} {}", item.id, item.ledger, item.code)?;
@@ -96,7 +96,7 @@ fn try_batch(rt: &HostRuntime) -> Result<(), CallsFault> {
 
 fn try_results(rt: &HostRuntime) -> Result<(), CallsFault> {
     let results = made(rt, values::results(rt.alloc()))?;
-    if let BatchResults::Transfers(items) = told(rt, copied_results(rt.alloc(), &results))? {
+    if let BatchResults::Transfers(items) = report(rt, copied_results(rt.alloc(), &results))? {
         for item in items.as_slice() {
             println!(rt; "result {}", item.name())?;
         }
@@ -104,7 +104,7 @@ fn try_results(rt: &HostRuntime) -> Result<(), CallsFault> {
     Ok(())
 }
 
-// Prints the body of an item's message.
+// Prints the body of an item's message; nothing for an end mark.
 fn show_item(rt: &HostRuntime, item: &Item) -> Result<(), CallsFault> {
     if let Item::Event(message) = item {
         println!(rt; "{}", message.body())?;
@@ -116,7 +116,7 @@ fn try_delivery(rt: &HostRuntime) -> Result<(), CallsFault> {
     let item = values::item(rt.alloc());
     let item = made(rt, item)?;
     let delivery = Delivery { position: 7, item };
-    let copy = told(rt, copied_delivery(rt.alloc(), &delivery))?;
+    let copy = report(rt, copied_delivery(rt.alloc(), &delivery))?;
     println!(rt; "position {}", copy.position)?;
     show_item(rt, &copy.item)
 }
@@ -128,7 +128,10 @@ fn try_packet(rt: &HostRuntime) -> Result<(), CallsFault> {
         tag: 9,
         item,
     };
-    if let Packet::Publish { session, tag, item } = told(rt, copied_packet(rt.alloc(), &packet))? {
+    if let Packet::Publish { session, tag, item } = report(
+        rt,
+        copied_packet(rt.alloc(), &packet),
+    )? {
         println!(rt; "session {session} tag {tag}")?;
         show_item(rt, &item)?;
     }
@@ -137,7 +140,7 @@ fn try_packet(rt: &HostRuntime) -> Result<(), CallsFault> {
 
 fn try_binding(rt: &HostRuntime) -> Result<(), CallsFault> {
     let binding = made(rt, values::binding(rt.alloc()))?;
-    let copy = told(rt, copied_binding(rt.alloc(), &binding))?;
+    let copy = report(rt, copied_binding(rt.alloc(), &binding))?;
     let equal = copy.mode() == binding.mode() && copy.pairs() == binding.pairs();
     println!(rt; "pairs {} equal {equal}", copy.pairs().len())?;
     Ok(())
@@ -156,12 +159,12 @@ fn try_body(rt: &HostRuntime) -> Result<(), CallsFault> {
     Ok(())
 }
 
-/// Makes the call that the word behind the program's own name asks for.
+/// Makes the call that the argument names.
 fn run(rt: &HostRuntime) -> Result<(), CallsFault> {
-    let Ok(words) = words_of(rt) else {
+    let Ok(args) = command_line_of(rt) else {
         return Err(CallsFault::NotMade);
     };
-    let [name] = words.as_slice() else {
+    let [name] = args.as_slice() else {
         return Err(CallsFault::BadWords);
     };
     match name.as_str() {
@@ -176,10 +179,10 @@ fn run(rt: &HostRuntime) -> Result<(), CallsFault> {
     }
 }
 
-/// The words of the command line, without the program's own name.
-fn words_of(rt: &HostRuntime) -> io::Result<Vec<String>> {
-    let words: Vec<String> = env::args(rt)?.skip(1).collect(rt.alloc())?;
-    Ok(words)
+/// The arguments, without the program's own name.
+fn command_line_of(rt: &HostRuntime) -> io::Result<Vec<String>> {
+    let args: Vec<String> = env::args(rt)?.skip(1).collect(rt.alloc())?;
+    Ok(args)
 }
 
 fn main(rt: HostRuntime) -> ExitCode {

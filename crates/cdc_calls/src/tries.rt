@@ -1,9 +1,9 @@
-//! The calls that may lack memory, each made again where it was refused.
+//! The calls that may run out of memory, each made again if it was refused.
 
 ghost use Rattle.std.specs.Prelude.{◌≡◌, IfOk, OnOk, OnErr, Ok, Err, true};
 ghost use Rattle.cdc_message.specs.Reading.{read};
 ghost use Rattle.cdc_subscriber.specs.Answers.{TakesBody};
-ghost use Rattle.cdc_subscriber.specs.Heard.{Heard, next_read, kept_of};
+ghost use Rattle.cdc_subscriber.specs.Reception.{Reception, next_read, kept_of};
 
 use cdc_match::Binding;
 use cdc_message::{Delivery, Packet};
@@ -11,27 +11,23 @@ use cdc_subscriber::{Subscriber, TakeError, Taking};
 use cdc_types::{Batch, BatchResults, Items};
 use std::alloc::{AllocError, Global};
 
-/// What the last call gave, and how many were refused for want of memory: two at most.
+/// What the last call gave, and how many calls were refused because memory ran out: at most two.
 #[derive(Drop)]
 pub struct Tried<T> {
-    /// What the last call gave.
     pub last: Result<T, AllocError>,
-    /// How many calls were refused.
     pub refused: u64,
 }
 
-/// What the last call of `take_body` gave, and how many were refused for want of memory: two at most.
+/// What the last call of `take_body` gave, and how many calls were refused because memory ran out: at most two.
 #[derive(Clone, Copy)]
 pub struct TakenBody {
-    /// What the last call gave.
     pub last: Result<Taking, TakeError>,
-    /// How many calls were refused.
     pub refused: u64,
-    /// Whether the subscriber's last moment and its count stayed the same at the first refusal.
+    /// Whether the subscriber's last timestamp and its count stayed the same at the first refusal.
     pub kept: bool,
 }
 
-/// Copies items.
+/// Copies items, again if memory ran out.
 pub fn copied_items(alloc: Global, items: &Items<u64>) -> Tried<Items<u64>>
     ensures copy { IfOk result.last (λ copy. copy ≡ items.now) }
     ensures again { OnErr result.last (result.refused ≡ 2) }
@@ -42,7 +38,7 @@ pub fn copied_items(alloc: Global, items: &Items<u64>) -> Tried<Items<u64>>
     }
 }
 
-/// Copies a batch.
+/// Copies a batch, again if memory ran out.
 pub fn copied_batch(alloc: Global, batch: &Batch) -> Tried<Batch>
     ensures copy { IfOk result.last (λ copy. copy ≡ batch.now) }
     ensures again { OnErr result.last (result.refused ≡ 2) }
@@ -53,7 +49,7 @@ pub fn copied_batch(alloc: Global, batch: &Batch) -> Tried<Batch>
     }
 }
 
-/// Copies what a ledger answers to a batch.
+/// Copies what a ledger answers to a batch, again if memory ran out.
 pub fn copied_results(alloc: Global, results: &BatchResults) -> Tried<BatchResults>
     ensures copy { IfOk result.last (λ copy. copy ≡ results.now) }
     ensures again { OnErr result.last (result.refused ≡ 2) }
@@ -64,7 +60,7 @@ pub fn copied_results(alloc: Global, results: &BatchResults) -> Tried<BatchResul
     }
 }
 
-/// Copies a delivery.
+/// Copies a delivery, again if memory ran out.
 pub fn copied_delivery(alloc: Global, delivery: &Delivery) -> Tried<Delivery>
     ensures copy { IfOk result.last (λ copy. copy ≡ delivery.now) }
     ensures again { OnErr result.last (result.refused ≡ 2) }
@@ -75,7 +71,7 @@ pub fn copied_delivery(alloc: Global, delivery: &Delivery) -> Tried<Delivery>
     }
 }
 
-/// Copies a packet.
+/// Copies a packet, again if memory ran out.
 pub fn copied_packet(alloc: Global, packet: &Packet) -> Tried<Packet>
     ensures copy { IfOk result.last (λ copy. copy ≡ packet.now) }
     ensures again { OnErr result.last (result.refused ≡ 2) }
@@ -86,7 +82,7 @@ pub fn copied_packet(alloc: Global, packet: &Packet) -> Tried<Packet>
     }
 }
 
-/// Copies a binding.
+/// Copies a binding, again if memory ran out.
 pub fn copied_binding(alloc: Global, binding: &Binding) -> Tried<Binding>
     ensures copy { IfOk result.last (λ copy. copy ≡ binding.now) }
     ensures again { OnErr result.last (result.refused ≡ 2) }
@@ -97,11 +93,11 @@ pub fn copied_binding(alloc: Global, binding: &Binding) -> Tried<Binding>
     }
 }
 
-/// Hands a body to a subscriber. A call that is refused leaves the subscriber as it was.
+/// Passes a body to a subscriber, again if memory ran out. A call that is refused leaves the subscriber as it was.
 pub fn taken_body(alloc: Global, subscriber: &mut Subscriber, body: &[u8]) -> TakenBody
     ensures answer { TakesBody subscriber.old (read body.now) result.last }
-    ensures stands { (heard : Heard) → subscriber.old ≡ kept_of heard
-        → OnOk result.last (subscriber.new ≡ kept_of (next_read heard (read body.now))) }
+    ensures stands { (reception : Reception) → subscriber.old ≡ kept_of reception
+        → OnOk result.last (subscriber.new ≡ kept_of (next_read reception (read body.now))) }
     ensures err { OnErr result.last (subscriber.new ≡ subscriber.old) }
     ensures kept { result.kept ≡ true }
     ensures again { result.last ≡ Err TakeError.OutOfMemory → result.refused ≡ 2 }
@@ -140,7 +136,7 @@ fn first<T>(value: T) -> Tried<T>
     }
 }
 
-// What the second call gave, where the first was refused.
+// What the second call gave, after the first was refused.
 fn second<T>(last: Result<T, AllocError>) -> Tried<T>
     ensures last { result.last ≡ last }
     ensures again { OnErr last (result.refused ≡ 2) }

@@ -59,13 +59,11 @@ const ACCOUNT: NewAccount = NewAccount {
     flags: 0,
 };
 
-/// Three numbers.
 pub fn items(alloc: Global) -> Option<Items<u64>> {
     let numbers = vec![in alloc; 5, 6, 7].ok()?;
     Some(Items::from_vec(numbers))
 }
 
-/// Requests for two accounts.
 pub fn batch(alloc: Global) -> Option<Batch> {
     let items = vec![in alloc; ACCOUNT, NewAccount { id: 2, ..ACCOUNT }].ok()?;
     Some(Batch::Accounts {
@@ -74,19 +72,17 @@ pub fn batch(alloc: Global) -> Option<Batch> {
     })
 }
 
-/// The results of two transfers.
 pub fn results(alloc: Global) -> Option<BatchResults> {
     let results = vec![in alloc; TransferResult::Accepted, TransferResult::Exists].ok()?;
     Some(BatchResults::Transfers(Items::from_vec(results)))
 }
 
-/// The item of the first event.
 pub fn item(alloc: Global) -> Option<Item> {
     let message = Message::of(alloc, &FIRST).ok()?;
     Some(Item::Event(message))
 }
 
-/// The body of the first event, behind a space that `encode` doesn't write, so that reading it takes memory.
+/// The body of the first event, after a space that `encode` doesn't write, so that reading it takes memory.
 pub fn body(alloc: Global) -> Option<String> {
     let message = Message::of(alloc, &FIRST).ok()?;
     let mut body = String::from_str(alloc, " ").ok()?;
@@ -94,7 +90,6 @@ pub fn body(alloc: Global) -> Option<String> {
     Some(body)
 }
 
-/// A binding of two pairs.
 pub fn binding(alloc: Global) -> Option<Binding> {
     Binding::parse(alloc, &["any", "ledger=700", "transfer_code=1"]).ok()
 }

@@ -1,5 +1,5 @@
--- The definitions at work: what they compute for small scripts, beside what the rules say in words.
-use Rattle.std.specs.Prelude.{ℕ, ◌≡◌, true, Ok, Err, List, [], ◌∷◌, ◌++◌, codes}
+-- Examples: what the definitions compute for small scripts.
+use Rattle.std.specs.Prelude.{ℕ, ◌≡◌, true, Result, Ok, Err, List, [], ◌∷◌, ◌++◌, codes}
 use Rattle.std.proofs.Common.{refl}
 use Rattle.std.specs.Fmt.{digits}
 use Rattle.cdc_types.specs.declared.batches.BatchResults.TheVariants as results
@@ -12,11 +12,16 @@ use Rattle.cdc_match.specs.declared.pairs.Mode.TheVariants as mode
 use Rattle.cdc_match.specs.declared.pairs.Pair.TheVariants as pair
 use Rattle.cdc_message.specs.Bodies.{body}
 use Rattle.cdc_commands.specs.declared.endings.Ending.TheVariants.{Done, BadScript}
+use Rattle.cdc_script.specs.declared.faults.Detail.TheVariants.{Plain}
 use Rattle.cdc_script.specs.declared.faults.FaultKind.TheVariants as kind
-use Rattle.cdc_laws.specs.Line.{told}
+use Rattle.cdc_laws.specs.Line.{emitted}
 use Rattle.cdc_commands.specs.Feeds.{subscribers_text}
-use Rattle.cdc_commands.specs.Printed.{books_outcome, messages_outcome}
-use Rattle.cdc_commands.specs.Report.{batch_line}
+use Rattle.cdc_commands.specs.Outcomes.{Outcome}
+use Rattle.cdc_commands.specs.Printed.{printed_books, printed_messages}
+use Rattle.cdc_commands.specs.Report.{batch_line, script_fault_line}
+use Rattle.cdc_script.specs.Scripts.{script_of}
+use Rattle.cdc_script.specs.declared.faults.ScriptFault.{ScriptFault}
+use Rattle.cdc_script.specs.declared.scripts.Script.{Script}
 
 -- the lines of batches
 prints_batches : (batch_line 2 (Ok (results.Transfers (Accepted ∷ OverflowsDebitsPosted ∷ [])))
@@ -70,13 +75,18 @@ abbrev two_events : List Event
 two_events = event 2000 (side 2 5 0) (side 1 0 5) ∷ event 2001 (side 1 7 5) (side 3 0 7) ∷ []
 
 -- what two subscribers print of these events: one of every event, and one of those of another ledger
-prints_subscribers : subscribers_text 1 (told two_events true)
+prints_subscribers : subscribers_text 1 (emitted two_events true)
     (record { mode = mode.All; pairs = [] } ∷ record { mode = mode.All; pairs = pair.Ledger 800 ∷ [] } ∷ [])
     ≡ codes "subscriber 1 applied 2 last 2001 ended yes closed no\n"
     ++ codes "account 2 0 5 0 0\naccount 1 0 7 0 5\naccount 3 0 0 0 7\n"
     ++ codes "subscriber 2 applied 0 last 0 ended yes closed no\n"
 unfolding digits
 prints_subscribers = refl
+
+-- what is printed of a script that is read, or of its fault, by a command that prints this of scripts
+abbrev outcome : (Script → List ℕ) → Result Script ScriptFault → Outcome
+outcome printed (Ok script) = record { text = printed script; ending = Done }
+outcome printed (Err at) = record { text = script_fault_line at; ending = BadScript at }
 
 -- two accounts, and one transfer of 100 between them
 abbrev one_transfer : List ℕ
@@ -86,7 +96,7 @@ one_transfer =
     ++ codes "transfer id=1 debit_account_id=1 credit_account_id=2 amount=100 ledger=700 code=1\n"
 
 -- from bytes to bytes: the book of one transfer
-prints_transfer : books_outcome one_transfer ≡ record {
+prints_transfer : outcome printed_books (script_of one_transfer) ≡ record {
   text = codes "batch 1: 0 0\nbatch 2: 0\nsubscriber 1 applied 1 last 2000 ended yes closed no\n"
       ++ codes "account 1 0 100 0 0\naccount 2 0 0 0 100\n";
   ending = Done;
@@ -114,15 +124,22 @@ its_body =
     ++ codes "\"user_data_32\":0,\"user_data_64\":\"0\"},\"type\":\"single_phase\"}"
 
 -- from bytes to bytes: the message of one transfer
-prints_message : messages_outcome one_transfer
+prints_message : outcome printed_messages (script_of one_transfer)
     ≡ record { text = its_headers ++ codes "\n" ++ (its_body ++ codes "\n"); ending = Done }
 unfolding digits body
 prints_message = refl
 
 -- from bytes to bytes: a bad script
-prints_fault : messages_outcome (codes "subscriber all\naccounts x") ≡ record {
+prints_fault : outcome printed_messages (script_of (codes "subscriber all\naccounts x")) ≡ record {
   text = codes "fault: script line 2: bad_number\n";
-  ending = BadScript (record { line = 2; kind = kind.BadNumber });
+  ending = BadScript (record {
+    line = 2;
+    column = 10;
+    word = record { start = 24; length = 1 };
+    first = record { start = 15; length = 8 };
+    kind = kind.BadNumber;
+    detail = Plain;
+  });
 }
 unfolding digits
 prints_fault = refl

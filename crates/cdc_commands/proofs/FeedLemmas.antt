@@ -17,10 +17,10 @@ use Rattle.cdc_message.specs.declared.items.Item.TheVariants.{Event as OfEvent, 
 use Rattle.cdc_message.specs.declared.packets.Packet.TheVariants.{Connect}
 use Rattle.cdc_types.specs.declared.events.Event.{Event}
 use Rattle.cdc_types.specs.Widths.{max_64}
-use Rattle.cdc_subscriber.specs.Heard.{nothing, next, kept_of}
+use Rattle.cdc_subscriber.specs.Reception.{nothing, next, kept_of}
 use Rattle.cdc_subscriber.specs.SubscriberState.{SubscriberState}
-use Rattle.cdc_commands.specs.Feeds.{hearing}
-use Rattle.cdc_commands.specs.Private.Takers.{TakesDelivery, hearing_delivery}
+use Rattle.cdc_commands.specs.Feeds.{receiving}
+use Rattle.cdc_commands.specs.Private.Takers.{TakesDelivery, receiving_delivery}
 use Rattle.cdc_commands.specs.Queues.{filled, filled_queues}
 use Rattle.cdc_commands.proofs.FoundElements.{take_found}
 use Rattle.std.proofs.lemmas.List.Elements.{filter-append}
@@ -51,21 +51,21 @@ filled_queues-push items item (b ∷ rest) =
     ap₂ (λ q qs. q ∷ qs) (filled-push items item b) (filled_queues-push items item rest)
 
 -- a broker to which the first events were published
-pub record IsFilled (told : List Event) (bindings : List Arguments) (place : ℕ) (broker : BrokerState) : Type 0 where
+pub record IsFilled (emitted : List Event) (bindings : List Arguments) (place : ℕ) (broker : BrokerState) : Type 0 where
   pub connection : broker.connection ≡ 1
   pub expected : broker.expected ≡ Some (place + 1)
-  pub queues : broker.queues ≡ filled_queues (map OfEvent (take place told)) bindings
+  pub queues : broker.queues ≡ filled_queues (map OfEvent (take place emitted)) bindings
 
 -- under the first connection, before anything is published
-pub IsFilled-connected : (told : List Event) (bindings : List Arguments) (b : Bool) (s s' : BrokerState)
+pub IsFilled-connected : (emitted : List Event) (bindings : List Arguments) (b : Bool) (s s' : BrokerState)
     → s ≡ empty_broker bindings
-    → b ≡ takes_packet s (Connect 1) → s' ≡ (if b then connected 1 s else s) → IsFilled told bindings 0 s'
-IsFilled-connected told bindings true s s' new taken is = record {
+    → b ≡ takes_packet s (Connect 1) → s' ≡ (if b then connected 1 s else s) → IsFilled emitted bindings 0 s'
+IsFilled-connected emitted bindings true s s' new taken is = record {
   connection = ap (λ (x : BrokerState). x.connection) is;
   expected = ap (λ (x : BrokerState). x.expected) is;
   queues = ap (λ (x : BrokerState). x.queues) is ∙ ap (λ (x : BrokerState). x.queues) new;
 }
-IsFilled-connected told bindings false s s' new taken is =
+IsFilled-connected emitted bindings false s s' new taken is =
     absurd (false≢true (taken ∙ ap (λ (x : BrokerState). takes_packet x (Connect 1)) new))
 
 -- one more item was published
@@ -76,25 +76,25 @@ published-queues tag item items bindings s s' before is =
     ap (λ (x : BrokerState). x.queues) is ∙ ap (map (queued item)) before ∙ filled_queues-push items item bindings
 
 -- one more event
-pub IsFilled-more : (told : List Event) (bindings : List Arguments) (place : ℕ) (event : Event) (s s' : BrokerState)
-    → place + 2 < max_64 → IsFilled told bindings place s → slice_get told place ≡ Some event
-    → s' ≡ published (place + 1) (OfEvent event) s → IsFilled told bindings (place + 1) s'
-IsFilled-more told bindings place event s s' small filled found is = record {
+pub IsFilled-more : (emitted : List Event) (bindings : List Arguments) (place : ℕ) (event : Event) (s s' : BrokerState)
+    → place + 2 < max_64 → IsFilled emitted bindings place s → slice_get emitted place ≡ Some event
+    → s' ≡ published (place + 1) (OfEvent event) s → IsFilled emitted bindings (place + 1) s'
+IsFilled-more emitted bindings place event s s' small filled found is = record {
   connection = ap (λ (x : BrokerState). x.connection) is ∙ filled.connection;
   expected = ap (λ (x : BrokerState). x.expected) is ∙ tag_after_small (place + 1) (omega arith);
-  queues = published-queues (place + 1) (OfEvent event) (map OfEvent (take place told)) bindings s s' filled.queues is
-      ∙ ap (λ items. filled_queues items bindings) (sym (map_push OfEvent (take place told) event)
-      ∙ ap (map OfEvent) (sym (take_found told place event found)));
+  queues = published-queues (place + 1) (OfEvent event) (map OfEvent (take place emitted)) bindings s s' filled.queues is
+      ∙ ap (λ items. filled_queues items bindings) (sym (map_push OfEvent (take place emitted) event)
+      ∙ ap (map OfEvent) (sym (take_found emitted place event found)));
 }
 
 -- the end mark, after all events
-pub queues_whole : (told : List Event) (bindings : List Arguments) (place tag : ℕ) (s s' : BrokerState)
-    → length told ≤ place
-    → IsFilled told bindings place s → s' ≡ published tag EndMark s
-    → s'.queues ≡ filled_queues (map OfEvent told ++ EndMark ∷ []) bindings
-queues_whole told bindings place tag s s' all filled is =
-    published-queues tag EndMark (map OfEvent (take place told)) bindings s s' filled.queues is
-    ∙ ap (λ xs. filled_queues (map OfEvent xs ++ EndMark ∷ []) bindings) (take_all place told all)
+pub queues_whole : (emitted : List Event) (bindings : List Arguments) (place tag : ℕ) (s s' : BrokerState)
+    → length emitted ≤ place
+    → IsFilled emitted bindings place s → s' ≡ published tag EndMark s
+    → s'.queues ≡ filled_queues (map OfEvent emitted ++ EndMark ∷ []) bindings
+queues_whole emitted bindings place tag s s' all filled is =
+    published-queues tag EndMark (map OfEvent (take place emitted)) bindings s s' filled.queues is
+    ∙ ap (λ xs. filled_queues (map OfEvent xs ++ EndMark ∷ []) bindings) (take_all place emitted all)
 
 -- the queue that was put into its place
 pub queue_of-with_queue : (s : BrokerState) (i : ℕ) (q : QueueState) → i - 1 < length s.queues
@@ -120,9 +120,9 @@ pub record IsTaking (i counter : ℕ) (old now : BrokerState) (subscriber : Subs
   pub now_is : now ≡ with_queue i queue old
   pub items : queue.items ≡ (queue_of old i).items
   pub cursor : queue.cursor.next ≡ counter + 1
-  pub heard : subscriber ≡ kept_of (hearing (take counter (queue_of old i).items))
+  pub reception : subscriber ≡ kept_of (receiving (take counter (queue_of old i).items))
 
--- nothing was taken yet, and nothing heard
+-- nothing was taken yet, and nothing received
 pub IsTaking-none : (i : ℕ) (old : BrokerState) (subscriber : SubscriberState) → (queue_of old i).cursor ≡ first_cursor
     → subscriber ≡ kept_of nothing
     → IsTaking i 0 old old subscriber
@@ -131,10 +131,10 @@ IsTaking-none i old subscriber untaken new = record {
   now_is = sym (with_queue_same old i);
   items = refl;
   cursor = ap (λ (x : Cursor). x.next) untaken;
-  heard = new;
+  reception = new;
 }
 
--- what is handed out next at a place that is there
+-- what is delivered next, if an item is at that place
 next_at : (q : QueueState) (counter : ℕ) (item : Item) → q.cursor.next ≡ counter + 1
     → slice_get q.items counter ≡ Some item
     → next_delivery q ≡ Some (record { position = q.cursor.next; item = item })
@@ -143,11 +143,11 @@ next_at q counter item at found =
     ap (λ n. option_map (λ (x : Item). record { position = q.cursor.next; item = x }) (slice_get q.items n)) place
     ∙ ap (option_map (λ (x : Item). record { position = q.cursor.next; item = x })) found
 
--- one more item is heard
-hearing-push : (items : List Item) (item : Item) → hearing (items ++ item ∷ []) ≡ next (hearing items) item
-hearing-push items item = fold-append next nothing items (item ∷ [])
+-- one more item is received
+receiving-push : (items : List Item) (item : Item) → receiving (items ++ item ∷ []) ≡ next (receiving items) item
+receiving-push items item = fold-append next nothing items (item ∷ [])
 
--- one more item is taken off the queue, and its subscriber has heard one more
+-- one more item is taken off the queue, and its subscriber has received one more
 pub IsTaking-more : (i counter : ℕ) (old now new : BrokerState) (before after : SubscriberState) (item : Item)
     → i - 1 < length old.queues
     → IsTaking i counter old now before → slice_get (queue_of old i).items counter ≡ Some item
@@ -168,9 +168,9 @@ IsTaking-more i counter old now new before after item inside taking found takes 
           ∙ with_queue_twice old i q _;
       items = taking.items;
       cursor = ap (λ n. n + 1) taking.cursor;
-      heard = takes.1 (hearing (take counter (queue_of old i).items)) taking.heard
-          ∙ ap (λ (d : Option Delivery). kept_of (hearing_delivery d (hearing (take counter (queue_of old i).items))))
+      reception = takes.1 (receiving (take counter (queue_of old i).items)) taking.reception
+          ∙ ap (λ (d : Option Delivery). kept_of (receiving_delivery d (receiving (take counter (queue_of old i).items))))
           given
-          ∙ ap kept_of (sym (hearing-push (take counter (queue_of old i).items) item))
-          ∙ ap (λ xs. kept_of (hearing xs)) (sym (take_found (queue_of old i).items counter item found));
+          ∙ ap kept_of (sym (receiving-push (take counter (queue_of old i).items) item))
+          ∙ ap (λ xs. kept_of (receiving xs)) (sym (take_found (queue_of old i).items counter item found));
     }

@@ -22,7 +22,7 @@ found_at [] i below = absurd (omega arith)
 found_at (x ∷ xs) zero below = (x, refl)
 found_at (x ∷ xs) (suc i) below = found_at xs i (omega arith)
 
--- what is left behind the elements before one that was found: it, and what is left behind it
+-- what is left after the elements before one that was found: it, and what is left after it
 pub drop_found : {X : Type 0} (xs : List X) (i : ℕ) (x : X) → slice_get xs i ≡ Some x
     → drop i xs ≡ x ∷ drop (i + 1) xs
 drop_found [] i x h = cc

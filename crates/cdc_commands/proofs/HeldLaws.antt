@@ -17,23 +17,23 @@ use Rattle.cdc_match.specs.Queue.{feed, queue, takes_event}
 use Rattle.cdc_message.specs.declared.items.Item.{Item}
 use Rattle.cdc_message.specs.Replays.{IsPrefix, IsReplay}
 use Rattle.cdc_subscriber.specs.Book.{accounts_of, book_of}
-use Rattle.cdc_subscriber.specs.Heard.{Heard, has_ended}
+use Rattle.cdc_subscriber.specs.Reception.{Reception, has_ended}
 use Rattle.cdc_subscriber.specs.SubscriberState.{SubscriberState}
 use Rattle.cdc_laws.specs.Faithful.{IsFaithful, applied}
-use Rattle.cdc_laws.specs.Line.{feed_of, line, line_after, told}
+use Rattle.cdc_laws.specs.Line.{feed_of, line, line_after, emitted}
 use Rattle.cdc_laws.proofs.Books.{book_of-prefix}
-use Rattle.cdc_laws.proofs.Faithful.{hears-all, hears-told, kept_of-line}
+use Rattle.cdc_laws.proofs.Faithful.{receives-all, receives-emitted, kept_of-line}
 use Rattle.cdc_laws.proofs.Feeds.{queue-line}
 use Rattle.cdc_laws.proofs.Lines.{all_after_zero, line_after-zero}
 use Rattle.cdc_laws.proofs.Replays.{IsReplay-same}
 use Rattle.cdc_script.specs.declared.scripts.Script.{Script}
-use Rattle.cdc_commands.specs.Feeds.{heard_of, hearing, kept_by}
+use Rattle.cdc_commands.specs.Feeds.{received_of, receiving, kept_by}
 use Rattle.cdc_commands.specs.Held.{HasWholeFeed, ListsBalances, entry_as_of}
 use Rattle.cdc_commands.specs.Printed.{history_after, history_of}
 
 -- ---- a ledger's events are few: no two have one timestamp
 
--- entries that rise are no more than the moments up to the last
+-- rising entries are no more than the timestamps up to the last
 few_entries : (t most : ℕ) (es : List Entry) → t ≤ most → sound.RiseFrom t es
     → AllByRecursion (λ e. e.timestamp ≤ most) es
     → t + length es ≤ most
@@ -64,31 +64,31 @@ length_filter p (e ∷ es) = kept_or_not (p e) (length_filter p es)
 -- ---- a subscriber of a closed ledger
 
 module _ (h : History) (binding : Arguments) (is : sound.IsSound h) (shut : h.closed ≡ true) where
-  -- its queue is its feed, and the end
-  whole_queue : queue (line h) binding ≡ told (feed_of h binding) true
-  whole_queue = queue-line h binding ∙ ap (told (feed_of h binding)) shut
+  -- its queue is its feed, and the end mark
+  whole_queue : queue (line h) binding ≡ emitted (feed_of h binding) true
+  whole_queue = queue-line h binding ∙ ap (emitted (feed_of h binding)) shut
 
-  -- it hears it all
-  hears_queue : heard_of (line h) binding ≡ record { items = queue (line h) binding; closed = false }
-  hears_queue =
-      ap hearing whole_queue ∙ hears-told (feed_of h binding)
+  -- it receives all of it
+  receives_queue : received_of (line h) binding ≡ record { items = queue (line h) binding; closed = false }
+  receives_queue =
+      ap receiving whole_queue ∙ receives-emitted (feed_of h binding)
       ∙ ap (λ (items : List Item). record { items = items; closed = false }) (sym whole_queue)
 
-  -- all that the ledger has to tell comes after 0
+  -- all that the ledger has to publish comes after 0
   line_zero : line_after h 0 ≡ line h
   line_zero = line_after-zero h is
 
   -- so it has ended and is faithful
-  hears : (has_ended (heard_of (line h) binding) ≡ true) × IsFaithful h 0 binding (heard_of (line h) binding)
-  hears =
-      hears-all h 0 binding (heard_of (line h) binding) is shut
-      (ap (λ (x : Heard). x.items) hears_queue ∙ ap (λ (items : List Item). queue items binding) (sym line_zero))
+  receives : (has_ended (received_of (line h) binding) ≡ true) × IsFaithful h 0 binding (received_of (line h) binding)
+  receives =
+      receives-all h 0 binding (received_of (line h) binding) is shut
+      (ap (λ (x : Reception). x.items) receives_queue ∙ ap (λ (items : List Item). queue items binding) (sym line_zero))
 
   -- its feed is short enough to be counted
   few_of_feed : length (feed_of h binding) ≤ 2 ^ 64 - 1
   few_of_feed = omega (arith, few_events h is, length_filter (takes_event binding) (events h))
 
-  -- what it keeps is told by its feed
+  -- its state is determined by its feed
   keeps_feed : kept_by (line h) binding ≡ record {
     book = book_of (feed_of h binding);
     last = last_timestamp (feed_of h binding);
@@ -97,25 +97,25 @@ module _ (h : History) (binding : Arguments) (is : sound.IsSound h) (shut : h.cl
     closed = false;
   }
   keeps_feed =
-      let heard = heard_of (line h) binding in
-      let replay : IsReplay heard.items (queue (line h) binding) =
-      subst (λ items. IsReplay items (queue (line h) binding)) (sym (ap (λ (x : Heard). x.items) hears_queue))
+      let reception = received_of (line h) binding in
+      let replay : IsReplay reception.items (queue (line h) binding) =
+      subst (λ items. IsReplay items (queue (line h) binding)) (sym (ap (λ (x : Reception). x.items) receives_queue))
       (IsReplay-same (queue (line h) binding)) in
-      let after_zero : IsReplay heard.items (queue (line_after h 0) binding) =
-      subst (λ (items : List Item). IsReplay heard.items (queue items binding)) (sym line_zero) replay in
-      let whole : applied heard ≡ feed_of h binding =
-      (hears.1.whole hears.0).1 ∙ ap (λ es. feed es binding) (all_after_zero h is) in
+      let after_zero : IsReplay reception.items (queue (line_after h 0) binding) =
+      subst (λ (items : List Item). IsReplay reception.items (queue items binding)) (sym line_zero) replay in
+      let whole : applied reception ≡ feed_of h binding =
+      (receives.1.whole receives.0).1 ∙ ap (λ es. feed es binding) (all_after_zero h is) in
       let count : min (length (feed_of h binding)) (2 ^ 64 - 1) ≡ length (feed_of h binding) =
       omega (arith, few_of_feed) in
       let kept : List Event → ℕ → Bool → Bool → SubscriberState = λ es n ended closed.
       record { book = book_of es; last = last_timestamp es; applied = n; ended = ended; closed = closed } in
-      kept_of-line h 0 binding heard is after_zero
-      ∙ ap (λ es. kept es (min (length es) (2 ^ 64 - 1)) (has_ended heard) heard.closed) whole
-      ∙ ap (λ n. kept (feed_of h binding) n (has_ended heard) heard.closed) count
-      ∙ ap₂ (kept (feed_of h binding) (length (feed_of h binding))) hears.0
-      (ap (λ (x : Heard). x.closed) hears_queue)
+      kept_of-line h 0 binding reception is after_zero
+      ∙ ap (λ es. kept es (min (length es) (2 ^ 64 - 1)) (has_ended reception) reception.closed) whole
+      ∙ ap (λ n. kept (feed_of h binding) n (has_ended reception) reception.closed) count
+      ∙ ap₂ (kept (feed_of h binding) (length (feed_of h binding))) receives.0
+      (ap (λ (x : Reception). x.closed) receives_queue)
 
-  -- and where it takes every event, its book has the ledger's balances
+  -- and if every event matches the binding, its book has the ledger's balances
   lists_balances : ListsBalances h binding
   lists_balances every =
       let last : (kept_by (line h) binding).last ≡ last_timestamp (events h) =
@@ -140,9 +140,9 @@ few_of_script script = omega (arith, few_events (history_of script) (sound_scrip
 pub whole_feeds : (script : Script) (binding : Arguments) → HasWholeFeed (history_of script) binding
 whole_feeds script binding =
     let h : History = history_of script in
-    let heard = hears h binding (sound_script script) refl in
-    record { faithful = heard.1; ended = heard.0; kept = keeps_feed h binding (sound_script script) refl }
+    let reception = receives h binding (sound_script script) refl in
+    record { faithful = reception.1; ended = reception.0; kept = keeps_feed h binding (sound_script script) refl }
 
--- and it has the ledger's balances where its binding takes every event, as `books` promises too
+-- and it has the ledger's balances if every event matches its binding, as `books` promises too
 pub all_balances : (script : Script) (binding : Arguments) → ListsBalances (history_of script) binding
 all_balances script binding = lists_balances (history_of script) binding (sound_script script) refl

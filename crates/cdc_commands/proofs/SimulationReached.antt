@@ -13,6 +13,7 @@ use Rattle.cdc_script.specs.declared.scripts.ClientBatch.{ClientBatch}
 use Rattle.cdc_script.specs.declared.scripts.Script.{Script}
 use Rattle.cdc_script.specs.declared.step_files.Act.{Act}
 use Rattle.cdc_commands.specs.declared.simulations.Simulated.{Simulated}
+use Rattle.cdc_commands.specs.Seen.{Seen}
 use Rattle.cdc_commands.specs.SimulationReports.{ComesTo, IsReportOf}
 use Rattle.cdc_commands.specs.Simulations.{AnswersTo, Plan, PlaysActs, Simulates, Stage, at_start, step_for, simulation_text}
 use Rattle.cdc_commands.proofs.SimulationLemmas.{numbered_found}
@@ -61,7 +62,7 @@ is_reached bindings window batches acts refusal end plays =
 -- each subscriber is faithful
 pub all_faithful : (bindings : List Arguments) (window : ℕ) (batches : List ClientBatch) (acts : List Act)
     (refusal : Option StepError) (end : Stage) → PlaysActs batches (at_start bindings window) acts refusal end
-    → All (λ s. IsFaithful end.world.history (start_of end.world) s.binding s.heard) end.world.subscriptions
+    → All (λ s. IsFaithful end.world.history (start_of end.world) s.binding s.reception) end.world.subscriptions
 all_faithful bindings window batches acts refusal end plays = λ k d inside.
     let subscriptions = end.world.subscriptions in
     faithful-reached end.world (k + 1) (get_or subscriptions k d)
@@ -82,6 +83,24 @@ comes_to script window acts simulated batches bindings end whose of plays report
           (subst (λ (bs : List Arguments). PlaysActs batches (at_start bs window) acts refusal end) of plays);
       report = report;
     }
+
+-- and an observer saw the steps that lead there
+pub comes_seen : (Saw : List Seen → Type 0) (script : Script) (window : ℕ) (acts : List Act) (simulated : Simulated)
+    (batches : List ClientBatch) (bindings : List Arguments) (end : Stage) → batches ≡ script.batches
+    → bindings ≡ script.bindings
+    → PlaysActs batches (at_start bindings window) acts simulated.played.refusal end → IsReportOf end simulated
+    → Saw end.seen
+    → (come : ComesTo (record { script = script; window = window; acts = acts }) simulated) × Saw come.end.seen
+comes_seen Saw script window acts simulated batches bindings end whose of plays report saw =
+    let refusal = simulated.played.refusal in (
+      record {
+        end = end;
+        plays = subst (λ (bs : List ClientBatch). PlaysActs bs (at_start script.bindings window) acts refusal end) whose
+            (subst (λ (bs : List Arguments). PlaysActs batches (at_start bs window) acts refusal end) of plays);
+        report = report;
+      },
+      saw,
+    )
 
 -- what is printed of it
 pub simulates : (plan : Plan) (simulated : Simulated) (printed : List ℕ) → (come : ComesTo plan simulated)

@@ -5,13 +5,13 @@ use Rattle.std.proofs.lemmas.List.{drop_more, drop-set-lt, take_more, length-set
 use Rattle.std.proofs.lemmas.Option.{unwrap_or-slice_get}
 use Rattle.cdc_broker.specs.Broker.{BrokerState, queue_of, nobody}
 use Rattle.cdc_broker.specs.Queues.{QueueState, empty_queue}
-use Rattle.cdc_subscriber.specs.Heard.{kept_of}
+use Rattle.cdc_subscriber.specs.Reception.{kept_of}
 use Rattle.cdc_subscriber.specs.SubscriberState.{SubscriberState}
 use Rattle.cdc_subscriber.specs.Lines.{subscriber_text}
 use Rattle.cdc_match.specs.Arguments.{Arguments}
 use Rattle.cdc_match.specs.Queue.{queue}
 use Rattle.cdc_message.specs.declared.items.Item.{Item}
-use Rattle.cdc_commands.specs.Feeds.{hearing, subscribers_text}
+use Rattle.cdc_commands.specs.Feeds.{receiving, subscribers_text}
 use Rattle.cdc_commands.specs.Queues.{ChangesQueue, IsUntaken, filled, filled_queues}
 use Rattle.cdc_commands.specs.Private.Takers.{takers_text}
 use Rattle.std.proofs.lemmas.List.Elements.{All-map}
@@ -19,15 +19,15 @@ use Rattle.std.proofs.lemmas.List.Elements.{All-map}
 -- one more queue
 takers_text-push : (n : ℕ) (queues : List QueueState) (q : QueueState)
     → takers_text n (queues ++ q ∷ [])
-    ≡ takers_text n queues ++ subscriber_text (n + length queues) (kept_of (hearing q.items))
+    ≡ takers_text n queues ++ subscriber_text (n + length queues) (kept_of (receiving q.items))
 takers_text-push n [] q =
-    append-nil (subscriber_text n (kept_of (hearing q.items)))
-    ∙ ap (λ k. subscriber_text k (kept_of (hearing q.items))) (omega arith)
+    append-nil (subscriber_text n (kept_of (receiving q.items)))
+    ∙ ap (λ k. subscriber_text k (kept_of (receiving q.items))) (omega arith)
 takers_text-push n (x ∷ rest) q =
-    ap (λ text. subscriber_text n (kept_of (hearing x.items)) ++ text) (takers_text-push (n + 1) rest q)
-    ∙ sym (append_assoc (subscriber_text n (kept_of (hearing x.items))) (takers_text (n + 1) rest) _)
-    ∙ ap (λ k. (subscriber_text n (kept_of (hearing x.items)) ++ takers_text (n + 1) rest)
-    ++ subscriber_text k (kept_of (hearing q.items))) (omega arith)
+    ap (λ text. subscriber_text n (kept_of (receiving x.items)) ++ text) (takers_text-push (n + 1) rest q)
+    ∙ sym (append_assoc (subscriber_text n (kept_of (receiving x.items))) (takers_text (n + 1) rest) _)
+    ∙ ap (λ k. (subscriber_text n (kept_of (receiving x.items)) ++ takers_text (n + 1) rest)
+    ++ subscriber_text k (kept_of (receiving q.items))) (omega arith)
 
 -- the text and the broker when the first queues were taken
 pub record ArePrinted (place : ℕ) (all queues : List QueueState) (old new : List ℕ) : Type 0 where
@@ -53,7 +53,7 @@ queue_of_next place all s old new inside printed =
     unwrap_or-slice_get s.queues (place + 1 - 1) (empty_queue nobody)
     ∙ ap (λ k. get_or s.queues k (empty_queue nobody)) place' ∙ same
 
--- so nothing was taken from it yet, and its subscriber hears it from its first item on
+-- so nothing was taken from it yet, and its subscriber receives it from its first item on
 pub IsUntaken_next : (place : ℕ) (all : List QueueState) (s : BrokerState) (old new : List ℕ) → place < length all
     → All IsUntaken all
     → ArePrinted place all s.queues old new → IsUntaken (queue_of s (place + 1))
@@ -65,12 +65,12 @@ pub ArePrinted-more : (place : ℕ) (all : List QueueState) (s s' : BrokerState)
     (kept : SubscriberState)
     → place < length all
     → ArePrinted place all s.queues old new → ChangesQueue (place + 1) s s'
-    → kept ≡ kept_of (hearing (queue_of s (place + 1)).items) → text ≡ new ++ subscriber_text (place + 1) kept
+    → kept ≡ kept_of (receiving (queue_of s (place + 1)).items) → text ≡ new ++ subscriber_text (place + 1) kept
     → ArePrinted (place + 1) all s'.queues old text
 ArePrinted-more place all s s' old new text kept inside printed changes taken added =
     let q : QueueState = get_or all place (empty_queue nobody) in
-    let whose : kept ≡ kept_of (hearing q.items) =
-    taken ∙ ap (λ (x : QueueState). kept_of (hearing x.items)) (queue_of_next place all s old new inside printed) in
+    let whose : kept ≡ kept_of (receiving q.items) =
+    taken ∙ ap (λ (x : QueueState). kept_of (receiving x.items)) (queue_of_next place all s old new inside printed) in
     let place' : place + 1 - 1 ≡ place = omega arith in
     let queues : s'.queues ≡ slice_set s.queues place changes.0 =
     ap (λ (x : BrokerState). x.queues) changes.1 ∙ ap (λ k. slice_set s.queues k changes.0) place' in
@@ -80,7 +80,7 @@ ArePrinted-more place all s s' old new text kept inside printed changes taken ad
       text = added ∙ ap₂ (λ t k. t ++ subscriber_text (place + 1) k) printed.text whose
           ∙ append_assoc old (takers_text 1 (take place all)) _
           ∙ ap (λ t. old ++ t)
-          (ap (λ k. takers_text 1 (take place all) ++ subscriber_text k (kept_of (hearing q.items)))
+          (ap (λ k. takers_text 1 (take place all) ++ subscriber_text k (kept_of (receiving q.items)))
           (number place all inside)
           ∙ sym (takers_text-push 1 (take place all) q)
           ∙ ap (takers_text 1) (sym (take_more all place (empty_queue nobody) inside)));
@@ -111,5 +111,5 @@ IsUntaken-filled items bindings queues are = subst (λ (qs : List QueueState). A
 pub takers_text-filled : (n : ℕ) (items : List Item) (bindings : List Arguments)
     → takers_text n (filled_queues items bindings) ≡ subscribers_text n items bindings
 takers_text-filled n items [] = refl
-takers_text-filled n items (b ∷ rest) = ap (λ text. subscriber_text n (kept_of (hearing (queue items b))) ++ text)
+takers_text-filled n items (b ∷ rest) = ap (λ text. subscriber_text n (kept_of (receiving (queue items b))) ++ text)
     (takers_text-filled (n + 1) items rest)

@@ -1,4 +1,4 @@
--- The faults of the program that stand for those of its parts.
+-- The faults of the program that correspond to those of its parts.
 use Rattle.cdc_progress.specs.declared.errors.StoreError.{StoreError}
 use Rattle.cdc_progress.specs.declared.errors.StoreError.TheVariants as store
 use Rattle.cdc_script.specs.declared.faults.ReadError.{ReadError}

@@ -1,3 +1,4 @@
+pub mod BookReports
 pub mod Checked
 pub mod Faults
 pub mod Feeds
@@ -8,6 +9,7 @@ pub mod Printed
 pub mod Private
 pub mod Queues
 pub mod Report
+pub mod Seen
 pub mod Simulated
 pub mod SimulationReports
 pub mod Simulations

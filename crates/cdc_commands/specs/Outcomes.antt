@@ -1,15 +1,14 @@
 -- What a command makes of what it reads, and what it writes of that.
-use Rattle.std.specs.Prelude.{◌≡◌, ◌⊎◌, ℕ, List, Option, Some, None, IfSome}
+use Rattle.std.specs.Prelude.{◌≡◌, ◌⊎◌, ℕ, List, Option, Some, None}
 use Rattle.std.specs.Io.KnownBytes.{Appends}
 use Rattle.cdc_commands.specs.declared.endings.Ending.{Ending}
 use Rattle.cdc_commands.specs.declared.endings.Ending.TheVariants.{Done, Failed, Refused, BadScript, BadSteps, BadWords}
 use Rattle.cdc_commands.specs.declared.faults.ProgramFault.{ProgramFault}
 use Rattle.cdc_commands.specs.declared.faults.ProgramFault.TheVariants as fault
 use Rattle.cdc_commands.specs.declared.output.Output.{Output}
-use Rattle.cdc_commands.specs.Report.{program_fault_line}
 use Rattle.cdc_world.specs.declared.steps.StepError.{StepError}
 
--- the exit status of a command that ends so
+-- the exit status of a command with this ending
 abbrev pub status_of : Ending → ℕ
 status_of Done = 0
 status_of (Failed why) = 1
@@ -18,7 +17,7 @@ status_of (BadScript at) = 2
 status_of (BadSteps at) = 2
 status_of BadWords = 2
 
--- how a simulation ends, one of whose steps was refused for this reason, or none
+-- the ending of a simulation, one of whose steps was refused for this reason, or none
 abbrev pub refusal_ending : Option StepError → Ending
 refusal_ending None = Done
 refusal_ending (Some why) = Refused why
@@ -37,25 +36,23 @@ abbrev pub IsWriteFault : Ending → Type 0
 IsWriteFault (Failed (fault.WriteFault why)) = Unit {0}
 IsWriteFault _ = ⊥
 
--- the text was written and the command ends as it was to, or a write failed
+-- the text was written and the command has the intended ending, or a write failed
 abbrev pub IsPrinted : Option (List ℕ) → Option (List ℕ) → Outcome → Ending → Type 0
 IsPrinted old new wished ending = IsWriteFault ending ⊎ ((ending ≡ wished.ending) × Appends old new wished.text)
 
--- what is written by a command that ends so: what such a command prints, unless a write failed
+-- what is written by a command with this ending: what such a command prints, unless a write failed
 abbrev pub Writes : (Ending → List ℕ → Type 0) → Option (List ℕ) → Option (List ℕ) → Ending → Type 0
 Writes prints old new ending =
     IsWriteFault ending ⊎ ((printed : List ℕ) × (Appends old new printed × prints ending printed))
 
--- a command that reads a script alone, and doesn't give up, ends so
-abbrev pub IsScriptEnding : Ending → Type 0
-IsScriptEnding Done = Unit {0}
-IsScriptEnding (Failed why) = ⊥
-IsScriptEnding (Refused why) = ⊥
-IsScriptEnding (BadScript at) = Unit {0}
-IsScriptEnding (BadSteps at) = ⊥
-IsScriptEnding BadWords = ⊥
+-- a command that failed like this printed the line of its fault, if this is printed for faults
+abbrev pub PrintsFailure : (Ending → List ℕ → Type 0) → Option (List ℕ) → Option (List ℕ) → ProgramFault → Ending
+    → Type 0
+PrintsFailure PrintsFault old new why ending =
+    (line : List ℕ) × (PrintsFault (Failed why) line
+    × IsPrinted old new (record { text = line; ending = Failed why }) ending)
 
--- a command that reads a script, alone or with steps, gives up where a read or memory failed
+-- a command that reads a script, alone or with steps, fails if a read failed or memory ran out
 abbrev pub MayFailScript : ProgramFault → Type 0
 MayFailScript (fault.ReadFault why) = Unit {0}
 MayFailScript (fault.WriteFault why) = ⊥
@@ -66,7 +63,7 @@ MayFailScript fault.SessionsExhausted = ⊥
 MayFailScript fault.StartNotAllowed = ⊥
 MayFailScript fault.NotOneSystem = ⊥
 
--- a simulation gives up for want of memory alone
+-- a simulation fails only if memory runs out
 abbrev pub IsSimulationFault : ProgramFault → Type 0
 IsSimulationFault (fault.ReadFault why) = ⊥
 IsSimulationFault (fault.WriteFault why) = ⊥
@@ -76,15 +73,3 @@ IsSimulationFault fault.PeerGone = ⊥
 IsSimulationFault fault.SessionsExhausted = ⊥
 IsSimulationFault fault.StartNotAllowed = ⊥
 IsSimulationFault fault.NotOneSystem = ⊥
-
--- this is printed by a command that ends so, and makes such an outcome of the bytes of its script, which are known or
--- not
-abbrev pub PrintsOutcome : (List ℕ → Outcome) → Option (List ℕ) → Ending → List ℕ → Type 0
-PrintsOutcome outcome script Done printed =
-    IfSome script (λ bytes. outcome bytes ≡ record { text = printed; ending = Done })
-PrintsOutcome outcome script (BadScript at) printed =
-    IfSome script (λ bytes. outcome bytes ≡ record { text = printed; ending = BadScript at })
-PrintsOutcome outcome script (Failed why) printed = MayFailScript why × (printed ≡ program_fault_line why)
-PrintsOutcome outcome script (Refused why) printed = ⊥
-PrintsOutcome outcome script (BadSteps at) printed = ⊥
-PrintsOutcome outcome script BadWords printed = ⊥

@@ -1,22 +1,21 @@
 -- All that a command prints for a script.
-use Rattle.std.specs.Prelude.{ℕ, ◌+◌, true, List, [], ◌∷◌, ◌++◌, map, Result, Ok, Err}
+use Rattle.std.specs.Prelude.{◌≡◌, ℕ, ◌+◌, true, List, [], ◌∷◌, ◌++◌, map, Option, IfSome, Result, Ok, Err}
 use Rattle.std.specs.List.{flat_map}
 use Rattle.cdc_types.specs.declared.batches.BatchResults.{BatchResults}
-use Rattle.cdc_types.specs.Features.{features}
 use Rattle.cdc_ledger.specs.declared.errors.BatchError.{BatchError}
 use Rattle.cdc_ledger.specs.Events.{events}
 use Rattle.cdc_ledger.specs.History.{History, empty_history}
 use Rattle.cdc_ledger.specs.Submit.{submit, history_or, after_batches}
 use Rattle.cdc_commands.specs.declared.batches.Answered.{Answered}
-use Rattle.cdc_commands.specs.declared.endings.Ending.TheVariants.{Done, BadScript}
-use Rattle.cdc_script.specs.declared.faults.ScriptFault.{ScriptFault}
+use Rattle.cdc_commands.specs.declared.endings.Ending.{Ending}
+use Rattle.cdc_commands.specs.declared.endings.Ending.TheVariants.{Done, Failed, Refused, BadScript, BadSteps, BadWords}
 use Rattle.cdc_script.specs.declared.scripts.ClientBatch.{ClientBatch}
 use Rattle.cdc_script.specs.declared.scripts.Script.{Script}
 use Rattle.cdc_laws.specs.Line.{line}
 use Rattle.cdc_commands.specs.Feeds.{subscribers_text}
 use Rattle.cdc_commands.specs.Messages.{message_lines}
-use Rattle.cdc_commands.specs.Outcomes.{Outcome}
-use Rattle.cdc_commands.specs.Report.{answered_lines, script_fault_line}
+use Rattle.cdc_commands.specs.Outcomes.{MayFailScript}
+use Rattle.cdc_commands.specs.Report.{answered_lines}
 use Rattle.cdc_script.specs.Scripts.{script_of}
 
 -- the ledger's answer, without the history after it
@@ -24,7 +23,7 @@ abbrev pub answer : Result (BatchResults × History) BatchError → Result Batch
 answer (Ok answered) = Ok answered.0
 answer (Err e) = Err e
 
--- what the ledger answers to batches that are handed in one after another, the first having this number
+-- what the ledger answers to batches that are submitted one after another; the first has this number
 abbrev pub answers_to : ℕ → History → List ClientBatch → List Answered
 answers_to n h [] = []
 answers_to n h (b ∷ rest) =
@@ -33,9 +32,9 @@ answers_to n h (b ∷ rest) =
 
 -- the history after batches
 abbrev pub history_after : History → List ClientBatch → History
-history_after h batches = after_batches features h (map (λ b. b.batch) batches)
+history_after h batches = after_batches h (map (λ b. b.batch) batches)
 
--- the history that a script makes, with a close at the end
+-- the history that a script makes, with a close after its batches
 abbrev pub history_of : Script → History
 history_of script = record (history_after empty_history script.batches) { closed = true }
 
@@ -50,15 +49,15 @@ printed_books script =
 abbrev pub printed_messages : Script → List ℕ
 printed_messages script = flat_map message_lines (events (history_of script))
 
--- what a script that is read, or its fault, makes of a command that prints this of scripts
-abbrev pub outcome : (Script → List ℕ) → Result Script ScriptFault → Outcome
-outcome printed (Ok script) = record { text = printed script; ending = Done }
-outcome printed (Err at) = record { text = script_fault_line at; ending = BadScript at }
-
--- what `books` makes of the bytes of a script
-abbrev pub books_outcome : List ℕ → Outcome
-books_outcome bytes = outcome printed_books (script_of bytes)
-
--- what `messages` makes of the bytes of a script
-abbrev pub messages_outcome : List ℕ → Outcome
-messages_outcome bytes = outcome printed_messages (script_of bytes)
+-- this is printed by a command that reads a script, whose bytes are known or not, and has this ending, if this is
+-- printed for scripts, and that for faults
+abbrev pub PrintsScript : (Script → List ℕ → Type 0) → (Ending → List ℕ → Type 0) → Option (List ℕ) → Ending → List ℕ
+    → Type 0
+PrintsScript Prints PrintsFault script Done printed =
+    IfSome script (λ bytes. (stated : Script) × ((script_of bytes ≡ Ok stated) × Prints stated printed))
+PrintsScript Prints PrintsFault script (BadScript at) printed =
+    PrintsFault (BadScript at) printed × IfSome script (λ bytes. script_of bytes ≡ Err at)
+PrintsScript Prints PrintsFault script (Failed why) printed = MayFailScript why × PrintsFault (Failed why) printed
+PrintsScript Prints PrintsFault script (Refused why) printed = ⊥
+PrintsScript Prints PrintsFault script (BadSteps at) printed = ⊥
+PrintsScript Prints PrintsFault script BadWords printed = ⊥

@@ -46,7 +46,7 @@ file_fault_line (BadScript at) = script_fault_line at
 file_fault_line (BadSteps at) = steps_fault_line at
 file_fault_line _ = []
 
--- the line of a command that gave up
+-- the line of a command that failed
 abbrev pub program_fault_line : ProgramFault → List ℕ
 program_fault_line (fault.ReadFault why) = codes "fault: read_fault\n"
 program_fault_line (fault.WriteFault why) = codes "fault: write_fault\n"
@@ -57,7 +57,7 @@ program_fault_line fault.SessionsExhausted = codes "fault: sessions_exhausted\n"
 program_fault_line fault.StartNotAllowed = codes "fault: start_not_allowed\n"
 program_fault_line fault.NotOneSystem = codes "fault: not_one_system\n"
 
--- the line of the fault that a command ends with: it gave up, or doesn't take a file
+-- the line of the fault that a command ends with: it failed, or a file has a fault
 abbrev pub ending_line : Ending → List ℕ
 ending_line (Failed why) = program_fault_line why
 ending_line ending = file_fault_line ending

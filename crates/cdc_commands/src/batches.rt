@@ -1,4 +1,4 @@
-//! The batches of a script, handed to a ledger.
+//! Submits the batches of a script to a ledger.
 
 ghost use Rattle.std.specs.Prelude.{◌≡◌, ◌++◌, ◌<◌, IfOk, OnErr, OnOk, length};
 ghost use Rattle.cdc_ledger.specs.History.{empty_history};
@@ -10,26 +10,25 @@ use cdc_script::{ClientBatch, Script};
 use cdc_types::{Batch, BatchResults};
 use std::alloc::{AllocError, Global};
 
-/// What the ledger answered to a batch.
+/// The ledger's answer to a batch.
 #[derive(Drop)]
 pub struct Answered {
-    /// The number of the batch, from 1.
+    /// The number of the batch in its script, from 1.
     pub number: u64,
-    /// Its results, or why the ledger refused it.
+    /// The results of its requests, or why the ledger refused the whole batch.
     pub answer: Result<BatchResults, BatchError>,
 }
 
 /// A ledger that has taken the batches of a script, and is closed after them.
 #[derive(Drop)]
 pub struct TakenBatches {
-    /// The ledger.
     pub ledger: Ledger,
-    /// What it answered to each batch.
+    /// The answer to each batch, in the order of the script.
     pub answers: Vec<Answered>,
 }
 
-/// Hands the batches of a script to a ledger, in the order of their lines, and closes it. Without a batch that takes no
-/// memory.
+/// Submits the batches of a script to a ledger, in the order of their lines, and closes it. A script without batches
+/// needs no memory.
 pub fn take_batches(alloc: Global, script: &Script) -> Result<TakenBatches, AllocError>
     ensures ledger { IfOk result (λ taken. taken.ledger ≡ history_of script.now) }
     ensures answers { IfOk result (λ taken. taken.answers.items
@@ -43,7 +42,7 @@ pub fn take_batches(alloc: Global, script: &Script) -> Result<TakenBatches, Allo
     Ok(TakenBatches { ledger, answers })
 }
 
-/// Hands batches to a ledger, in order, and adds what it answers to each.
+/// Submits batches to a ledger, in order, and adds the answer to each.
 fn push_batches(
     alloc: Global,
     ledger: &mut Ledger,
@@ -56,15 +55,15 @@ fn push_batches(
     ensures memory { OnErr result (0 < length batches.now) }
 {
     for (place, item) in batches.iter().enumerate() {
-        let answer = hand_in(alloc, ledger, &item.batch)?;
+        let answer = submit_batch(alloc, ledger, &item.batch)?;
         let number = place as u64 + 1;
         answers.push(Answered { number, answer })?;
     }
     Ok(())
 }
 
-/// Hands a batch to a ledger.
-fn hand_in(
+/// Submits a batch to a ledger. The inner error is the ledger's refusal, the outer one means that memory ran out.
+fn submit_batch(
     alloc: Global,
     ledger: &mut Ledger,
     batch: &Batch,

@@ -1,38 +1,55 @@
-//! What `books` tells of a script, whichever way it is printed.
+//! What `books` reports of a script, in whichever form it is printed.
 
 ghost use Rattle.std.specs.Prelude.{◌≡◌, IfOk};
 ghost use Rattle.cdc_laws.specs.Line.{line};
 ghost use Rattle.cdc_ledger.specs.History.{empty_history};
+ghost use Rattle.cdc_commands.specs.BookReports.{AreBatchesOf};
 ghost use Rattle.cdc_commands.specs.Printed.{answers_to, history_of};
 ghost use Rattle.cdc_commands.specs.Queues.{filled_queues};
 
 use crate::batches::{Answered, TakenBatches, take_batches};
 use crate::feeding::publish_log;
 use cdc_broker::Broker;
-use cdc_script::Script;
+use cdc_script::{ClientBatch, Script, ScriptLines};
+use cdc_types::Items;
 use std::alloc::{AllocError, Global};
 
-/// What `books` tells of a script.
+/// What `books` reports of a script.
 #[derive(Drop)]
 pub struct BooksReport {
-    /// What the ledger answered to each batch, in the order of the script.
+    /// The answer to each batch, in the order of the script.
     pub answers: Vec<Answered>,
-    /// A broker with a queue for each subscriber, in which all is that the subscriber is to take.
+    /// A broker with a queue for each subscriber, which holds all that the subscriber is to take.
     pub broker: Broker,
 }
 
-/// What `books` tells of a script, for whoever prints it.
-pub fn books_report(alloc: Global, script: Script) -> Result<BooksReport, AllocError>
-    ensures answers { IfOk result (λ report. report.answers.items
+/// The batches of a script, and where they and their requests stand.
+#[derive(Drop)]
+pub struct ParsedBatches {
+    /// The batches, in the order of their lines.
+    pub batches: Items<ClientBatch>,
+    /// The lines.
+    pub lines: ScriptLines,
+}
+
+/// The report of `books`, and the script's batches.
+pub fn books_report(
+    alloc: Global,
+    script: Script,
+) -> Result<(BooksReport, ParsedBatches), AllocError>
+    ensures answers { IfOk result (λ made. made.0.answers.items
         ≡ answers_to 1 empty_history script.batches) }
-    ensures queues { IfOk result (λ report. report.broker.queues
+    ensures queues { IfOk result (λ made. made.0.broker.queues
         ≡ filled_queues (line (history_of script)) script.bindings) }
+    ensures parsed { IfOk result (λ made. AreBatchesOf script made.1) }
 {
     let TakenBatches { ledger, answers } = take_batches(alloc, &script)?;
     let Script {
         bindings,
-        batches: _,
+        batches,
+        lines,
     } = script;
     let broker = publish_log(alloc, bindings.into_vec(), ledger.log())?;
-    Ok(BooksReport { answers, broker })
+    let report = BooksReport { answers, broker };
+    Ok((report, ParsedBatches { batches, lines }))
 }

@@ -10,22 +10,22 @@ use cdc_world::StepError;
 /// How a command ended.
 #[derive(Clone, Copy)]
 pub enum Ending {
-    /// It did all that was asked.
+    /// The command did all that was asked.
     Done,
-    /// It gave up.
+    /// The command failed.
     Failed(ProgramFault),
     /// A step of a simulation was refused.
     Refused(StepError),
-    /// The script is bad.
+    /// The script has this fault.
     BadScript(ScriptFault),
-    /// The step file is bad.
+    /// The step file has this fault.
     BadSteps(ScriptFault),
-    /// The words of the command line ask for nothing that there is.
+    /// The arguments are a usage error.
     BadWords,
 }
 
 impl Ending {
-    /// How a simulation ends, one of whose steps was refused for this reason, or none.
+    /// The ending of a simulation that stopped at a step refused for this reason, or that did all steps.
     pub fn of_refusal(refusal: Option<StepError>) -> Ending
         ensures { result ≡ refusal_ending refusal }
     {
@@ -35,7 +35,7 @@ impl Ending {
         }
     }
 
-    /// The exit status of the program.
+    /// The exit status of the program: 0, 1 or 2.
     pub fn status(self) -> u8
         ensures { result ≡ status_of self }
     {

@@ -1,4 +1,4 @@
-//! What can be wrong with a run of the program.
+//! Faults of a run of the program.
 
 ghost use Rattle.std.specs.Prelude.{◌≡◌};
 ghost use Rattle.cdc_commands.specs.Report.{program_fault_line};
@@ -9,7 +9,7 @@ use std::alloc::AllocError;
 use std::io;
 use thiserror::Error;
 
-/// Why a command gave up.
+/// Why a command failed.
 #[derive(Clone, Copy, Debug, Error)]
 pub enum ProgramFault {
     /// A read failed, or a file can't be opened.
@@ -18,28 +18,28 @@ pub enum ProgramFault {
     /// A write failed. Nothing is written after it.
     #[error("write_fault: {0}")]
     WriteFault(io::Error),
-    /// The store of progress failed.
+    /// The progress store failed.
     #[error("store: {}", .0.name())]
     Store(StoreError),
-    /// No memory was left, or a thread couldn't be started.
+    /// Memory ran out, or a thread couldn't be started.
     #[error("out_of_memory")]
     OutOfMemory,
-    /// An end of a run was gone while another one was talking to it.
+    /// An actor of a run was gone while another one communicated with it.
     #[error("peer_gone")]
     PeerGone,
     /// There is no further number for a session.
     #[error("sessions_exhausted")]
     SessionsExhausted,
-    /// A run was told where to start, and progress was saved already.
+    /// A run was given a start, although progress was saved already.
     #[error("start_not_allowed")]
     StartNotAllowed,
-    /// The ends of a run weren't those of one system.
+    /// The actors of a run weren't those of one system.
     #[error("not_one_system")]
     NotOneSystem,
 }
 
 impl ProgramFault {
-    /// The line that is printed last.
+    /// The line that a failed command prints, with its line feed.
     pub fn line(self) -> &'static str
         ensures { result.now ≡ program_fault_line self }
     {

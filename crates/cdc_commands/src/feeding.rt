@@ -2,9 +2,9 @@
 
 ghost use Rattle.std.specs.Prelude.{◌≡◌, ◌^◌, ◌<◌, ◌≤◌, ◌++◌, true, All, IfOk, OnOk, Some, length};
 ghost use Rattle.cdc_broker.specs.Broker.{published as with_published, queue_of};
-ghost use Rattle.cdc_subscriber.specs.Heard.{kept_of};
-ghost use Rattle.cdc_laws.specs.Line.{told};
-ghost use Rattle.cdc_commands.specs.Feeds.{hearing};
+ghost use Rattle.cdc_subscriber.specs.Reception.{kept_of};
+ghost use Rattle.cdc_laws.specs.Line.{emitted};
+ghost use Rattle.cdc_commands.specs.Feeds.{receiving};
 ghost use Rattle.cdc_commands.specs.Queues.{ChangesQueue, IsUntaken, filled_queues};
 ghost use Rattle.cdc_commands.specs.Private.Takers.{TakesDelivery, takers_text};
 
@@ -16,11 +16,11 @@ use cdc_message::{Item, Message};
 use cdc_subscriber::{Subscriber, TakeError};
 use std::alloc::{AllocError, Global};
 
-/// The number of the one connection.
+/// The number of the only connection.
 const CONNECTION: u64 = 1;
 
-/// A broker with a queue for each binding, to which the events of a closed ledger were published, and then the end
-/// mark.
+/// Creates a broker with a queue for each binding, to which the events of a closed ledger, and then the end mark,
+/// were published.
 pub fn publish_log(
     alloc: Global,
     bindings: Vec<Binding>,
@@ -28,7 +28,7 @@ pub fn publish_log(
 ) -> Result<Broker, AllocError>
     requires { length log.now.events < 2 ^ 63 }
     ensures { IfOk result (λ broker. broker.queues
-        ≡ filled_queues (told log.now.events true) bindings.items) }
+        ≡ filled_queues (emitted log.now.events true) bindings.items) }
 {
     let mut broker = Broker::new(alloc, bindings)?;
     broker.connect(CONNECTION);
@@ -42,7 +42,7 @@ pub fn publish_log(
     Ok(broker)
 }
 
-/// Publishes an item under the tag that comes next.
+/// Publishes an item under this tag.
 fn publish(alloc: Global, broker: &mut Broker, tag: u64, item: Item) -> Result<(), AllocError>
     requires connected { broker.old.connection ≡ 1 }
     requires next { broker.old.expected ≡ Some tag }
@@ -68,13 +68,13 @@ pub fn push_subscribers(
     Ok(())
 }
 
-/// The subscriber that takes a queue of a broker, from its first item to its last.
+/// Creates a subscriber that takes queue `i` of a broker, from 1 on, from its first item to its last.
 pub fn take_queue(alloc: Global, broker: &mut Broker, i: usize) -> Result<Subscriber, AllocError>
     requires first { 0 < i }
     requires last { i ≤ length broker.old.queues }
     requires untaken { IsUntaken (queue_of broker.old i) }
     ensures subscriber { IfOk result (λ subscriber. subscriber
-        ≡ kept_of (hearing (queue_of broker.old i).items)) }
+        ≡ kept_of (receiving (queue_of broker.old i).items)) }
     ensures others { OnOk result (ChangesQueue i broker.old broker.new) }
 {
     let mut subscriber = Subscriber::new(alloc);
@@ -84,7 +84,7 @@ pub fn take_queue(alloc: Global, broker: &mut Broker, i: usize) -> Result<Subscr
     Ok(subscriber)
 }
 
-/// Lets a subscriber take what a queue hands out next.
+/// Lets a subscriber take what a queue delivers next.
 fn take_next(
     alloc: Global,
     broker: &mut Broker,
@@ -96,12 +96,12 @@ fn take_next(
     ensures { OnOk result (TakesDelivery i broker.old broker.new subscriber.old subscriber.new) }
 {
     if let Some(delivery) = broker.next_for(alloc, i)? {
-        subscriber.take(alloc, &delivery).map_err(want_of_memory)?;
+        subscriber.take(alloc, &delivery).map_err(out_of_memory)?;
     }
     Ok(())
 }
 
-/// The one error that taking a delivery has.
-fn want_of_memory(_error: TakeError) -> AllocError {
+/// Converts the only error that taking a delivery can have.
+fn out_of_memory(_error: TakeError) -> AllocError {
     AllocError
 }

@@ -1,5 +1,6 @@
-//! The commands over a script that need no thread, each in a file of its own: what it makes of the bytes that it reads,
-//! and the command itself, which reads before that and prints after it; and what `run` shares with them.
+//! The commands over a script that need no thread, each in a file of its own: what it makes of the bytes that it
+//! reads, and the command itself, which first reads and then prints, in a form of its caller's choice. Also what
+//! `run` shares with them.
 #![tactic(auto)]
 
 mod batches;
@@ -7,21 +8,31 @@ mod book_reports;
 pub mod books;
 pub mod check;
 pub mod endings;
+mod event_lines;
 pub mod faults;
 mod feeding;
+pub mod forms;
 pub mod messages;
+mod notes;
+pub mod observers;
 pub mod output;
 mod report;
 pub mod simulate;
 mod simulation_report;
 mod simulations;
+pub mod tally;
+pub mod text;
 
 pub use batches::{Answered, TakenBatches, take_batches};
-pub use book_reports::{BooksReport, books_report};
+pub use book_reports::{BooksReport, ParsedBatches, books_report};
 pub use endings::Ending;
 pub use faults::ProgramFault;
 pub use feeding::take_queue;
-pub use output::{Output, file_fault, print_fault, print_output, print_text};
+pub use forms::Form;
+pub use notes::{Count, Notes, PastBatches};
+pub use observers::Observer;
+pub use output::{Ended, Output, print_fault, print_output, print_text};
 pub use report::{print_subscriber, push_batch};
-pub use simulate::simulate_command;
-pub use simulations::{Simulated, play_script};
+pub use simulations::Simulated;
+pub use tally::Tally;
+pub use text::Text;

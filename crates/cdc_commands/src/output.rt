@@ -1,52 +1,124 @@
-//! What a command prints, and how it ends.
+//! The output of a command.
 
-ghost use Rattle.std.specs.Prelude.{◌≡◌, IfErr, IfOk};
-ghost use Rattle.cdc_commands.specs.Outcomes.{IsPrinted, outcome_of};
-ghost use Rattle.cdc_commands.specs.Report.{file_fault_line, program_fault_line};
+ghost use Rattle.std.specs.Prelude.{◌≡◌, [], IfErr, IfOk, OnOk};
+ghost use Rattle.std.specs.Io.KnownBytes.{Appends};
+ghost use Rattle.cdc_commands.specs.Outcomes.{IsPrinted, PrintsFailure, outcome_of};
 
 use crate::endings::Ending;
 use crate::faults::ProgramFault;
-use crate::report::push_file_fault;
-use cdc_output::write_text;
+use crate::forms::Form;
+use crate::notes::Notes;
+use crate::tally::Tally;
+use cdc_script::ScriptFault;
 use std::alloc::{AllocError, Global};
+use std::io;
 use std::io::Write;
 
-/// What a command prints, and how it ends.
+/// The output of a command, and how it ends.
 #[derive(Drop)]
 pub struct Output {
-    /// The whole text.
+    /// All that the command prints.
     pub text: Vec<u8>,
-    /// How the command ends once the text is written.
+    /// How the command ends if the text can be written.
     pub ending: Ending,
+    /// How much of what was asked for wasn't accepted.
+    pub tally: Tally,
+    /// What may be unintended in the script.
+    pub notes: Notes,
 }
 
-/// What a command prints that ends with the fault of a file: its line.
-pub fn file_fault(alloc: Global, ending: Ending) -> Result<Output, AllocError>
-    ensures { IfOk result (λ output. outcome_of output
-        ≡ record { text = file_fault_line ending; ending = ending }) }
-{
-    let mut text = String::new(alloc);
-    push_file_fault(&mut text, ending)?;
-    Ok(Output {
-        text: text.into_bytes(),
-        ending,
-    })
+/// How a command ended, how much wasn't accepted, and what may be unintended in its script.
+#[derive(Clone, Copy)]
+pub struct Ended {
+    pub ending: Ending,
+    /// How much of what was asked for wasn't accepted.
+    pub tally: Tally,
+    /// What may be unintended in the script.
+    pub notes: Notes,
 }
 
-/// Prints what a command makes of what it reads, or the line of why it gave up.
-pub fn print_output<W: Write>(writer: &mut W, made: Result<Output, ProgramFault>) -> Ending
-    ensures text { IfOk made (λ output.
-        IsPrinted (W.contents writer.old) (W.contents writer.new) (outcome_of output) result) }
-    ensures fault { IfErr made (λ fault. IsPrinted (W.contents writer.old) (W.contents writer.new)
-        (record { text = program_fault_line fault; ending = Ending.Failed fault }) result) }
-{
-    match made {
-        Ok(Output { text, ending }) => print_text(writer, text.as_slice(), ending),
-        Err(fault) => print_fault(writer, fault),
+impl Output {
+    /// The output of a command that ends before it has taken a batch.
+    fn without_batches(text: Vec<u8>, ending: Ending) -> Output
+        ensures { outcome_of result ≡ record { text = text.items; ending = ending } }
+    {
+        Output {
+            text,
+            ending,
+            tally: Tally::NONE,
+            notes: Notes::NONE,
+        }
+    }
+
+    /// The output of a command that prints nothing and ends as done.
+    pub fn nothing(alloc: Global) -> Output
+        ensures { outcome_of result ≡ record { text = []; ending = Ending.Done } }
+    {
+        Output::without_batches(Vec::new(alloc), Ending::Done)
+    }
+
+    /// The output of a command whose script has a fault.
+    pub fn of_bad_script<F: Form>(
+        form: &F,
+        alloc: Global,
+        script: &[u8],
+        fault: ScriptFault,
+    ) -> Result<Output, AllocError>
+        ensures ending { IfOk result (λ output. output.ending ≡ Ending.BadScript fault) }
+        ensures line { IfOk result (λ output. F.prints_fault (Ending.BadScript fault) output.text.items) }
+    {
+        let text = form.script_fault(alloc, script, fault)?;
+        Ok(Output::without_batches(text, Ending::BadScript(fault)))
+    }
+
+    /// The output of a command whose step file has a fault.
+    pub fn of_bad_steps<F: Form>(
+        form: &F,
+        alloc: Global,
+        steps: &[u8],
+        fault: ScriptFault,
+    ) -> Result<Output, AllocError>
+        ensures ending { IfOk result (λ output. output.ending ≡ Ending.BadSteps fault) }
+        ensures line { IfOk result (λ output. F.prints_fault (Ending.BadSteps fault) output.text.items) }
+    {
+        let text = form.steps_fault(alloc, steps, fault)?;
+        Ok(Output::without_batches(text, Ending::BadSteps(fault)))
     }
 }
 
-/// Prints a text at once.
+/// Writes the output of a command, or the line of the fault that it failed with.
+pub fn print_output<F: Form, W: Write>(
+    form: &F,
+    writer: &mut W,
+    made: Result<Output, ProgramFault>,
+) -> Ended
+    ensures text { IfOk made (λ output. IsPrinted (W.contents writer.old) (W.contents writer.new)
+        (outcome_of output) result.ending) }
+    ensures fault { IfErr made (λ fault. PrintsFailure F.prints_fault
+        (W.contents writer.old) (W.contents writer.new) fault result.ending) }
+{
+    match made {
+        Ok(
+            Output {
+                text,
+                ending,
+                tally,
+                notes,
+            },
+        ) => Ended {
+            ending: print_text(writer, text.as_slice(), ending),
+            tally,
+            notes,
+        },
+        Err(fault) => Ended {
+            ending: print_fault(form, writer, fault),
+            tally: Tally::NONE,
+            notes: Notes::NONE,
+        },
+    }
+}
+
+/// Writes a whole text. Returns this ending, or a write fault if the write fails.
 pub fn print_text<W: Write>(writer: &mut W, text: &[u8], ending: Ending) -> Ending
     ensures { IsPrinted (W.contents writer.old) (W.contents writer.new)
         (record { text = text.now; ending = ending }) result }
@@ -57,10 +129,22 @@ pub fn print_text<W: Write>(writer: &mut W, text: &[u8], ending: Ending) -> Endi
     }
 }
 
-/// Prints the line of a command that gave up.
-pub fn print_fault<W: Write>(writer: &mut W, fault: ProgramFault) -> Ending
-    ensures { IsPrinted (W.contents writer.old) (W.contents writer.new)
-        (record { text = program_fault_line fault; ending = Ending.Failed fault }) result }
+/// Writes a text and flushes it. After an error some of it may be written.
+fn write_text<W: Write>(writer: &mut W, text: &[u8]) -> io::Result<()>
+    ensures { OnOk result (Appends (W.contents writer.old) (W.contents writer.new) text.now) }
 {
-    print_text(writer, fault.line().as_bytes(), Ending::Failed(fault))
+    writer.write_all(text)?;
+    writer.flush()
+}
+
+/// Writes the line of a command that failed. Returns the failure, or a write fault if the write fails.
+pub fn print_fault<F: Form, W: Write>(form: &F, writer: &mut W, fault: ProgramFault) -> Ending
+    ensures { PrintsFailure F.prints_fault (W.contents writer.old) (W.contents writer.new)
+        fault result }
+{
+    print_text(
+        writer,
+        form.failure(fault).as_bytes(),
+        Ending::Failed(fault),
+    )
 }

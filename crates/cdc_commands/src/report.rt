@@ -1,4 +1,4 @@
-//! Lines of text: of a batch, of a subscriber and its book, and of the fault of a file.
+//! Lines of text for a batch, for a subscriber and its book, and for the fault of a file.
 
 ghost use Rattle.std.specs.Prelude.{◌≡◌, ◌++◌, codes, Err, OnOk, string_bytes};
 ghost use Rattle.std.specs.List.{flat_map};
@@ -16,7 +16,7 @@ use cdc_types::{AccountResult, BatchResults, TransferResult};
 use itoa::{Buffer, Integer};
 use std::alloc::AllocError;
 
-/// Writes a number in decimal digits.
+/// Adds a number in decimal digits.
 pub fn push_number<I: Integer>(text: &mut String, number: I) -> Result<(), AllocError>
     ensures { OnOk result (string_bytes text.new ≡ string_bytes text.old ++ I.text number) }
 {
@@ -24,7 +24,7 @@ pub fn push_number<I: Integer>(text: &mut String, number: I) -> Result<(), Alloc
     text.push_str(buffer.format(number))
 }
 
-/// Writes a space and a number.
+/// Adds a space and a number.
 pub fn push_spaced<I: Integer>(text: &mut String, number: I) -> Result<(), AllocError>
     ensures { OnOk result (string_bytes text.new ≡
         string_bytes text.old ++ (codes " " ++ I.text number)) }
@@ -33,7 +33,7 @@ pub fn push_spaced<I: Integer>(text: &mut String, number: I) -> Result<(), Alloc
     push_number(text, number)
 }
 
-/// The lines of batches.
+/// Adds one line for each batch.
 pub fn push_answers(text: &mut String, answers: &[Answered]) -> Result<(), AllocError>
     ensures { OnOk result (string_bytes text.new ≡
         string_bytes text.old ++ answered_lines answers.now) }
@@ -44,7 +44,7 @@ pub fn push_answers(text: &mut String, answers: &[Answered]) -> Result<(), Alloc
     Ok(())
 }
 
-/// The line of a batch: its number from 1, and what the ledger answered.
+/// Adds the line of a batch: its number, from 1, and the ledger's answer.
 pub fn push_batch(
     text: &mut String,
     number: u64,
@@ -59,7 +59,7 @@ pub fn push_batch(
     text.push_str("\n")
 }
 
-/// What the ledger answered to a batch.
+/// Adds the ledger's answer to a batch.
 fn push_answer(
     text: &mut String,
     answer: &Result<BatchResults, BatchError>,
@@ -78,7 +78,7 @@ fn push_answer(
     }
 }
 
-/// A space and a number for each account that was asked for.
+/// Adds a space and a number for each requested account.
 fn push_account_results(text: &mut String, results: &[AccountResult]) -> Result<(), AllocError>
     ensures { OnOk result (string_bytes text.new ≡
         string_bytes text.old ++
@@ -91,7 +91,7 @@ fn push_account_results(text: &mut String, results: &[AccountResult]) -> Result<
     Ok(())
 }
 
-/// A space and a number for each transfer that was asked for.
+/// Adds a space and a number for each requested transfer.
 fn push_transfer_results(text: &mut String, results: &[TransferResult]) -> Result<(), AllocError>
     ensures { OnOk result (string_bytes text.new ≡
         string_bytes text.old ++
@@ -104,7 +104,7 @@ fn push_transfer_results(text: &mut String, results: &[TransferResult]) -> Resul
     Ok(())
 }
 
-/// Why a batch was refused as a whole.
+/// Adds the reason why a whole batch was refused.
 fn push_refusal(text: &mut String, refusal: BatchError) -> Result<(), AllocError>
     ensures { OnOk result (string_bytes text.new ≡
         string_bytes text.old ++ answer_text (Err refusal)) }
@@ -115,7 +115,7 @@ fn push_refusal(text: &mut String, refusal: BatchError) -> Result<(), AllocError
     text.push_str(refusal.name())
 }
 
-/// Adds the lines of a subscriber.
+/// Adds the line of a subscriber, and one for each account of its book.
 pub fn print_subscriber(
     text: &mut Vec<u8>,
     subscriber: &Subscriber,
@@ -127,7 +127,7 @@ pub fn print_subscriber(
     subscriber.print(text, number).map_err(|_| AllocError)
 }
 
-/// The line of the file that a command doesn't take; nothing where it ends otherwise.
+/// Adds the line for the fault of a file; nothing if the command ends otherwise.
 pub fn push_file_fault(text: &mut String, ending: Ending) -> Result<(), AllocError>
     ensures { OnOk result (string_bytes text.new ≡
         string_bytes text.old ++ file_fault_line ending) }
@@ -139,7 +139,7 @@ pub fn push_file_fault(text: &mut String, ending: Ending) -> Result<(), AllocErr
     }
 }
 
-/// The line of a fault of a file, with the words that stand before the number of its line.
+/// Adds the line for the fault of a file. `words` precede the number of the faulty line.
 fn push_fault(text: &mut String, words: &str, fault: ScriptFault) -> Result<(), AllocError>
     ensures { OnOk result (string_bytes text.new ≡ string_bytes text.old
         ++ (words.now ++ (spaced fault.line
@@ -152,7 +152,7 @@ fn push_fault(text: &mut String, words: &str, fault: ScriptFault) -> Result<(), 
     Ok(())
 }
 
-/// The last word of a line.
+/// Adds the last word of a line, and its line feed.
 pub fn push_line_end(text: &mut String, word: &str) -> Result<(), AllocError>
     ensures { OnOk result (string_bytes text.new ≡
         string_bytes text.old ++ (word.now ++ codes "\n")) }

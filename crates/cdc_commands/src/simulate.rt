@@ -1,103 +1,122 @@
-//! The command `simulate`: a script's batches and a session's packets, taken step by step.
+//! The command `simulate`: takes a script's batches and a session's packets step by step.
 
-ghost use Rattle.std.specs.Prelude.{◌≡◌, ◌+◌, ℕ, List, Option, IfErr, IfOk, Some};
+ghost use Rattle.std.specs.Prelude.{◌≡◌, ◌+◌, ℕ, List, Option, IfErr, IfOk, Ok, Some};
 ghost use Rattle.cdc_script.specs.Reading.{ConsumesAtMost};
 ghost use Rattle.cdc_script.specs.Scripts.{max_bytes, script_of};
 ghost use Rattle.cdc_types.specs.Windows.{IsWindow};
 ghost use Rattle.cdc_commands.specs.Outcomes.{IsSimulationFault, MayFailScript, Writes};
-ghost use Rattle.cdc_commands.specs.Simulated.{SimulationPrints};
+ghost use Rattle.cdc_commands.specs.Simulated.{PrintsPlan};
 
 use crate::endings::Ending;
 use crate::faults::ProgramFault;
-use crate::output::{Output, file_fault, print_output};
-use crate::simulation_report::print_simulated;
+use crate::forms::Form;
+use crate::notes::Notes;
+use crate::observers::Observer;
+use crate::output::{Ended, Output, print_output};
 use crate::simulations::play_script;
+use crate::tally::Tally;
 use cdc_script::{ReadError, Script, ScriptError, parse_script, parse_steps, read_text};
 use std::alloc::Global;
 use std::io::{Read, Write};
 
-/// What `simulate` prints for the bytes of a script and of a step file, and how it ends: the steps are taken in order,
-/// up to the first that is refused, and it prints the results of the batches that were taken, how many steps were done,
-/// what the session has saved, and what each subscriber then holds; of a bad script or a bad step file its fault. There
-/// is none where no memory was left.
-pub fn simulation_of(
+/// What `simulate` prints for the bytes of a script and of a step file, and how it ends. The steps are taken in
+/// order, up to the first that is refused. It prints the results of the batches that were taken, how many steps were
+/// done, what the session has saved, and the book of each subscriber; or the fault of a bad script or step file.
+/// Fails if memory runs out.
+pub fn simulation_of<F: Form, O: Observer>(
+    form: &F,
     alloc: Global,
     script: &[u8],
     steps: &[u8],
     window: usize,
+    observer: &mut O,
 ) -> Result<Output, ProgramFault>
     requires { IsWindow window }
-    ensures output { IfOk result (λ output. SimulationPrints
+    ensures output { IfOk result (λ output. PrintsPlan F.prints_simulation F.prints_fault
         (record { window = window; script = Some script.now; steps = Some steps.now })
         output.ending output.text.items) }
     ensures fault { IfErr result IsSimulationFault }
 {
     match parse_script(alloc, script) {
-        Ok(script) => script_simulation(alloc, script, steps, window),
-        Err(ScriptError::Fault(fault)) => Ok(file_fault(alloc, Ending::BadScript(fault))?),
+        Ok(stated) => script_simulation(form, alloc, stated, steps, window, observer),
+        Err(ScriptError::Fault(fault)) => Ok(Output::of_bad_script(form, alloc, script, fault)?),
         Err(ScriptError::OutOfMemory) => Err(ProgramFault::OutOfMemory),
     }
 }
 
-/// What the command prints for a script and the bytes of a step file.
-fn script_simulation(
+/// What `simulate` prints for a script and the bytes of a step file.
+fn script_simulation<F: Form, O: Observer>(
+    form: &F,
     alloc: Global,
     script: Script,
     steps: &[u8],
     window: usize,
+    observer: &mut O,
 ) -> Result<Output, ProgramFault>
     requires { IsWindow window }
     ensures output { (bytes : List ℕ) → script_of bytes ≡ Ok script
-        → IfOk result (λ output. SimulationPrints
+        → IfOk result (λ output. PrintsPlan F.prints_simulation F.prints_fault
         (record { window = window; script = Some bytes; steps = Some steps.now })
         output.ending output.text.items) }
     ensures fault { IfErr result IsSimulationFault }
 {
-    let acts = match parse_steps(alloc, steps) {
-        Ok(acts) => acts,
-        Err(ScriptError::Fault(fault)) => return Ok(file_fault(alloc, Ending::BadSteps(fault))?),
+    let stated = match parse_steps(alloc, steps) {
+        Ok(stated) => stated,
+        Err(ScriptError::Fault(fault)) => {
+            return Ok(Output::of_bad_steps(form, alloc, steps, fault)?);
+        }
         Err(ScriptError::OutOfMemory) => return Err(ProgramFault::OutOfMemory),
     };
-    let simulated = play_script(alloc, script, window, acts.as_slice())?;
+    let notes = Notes::of(alloc, &script);
+    observer.begin(alloc, &script, &stated);
+    let simulated = play_script(alloc, script, window, stated.acts.as_slice(), observer)?;
+    let text = form.simulation(alloc, &simulated, stated.acts.len())?;
     Ok(Output {
-        text: print_simulated(alloc, &simulated, acts.len())?,
+        text,
         ending: Ending::of_refusal(simulated.played.refusal),
+        tally: Tally::of(simulated.answers.as_slice()),
+        notes,
     })
 }
 
-/// Reads a script and then a step file, and prints what `simulation_of` says of their bytes. A command that gives up
-/// prints why, and nothing else; nothing is written after a write that failed.
-pub fn simulate_command<R: Read, Q: Read, W: Write>(
+/// Reads a script and then a step file, and prints what `simulation_of` makes of their bytes. The observer sees the steps
+/// that are done. A command that fails prints why, and nothing else; nothing is written after a write that failed.
+pub fn simulate<F: Form, R: Read, Q: Read, W: Write, O: Observer>(
+    form: &F,
     alloc: Global,
     script: &mut R,
     steps: &mut Q,
     window: usize,
     writer: &mut W,
-) -> Ending
+    observer: &mut O,
+) -> Ended
     requires { IsWindow window }
-    ensures writes { Writes (SimulationPrints
+    ensures writes { Writes (PrintsPlan F.prints_simulation F.prints_fault
         (record {
           window = window;
           script = R.remaining script.old;
           steps = Q.remaining steps.old;
         }))
-        (W.contents writer.old) (W.contents writer.new) result }
+        (W.contents writer.old) (W.contents writer.new) result.ending }
     ensures script { ConsumesAtMost (max_bytes + 1)
         (R.remaining script.old) (R.remaining script.new) }
     ensures steps { ConsumesAtMost (max_bytes + 1) (Q.remaining steps.old) (Q.remaining steps.new) }
 {
-    print_output(writer, read_simulation(alloc, script, steps, window))
+    let output = read_simulation(form, alloc, script, steps, window, observer);
+    print_output(form, writer, output)
 }
 
-/// What `simulate` prints for the script and the steps of two readers.
-fn read_simulation<R: Read, Q: Read>(
+/// Reads a script and a step file, and returns what `simulate` prints for them.
+fn read_simulation<F: Form, R: Read, Q: Read, O: Observer>(
+    form: &F,
     alloc: Global,
     script: &mut R,
     steps: &mut Q,
     window: usize,
+    observer: &mut O,
 ) -> Result<Output, ProgramFault>
     requires { IsWindow window }
-    ensures output { IfOk result (λ output. SimulationPrints
+    ensures output { IfOk result (λ output. PrintsPlan F.prints_simulation F.prints_fault
         (record { window = window; script = R.remaining script.old; steps = Q.remaining steps.old })
         output.ending output.text.items) }
     ensures fault { IfErr result MayFailScript }
@@ -107,20 +126,26 @@ fn read_simulation<R: Read, Q: Read>(
 {
     let script = read_text(alloc, script)?;
     match read_text(alloc, steps) {
-        Ok(steps) => simulation_of(alloc, &script, &steps, window),
-        Err(error) => unread_steps(alloc, &script, error),
+        Ok(steps) => simulation_of(form, alloc, &script, &steps, window, observer),
+        Err(error) => unread_steps(form, alloc, &script, error),
     }
 }
 
-/// What the command prints for the bytes of a script where its step file can't be read. The script is judged first.
-fn unread_steps(alloc: Global, script: &[u8], error: ReadError) -> Result<Output, ProgramFault>
+/// What `simulate` prints for the bytes of a script if its step file can't be read. The script is validated first.
+fn unread_steps<F: Form>(
+    form: &F,
+    alloc: Global,
+    script: &[u8],
+    error: ReadError,
+) -> Result<Output, ProgramFault>
     ensures output { (window : ℕ) → (steps : Option (List ℕ)) → IfOk result (λ output.
-        SimulationPrints (record { window = window; script = Some script.now; steps = steps })
+        PrintsPlan F.prints_simulation F.prints_fault
+        (record { window = window; script = Some script.now; steps = steps })
         output.ending output.text.items) }
     ensures fault { IfErr result MayFailScript }
 {
     match parse_script(alloc, script) {
-        Err(ScriptError::Fault(fault)) => Ok(file_fault(alloc, Ending::BadScript(fault))?),
+        Err(ScriptError::Fault(fault)) => Ok(Output::of_bad_script(form, alloc, script, fault)?),
         Err(ScriptError::OutOfMemory) => Err(ProgramFault::OutOfMemory),
         Ok(_) => Err(error.into()),
     }

@@ -1,4 +1,4 @@
-//! What `simulate` prints: the lines of batches, of the steps, of the saved progress and of the subscribers.
+//! What `simulate` prints as text: the lines of batches, steps, saved progress and subscribers.
 
 ghost use Rattle.std.specs.Prelude.{◌≡◌, ◌++◌, ◌^◌, ◌<◌, IfOk, OnOk, string_bytes};
 ghost use Rattle.cdc_commands.specs.SimulationReports.{IsReportOf};
@@ -13,7 +13,7 @@ use cdc_progress::{MemoryStore, Progress};
 use cdc_world::{Played, World};
 use std::alloc::{AllocError, Global};
 
-/// What is printed of a simulation of so many acts.
+/// Prints a simulation of `all` acts.
 pub fn print_simulated(
     alloc: Global,
     simulated: &Simulated,
@@ -33,7 +33,7 @@ pub fn print_simulated(
     Ok(bytes)
 }
 
-/// How many of all steps are done.
+/// Adds the line with the numbers of steps done and of all steps.
 fn push_steps(text: &mut String, done: usize, all: usize) -> Result<(), AllocError>
     ensures { OnOk result (string_bytes text.new ≡ string_bytes text.old ++ steps_line done all) }
 {
@@ -44,7 +44,7 @@ fn push_steps(text: &mut String, done: usize, all: usize) -> Result<(), AllocErr
     text.push_str("\n")
 }
 
-/// The line of the step that was refused, if one was.
+/// Adds the line of the step that was refused, if one was.
 fn push_refusal(text: &mut String, played: Played) -> Result<(), AllocError>
     requires { played.done < 2 ^ 63 }
     ensures { OnOk result (string_bytes text.new ≡
@@ -59,7 +59,7 @@ fn push_refusal(text: &mut String, played: Played) -> Result<(), AllocError>
     push_line_end(text, refusal.name())
 }
 
-/// The line of what the store holds.
+/// Adds the line of the progress that the store holds.
 fn push_progress(text: &mut String, held: Option<Progress>) -> Result<(), AllocError>
     ensures { OnOk result (string_bytes text.new ≡ string_bytes text.old ++ progress_line held) }
 {
@@ -72,7 +72,7 @@ fn push_progress(text: &mut String, held: Option<Progress>) -> Result<(), AllocE
     text.push_str("\n")
 }
 
-/// The lines of the subscribers of a world.
+/// Adds the lines of the subscribers of a world.
 fn push_subscriptions(text: &mut Vec<u8>, world: &World<MemoryStore>) -> Result<(), AllocError>
     ensures { (w : WorldState) → Stands world.now w
         → OnOk result (text.new.items ≡ text.old.items ++ subscriptions_text 1 w.subscriptions) }

@@ -3,7 +3,7 @@ use cdc_types::EventKind;
 use std::alloc::Global;
 use std::test::Fail;
 
-// Ten pairs, the values of the first five at their greatest, with keys that stand twice.
+// Ten pairs, the values of the first five at their greatest, with each key twice.
 const TEN: [&str; 11] = [
     "all",
     "event_type=two_phase_expired",

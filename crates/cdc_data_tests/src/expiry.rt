@@ -1,4 +1,4 @@
-//! That an index finds memory, also for many triples, and worked answers.
+//! Tests that the allocations of an index succeed, also for many triples, and worked examples.
 
 ghost use Rattle.std.specs.Prelude.{◌≡◌};
 
@@ -6,7 +6,7 @@ use cdc_expiry::{DueIndex, Triple};
 use std::alloc::{AllocError, Global};
 use std::test::Fail;
 
-// The triple that stands at this place of the ends.
+// The triple of the transfer at this place, with this expiry.
 fn triple(expires_at: u64, place: usize) -> Triple
     ensures { result ≡ record { expires_at = expires_at; timestamp = place; slot = place } }
 {
@@ -17,7 +17,7 @@ fn triple(expires_at: u64, place: usize) -> Triple
     }
 }
 
-// An index of transfers with these ends, made in this order from the moment 0 on.
+// An index of transfers with these expiry timestamps, created one after another at the timestamps 0, 1, 2 and so on.
 fn index_of(alloc: Global, ends: &[u64]) -> Result<DueIndex, AllocError> {
     let mut index = DueIndex::new(alloc);
     index.reserve(ends.len())?;

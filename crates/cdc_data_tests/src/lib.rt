@@ -1,4 +1,4 @@
-//! Tests of the crates of data and of texts: what no clause of theirs says.
+//! Tests of the crates for data and texts: what their contracts don't state.
 #![tactic(auto)]
 
 #[cfg(test)]

@@ -1,4 +1,4 @@
-//! That a log finds memory, and keeps what is pushed.
+//! Tests that the allocations of a log succeed, and that it keeps what is pushed.
 
 ghost use Rattle.std.specs.Prelude.{◌≡◌};
 
@@ -7,7 +7,7 @@ use cdc_types::{Event, EventAccount, EventKind, EventTransfer};
 use std::alloc::{AllocError, Global};
 use std::test::Fail;
 
-// An event at this moment, of nothing.
+// An event with this timestamp, whose amounts are all 0.
 fn event(timestamp: u64) -> Event
     ensures { result.timestamp ≡ timestamp }
 {
@@ -64,8 +64,8 @@ fn a_log_keeps_its_events_in_order(rt: HostRuntime) -> Result<(), Fail> {
     Ok(())
 }
 
-// A log of so many events, at the moments 1, 2, 3 and so on. Each is later than the last, which the test of the last
-// timestamp lets the check see.
+// A log of `count` events, with the timestamps 1, 2, 3 and so on. The test of the last timestamp lets the check see
+// that each is later than the last.
 fn log_of(alloc: Global, count: u64) -> Result<EventLog, AllocError> {
     let mut log = EventLog::new(alloc);
     for place in 0..count {
@@ -78,7 +78,7 @@ fn log_of(alloc: Global, count: u64) -> Result<EventLog, AllocError> {
 }
 
 #[test]
-fn events_are_read_after_a_moment(rt: HostRuntime) -> Result<(), Fail> {
+fn events_are_read_after_a_timestamp(rt: HostRuntime) -> Result<(), Fail> {
     let log = log_of(rt.alloc(), 10_000)?;
     for (timestamp, limit, first, count) in [
         (0, 2, 1, 2),

@@ -61,7 +61,7 @@ fn first_event(kind: EventKind) -> Event {
     }
 }
 
-// `text`, of a body of the first kind, with the one text in the place of the other, is read as this.
+// Decodes `text` after the text `from` in it is replaced with `to`.
 fn read_changed(
     alloc: Global,
     text: &str,
@@ -72,7 +72,7 @@ fn read_changed(
     Ok(decode(alloc, text.as_bytes()))
 }
 
-// The body of an event of this kind is `FIRST` with the kind's name.
+// Whether the body of an event of this kind is `FIRST` with this name of the kind.
 fn is_written(alloc: Global, kind: EventKind, name: &str) -> Result<bool, AllocError> {
     let text = encode(alloc, &first_event(kind))?;
     let expected = FIRST.replace(alloc, "single_phase", name)?;
@@ -221,7 +221,7 @@ fn a_message_and_its_copy_have_the_body(rt: HostRuntime) -> Result<(), Fail> {
     Ok(())
 }
 
-// Outside values of the properties: what a clause says of them, it says by other definitions.
+// Expected values of the properties, given independently: contracts state them by way of other definitions.
 #[test]
 fn properties_of_a_second(rt: HostRuntime) {
     let properties = properties_of(&Event {
@@ -269,7 +269,7 @@ fn longest_event() -> Event {
     }
 }
 
-// A body as it was written, and others of the same event that differ from it by little.
+// A body as it was written, and others of the same event with small differences.
 #[test]
 fn the_longest_body_is_read(rt: HostRuntime) -> Result<(), Fail> {
     let alloc = rt.alloc();
@@ -289,7 +289,7 @@ fn the_longest_body_is_read(rt: HostRuntime) -> Result<(), Fail> {
     Ok(())
 }
 
-// Texts that begin as the body does, or read like it but for a number or the kind.
+// Texts that begin like the body, or differ from it only in a number or the kind.
 #[test]
 fn a_body_that_was_written_and_spoilt_is_refused(rt: HostRuntime) -> Result<(), Fail> {
     let alloc = rt.alloc();
@@ -311,7 +311,7 @@ fn a_body_that_was_written_and_spoilt_is_refused(rt: HostRuntime) -> Result<(), 
     Ok(())
 }
 
-// The event of an item, read from its message's body.
+// The event of an item, decoded from its message's body.
 fn event_of(alloc: Global, item: &Item) -> Result<Option<Event>, DecodeError> {
     match item {
         Item::Event(message) => Ok(Some(decode(alloc, message.body().as_bytes())?)),

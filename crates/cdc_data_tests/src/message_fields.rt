@@ -1,4 +1,4 @@
-//! Each field of a body in turn: taken out, of another kind, and one too large.
+//! Each field of a body in turn: left out, of another kind, and with a number that is one too large.
 
 use crate::message::{IN_ORDER, field};
 use cdc_message::{DecodeError, Field, FieldName, Part, decode};
@@ -6,7 +6,7 @@ use std::alloc::{AllocError, Global};
 use std::process::Abort;
 use std::test::Fail;
 
-// A field that is to have another value, or none.
+// A field that gets another value, or none.
 type Change = Option<(Field, Option<&'static str>)>;
 
 // A number's name, its value in `IN_ORDER`, and a value that is one too large.
@@ -20,12 +20,12 @@ const LARGE_32: &str = "4294967296";
 
 const LARGE_16: &str = "65536";
 
-// Values that are no whole number, in digits or as a decimal string.
+// Values that aren't whole numbers, in digits or as a decimal string.
 const NO_NUMBERS: [&str; 10] = [
     "true", "null", "[]", "{}", "\"\"", "\"x\"", "\"+1\"", "-1", "1.0", "1e2",
 ];
 
-// Values that are no text, and values that are no object.
+// Values that aren't strings, and values that aren't objects.
 const NO_TEXTS: [&str; 5] = ["1", "true", "null", "[]", "{}"];
 
 const NO_OBJECTS: [&str; 5] = ["1", "true", "null", "[]", "\"\""];

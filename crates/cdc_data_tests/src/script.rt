@@ -1,8 +1,9 @@
-//! Scripts and steps of small texts; a script of the greatest size, one of a byte more, and a read that fails.
+//! Scripts and steps from small texts; a script of the greatest size, one that is a byte longer, and a read that
+//! fails.
 
 use cdc_script::{
-    Act, FaultKind, ReadError, Script, parse_script, parse_steps, read_script, read_steps,
-    read_text,
+    Act, FaultKind, ReadError, Script, ScriptError, parse_script, parse_steps, read_script,
+    read_steps, read_text,
 };
 use cdc_types::{Limits, Step};
 use std::alloc::{AllocError, Global};
@@ -31,6 +32,22 @@ fn a_script(rt: HostRuntime) {
         return;
     };
     assert_eq!(rt; shape_of(&script), (2, 2, 2));
+    assert!(rt; script.lines.batches.as_slice() == [3, 6].as_slice());
+    assert!(rt; script.lines.requests.as_slice() == [4].as_slice());
+}
+
+#[test]
+fn a_fault(rt: HostRuntime) {
+    let script = b"subscriber all\r\naccounts 5\naccount id=1 id=\xc3\xa9\n";
+    match parse_script(rt.alloc(), script) {
+        Err(ScriptError::Fault(fault)) => {
+            assert_eq!(rt; (fault.line, fault.column), (3, 17));
+            assert_eq!(rt; (fault.word.start, fault.word.length), (43, 2));
+            assert_eq!(rt; (fault.first.start, fault.first.length), (27, 7));
+            assert_eq!(rt; fault.kind.number(), FaultKind::BadText.number());
+        }
+        _ => assert!(rt; false, "no fault"),
+    }
 }
 
 #[test]
@@ -65,21 +82,22 @@ fn are_expected(acts: &[Act]) -> bool {
 
 #[test]
 fn steps(rt: HostRuntime) {
-    let Ok(acts) = parse_steps(rt.alloc(), b"batch\n# x\nstart\nrewind 3") else {
+    let Ok(steps) = parse_steps(rt.alloc(), b"batch\n# x\nstart\nrewind 3") else {
         assert!(rt; false, "no steps");
         return;
     };
-    assert!(rt; are_expected(&acts));
+    assert!(rt; are_expected(&steps.acts));
+    assert!(rt; steps.lines.as_slice() == [1, 3, 4].as_slice());
 }
 
 #[test]
 fn steps_of_a_reader(rt: HostRuntime) {
     let mut reader: &[u8] = b"batch\n\nstart\nrewind 03\n";
-    let Ok(Ok(acts)) = read_steps(rt.alloc(), &mut reader) else {
+    let Ok(Ok(steps)) = read_steps(rt.alloc(), &mut reader) else {
         assert!(rt; false, "no steps");
         return;
     };
-    assert!(rt; are_expected(&acts));
+    assert!(rt; are_expected(&steps.acts));
 }
 
 /// A script of the greatest size: a subscriber, and comments.
@@ -117,7 +135,7 @@ fn a_byte_too_many(rt: HostRuntime) -> Result<(), Fail> {
     Ok(())
 }
 
-/// A reader that gives a byte and then fails.
+/// A reader that returns one byte and then fails.
 #[derive(Drop)]
 struct Failing {
     reads: u8,

@@ -1,4 +1,4 @@
-//! What no clause says: that copies find memory, and that the tables are the manual's.
+//! What contracts don't state: that the allocations of copies succeed, and that the tables are those of the manual.
 
 use cdc_types::{
     AccountFlags, AccountResult, Batch, BatchResults, Items, Limits, NewAccount, NewTransfer,
@@ -6,7 +6,7 @@ use cdc_types::{
 };
 use std::test::Fail;
 
-// An account that is taken, to be spoilt one field at a time.
+// A valid account, which tests change in one field at a time.
 const ACCOUNT: NewAccount = NewAccount {
     id: 1,
     user_data_128: 0,
@@ -17,7 +17,7 @@ const ACCOUNT: NewAccount = NewAccount {
     flags: 0,
 };
 
-// A transfer that is taken, to be spoilt one field at a time.
+// A valid transfer, which tests change in one field at a time.
 const TRANSFER: NewTransfer = NewTransfer {
     id: 1,
     debit_account_id: 1,
@@ -306,7 +306,7 @@ fn results_of_chains_have_numbers_and_names(rt: HostRuntime) {
     );
 }
 
-// The numbers that clauses don't name: a wrong one would go unnoticed where nothing reads it yet.
+// The numbers that contracts don't name: a wrong one would go unnoticed if nothing reads it yet.
 #[test]
 fn flags_and_limits_have_their_numbers(rt: HostRuntime) {
     let numbers = [

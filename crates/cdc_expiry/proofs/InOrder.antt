@@ -1,4 +1,4 @@
--- Lists of triples in order: where a search by halves stops, and what an insert and a removal there leave.
+-- Ordered lists of triples: where a binary search stops, and what an insert or a removal there produces.
 use Rattle.std.proofs.Common.{◌≡◌, ◌≢◌, ℕ, ◌<◌, ◌≤◌, zero, suc, Bool, true, false, cond, inl, inr, List, [], ◌∷◌, length, get_or, filter, refl, sym, ap, ◌∙◌, subst, arith}
 use Rattle.std.specs.Bool.{then_some}
 use Rattle.std.specs.List.{All, AllPairs, insert, remove}
@@ -18,7 +18,7 @@ use Rattle.cdc_expiry.proofs.Apart.{TimestampsDiffer-IsPermutation}
 use Rattle.cdc_expiry.proofs.Lists.{set_of, set_of-IsPermutation}
 use Rattle.cdc_expiry.proofs.Taken.{TimestampsDiffer-taken}
 
--- a test that what comes before a triple passes where the triple does: it splits a list in order
+-- a test that passes for every triple before one for which it passes partitions an ordered list
 pub parted : (p : Triple → Bool) (xs : List Triple)
     → ((x y : Triple) → is_before y.expires_at y.timestamp x ≡ true → p y ≡ true → p x ≡ true)
     → InOrder xs → IsPartitionedBy p xs
@@ -33,12 +33,12 @@ pub due_down : (now : ℕ) (x y : Triple) → is_before y.expires_at y.timestamp
     → is_due now x ≡ true
 due_down now x y before due = grind (arith, nat_tests)
 
--- what comes before a triple that comes before an end and a timestamp does so too
+-- what comes before a triple also comes before everything that the triple comes before
 pub before_down : (e t : ℕ) (x y : Triple) → is_before y.expires_at y.timestamp x ≡ true → is_before e t y ≡ true
     → is_before e t x ≡ true
 before_down e t x y before also = grind (arith, nat_tests)
 
--- the triples that pass are as many as stand before the place where a search stops
+-- the number of triples that pass is the index at which a search stops
 pub counted : (p : Triple → Bool) (xs : List Triple) (i : ℕ)
     → IsPartitionPoint (λ x. p x ≡ true) (λ x. p x ≡ false) xs i → i ≤ length xs → length (filter p xs) ≡ i
 counted p [] zero parts fits = refl
@@ -59,8 +59,8 @@ counted p (x ∷ xs) (suc i) parts fits =
     ) (omega arith) in
     (λ j. length (cond (here j) (x ∷ filter p xs) (filter p xs))) ∙ ap suc rest
 
--- where a triple goes in behind all that come before it, and in front of all that it comes before, the list stays in
--- order
+-- inserting a triple after all those that come before it, and in front of all those that it comes before, keeps the
+-- list in order
 pub AllPairs-insert : (R : Triple → Triple → Type 0) (xs : List Triple) (i : ℕ) (z : Triple) → AllPairs R xs
     → i ≤ length xs → ((k : ℕ) (d : Triple) → k < i → R (get_or xs k d) z)
     → ((k : ℕ) (d : Triple) → i ≤ k → k < length xs → R z (get_or xs k d)) → AllPairs R (insert xs i z)
@@ -82,7 +82,7 @@ not_before : (x z : Triple) → is_before z.expires_at z.timestamp x ≡ false �
     → is_before x.expires_at x.timestamp z ≡ true
 not_before x z after apart = grind (arith, nat_tests)
 
--- so `add` keeps the order, where it puts a triple with a timestamp of its own at the place that it searched for
+-- so `add` keeps the order: it inserts a triple with a timestamp of its own at the index that its search returned
 pub InOrder-insert : (xs : List Triple) (i : ℕ) (z : Triple) → InOrder xs → i ≤ length xs
     → IsPartitionPoint (λ x. is_before z.expires_at z.timestamp x ≡ true)
     (λ x. is_before z.expires_at z.timestamp x ≡ false) xs i
@@ -92,7 +92,7 @@ InOrder-insert xs i z ordered fits parts others =
     (λ k d low. parts.0 k d (omega arith) low)
     (λ k d low within. not_before (get_or xs k d) z (parts.1 k d low within) (others k d within))
 
--- a triple before an end and a timestamp hasn't both
+-- a triple before an expiry time and a timestamp doesn't have both
 before_differs : (e t : ℕ) (x : Triple) → is_before e t x ≡ true → has_numbers e t x ≡ false
 before_differs e t x before = grind (arith, nat_tests)
 
@@ -101,7 +101,7 @@ later_differs : (e t : ℕ) (x y : Triple) → is_before e t x ≡ false → is_
     → has_numbers e t y ≡ false
 later_differs e t x y after below = grind (arith, nat_tests)
 
--- so where the triple at the place hasn't the two numbers, none has
+-- so if the triple at that index doesn't have the two numbers, no triple has them
 none_elsewhere : (xs : List Triple) (i e t : ℕ) → InOrder xs
     → IsPartitionPoint (λ x. is_before e t x ≡ true) (λ x. is_before e t x ≡ false) xs i
     → ((d : Triple) → i < length xs → has_numbers e t (get_or xs i d) ≡ false)
@@ -150,7 +150,7 @@ IsKept-remove xs made capacity i kept within = record {
   backed = kept.backed;
 }
 
--- the triple at the place where a search for two numbers stops tells whether any has them
+-- the triple at the index where a search for two numbers stops decides whether any triple has them
 pub found_there : (xs : List Triple) (i e t : ℕ) (x : Triple) → InOrder xs
     → IsPartitionPoint (λ y. is_before e t y ≡ true) (λ y. is_before e t y ≡ false) xs i → i < length xs
     → x ≡ get_or xs i x → IsFound xs e t (then_some (has_numbers e t x) i)

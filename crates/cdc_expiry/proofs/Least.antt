@@ -1,4 +1,4 @@
--- The least triple of those that are due: where any is, it is the first of a list in order.
+-- The least of the triples that are due: if there is any, it is the first of an ordered list.
 use Rattle.std.proofs.Common.{◌≡◌, ℕ, suc, ◌<◌, Bool, true, false, ◌&&◌, ◌||◌, ◌==◌, nat_lt, cond, List, [], ◌∷◌, length, filter, get_or, slice_get, Some, None, refl, sym, ◌∙◌, subst, arith}
 use Rattle.std.specs.Bool.{then_some}
 use Rattle.std.specs.List.{All}
@@ -13,7 +13,7 @@ use Rattle.cdc_expiry.specs.Triples.{is_before, is_due, InOrder, triple_cmp}
 use Rattle.cdc_expiry.proofs.Lists.{IsLeastOf}
 use Rattle.cdc_expiry.proofs.Order.{triple_cmp_total}
 
--- a comparison that says the same from both sides doesn't say greater
+-- a comparison that gives the same answer from both sides doesn't answer greater
 same_both_ways : (o : Ordering) → o ≡ ordering_reverse o → is_le o ≡ true
 same_both_ways Less same = refl
 same_both_ways Equal same = refl
@@ -49,7 +49,7 @@ later_not_due : (now : ℕ) (x y : Triple) → is_before y.expires_at y.timestam
     → is_due now y ≡ false
 later_not_due now x y before not_due = grind (arith, nat_tests)
 
--- where no triple passes, none is left
+-- if no triple passes, none remains
 none_left : (p : Triple → Bool) (xs : List Triple) → All (λ x. p x ≡ false) xs → filter p xs ≡ []
 none_left p [] none = refl
 none_left p (x ∷ xs) none =

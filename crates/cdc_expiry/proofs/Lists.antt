@@ -1,4 +1,4 @@
--- What an index's contracts say of a set, where the set is known as that of a list.
+-- What an index's contracts state about a set, if the set is that of a known list.
 use Rattle.std.proofs.Common.{◌≡◌, ◌≢◌, ℕ, Bool, true, false, not, ◌&&◌, ◌==◌, cond, List, [], ◌∷◌, ◌++◌, length, filter, Option, Some, None, refl, sym, ap, ◌∙◌, ◌⊎◌, ◌||◌, ◌+◌, inl, inr, add-one, arith}
 use Rattle.std.specs.Cmp.{both_ways, eq_by_cmp_equiv}
 use Rattle.std.specs.FinSet.{contains, empty, from_list, insert, retain, len, same_set, from_list_push, contains-empty, contains-from_list, contains-insert, contains-retain, len-empty, len-insert}
@@ -19,12 +19,12 @@ use Rattle.cdc_expiry.proofs.Order.{triple_cmp_total, triple_cmp-IsAntisymmetric
 abbrev pub set_of : List Triple → Triples
 set_of xs = from_list xs
 
--- a triple is in the set exactly where it is in the list
+-- a triple is in the set if and only if it is in the list
 pub contains-set_of : (xs : List Triple) (x : Triple) → Contains xs x → contains (set_of xs) x ≡ true
 contains-set_of xs x there =
     contains-from_list triple_cmp_total xs x ∙ list_any-from_Contains (eq_by_cmp_equiv triple_cmp_total) x xs there
 
--- and back, so that what a contract says of the set may be said of the list
+-- the converse, so that what a contract states about the set also holds for the list
 pub Contains-set_of : (xs : List Triple) (x : Triple) → contains (set_of xs) x ≡ true → Contains xs x
 Contains-set_of xs x there =
     Contains-from_any same_triple x xs (sym (contains-from_list triple_cmp_total xs x) ∙ there)
@@ -73,7 +73,7 @@ retain-set_of p xs =
 pub due_at-set_of : (xs : List Triple) (now : ℕ) → due_at (set_of xs) now ≡ set_of (filter (is_due now) xs)
 due_at-set_of xs now = retain-set_of (is_due now) xs
 
--- where this timestamp comes with this end alone, a triple that has it has both numbers
+-- if this timestamp occurs only with this expiry time, a triple that has the timestamp has both numbers
 by_timestamp : (x : Triple) (e t : ℕ) → (x.timestamp ≡ t → x.expires_at ≡ e) → has_numbers e t x ≡ (x.timestamp == t)
 by_timestamp x e t ends = grind (arith, nat_tests)
 
@@ -86,7 +86,7 @@ filter_alike (x ∷ xs) e t ends =
     let rest = filter_alike xs e t (All-tail (λ x. x.timestamp ≡ t → x.expires_at ≡ e) x xs ends) in
     λ i. cond (not (here i)) (x ∷ rest i) (rest i)
 
--- where a timestamp has one end in the list, a triple is removed from the set by its timestamp alone
+-- if a timestamp has a single expiry time in the list, its triple can be removed from the set by its timestamp alone
 pub without-set_of : (xs : List Triple) (e t : ℕ) → All (λ x. x.timestamp ≡ t → x.expires_at ≡ e) xs
     → without (set_of xs) e t ≡ set_of (filter (λ x. not (x.timestamp == t)) xs)
 without-set_of xs e t ends =
@@ -101,7 +101,7 @@ not_there xs x others =
       | false ↦ λ _. refl
     ] refl
 
--- where no two triples have the same timestamp the set has as many as the list, which `len` counts
+-- if no two triples have the same timestamp, the set has as many elements as the list, which `len` counts
 pub len-set_of : (xs : List Triple) → TimestampsDiffer xs → len (set_of xs) ≡ length xs
 len-set_of [] differ = len-empty triple_cmp
 len-set_of (x ∷ xs) differ =
@@ -138,7 +138,7 @@ first_or_rest : (z x : Triple) (xs : List Triple) → contains (set_of (z ∷ xs
 first_or_rest z x xs there =
     elim (added_or_there (set_of xs) z x there) [ inl first ↦ inl first | inr later ↦ inr (Contains-set_of xs x later) ]
 
--- the timestamp tells the triples of such a list apart
+-- in such a list the timestamp identifies a triple
 pub TimestampsAreUnique-set_of : (xs : List Triple) → TimestampsDiffer xs → TimestampsAreUnique (set_of xs)
 TimestampsAreUnique-set_of [] differ x y there also same = absurd (empty_lacks (set_of []) x refl there)
 TimestampsAreUnique-set_of (z ∷ xs) differ x y there also same =
@@ -159,7 +159,7 @@ TimestampsAreUnique-set_of (z ∷ xs) differ x y there also same =
       ]
     ]
 
--- the answer is the least triple of the list, or None where the list is empty
+-- the answer is the least triple of the list, or None if the list is empty
 abbrev pub IsLeastOf : List Triple → Option Triple → Type 0
 IsLeastOf xs answer = MatchOption answer (xs ≡ []) (λ x. Contains xs x × All (λ y. is_le (triple_cmp x y) ≡ true) xs)
 
@@ -167,7 +167,7 @@ IsLeastOf xs answer = MatchOption answer (xs ≡ []) (λ x. Contains xs x × All
 first_there : (x : Triple) (xs : List Triple) → contains (set_of (x ∷ xs)) x ≡ true
 first_there x xs = contains-set_of (x ∷ xs) x (0, omega arith, refl)
 
--- the index's answer is the least triple of the list, so that the ledger knows whose end comes first
+-- the index's answer is the least triple of the list, so the ledger learns which pending transfer expires first
 pub IsLeastOf-set_of : (xs : List Triple) (answer : Option Triple) → IsLeast (set_of xs) answer → IsLeastOf xs answer
 IsLeastOf-set_of [] None least = refl
 IsLeastOf-set_of (x ∷ xs) None least = absurd (empty_lacks (set_of (x ∷ xs)) x least (first_there x xs))

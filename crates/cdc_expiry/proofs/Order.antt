@@ -1,4 +1,4 @@
--- The order of triples is total, and tells any two triples apart.
+-- The order of triples is total, and distinguishes any two triples.
 use Rattle.std.proofs.Common.{◌≡◌, true, refl}
 use Rattle.std.specs.Cmp.{IsTotalOrder, then_total, on_total, nat_cmp_total, Equal-is}
 use Rattle.std.specs.FinSet.{IsAntisymmetric, nat_cmp-IsAntisymmetric}
@@ -16,13 +16,13 @@ triple_cmp_total =
     let by_slot = on_total (λ (x : Triple). x.slot) nat_cmp_total in
     then_total by_end (then_total by_timestamp by_slot)
 
--- two comparisons in a row tie only where each does
+-- a chain of two comparisons ties only if both comparisons do
 ties_both : (a b : Ordering) → ordering_then a b ≡ Equal → (a ≡ Equal) × (b ≡ Equal)
 ties_both Less b tied = cc
 ties_both Equal b tied = (refl, tied)
 ties_both Greater b tied = cc
 
--- triples that tie have the same end, timestamp and slot, so they are the same
+-- triples that tie have the same expiry time, timestamp and slot, so they are equal
 pub triple_cmp-IsAntisymmetric : IsAntisymmetric triple_cmp
 triple_cmp-IsAntisymmetric x y tied =
     let ends = ties_both (nat_cmp x.expires_at y.expires_at) _ tied in
@@ -32,6 +32,6 @@ triple_cmp-IsAntisymmetric x y tied =
     let slot : x.slot ≡ y.slot = nat_cmp-IsAntisymmetric _ _ rest.1 in
     λ i. record { expires_at = end i; timestamp = timestamp i; slot = slot i }
 
--- the test that a set's `contains` makes tells triples apart
+-- the test that a set's `contains` makes distinguishes triples
 pub same_triple : (x y : Triple) → eq_by_cmp triple_cmp x y ≡ true → x ≡ y
 same_triple x y tied = triple_cmp-IsAntisymmetric x y ((Equal-is (triple_cmp x y)).0 tied)

@@ -1,4 +1,4 @@
--- What is left of a list's set where the triple with two numbers is taken out of the list, or isn't there.
+-- The set of a list after the triple with two numbers is removed from the list, or if there is no such triple.
 use Rattle.std.proofs.Common.{◌≡◌, ◌≢◌, ℕ, ◌<◌, true, false, not, cond, List, [], ◌∷◌, length, get_or, filter, refl, sym, ap, ◌∙◌, arith}
 use Rattle.std.specs.List.{All, HoldsAt, remove}
 use Rattle.std.specs.List.Sorted.{IsPermutation}
@@ -12,11 +12,11 @@ use Rattle.cdc_expiry.specs.Triples.{has_numbers, HasNumbers, TimestampsDiffer, 
 use Rattle.cdc_expiry.proofs.Apart.{TimestampsDiffer-IsPermutation}
 use Rattle.cdc_expiry.proofs.Lists.{set_of, contains-set_of, Contains-set_of, set_of-IsPermutation, retain-set_of}
 
--- what is read past the end of a list
+-- the value that is read past the end of a list
 nowhere : Triple
 nowhere = record { expires_at = 0; timestamp = 0; slot = 0 }
 
--- whatever is read past the end, the triple at a place is the same
+-- the triple at an index within the list doesn't depend on the value that is read past the end
 at_place : (xs : List Triple) (i : ℕ) → i < length xs → get_or xs i nowhere ≡ get_or xs i (get_or xs i nowhere)
 at_place xs i within = get_or_default xs i nowhere (get_or xs i nowhere) within
 
@@ -26,7 +26,7 @@ pub found_at : (xs : List Triple) (i e t : ℕ) → i < length xs → HoldsAt (�
 found_at xs i e t within has =
     let x = get_or xs i nowhere in (x, contains-set_of xs x (i, within, sym (at_place xs i within)), has nowhere)
 
--- where no triple of the list has the numbers, none of the set has them, and the set loses none
+-- if no triple of the list has the numbers, no triple of the set has them, and removing them leaves the set as it is
 pub not_found : (xs : List Triple) (e t : ℕ) → All (λ x. has_numbers e t x ≡ false) xs → HasNumbers (set_of xs) e t → ⊥
 not_found xs e t none found =
     let there = Contains-set_of xs found.0 found.1 in
@@ -41,7 +41,7 @@ keeps_all (x ∷ xs) e t none =
     let rest = keeps_all xs e t (All-tail (λ x. has_numbers e t x ≡ false) x xs none) in
     λ i. cond (not (here i)) (x ∷ rest i) (rest i)
 
--- so `remove` of an end that isn't in the index changes nothing
+-- so `remove` of a triple that isn't in the index changes nothing
 pub without_none : (xs : List Triple) (e t : ℕ) → All (λ x. has_numbers e t x ≡ false) xs
     → set_of xs ≡ without (set_of xs) e t
 without_none xs e t none =

@@ -7,7 +7,7 @@ use Rattle.std.specs.declared.cmp.Ordering.{Ordering}
 use Rattle.std.specs.Ordering.{is_le, nat_cmp, ordering_then}
 use Rattle.cdc_expiry.specs.declared.triple.Triple.{Triple}
 
--- the order of triples: by their ends, then by their timestamps, then by their slots
+-- the order of triples: by expiry time, then by timestamp, then by slot
 abbrev pub triple_cmp : Triple → Triple → Ordering
 triple_cmp x y =
     ordering_then (nat_cmp x.expires_at y.expires_at)
@@ -22,15 +22,15 @@ pub record Index : Type 0 where
   pub triples : Triples
   pub room : ℕ
 
--- the triple is due at the moment now: its end is not later
+-- the triple is due at the timestamp now: it expires at or before now
 abbrev pub is_due : ℕ → Triple → Bool
 is_due now x = nat_le x.expires_at now
 
--- those of the triples that are due at the moment now
+-- the triples that are due at the timestamp now
 abbrev pub due_at : Triples → ℕ → Triples
 due_at s now = set.retain s (is_due now)
 
--- the answer is the least triple of the set, or None where the set is empty
+-- the answer is the least triple of the set, or None if the set is empty
 abbrev pub IsLeast : Triples → Option Triple → Type 0
 IsLeast s answer = MatchOption answer (s ≡ set.empty) (λ x. (set.contains s x ≡ true)
     × ((y : Triple) → set.contains s y ≡ true → is_le (triple_cmp x y) ≡ true))
@@ -39,15 +39,15 @@ IsLeast s answer = MatchOption answer (s ≡ set.empty) (λ x. (set.contains s x
 abbrev pub IsNewTimestamp : Triples → ℕ → Type 0
 IsNewTimestamp s t = (x : Triple) → set.contains s x ≡ true → x.timestamp ≢ t
 
--- the triple has this end and this timestamp
+-- the triple has this expiry time and this timestamp
 abbrev pub has_numbers : ℕ → ℕ → Triple → Bool
 has_numbers e t x = (x.expires_at == e) && (x.timestamp == t)
 
--- some triple of the set has this end and this timestamp
+-- some triple of the set has this expiry time and this timestamp
 abbrev pub HasNumbers : Triples → ℕ → ℕ → Type 0
 HasNumbers s e t = (x : Triple) × (set.contains s x ≡ true) × (has_numbers e t x ≡ true)
 
--- the set without the triple that has this end and this timestamp
+-- the set without the triple that has this expiry time and this timestamp
 abbrev pub without : Triples → ℕ → ℕ → Triples
 without s e t = set.retain s (λ x. not (has_numbers e t x))
 
@@ -63,15 +63,15 @@ abbrev pub TimestampsDiffer : List Triple → Type 0
 TimestampsDiffer [] = Unit {0}
 TimestampsDiffer (x ∷ xs) = All (λ y. y.timestamp ≢ x.timestamp) xs × TimestampsDiffer xs
 
--- the triple comes before this end and this timestamp
+-- the triple comes before this expiry time and this timestamp
 abbrev pub is_before : ℕ → ℕ → Triple → Bool
 is_before e t x = nat_lt x.expires_at e || ((x.expires_at == e) && nat_lt x.timestamp t)
 
--- each triple comes before all that stand behind it
+-- each triple comes before all triples after it
 abbrev pub InOrder : List Triple → Type 0
 InOrder xs = AllPairs (λ x y. is_before y.expires_at y.timestamp x ≡ true) xs
 
--- the answer is a place where a triple has this end and this timestamp, or None where none of the list has them
+-- the answer is the index of a triple with this expiry time and this timestamp, or None if the list has none
 abbrev pub IsFound : List Triple → ℕ → ℕ → Option ℕ → Type 0
 IsFound xs e t answer = MatchOption answer (All (λ x. has_numbers e t x ≡ false) xs)
     (λ i. (i < length xs) × HoldsAt (λ x. has_numbers e t x ≡ true) xs i)

@@ -1,4 +1,4 @@
-//! The index itself.
+//! The index of pending transfers by expiry time.
 
 ghost use Rattle.std.specs.Prelude.{◌≡◌, ◌≤◌, true, false, slice_get};
 ghost use Rattle.std.specs.List.Sorted.{IsPartitionPoint};
@@ -11,13 +11,14 @@ use std::collections::VecDeque;
 use std::marker::Model;
 
 /// The triples of the pending transfers that may still expire (TigerBeetle, Two-Phase Transfers, `timeout`).
-/// A clause sees the set of them, and for how many more there is room.
+/// Contracts see the set of triples and the number of triples that can be added without allocating.
 #[derive(Drop)]
 pub struct DueIndex {
-    /// In their order, the least first. They stand in a ring, since most of them come at its back and leave at its
-    /// front, where nothing has to move.
+    /// In ascending order. Most triples are added at the back and removed at the front, where a ring buffer moves no
+    /// other triple.
     triples: VecDeque<Triple>,
-    /// For how many triples room was made, those that are there counted in. The ring has no less.
+    /// The number of triples that memory is reserved for, including those in the index. The ring buffer's capacity is
+    /// at least as large.
     capacity: usize,
 }
 
@@ -45,7 +46,7 @@ impl DueIndex {
     ghost use Rattle.std.specs.FinSet as set;
     ghost use Rattle.cdc_expiry.specs.Triples.{due_at, IsLeast, IsNewTimestamp, HasNumbers, without, TimestampsAreUnique};
 
-    /// An index with no triple.
+    /// An empty index with no reserved memory.
     pub fn new(alloc: Global) -> DueIndex
         ensures { result.triples ≡ set.empty }
     {
@@ -55,8 +56,8 @@ impl DueIndex {
         }
     }
 
-    /// Makes room for `additional` more triples. Where memory runs out the triples are as they were; it is asked for
-    /// only where there isn't room for so many.
+    /// Reserves memory for `additional` more triples. An error means out of memory and can happen only if the
+    /// reserved memory is too small. The triples never change.
     pub fn reserve(&mut self, additional: usize) -> Result<(), AllocError>
         ensures triples { self.new.triples ≡ self.old.triples }
         ensures room { OnOk result (additional ≤ self.new.room) }
@@ -68,14 +69,14 @@ impl DueIndex {
         Ok(())
     }
 
-    /// For how many more triples there is room.
+    /// The number of triples that can be added without allocating.
     pub fn room(&self) -> usize
         ensures { result ≡ self.now.room }
     {
         self.capacity - self.triples.len()
     }
 
-    /// Adds a triple with a timestamp that no other has, which can't fail where there is room for it.
+    /// Adds a triple whose timestamp no other triple has. It can't fail: the caller has reserved memory for it.
     pub fn add(&mut self, triple: Triple)
         requires room { 0 < self.old.room }
         requires fresh { IsNewTimestamp self.old.triples triple.timestamp }
@@ -83,12 +84,12 @@ impl DueIndex {
         ensures room { self.new.room + 1 ≡ self.old.room }
     {
         let place = place_of(&self.triples, triple.expires_at, triple.timestamp);
-        // There is room, so it can't be refused.
+        // It can't fail: memory is reserved.
         let _added = self.triples.insert(place, triple);
     }
 
-    /// Takes out the triple with this end and this timestamp, gives its room back and answers true; answers false,
-    /// with all as it was, where there is none.
+    /// Removes the triple with this expiry time and this timestamp, and keeps its memory reserved. Returns false, and
+    /// changes nothing, if there is no such triple.
     pub fn remove(&mut self, expires_at: u64, timestamp: u64) -> bool
         ensures found { IsTrue result ↔ HasNumbers self.old.triples expires_at timestamp }
         ensures triples { self.new.triples ≡ without self.old.triples expires_at timestamp }
@@ -103,8 +104,8 @@ impl DueIndex {
         }
     }
 
-    /// The least of the triples whose end is at or before `now`: the first to end, and of those that end at once the
-    /// first to be made.
+    /// The first triple that expires at or before `now`. Of triples that expire at the same time, the one with the
+    /// lowest timestamp is the first. `None` if none is due.
     pub fn due(&self, now: u64) -> Option<Triple>
         ensures { IsLeast (due_at self.now.triples now) result }
     {
@@ -112,7 +113,7 @@ impl DueIndex {
         (first.expires_at <= now).then_some(first)
     }
 
-    /// How many triples have their end at or before `now`.
+    /// The number of triples that expire at or before `now`.
     pub fn due_count(&self, now: u64) -> usize
         ensures { result ≡ set.len (due_at self.now.triples now) }
     {
@@ -120,7 +121,7 @@ impl DueIndex {
             .partition_point(|triple| triple.expires_at <= now)
     }
 
-    /// How many triples there are. No two of them have the same timestamp.
+    /// The number of triples. No two of them have the same timestamp.
     pub fn len(&self) -> usize
         ensures count { result ≡ set.len self.now.triples }
         ensures unique { TimestampsAreUnique self.now.triples }
@@ -128,7 +129,6 @@ impl DueIndex {
         self.triples.len()
     }
 
-    /// Whether there is no triple.
     pub fn is_empty(&self) -> bool
         ensures { result ≡ (set.len self.now.triples == 0) }
     {
@@ -136,21 +136,19 @@ impl DueIndex {
     }
 }
 
-// The first of the triples.
 fn first(triples: &VecDeque<Triple>) -> Option<Triple>
     ensures { result ≡ slice_get triples.now.items 0 }
 {
     triples.front().copied()
 }
 
-// Whether the triple has this end and this timestamp.
 fn is_of(triple: &Triple, expires_at: u64, timestamp: u64) -> bool
     ensures { result ≡ has_numbers expires_at timestamp triple.now }
 {
     triple.expires_at == expires_at && triple.timestamp == timestamp
 }
 
-// Whether the triple comes before this end and this timestamp.
+// Whether the triple is ordered before this expiry time and this timestamp.
 fn comes_before(triple: &Triple, expires_at: u64, timestamp: u64) -> bool
     ensures { result ≡ is_before expires_at timestamp triple.now }
 {
@@ -158,7 +156,7 @@ fn comes_before(triple: &Triple, expires_at: u64, timestamp: u64) -> bool
         || (triple.expires_at == expires_at && triple.timestamp < timestamp)
 }
 
-// How many of the triples come before this end and this timestamp.
+// The number of triples that are ordered before this expiry time and this timestamp.
 fn place_of(triples: &VecDeque<Triple>, expires_at: u64, timestamp: u64) -> usize
     requires { InOrder triples.now.items }
     ensures bound { result ≤ deque_len triples.now }
@@ -168,7 +166,7 @@ fn place_of(triples: &VecDeque<Triple>, expires_at: u64, timestamp: u64) -> usiz
     triples.partition_point(|triple| comes_before(triple, expires_at, timestamp))
 }
 
-// The place of the triple with this end and this timestamp.
+// The index of the triple with this expiry time and this timestamp.
 fn find(triples: &VecDeque<Triple>, expires_at: u64, timestamp: u64) -> Option<usize>
     requires { InOrder triples.now.items }
     ensures { IsFound triples.now.items expires_at timestamp result }

@@ -1,4 +1,4 @@
-//! The ends of pending transfers: a set of triples that answers which one is due first.
+//! The expiry times of pending transfers: a set of triples that answers which one is due first.
 #![tactic(auto)]
 
 pub mod index;

@@ -1,13 +1,13 @@
-//! What the index holds of a pending transfer.
+//! What the index stores for a pending transfer.
 
-/// When a pending transfer expires, when it was made, and where its owner keeps it. Triples stand in this
-/// order of their fields.
+/// When a pending transfer expires, when it was created, and where its owner stores it. Triples are ordered by these
+/// fields, in this order.
 #[derive(Clone, Copy, Debug, PartialEq, Eq, PartialOrd, Ord)]
 pub struct Triple {
-    /// The moment of its end, in nanoseconds.
+    /// When the transfer expires, in nanoseconds.
     pub expires_at: u64,
-    /// The moment at which it was made, in nanoseconds. No two triples of an index have the same.
+    /// When the transfer was created, in nanoseconds. No two triples of an index have the same timestamp.
     pub timestamp: u64,
-    /// The place that its owner has for it, of which the index asks nothing.
+    /// The owner's position for the transfer. The index stores it and doesn't interpret it.
     pub slot: usize,
 }

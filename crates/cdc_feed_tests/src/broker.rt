@@ -1,4 +1,4 @@
-//! What no clause says: that calls find memory, and that a whole run of them goes as it should.
+//! What contracts don't state: that the allocations of calls succeed, and that a whole run of calls goes as expected.
 
 use cdc_broker::{Broker, Refusal, Taken};
 use cdc_match::Binding;
@@ -24,7 +24,7 @@ fn account(id: u128, debits_posted: u128, credits_posted: u128, timestamp: u64) 
     }
 }
 
-// The event of a transfer from account 1 to account 2, after which that much was moved in all.
+// The event of a transfer from account 1 to account 2, after which `moved` was moved in all.
 fn event(id: u128, amount: u128, moved: u128, timestamp: u64, ledger: u32) -> Event {
     Event {
         timestamp,
@@ -61,17 +61,17 @@ fn broker(alloc: Global, bindings: &[&[&str]]) -> Result<Broker, Fail> {
     Ok(Broker::new(alloc, parsed)?)
 }
 
-// What a broker is asked.
+// A call of a broker.
 #[derive(Clone, Copy)]
 enum Call {
     Connect(u64),
-    // Under this connection and tag, the event of this timestamp or an end mark.
+    // Publishes the event with this timestamp, or an end mark, under this connection and tag.
     Publish(u64, u64, Option<u64>),
-    // Of the queue of this number.
+    // A call for the queue with this number.
     Queue(usize, QueueCall),
 }
 
-// What a broker is asked of one queue.
+// A call for one queue.
 #[derive(Clone, Copy)]
 enum QueueCall {
     Len,
@@ -82,11 +82,11 @@ enum QueueCall {
     Rewind,
 }
 
-// What it answers.
+// The answer to a call.
 #[derive(Clone, Copy, Debug, PartialEq, Eq)]
 enum Answer {
     Taken(Taken),
-    Says(bool),
+    States(bool),
     Number(u64),
     Position(Option<u64>),
     Nothing,
@@ -99,7 +99,7 @@ const WRONG_TAG: Answer = Answer::Taken(Taken::Ignored(Refusal::WrongTag));
 
 const WRONG_CONNECTION: Answer = Answer::Taken(Taken::Ignored(Refusal::WrongConnection));
 
-// The item of the event of that timestamp, or an end mark.
+// The item of the event with that timestamp, or an end mark.
 fn item_at(alloc: Global, timestamp: Option<u64>) -> Result<Item, AllocError> {
     match timestamp {
         Some(2000) => item(alloc, &event(1, 5, 5, 2000, 700)),
@@ -108,7 +108,7 @@ fn item_at(alloc: Global, timestamp: Option<u64>) -> Result<Item, AllocError> {
     }
 }
 
-// The position of what was handed out.
+// The position of what was delivered.
 fn position(delivery: Option<Delivery>) -> Option<u64> {
     match delivery {
         Some(delivery) => Some(delivery.position),
@@ -127,9 +127,9 @@ fn ask_queue(
     }
     Ok(match call {
         QueueCall::Len => Answer::Number(broker.queue_len(i)),
-        QueueCall::HasNext => Answer::Says(broker.has_next(i)),
+        QueueCall::HasNext => Answer::States(broker.has_next(i)),
         QueueCall::Next => Answer::Position(position(broker.next_for(alloc, i)?)),
-        QueueCall::Ack(position) => Answer::Says(broker.ack(i, position)),
+        QueueCall::Ack(position) => Answer::States(broker.ack(i, position)),
         QueueCall::Acked => Answer::Number(broker.acked(i)),
         QueueCall::Rewind => {
             broker.rewind(i);
@@ -140,7 +140,7 @@ fn ask_queue(
 
 fn ask(alloc: Global, broker: &mut Broker, call: Call) -> Result<Answer, AllocError> {
     match call {
-        Call::Connect(connection) => Ok(Answer::Says(broker.connect(connection))),
+        Call::Connect(connection) => Ok(Answer::States(broker.connect(connection))),
         Call::Publish(connection, tag, timestamp) => {
             let item = item_at(alloc, timestamp)?;
             Ok(Answer::Taken(broker.publish(alloc, connection, tag, item)?))
@@ -149,20 +149,21 @@ fn ask(alloc: Global, broker: &mut Broker, call: Call) -> Result<Answer, AllocEr
     }
 }
 
-// Of a broker whose first queue takes everything, the second what is of ledger 700, and the third only end marks.
+// Calls and answers for a broker whose first queue takes everything, the second what is of ledger 700, and the third
+// only end marks.
 const CALLS: [(Call, Answer); 39] = [
     (Call::Publish(0, 1, Some(2000)), WRONG_TAG),
     (Call::Publish(1, 1, Some(2000)), WRONG_CONNECTION),
-    (Call::Connect(0), Answer::Says(false)),
-    (Call::Connect(1), Answer::Says(true)),
+    (Call::Connect(0), Answer::States(false)),
+    (Call::Connect(1), Answer::States(true)),
     (Call::Publish(1, 2, Some(2000)), WRONG_TAG),
-    (Call::Queue(1, QueueCall::HasNext), Answer::Says(false)),
+    (Call::Queue(1, QueueCall::HasNext), Answer::States(false)),
     (Call::Publish(1, 1, Some(2000)), ACCEPTED),
-    (Call::Queue(1, QueueCall::HasNext), Answer::Says(true)),
+    (Call::Queue(1, QueueCall::HasNext), Answer::States(true)),
     (Call::Publish(1, 1, Some(2000)), WRONG_TAG),
     (Call::Publish(2, 2, Some(2001)), WRONG_CONNECTION),
-    (Call::Connect(1), Answer::Says(false)),
-    (Call::Connect(2), Answer::Says(true)),
+    (Call::Connect(1), Answer::States(false)),
+    (Call::Connect(2), Answer::States(true)),
     (Call::Publish(2, 2, Some(2001)), WRONG_TAG),
     (Call::Publish(2, 1, Some(2001)), ACCEPTED),
     (Call::Publish(2, 2, None), ACCEPTED),
@@ -175,17 +176,17 @@ const CALLS: [(Call, Answer); 39] = [
     (Call::Queue(1, QueueCall::Next), Answer::Position(Some(3))),
     (Call::Queue(1, QueueCall::Next), Answer::Position(None)),
     (Call::Queue(2, QueueCall::Next), Answer::Position(Some(1))),
-    (Call::Queue(1, QueueCall::Ack(4)), Answer::Says(false)),
-    (Call::Queue(1, QueueCall::Ack(0)), Answer::Says(false)),
+    (Call::Queue(1, QueueCall::Ack(4)), Answer::States(false)),
+    (Call::Queue(1, QueueCall::Ack(0)), Answer::States(false)),
     (Call::Queue(1, QueueCall::Rewind), Answer::Nothing),
     (Call::Queue(1, QueueCall::Next), Answer::Position(Some(1))),
-    (Call::Queue(1, QueueCall::Ack(2)), Answer::Says(true)),
+    (Call::Queue(1, QueueCall::Ack(2)), Answer::States(true)),
     (Call::Queue(1, QueueCall::Next), Answer::Position(Some(3))),
-    (Call::Queue(1, QueueCall::Ack(1)), Answer::Says(true)),
+    (Call::Queue(1, QueueCall::Ack(1)), Answer::States(true)),
     (Call::Queue(1, QueueCall::Acked), Answer::Number(2)),
     (Call::Queue(1, QueueCall::Rewind), Answer::Nothing),
     (Call::Queue(1, QueueCall::Next), Answer::Position(Some(3))),
-    (Call::Queue(2, QueueCall::Ack(2)), Answer::Says(false)),
+    (Call::Queue(2, QueueCall::Ack(2)), Answer::States(false)),
     (Call::Queue(2, QueueCall::Acked), Answer::Number(0)),
     (Call::Queue(2, QueueCall::Next), Answer::Position(Some(2))),
     (Call::Queue(3, QueueCall::Next), Answer::Position(Some(1))),
@@ -210,7 +211,7 @@ fn a_queue_of_ten_thousand(rt: HostRuntime) -> Result<(), Fail> {
     let mut broker = broker(rt.alloc(), &[&["all"], &["any", "ledger=700"]])?;
     assert_eq!(rt;
         ask(rt.alloc(), &mut broker, Call::Connect(1))?,
-        Answer::Says(true)
+        Answer::States(true)
     );
     for tag in 1..=10_000 {
         let publish = Call::Publish(1, tag, Some(2000));

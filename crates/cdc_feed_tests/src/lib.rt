@@ -1,4 +1,4 @@
-//! Tests of the crates between the ledger and the books: what no clause of theirs says.
+//! Tests of the crates between the ledger and the books: what their contracts don't state.
 #![tactic(auto)]
 
 #[cfg(test)]

@@ -3,7 +3,7 @@ use std::alloc::{AllocError, Global};
 use std::test::Fail;
 use std::{fs, process};
 
-// A record, of a session, a timestamp and a start, and its text.
+// Records, each given by a session, a timestamp and a start, and their texts.
 const RECORDS: [(u64, u64, u64, &str); 6] = [
     (3, 2000, 0, "tb-cdc 2 3 2000 0\n"),
     (0, 0, 0, "tb-cdc 2 0 0 0\n"),
@@ -18,7 +18,7 @@ const RECORDS: [(u64, u64, u64, &str); 6] = [
     ),
 ];
 
-// A record, of a session and a timestamp, and its text in the first version, which has no start.
+// Records, each given by a session and a timestamp, and their texts in the first version, which has no start.
 const FIRST_RECORDS: [(u64, u64, &str); 3] = [
     (3, 2000, "tb-cdc 1 3 2000\n"),
     (0, 0, "tb-cdc 1 0 0\n"),
@@ -29,7 +29,7 @@ const FIRST_RECORDS: [(u64, u64, &str); 3] = [
     ),
 ];
 
-// Bytes that are no record.
+// Bytes that aren't records.
 const NO_RECORDS: [&str; 23] = [
     "",
     "\n",
@@ -56,7 +56,7 @@ const NO_RECORDS: [&str; 23] = [
     "tb-cdc 2 3 2000 0\n\n",
 ];
 
-// The progress of a row, whose numbers are in order.
+// The progress in a row of a table, whose numbers are put in order.
 fn progress(session: u64, timestamp: u64, start: u64) -> Progress {
     let timestamp = timestamp.min(Progress::MAX_TIMESTAMP);
     Progress::new(session, timestamp, start.min(timestamp))
@@ -82,7 +82,7 @@ fn records_of_the_first_version_start_at_0(rt: HostRuntime) {
     }
 }
 
-// Where the tests of files put theirs: a folder of this process.
+// The folder for the files of tests, one for each process.
 fn scratch(rt: &HostRuntime) -> Result<String, Fail> {
     let folder = format!(in rt.alloc(); "/tmp/cdc-progress-{}", process::id(rt.process()))?;
     fs::create_dir_all(rt, folder.as_str())?;
@@ -90,7 +90,7 @@ fn scratch(rt: &HostRuntime) -> Result<String, Fail> {
 }
 
 #[test]
-fn each_beginning_of_a_record_is_none(rt: HostRuntime) {
+fn each_prefix_of_a_record_is_none(rt: HostRuntime) {
     for (_, _, _, text) in RECORDS {
         for end in 0..text.len() {
             assert_eq!(rt; parse(&text.as_bytes()[..end]), None);
@@ -98,7 +98,7 @@ fn each_beginning_of_a_record_is_none(rt: HostRuntime) {
     }
 }
 
-// What a store in this file answers, made anew for each call.
+// A save by a new store in the file at this path, and its answer.
 fn save_at(rt: &HostRuntime, path: &str, progress: Progress) -> Result<(), StoreError> {
     FileStore::at(rt, path).save(progress)
 }
@@ -127,7 +127,7 @@ fn a_file_gives_back_what_was_saved(rt: HostRuntime) -> Result<(), Fail> {
     Ok(())
 }
 
-// What a broken save has left beside the store's file is written anew, and anything else is left alone.
+// The leftover of an interrupted save next to the store's file is replaced, and anything else is left alone.
 #[test]
 fn a_save_goes_by_way_of_a_new_file(rt: HostRuntime) -> Result<(), Fail> {
     let folder = scratch(&rt)?;
@@ -158,8 +158,8 @@ fn a_save_goes_by_way_of_a_new_file(rt: HostRuntime) -> Result<(), Fail> {
     Ok(())
 }
 
-// While a store has a file, another one is refused; and a store that finds another record than its own replaces nothing
-// until it has loaded that.
+// While a store has a file locked, another one is refused; and a store that finds another record than its own
+// replaces nothing until it has loaded that.
 #[test]
 fn a_store_goes_by_its_file(rt: HostRuntime) -> Result<(), Fail> {
     let folder = scratch(&rt)?;
@@ -182,7 +182,7 @@ fn a_store_goes_by_its_file(rt: HostRuntime) -> Result<(), Fail> {
     Ok(())
 }
 
-// A record with more behind it, so many bytes in all.
+// A record with more after it, this many bytes in all.
 fn long_record(alloc: Global, length: usize) -> Result<String, AllocError> {
     let mut long = String::from_str(alloc, "tb-cdc 1 3 2000\n")?;
     for _ in 16..length {
@@ -191,7 +191,7 @@ fn long_record(alloc: Global, length: usize) -> Result<String, AllocError> {
     Ok(long)
 }
 
-// What a store answers to a file of this text.
+// The answer of a store to a load of a file with this text.
 fn load_of(
     rt: &HostRuntime,
     path: &str,
@@ -209,7 +209,7 @@ fn a_damaged_file_is_no_record(rt: HostRuntime) -> Result<(), Fail> {
         let answer = load_of(&rt, path.as_str(), text)?;
         assert_eq!(rt; answer, Err(StoreError::BadRecord), "{text}");
     }
-    // each record, and one byte behind it
+    // each record, and one byte after it
     for (_, _, _, text) in RECORDS {
         let longer = format!(in rt.alloc(); "{text}0")?;
         let answer = load_of(&rt, path.as_str(), longer.as_str())?;
@@ -224,7 +224,7 @@ fn a_damaged_file_is_no_record(rt: HostRuntime) -> Result<(), Fail> {
     Ok(())
 }
 
-// What a store answers to a load and then to a save, and how many failures it has counted.
+// The answers of a store to a load and then to a save, and how many failures it has counted.
 fn load_and_save(
     rt: &HostRuntime,
     path: &str,
@@ -239,7 +239,7 @@ fn load_and_save(
     (loaded, saved, store.failures())
 }
 
-// A folder can be opened, but neither read nor written over. Below a file there is nothing, and that is no missing
+// A folder can be opened, but neither read nor overwritten. A path below a file doesn't exist, but that is no missing
 // file.
 #[test]
 fn a_file_that_cannot_be_reached_is_a_fault(rt: HostRuntime) -> Result<(), Fail> {

@@ -1,9 +1,10 @@
-//! What no clause says: that calls find memory, and that a whole course of them goes as it should.
+//! What contracts don't state: that the allocations of calls succeed, and that a whole course of calls goes as
+//! expected.
 
 use cdc_message::{Item, Packet};
 use cdc_progress::{MemoryStore, Progress, ProgressStore, StoreError};
 use cdc_publisher::{Poll, Session, StartError};
-use cdc_types::{Event, EventAccount, EventKind, EventTransfer, Limits, Moment};
+use cdc_types::{Event, EventAccount, EventKind, EventTimestamp, EventTransfer, Limits};
 use std::alloc::{AllocError, Global};
 use std::test::Fail;
 
@@ -47,7 +48,7 @@ fn event(timestamp: u64, ledger: u32) -> Event {
     }
 }
 
-// Offers an event to a session that wants it, and says whether it does.
+// Offers an event to a session, if it wants events, and returns whether it does.
 fn offer_event(session: &mut Session, event: Event, complete: bool) -> bool {
     let Some(poll) = session.wants() else {
         return false;
@@ -59,7 +60,7 @@ fn offer_event(session: &mut Session, event: Event, complete: bool) -> bool {
     true
 }
 
-// Tells a session that wants events that there are none, and says whether it wants them.
+// Offers no events to a session, if it wants events, and returns whether it does.
 fn offer_none(session: &mut Session, complete: bool) -> bool {
     if session.wants().is_none() {
         return false;
@@ -68,7 +69,7 @@ fn offer_none(session: &mut Session, complete: bool) -> bool {
     true
 }
 
-// What a session sends: the numbers of its packet, and the ledger of its event.
+// A packet that a session sends: its numbers, and the ledger of its event.
 #[derive(Clone, Copy, Debug, PartialEq, Eq)]
 enum Sent {
     Nothing,
@@ -89,7 +90,7 @@ fn send(session: &mut Session, alloc: Global) -> Result<Sent, AllocError> {
     }
 }
 
-// What a store holds: a session, a timestamp and a start, which is no later.
+// The record that a store holds: a session, a timestamp and a start, which is no later.
 type Held = Option<(u64, u32, u32)>;
 
 fn progress(held: Held) -> Option<Progress> {
@@ -103,11 +104,11 @@ fn progress(held: Held) -> Option<Progress> {
     }
 }
 
-// The number and the base of a session that starts over this store, after a moment where one is asked for.
+// The number and the base of a session that starts over this store, after a timestamp if one is given.
 fn start(
     alloc: Global,
     store: &mut MemoryStore,
-    at: Option<Moment>,
+    at: Option<EventTimestamp>,
 ) -> Result<(u64, u64), StartError> {
     let session = Session::start(alloc, store, 1, at)?;
     Ok((session.number(), session.base()))
@@ -142,7 +143,7 @@ fn a_session_starts_where_its_number_is_saved(rt: HostRuntime) {
     }
 }
 
-// A start may be asked for only where nothing is saved; a store that can't be read is found before that, and that there
+// A start may be asked for only if nothing is saved; a store that can't be read is found before that, and that there
 // is no further number after it.
 #[test]
 fn a_session_starts_late_where_nothing_is_saved(rt: HostRuntime) {
@@ -162,16 +163,19 @@ fn a_session_starts_late_where_nothing_is_saved(rt: HostRuntime) {
     ];
     for (held, fails_at, started, held_then) in rows {
         let mut store = MemoryStore::with_faults(progress(held), u64::from(fails_at), true);
-        assert_eq!(rt; start(rt.alloc(), &mut store, Moment::new(2000)), started);
+        assert_eq!(rt;
+            start(rt.alloc(), &mut store, EventTimestamp::new(2000)),
+            started
+        );
         assert_eq!(rt; store.load(), Ok(progress(held_then)));
     }
 }
 
-// What a session is asked.
+// A call of a session.
 #[derive(Clone, Copy)]
 enum Call {
     Wants,
-    // The event of this timestamp and ledger, and whether no other one follows.
+    // Offers the event with this timestamp and ledger, and whether no other one follows.
     Offer(u64, u32, bool),
     OfferNone(bool),
     HasPacket,
@@ -182,13 +186,13 @@ enum Call {
     Save,
 }
 
-// What it answers; after a save, what the store then holds.
+// The answer to a call; after a save, what the store then holds.
 #[derive(Clone, Copy, Debug, PartialEq, Eq)]
 enum Answer {
     Poll(Option<Poll>),
-    Says(bool),
+    States(bool),
     Sent(Sent),
-    Moment(u64),
+    EventTimestamp(u64),
     Holds(Result<Option<Progress>, StoreError>),
 }
 
@@ -206,25 +210,25 @@ fn ask(
     Ok(match call {
         Call::Wants => Answer::Poll(session.wants()),
         Call::Offer(timestamp, ledger, complete) => {
-            Answer::Says(offer_event(session, event(timestamp, ledger), complete))
+            Answer::States(offer_event(session, event(timestamp, ledger), complete))
         }
-        Call::OfferNone(complete) => Answer::Says(offer_none(session, complete)),
-        Call::HasPacket => Answer::Says(session.has_packet()),
+        Call::OfferNone(complete) => Answer::States(offer_none(session, complete)),
+        Call::HasPacket => Answer::States(session.has_packet()),
         Call::Send => Answer::Sent(send(session, alloc)?),
-        Call::Confirm(number, tag) => Answer::Says(session.confirm(number, tag)),
-        Call::Confirmed => Answer::Moment(session.confirmed()),
-        Call::Done => Answer::Says(session.done()),
+        Call::Confirm(number, tag) => Answer::States(session.confirm(number, tag)),
+        Call::Confirmed => Answer::EventTimestamp(session.confirmed()),
+        Call::Done => Answer::States(session.done()),
         Call::Save => Answer::Holds(save(session, store)),
     })
 }
 
-const YES: Answer = Answer::Says(true);
+const YES: Answer = Answer::States(true);
 
-const NO: Answer = Answer::Says(false);
+const NO: Answer = Answer::States(false);
 
 const NOTHING: Answer = Answer::Sent(Sent::Nothing);
 
-// Of a session over an empty store, from its connect to its end mark.
+// Calls and answers for a session over an empty store, from its connect to its end mark.
 const COURSE: [(Call, Answer); 32] = [
     (Call::Send, Answer::Sent(Sent::Connect(1))),
     (Call::Send, NOTHING),
@@ -239,10 +243,10 @@ const COURSE: [(Call, Answer); 32] = [
     (Call::Confirm(2, 1), NO),
     (Call::Confirm(1, 2), NO),
     (Call::Confirm(1, 0), NO),
-    (Call::Confirmed, Answer::Moment(0)),
+    (Call::Confirmed, Answer::EventTimestamp(0)),
     (Call::Confirm(1, 1), YES),
     (Call::Confirm(1, 1), NO),
-    (Call::Confirmed, Answer::Moment(3000)),
+    (Call::Confirmed, Answer::EventTimestamp(3000)),
     (Call::HasPacket, NO),
     (Call::Offer(Limits::TIMESTAMP, 800, true), YES),
     (Call::Send, Answer::Sent(Sent::Event(1, 2, 800))),
@@ -255,7 +259,7 @@ const COURSE: [(Call, Answer); 32] = [
     (Call::Confirm(1, 3), YES),
     (Call::Done, YES),
     (Call::HasPacket, NO),
-    (Call::Confirmed, Answer::Moment(Limits::TIMESTAMP)),
+    (Call::Confirmed, Answer::EventTimestamp(Limits::TIMESTAMP)),
     (Call::OfferNone(true), NO),
     (Call::Send, NOTHING),
 ];
@@ -271,7 +275,7 @@ fn a_course_from_its_connect_to_its_end_mark(rt: HostRuntime) -> Result<(), Fail
     Ok(())
 }
 
-// Of one that waits for three events at a time, whose confirms come out of order.
+// Calls and answers for a session with a window of three events, whose confirms come out of order.
 const WIDE: [(Call, Answer); 23] = [
     (Call::Send, Answer::Sent(Sent::Connect(1))),
     (Call::Wants, Answer::Poll(Some(Poll { after: 0, limit: 3 }))),
@@ -293,7 +297,7 @@ const WIDE: [(Call, Answer); 23] = [
     (Call::Confirm(1, 3), YES),
     (Call::Confirm(1, 2), YES),
     (Call::Confirm(1, 3), NO),
-    (Call::Confirmed, Answer::Moment(0)),
+    (Call::Confirmed, Answer::EventTimestamp(0)),
     (
         Call::Wants,
         Answer::Poll(Some(Poll {
@@ -304,7 +308,7 @@ const WIDE: [(Call, Answer); 23] = [
     (Call::OfferNone(true), YES),
     (Call::Send, NOTHING),
     (Call::Confirm(1, 1), YES),
-    (Call::Confirmed, Answer::Moment(2002)),
+    (Call::Confirmed, Answer::EventTimestamp(2002)),
     (Call::Send, Answer::Sent(Sent::EndMark(1, 4))),
     (Call::Confirm(1, 4), YES),
     (Call::Done, YES),

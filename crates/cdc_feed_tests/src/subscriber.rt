@@ -1,8 +1,8 @@
-//! What subscribers answer and print, by worked examples, and that they find memory.
+//! What subscribers answer and print, by worked examples, and that their allocations succeed.
 
 use cdc_data_tests::bodies::FIRST;
 use cdc_message::{DecodeError, Delivery, Item, Message, decode};
-use cdc_subscriber::{Subscriber, TakeError, Taking};
+use cdc_subscriber::{Book, BookEntry, Subscriber, TakeError, Taking};
 use cdc_types::Balances;
 use std::alloc::{AllocError, Global};
 use std::io;
@@ -10,19 +10,19 @@ use std::io::Write;
 use std::process::Abort;
 use std::test::Fail;
 
-// What a subscriber is handed.
+// What is delivered to a subscriber.
 enum Handed {
     First,
-    // The first body, with the one text in the place of the other.
+    // The first body, after the first text in it is replaced with the second.
     Changed(&'static str, &'static str),
     End,
     Close,
 }
 
-// What a subscriber is handed, each with its answer, and what it prints in the end.
+// What is delivered to a subscriber, each with the expected answer, and what the subscriber prints after that.
 struct Row {
     what: &'static str,
-    handed: &'static [(Handed, Option<Result<Taking, TakeError>>)],
+    delivered: &'static [(Handed, Option<Result<Taking, TakeError>>)],
     printed: &'static str,
 }
 
@@ -41,12 +41,12 @@ const NOT_JSON: Option<Result<Taking, TakeError>> = Some(Err(TakeError::Decode(
 static ROWS: [Row; 7] = [
     Row {
         what: "nothing",
-        handed: &[],
+        delivered: &[],
         printed: "subscriber 1 applied 0 last 0 ended no closed no\n",
     },
     Row {
         what: "a repeat, a body cut by a byte, and bodies after the close",
-        handed: &[
+        delivered: &[
             (Handed::First, APPLIED),
             (Handed::First, REPEAT),
             (Handed::Changed("phase\"}", "phase\""), NOT_JSON),
@@ -60,7 +60,7 @@ static ROWS: [Row; 7] = [
     },
     Row {
         what: "bodies after the end",
-        handed: &[
+        delivered: &[
             (Handed::End, ENDED),
             (Handed::First, REPEAT),
             (Handed::Changed("phase\"}", "phase\""), REPEAT),
@@ -70,7 +70,7 @@ static ROWS: [Row; 7] = [
     },
     Row {
         what: "a close after the end",
-        handed: &[
+        delivered: &[
             (Handed::End, ENDED),
             (Handed::Close, None),
             (Handed::End, AFTER_CLOSE),
@@ -78,13 +78,13 @@ static ROWS: [Row; 7] = [
         printed: "subscriber 1 applied 0 last 0 ended yes closed yes\n",
     },
     Row {
-        what: "an event at the moment 0",
-        handed: &[(Handed::Changed("2000", "0"), REPEAT)],
+        what: "an event at timestamp 0",
+        delivered: &[(Handed::Changed("2000", "0"), REPEAT)],
         printed: "subscriber 1 applied 0 last 0 ended no closed no\n",
     },
     Row {
         what: "an event that comes late, and a later one",
-        handed: &[
+        delivered: &[
             (Handed::Changed("2000", "2001"), APPLIED),
             (Handed::First, REPEAT),
             (Handed::Changed("2000", "2002"), APPLIED),
@@ -93,17 +93,17 @@ static ROWS: [Row; 7] = [
     },
     Row {
         what: "one account on both sides",
-        handed: &[(Handed::Changed("\"id\":\"2\"", "\"id\":\"1\""), APPLIED)],
+        delivered: &[(Handed::Changed("\"id\":\"2\"", "\"id\":\"1\""), APPLIED)],
         printed: "subscriber 1 applied 1 last 2000 ended no closed no\naccount 1 0 0 0 100\n",
     },
 ];
 
-fn hand(
+fn deliver(
     alloc: Global,
     subscriber: &mut Subscriber,
-    handed: &Handed,
+    delivered: &Handed,
 ) -> Result<Option<Result<Taking, TakeError>>, AllocError> {
-    match handed {
+    match delivered {
         Handed::First => Ok(Some(subscriber.take_body(alloc, FIRST.as_bytes()))),
         Handed::Changed(from, to) => {
             let body = FIRST.replace(alloc, from, to)?;
@@ -121,8 +121,8 @@ fn hand(
 fn bodies_ends_and_closes(rt: HostRuntime) -> Result<(), Fail> {
     for row in ROWS.iter() {
         let mut subscriber = Subscriber::new(rt.alloc());
-        for (handed, answer) in row.handed {
-            let given = hand(rt.alloc(), &mut subscriber, handed)?;
+        for (delivered, answer) in row.delivered {
+            let given = deliver(rt.alloc(), &mut subscriber, delivered)?;
             assert_eq!(rt; given, *answer, "{}", row.what);
         }
         let mut printed = Vec::new(rt.alloc());
@@ -134,7 +134,7 @@ fn bodies_ends_and_closes(rt: HostRuntime) -> Result<(), Fail> {
 
 const MANY: u64 = 10_000;
 
-// Takes so many events, each of two accounts, and the end.
+// Takes many events, each of two accounts, and the end mark.
 fn take_many(rt: &impl Abort, alloc: Global, subscriber: &mut Subscriber) -> Result<(), Fail> {
     let mut event = decode(alloc, FIRST.as_bytes())?;
     for position in 1..MANY + 1 {
@@ -153,7 +153,7 @@ fn take_many(rt: &impl Abort, alloc: Global, subscriber: &mut Subscriber) -> Res
     Ok(())
 }
 
-// What a subscriber shows that took so many.
+// Asserts what a subscriber shows that has taken many events.
 fn shows_many(rt: &impl Abort, alloc: Global, subscriber: &Subscriber) -> Result<(), Fail> {
     assert_eq!(rt;
         (subscriber.applied_count(), subscriber.last()),
@@ -180,7 +180,7 @@ fn shows_many(rt: &impl Abort, alloc: Global, subscriber: &Subscriber) -> Result
     Ok(())
 }
 
-// The same, lent to both.
+// Calls both on one subscriber.
 fn take_and_show(rt: &impl Abort, alloc: Global, subscriber: &mut Subscriber) -> Result<(), Fail> {
     take_many(rt, alloc, subscriber)?;
     shows_many(rt, alloc, subscriber)
@@ -192,7 +192,7 @@ fn many_deliveries(rt: HostRuntime) -> Result<(), Fail> {
     take_and_show(&rt, rt.alloc(), &mut subscriber)
 }
 
-// A writer that takes one text, then fails once, and would go on after it.
+// A writer that takes one text, then fails once, and would continue after that.
 #[derive(Drop)]
 struct BrokenWriter {
     writes: u32,
@@ -218,4 +218,63 @@ fn a_write_that_fails(rt: HostRuntime) {
     let mut writer = BrokenWriter { writes: 0 };
     assert!(rt; subscriber.print(&mut writer, 1).is_err());
     assert_eq!(rt; writer.writes, 2);
+}
+
+// A copy of a book, account by account.
+fn copy_of(rt: &impl Abort, alloc: Global, book: &Book) -> Result<Book, AllocError> {
+    let mut copy = Book::new(alloc);
+    for place in 0..book.len() {
+        if let Some((id, balances)) = book.at_place(place) {
+            assert_eq!(rt; copy.push(BookEntry { id, balances })?, true);
+        }
+    }
+    Ok(copy)
+}
+
+#[test]
+fn a_book_has_an_account_once(rt: HostRuntime) -> Result<(), Fail> {
+    let mut book = Book::new(rt.alloc());
+    let balances = Balances {
+        debits_pending: 1,
+        debits_posted: 2,
+        credits_pending: 3,
+        credits_posted: 4,
+    };
+    assert_eq!(rt; book.push(BookEntry { id: 7, balances })?, true);
+    let other = Balances {
+        debits_posted: 5,
+        ..balances
+    };
+    assert_eq!(rt;
+        book.push(BookEntry {
+            id: 7,
+            balances: other
+        })?,
+        false
+    );
+    assert_eq!(rt; (book.len(), book.get(7)), (1, Some(balances)));
+    Ok(())
+}
+
+// A subscriber that goes on from what another one keeps does as that one would.
+#[test]
+fn a_resumed_subscriber_goes_on(rt: HostRuntime) -> Result<(), Fail> {
+    let mut first = Subscriber::new(rt.alloc());
+    let mut event = decode(rt.alloc(), FIRST.as_bytes())?;
+    assert_eq!(rt; first.take_event(&event), Ok(Taking::Applied));
+    let book = copy_of(&rt, rt.alloc(), first.book())?;
+    let mut second = Subscriber::resume(book, first.last(), first.applied_count(), first.ended());
+    assert_eq!(rt; second.take_event(&event), Ok(Taking::Repeat));
+    event.timestamp = 2001;
+    event.credit_account.id = 9;
+    assert_eq!(rt; second.take_event(&event), Ok(Taking::Applied));
+    assert_eq!(rt; second.take_end(), Taking::Ended);
+    event.timestamp = 2002;
+    assert_eq!(rt; second.take_event(&event), Ok(Taking::Repeat));
+    let mut printed = Vec::new(rt.alloc());
+    second.print(&mut printed, 1)?;
+    let expected =
+        "subscriber 1 applied 2 last 2001 ended yes closed no\naccount 1 0 100 0 0\naccount 2 0 0 0 100\naccount 9 0 0 0 100\n";
+    assert_eq!(rt; printed.as_slice(), expected.as_bytes());
+    Ok(())
 }

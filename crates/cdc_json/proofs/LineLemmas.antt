@@ -39,7 +39,7 @@ entry_there (Some entry) id balances is =
     let same : (id, balances) ≡ id_and_balances entry = cc in
     sym (ap (λ (account : ℕ × Balances). Some (entry_for account)) same)
 
--- there is one where the book shows none only if there is no entry
+-- if the book shows no account there, there is no entry
 pub none_there : (entry : Option BookEntry) → None ≡ option_map id_and_balances entry → entry ≡ None
 none_there None is = refl
 none_there (Some entry) is = cc
@@ -50,7 +50,7 @@ none_there (Some entry) is = cc
 pub json_lines-append : (values rest : List Data) → json_lines (values ++ rest) ≡ json_lines values ++ json_lines rest
 json_lines-append values rest = flat_map-append json_line values rest
 
--- one subscriber more is told
+-- one more subscriber is reported
 pub kept_more : (all : List SubscriberState) (place : ℕ) (kept : SubscriberState) (now next whole : List ℕ)
     → slice_get all place ≡ Some kept
     → next ≡ now ++ json_lines (subscriber_values (place + 1) kept)

@@ -24,7 +24,7 @@ items_counted : {X : Type 0} (f : X → Data) (xs : List X) → items_len (items
 items_counted f [] = refl
 items_counted f (x ∷ xs) = ap suc (items_counted f xs)
 
--- each value is sent in its turn, and then the end
+-- each value is sent in its turn, and then the end of the array
 each_sent : {X : Type 0} (f : X → Data) (xs : List X) (old last new : Log)
     → WritesEach (λ x. SendsValue (f x)) xs old last → Logs last new seq_ends → SendsItems (items_of (map f xs)) old new
 each_sent f [] old last new each end = subst (λ (l : Log). Logs l new seq_ends) each end
@@ -41,7 +41,7 @@ array_sent f xs old new all = (
 
 -- ---- an object
 
--- what is sent behind the first so many members, and the end, makes the object whole
+-- what is sent after the first i members, and the end, makes the object whole
 abbrev pub SendsBehind : ℕ → List Member → Log → Log → Type 0
 SendsBehind i ms first now =
     (new : Log) → SendsMembers (members_of (drop i ms)) now new → SendsMembers (members_of ms) first new

@@ -1,4 +1,3 @@
 pub mod Lines
 pub mod Objects
-pub mod Outputs
 pub mod Private

@@ -120,7 +120,7 @@ steps_value done all =
     member (codes "of") (narrow all)
     no_members))
 
--- the step that was refused, the one behind so many, if one was
+-- the step that was refused, the one after those done, if one was
 abbrev pub refusal_values : ℕ → Option StepError → List Data
 refusal_values done None = []
 refusal_values done (Some why) =
@@ -139,18 +139,18 @@ abbrev pub progress_value : Option Saved → Data
 progress_value None = held_value null null
 progress_value (Some saved) = held_value (wide saved.session) (wide saved.timestamp)
 
--- the fault of a file: of this word, which begins in this column
-abbrev pub file_fault_value : List ℕ → ScriptFault → ℕ → List ℕ → Data
-file_fault_value file at column word =
+-- the fault of a file: of this word
+abbrev pub file_fault_value : List ℕ → ScriptFault → List ℕ → Data
+file_fault_value file at word =
     line_of (codes "file_fault") (
     member (codes "file") (string file) (
     member (codes "line") (narrow at.line) (
-    member (codes "column") (narrow column) (
+    member (codes "column") (narrow at.column) (
     member (codes "word") (string word) (
     member (codes "name") (string (kind_name at.kind))
     no_members)))))
 
--- the name of why a command gave up
+-- the name of the fault that a command failed with
 abbrev pub program_fault_name : ProgramFault → List ℕ
 program_fault_name (fault.ReadFault why) = codes "read_fault"
 program_fault_name (fault.WriteFault why) = codes "write_fault"
@@ -161,6 +161,6 @@ program_fault_name fault.SessionsExhausted = codes "sessions_exhausted"
 program_fault_name fault.StartNotAllowed = codes "start_not_allowed"
 program_fault_name fault.NotOneSystem = codes "not_one_system"
 
--- why a command gave up
+-- the line of the fault that a command failed with
 abbrev pub fault_value : ProgramFault → Data
 fault_value why = line_of (codes "fault") (member (codes "name") (string (program_fault_name why)) no_members)

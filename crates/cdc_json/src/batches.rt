@@ -11,7 +11,7 @@ use cdc_ledger::BatchError;
 use cdc_types::{AccountResult, BatchResults, TransferResult};
 use std::alloc::{AllocError, Global};
 
-/// Adds the lines of batches: what the ledger answered to each.
+/// Adds one line for each batch, with the ledger's answer.
 pub(crate) fn push_answers(
     alloc: Global,
     lines: &mut Lines,
@@ -26,7 +26,7 @@ pub(crate) fn push_answers(
     Ok(())
 }
 
-/// Adds the line of the batch of this number, from 1: what the ledger answered.
+/// Adds the line of the batch with this number, from 1, and the ledger's answer.
 pub fn push_batch(
     alloc: Global,
     lines: &mut Lines,
@@ -50,7 +50,7 @@ pub fn push_batch(
     }
 }
 
-/// Adds the line of a batch with these results.
+/// Adds the line of a batch that wasn't refused as a whole.
 fn push_results(
     alloc: Global,
     lines: &mut Lines,
@@ -60,8 +60,6 @@ fn push_results(
     ensures { OnOk result (lines.new.text.items
         ≡ lines.old.text.items ++ json_line (results_value batch (map entry_value results.now))) }
 {
-    let refused = results.iter().filter(|entry| entry.number != 0).count();
-    lines.tally.items = lines.tally.items.saturating_add(refused);
     lines.push(
         alloc,
         "batch",
@@ -78,7 +76,7 @@ fn push_results(
     )
 }
 
-/// Adds the line of a pulse.
+/// Adds the line of a pulse. `expired` is how many pending transfers expired.
 fn push_pulse(alloc: Global, lines: &mut Lines, batch: u64, expired: u64) -> Result<(), AllocError>
     ensures { OnOk result (lines.new.text.items
         ≡ lines.old.text.items ++ json_line (batch_value batch (Ok (BatchResults.Pulsed expired)))) }
@@ -109,7 +107,6 @@ fn push_refused(
     ensures { OnOk result (lines.new.text.items
         ≡ lines.old.text.items ++ json_line (batch_value batch (Err refusal))) }
 {
-    lines.tally.batches = lines.tally.batches.saturating_add(1);
     lines.push(
         alloc,
         "refused_batch",
@@ -130,7 +127,7 @@ fn push_refused(
     )
 }
 
-/// The results of accounts, by number and name.
+/// The number and the name of each result.
 fn account_entries(alloc: Global, results: &[AccountResult]) -> Result<Vec<Named>, AllocError>
     ensures { IfOk result (λ entries. map entry_value entries.items
         ≡ map account_result results.now) }
@@ -143,7 +140,7 @@ fn account_entries(alloc: Global, results: &[AccountResult]) -> Result<Vec<Named
     Ok(entries)
 }
 
-/// The results of transfers, by number and name.
+/// The number and the name of each result.
 fn transfer_entries(alloc: Global, results: &[TransferResult]) -> Result<Vec<Named>, AllocError>
     ensures { IfOk result (λ entries. map entry_value entries.items
         ≡ map transfer_result results.now) }

@@ -1,41 +1,30 @@
-//! What `books --json` prints.
+//! What `books` prints as JSON.
 
-ghost use Rattle.std.specs.Prelude.{◌≡◌, ◌++◌, All, IfOk, OnOk, Some, map};
+ghost use Rattle.std.specs.Prelude.{◌≡◌, ◌++◌, All, IfOk, OnOk, map};
+ghost use Rattle.cdc_commands.specs.BookReports.{IsBooksOf};
 ghost use Rattle.cdc_commands.specs.Queues.{IsUntaken};
 ghost use Rattle.cdc_json.specs.Lines.{json_lines, kept_values};
-ghost use Rattle.cdc_json.specs.Objects.{PrintsObjects, TellsBooks, books_values};
+ghost use Rattle.cdc_json.specs.Objects.{books_values};
 ghost use Rattle.cdc_json.specs.Private.Taking.{kept_of_queue};
+ghost use Rattle.cdc_script.specs.declared.scripts.Script.{Script as Parsed};
 
 use crate::batches::push_answers;
-use crate::faults::script_fault;
 use crate::lines::Lines;
-use crate::outputs::JsonOutput;
 use crate::subscribers::push_subscriber;
 use cdc_broker::Broker;
-use cdc_commands::{BooksReport, Ending, books_report, take_queue};
-use cdc_script::{Script, ScriptError, parse_script};
+use cdc_commands::{BooksReport, take_queue};
 use std::alloc::{AllocError, Global};
 
-/// What `books --json` prints for the bytes of a script, and how it ends. There is none where no memory was left.
-pub(crate) fn books_json(alloc: Global, bytes: &[u8]) -> Result<JsonOutput, AllocError>
-    ensures { IfOk result (λ output. PrintsObjects TellsBooks (Some bytes.now)
-        output.ending output.text.items) }
-{
-    match parse_script(alloc, bytes) {
-        Ok(script) => Ok(JsonOutput::ended(books_lines(alloc, script)?, Ending::Done)),
-        Err(ScriptError::Fault(fault)) => script_fault(alloc, bytes, fault),
-        Err(ScriptError::OutOfMemory) => Err(AllocError),
-    }
-}
-
 /// The lines of a script's batches and of its subscribers.
-fn books_lines(alloc: Global, script: Script) -> Result<Lines, AllocError>
-    ensures { IfOk result (λ lines. lines.text.items ≡ json_lines (books_values script)) }
+pub(crate) fn books_lines(alloc: Global, report: BooksReport) -> Result<Lines, AllocError>
+    requires { All IsUntaken report.broker.queues }
+    ensures { (script : Parsed) → IsBooksOf script report
+        → IfOk result (λ lines. lines.text.items ≡ json_lines (books_values script)) }
 {
     let BooksReport {
         answers,
         mut broker,
-    } = books_report(alloc, script)?;
+    } = report;
     let mut lines = Lines::new(alloc);
     push_answers(alloc, &mut lines, answers.as_slice())?;
     push_takers(alloc, &mut lines, &mut broker)?;

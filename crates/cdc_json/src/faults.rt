@@ -1,76 +1,40 @@
 //! The lines of faults.
 
-ghost use Rattle.std.specs.Prelude.{◌≡◌, ◌++◌, codes, IfOk, OnOk};
+ghost use Rattle.std.specs.Prelude.{◌≡◌, ◌++◌, IfOk, OnOk};
 ghost use Rattle.cdc_json.specs.Lines.{fault_value, file_fault_value, json_line};
-ghost use Rattle.cdc_json.specs.Objects.{TellsFault};
+ghost use Rattle.cdc_json.specs.Objects.{ReportsFault};
 
 use crate::lines::{Field, Lines, Member};
-use crate::outputs::JsonOutput;
-use cdc_commands::{Ending, ProgramFault};
+use cdc_commands::ProgramFault;
+use cdc_diagnostics::fault_word;
 use cdc_script::ScriptFault;
-use cdc_telling::{FaultTold, script_fault_told, steps_fault_told};
 use std::alloc::{AllocError, Global};
 
-/// What is printed of a script of these bytes that has a fault.
-pub fn script_fault(
-    alloc: Global,
-    script: &[u8],
-    fault: ScriptFault,
-) -> Result<JsonOutput, AllocError>
-    ensures ending { IfOk result (λ output. output.ending ≡ Ending.BadScript fault) }
-    ensures line { IfOk result (λ output. TellsFault (codes "script") fault output.text.items) }
-{
-    let told = script_fault_told(alloc, script, fault)?;
-    let lines = file_fault(alloc, "script", fault, &told)?;
-    Ok(JsonOutput::ended(lines, Ending::BadScript(fault)))
-}
-
-/// What is printed of a step file of these bytes that has a fault.
-pub(crate) fn steps_fault(
-    alloc: Global,
-    steps: &[u8],
-    fault: ScriptFault,
-) -> Result<JsonOutput, AllocError>
-    ensures ending { IfOk result (λ output. output.ending ≡ Ending.BadSteps fault) }
-    ensures line { IfOk result (λ output. TellsFault (codes "steps") fault output.text.items) }
-{
-    let told = steps_fault_told(alloc, steps, fault)?;
-    let lines = file_fault(alloc, "steps", fault, &told)?;
-    Ok(JsonOutput::ended(lines, Ending::BadSteps(fault)))
-}
-
-/// The line of a file's fault.
-fn file_fault(
+/// The line for a fault in a file with these bytes.
+pub(crate) fn file_fault(
     alloc: Global,
     file: &str,
+    bytes: &[u8],
     fault: ScriptFault,
-    told: &FaultTold,
 ) -> Result<Lines, AllocError>
-    ensures { IfOk result (λ lines. TellsFault file.now fault lines.text.items) }
+    ensures { IfOk result (λ lines. ReportsFault file.now fault lines.text.items) }
 {
+    let word = fault_word(alloc, bytes, fault)?;
     let mut lines = Lines::new(alloc);
-    push_fault(
-        alloc,
-        &mut lines,
-        file,
-        fault,
-        told.column,
-        told.word.as_str(),
-    )?;
+    push_fault(alloc, &mut lines, file, fault, word.as_str())?;
     Ok(lines)
 }
 
-/// Adds the line of a file's fault, whose word begins in this column.
+/// Adds the line for a fault of a file, at this word.
 fn push_fault<'a>(
     alloc: Global,
     lines: &mut Lines,
     file: &'a str,
     fault: ScriptFault,
-    column: u64,
     word: &'a str,
 ) -> Result<(), AllocError>
     ensures { OnOk result (lines.new.text.items ≡ lines.old.text.items
-        ++ json_line (file_fault_value file.now fault column word.now)) }
+        ++ json_line (file_fault_value file.now fault word.now)) }
 {
     lines.push(
         alloc,
@@ -86,7 +50,7 @@ fn push_fault<'a>(
             },
             Member {
                 name: "column",
-                value: Field::Number(column),
+                value: Field::Number(fault.column),
             },
             Member {
                 name: "word",
@@ -100,7 +64,7 @@ fn push_fault<'a>(
     )
 }
 
-/// The line of a command that gave up. It takes no memory, which may be what there is none of.
+/// The line of a command that failed. It needs no memory, since there may be none.
 pub(crate) fn fault_line(fault: ProgramFault) -> &'static str
     ensures { result.now ≡ json_line (fault_value fault) }
 {

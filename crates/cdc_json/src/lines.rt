@@ -1,4 +1,4 @@
-//! The objects that are printed, one in a line.
+//! The objects that are printed, one per line.
 
 ghost use Rattle.std.specs.Prelude.{◌≡◌, ◌++◌, List, [], OnOk};
 ghost use Rattle.serde_json.specs.Data.{array};
@@ -8,7 +8,6 @@ ghost use Rattle.std.specs.Prelude.{map};
 ghost use Rattle.cdc_json.specs.Lines.{json_line, line_of};
 ghost use Rattle.cdc_json.specs.Private.Sending.{AddsLine, entry_value, field_value, members_of};
 
-use cdc_telling::Tally;
 use itoa::Buffer;
 use serde::{Described, Serialize, Serializer};
 use serde_json::to_vec;
@@ -17,9 +16,7 @@ use std::alloc::{AllocError, Global};
 /// A number from a table of results or refusals, and its name there.
 #[derive(Clone, Copy)]
 pub(crate) struct Named {
-    /// The number.
     pub number: u8,
-    /// The name.
     pub name: &'static str,
 }
 
@@ -30,22 +27,20 @@ pub(crate) enum Field<'a> {
     Number(u64),
     /// A number of 64 or 128 bits, which is written as a string of its decimal digits.
     Wide(u128),
-    /// A string.
+    /// A JSON string.
     Text(&'a str),
-    /// True or false.
+    /// A JSON boolean.
     Flag(bool),
     /// An array of objects, each of a number and its name.
     Table(&'a [Named]),
-    /// Nothing.
+    /// JSON null.
     Null,
 }
 
 /// A member of an object.
 #[derive(Clone, Copy)]
 pub(crate) struct Member<'a> {
-    /// Its name.
     pub name: &'a str,
-    /// Its value.
     pub value: Field<'a>,
 }
 
@@ -94,7 +89,7 @@ impl Serialize for Field<'_> {
     }
 }
 
-/// Sends the entries of a table.
+/// Serializes the entries of a table as an array.
 fn send_table<S: Serializer>(out: &mut S, entries: &[Named]) -> Result<(), S::Error>
     ensures { OnOk result (SendsValue (array (items_of (map entry_value entries.now)))
         (S.written out.old) (S.written out.new)) }
@@ -123,27 +118,27 @@ impl Serialize for Line<'_> {
     }
 }
 
-/// The lines so far, and how much of what was asked for they say wasn't accepted.
+/// The lines printed so far.
 #[derive(Drop)]
 pub struct Lines {
     /// The lines, each with its line feed.
     pub text: Vec<u8>,
-    /// What wasn't accepted.
-    pub tally: Tally,
 }
 
 impl Lines {
-    /// No lines.
     pub fn new(alloc: Global) -> Lines
         ensures { result.text.items ≡ [] }
     {
         Lines {
             text: Vec::new(alloc),
-            tally: Tally {
-                items: 0,
-                batches: 0,
-            },
         }
+    }
+
+    pub fn into_text(self) -> Vec<u8>
+        ensures { result.items ≡ self.text.items }
+    {
+        let Lines { text } = self;
+        text
     }
 
     /// Adds the line of this kind that has these members.
@@ -168,7 +163,7 @@ pub(crate) fn push_value<L: Serialize>(
 ) -> Result<(), AllocError>
     ensures { OnOk result (AddsLine (L.writes value.now) text.old.items text.new.items) }
 {
-    // Members that come in order leave the writer nothing to lack but memory.
+    // The members come in order, so the only error of the writer is that memory runs out.
     let line = to_vec(alloc, value).or(Err(AllocError))?;
     text.extend_from_slice(line.as_slice())?;
     text.push(b'\n')?;

@@ -1,15 +1,10 @@
-//! What `messages --json` prints.
+//! What `messages` prints as JSON.
 
-ghost use Rattle.std.specs.Prelude.{IfOk, Some};
-ghost use Rattle.cdc_json.specs.Objects.{PrintsObjects, TellsMessages};
+ghost use Rattle.std.specs.Prelude.{◌<◌, OnErr, length};
 
-use crate::faults::script_fault;
 use crate::lines::{Lines, push_value};
-use crate::outputs::JsonOutput;
-use cdc_commands::{Ending, take_batches};
 use cdc_log::EventLog;
 use cdc_message::{Message, kind_text};
-use cdc_script::{Script, ScriptError, parse_script};
 use cdc_types::Event;
 use serde::Serialize;
 use serde_json::Value;
@@ -18,17 +13,15 @@ use std::alloc::{AllocError, Global};
 /// The line of the message of an event.
 #[derive(Drop, Serialize)]
 struct MessageLine {
-    /// What kind of line it is.
     kind: &'static str,
-    /// What the message is routed by.
+    /// The message's routing headers.
     headers: HeaderLine,
     /// The event's timestamp, in seconds.
     timestamp: u64,
-    /// The message's body.
     body: Value,
 }
 
-/// What a message is routed by.
+/// The routing headers of a message.
 #[derive(Clone, Copy, Serialize)]
 struct HeaderLine {
     event_type: &'static str,
@@ -38,28 +31,19 @@ struct HeaderLine {
     credit_account_code: u16,
 }
 
-/// What `messages --json` prints for the bytes of a script, and how it ends. There is none where no memory was left.
-pub(crate) fn messages_json(alloc: Global, bytes: &[u8]) -> Result<JsonOutput, AllocError>
-    ensures { IfOk result (λ output. PrintsObjects TellsMessages (Some bytes.now)
-        output.ending output.text.items) }
+/// The lines of a ledger's events. Without events this needs no memory.
+pub(crate) fn message_lines(alloc: Global, log: &EventLog) -> Result<Lines, AllocError>
+    ensures { OnErr result (0 < length log.now.events) }
 {
-    match parse_script(alloc, bytes) {
-        Ok(script) => Ok(JsonOutput::ended(message_lines(alloc, &script)?, Ending::Done)),
-        Err(ScriptError::Fault(fault)) => script_fault(alloc, bytes, fault),
-        Err(ScriptError::OutOfMemory) => Err(AllocError),
-    }
-}
-
-/// The lines of the events of a script; its batches have none.
-fn message_lines(alloc: Global, script: &Script) -> Result<Lines, AllocError> {
-    let taken = take_batches(alloc, script)?;
     let mut lines = Lines::new(alloc);
-    push_log(alloc, &mut lines, taken.ledger.log())?;
+    push_log(alloc, &mut lines, log)?;
     Ok(lines)
 }
 
 /// Adds a line for each event of a ledger.
-fn push_log(alloc: Global, lines: &mut Lines, log: &EventLog) -> Result<(), AllocError> {
+fn push_log(alloc: Global, lines: &mut Lines, log: &EventLog) -> Result<(), AllocError>
+    ensures { OnErr result (0 < length log.now.events) }
+{
     for place in 0..log.len() {
         if let Some(event) = log.get(place) {
             push_message(alloc, lines, event)?;
@@ -72,7 +56,7 @@ fn push_log(alloc: Global, lines: &mut Lines, log: &EventLog) -> Result<(), Allo
 fn push_message(alloc: Global, lines: &mut Lines, event: &Event) -> Result<(), AllocError> {
     let message = Message::of(alloc, event)?;
     let headers = message.headers();
-    // (a body is a JSON text, so memory is all that can lack)
+    // (a body is a JSON text, so the only possible error is that memory runs out)
     let body = Value::from_str(alloc, message.body()).or(Err(AllocError))?;
     push_value(
         alloc,

@@ -1,77 +1,30 @@
-//! What `simulate --json` prints.
+//! What `simulate` prints as JSON.
 
-ghost use Rattle.std.specs.Prelude.{◌≡◌, ◌++◌, ◌^◌, ◌<◌, ℕ, List, IfErr, IfOk, Ok, OnOk, Some, map};
-ghost use Rattle.cdc_script.specs.Scripts.{script_of};
-ghost use Rattle.cdc_subscriber.specs.Heard.{kept_of};
-ghost use Rattle.cdc_types.specs.Windows.{IsWindow};
+ghost use Rattle.std.specs.Prelude.{◌≡◌, ◌++◌, ◌^◌, ◌<◌, IfOk, OnOk, map};
+ghost use Rattle.cdc_subscriber.specs.Reception.{kept_of};
 ghost use Rattle.cdc_world.specs.Stands.{Stands};
 ghost use Rattle.cdc_world.specs.Worlds.{WorldState};
 ghost use Rattle.cdc_commands.specs.SimulationReports.{IsReportOf};
-ghost use Rattle.cdc_commands.specs.Outcomes.{IsSimulationFault};
 ghost use Rattle.cdc_commands.specs.Simulations.{Stage};
 ghost use Rattle.cdc_json.specs.Lines.{json_line, json_lines, kept_values, progress_value, refusal_values, steps_value};
 ghost use Rattle.cdc_json.specs.Lines.{held_value};
-ghost use Rattle.cdc_json.specs.Objects.{SimulationObjects, simulation_values};
+ghost use Rattle.cdc_json.specs.Objects.{simulation_values};
 ghost use Rattle.cdc_json.specs.Private.Sending.{field_value};
 
 use crate::batches::push_answers;
-use crate::faults::{script_fault, steps_fault};
 use crate::lines::{Field, Lines, Member};
-use crate::outputs::JsonOutput;
 use crate::subscribers::push_subscriber;
-use cdc_commands::{Ending, ProgramFault, Simulated, play_script};
+use cdc_commands::Simulated;
 use cdc_progress::{MemoryStore, Progress};
-use cdc_script::{Script, ScriptError, parse_script, parse_steps};
 use cdc_world::{Played, World};
 use std::alloc::{AllocError, Global};
 
-/// What `simulate --json` prints for the bytes of a script and of a step file, and how it ends. There is none where the
-/// command gives up.
-pub(crate) fn simulation_json(
+/// The lines of a simulation of `all` acts.
+pub(crate) fn simulation_lines(
     alloc: Global,
-    script: &[u8],
-    steps: &[u8],
-    window: usize,
-) -> Result<JsonOutput, ProgramFault>
-    requires { IsWindow window }
-    ensures output { IfOk result (λ output. SimulationObjects
-        (record { window = window; script = Some script.now; steps = Some steps.now })
-        output.ending output.text.items) }
-    ensures fault { IfErr result IsSimulationFault }
-{
-    match parse_script(alloc, script) {
-        Ok(said) => script_simulation(alloc, said, steps, window),
-        Err(ScriptError::Fault(fault)) => Ok(script_fault(alloc, script, fault)?),
-        Err(ScriptError::OutOfMemory) => Err(ProgramFault::OutOfMemory),
-    }
-}
-
-/// What the command prints for a script and the bytes of a step file.
-fn script_simulation(
-    alloc: Global,
-    script: Script,
-    steps: &[u8],
-    window: usize,
-) -> Result<JsonOutput, ProgramFault>
-    requires { IsWindow window }
-    ensures output { (bytes : List ℕ) → script_of bytes ≡ Ok script
-        → IfOk result (λ output. SimulationObjects
-        (record { window = window; script = Some bytes; steps = Some steps.now })
-        output.ending output.text.items) }
-    ensures fault { IfErr result IsSimulationFault }
-{
-    let acts = match parse_steps(alloc, steps) {
-        Ok(acts) => acts,
-        Err(ScriptError::Fault(fault)) => return Ok(steps_fault(alloc, steps, fault)?),
-        Err(ScriptError::OutOfMemory) => return Err(ProgramFault::OutOfMemory),
-    };
-    let simulated = play_script(alloc, script, window, acts.as_slice())?;
-    let lines = simulation_lines(alloc, &simulated, acts.len())?;
-    Ok(JsonOutput::ended(lines, Ending::of_refusal(simulated.played.refusal)))
-}
-
-/// The lines of a simulation of so many acts.
-fn simulation_lines(alloc: Global, simulated: &Simulated, all: usize) -> Result<Lines, AllocError>
+    simulated: &Simulated,
+    all: usize,
+) -> Result<Lines, AllocError>
     requires { simulated.now.played.done < 2 ^ 63 }
     ensures { (end : Stage) → IsReportOf end simulated.now → IfOk result (λ lines. lines.text.items
         ≡ json_lines (simulation_values all simulated.now.played.refusal end)) }
@@ -85,7 +38,7 @@ fn simulation_lines(alloc: Global, simulated: &Simulated, all: usize) -> Result<
     Ok(lines)
 }
 
-/// Adds the line of how many of all steps are done.
+/// Adds the line with the numbers of steps done and of all steps.
 fn push_steps(alloc: Global, lines: &mut Lines, done: usize, all: usize) -> Result<(), AllocError>
     ensures { OnOk result (lines.new.text.items
         ≡ lines.old.text.items ++ json_line (steps_value done all)) }
@@ -131,7 +84,7 @@ fn push_refusal(alloc: Global, lines: &mut Lines, played: Played) -> Result<(), 
     )
 }
 
-/// Adds the line of what the store holds.
+/// Adds the line of the progress that the store holds.
 fn push_progress(alloc: Global, lines: &mut Lines, held: Option<Progress>) -> Result<(), AllocError>
     ensures { OnOk result (lines.new.text.items
         ≡ lines.old.text.items ++ json_line (progress_value held)) }
@@ -150,7 +103,7 @@ fn push_progress(alloc: Global, lines: &mut Lines, held: Option<Progress>) -> Re
     }
 }
 
-/// Adds the line of a session and a timestamp.
+/// Adds the line of a session and a timestamp, which may be null.
 fn push_held<'a>(
     alloc: Global,
     lines: &mut Lines,
@@ -184,7 +137,7 @@ fn push_subscriptions(
 ) -> Result<(), AllocError>
     ensures { (w : WorldState) → Stands world.now w
         → OnOk result (lines.new.text.items ≡ lines.old.text.items
-        ++ json_lines (kept_values 1 (map (λ s. kept_of s.heard) w.subscriptions))) }
+        ++ json_lines (kept_values 1 (map (λ s. kept_of s.reception) w.subscriptions))) }
 {
     for place in 0..world.subscriber_count() {
         push_subscriber(alloc, lines, place as u64 + 1, world.subscriber(place + 1))?;

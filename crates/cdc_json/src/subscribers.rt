@@ -7,7 +7,7 @@ use crate::lines::{Field, Lines, Member};
 use cdc_subscriber::{Book, BookEntry, Subscriber};
 use std::alloc::{AllocError, Global};
 
-/// Adds the lines of the subscriber of this number, from 1: how far it is, and its book.
+/// Adds the lines of the subscriber with this number, from 1: its state, and its book.
 pub fn push_subscriber(
     alloc: Global,
     lines: &mut Lines,
@@ -21,7 +21,7 @@ pub fn push_subscriber(
     push_book(alloc, lines, number, subscriber.book())
 }
 
-/// Adds the line of how far a subscriber is.
+/// Adds the line of a subscriber's state, without its book.
 fn push_progress(
     alloc: Global,
     lines: &mut Lines,

@@ -32,14 +32,14 @@ use Rattle.cdc_types.specs.declared.events.Event.{Event}
 
 -- ---- an item that comes in turn
 
--- what holds of the item of each event holds of each item of the line before its end,
--- so that all before the base of a session are known to have been taken
+-- what holds for the item of each event holds for each item of the line before its end mark, so that everything
+-- before the base of a session is known to have been taken
 pub each_of_map : (P : Item → Type 0) (es : List Event) → AllByRecursion (λ e. P (OfEvent e)) es
     → AllByRecursion P (map OfEvent es)
 each_of_map P [] all = tt
 each_of_map P (e ∷ es) all = (all.0, each_of_map P es all.1)
 
--- the item at a place behind a front that was taken may come once those before it there have come
+-- the item at a place after a front that was taken may come once those before it have come
 pub IsReplay-behind : (all f front rest : List Item) (k : ℕ) (item : Item) → IsReplay all f → f ≡ front ++ rest
     → AllByRecursion (Contains all) front → slice_get rest k ≡ Some item
     → ((i : ℕ) (x : Item) → i < k → slice_get rest i ≡ Some x → Contains all x) → IsReplay (all ++ item ∷ []) f
@@ -149,7 +149,7 @@ module _ (h : History) (sound : IsSound h) (start : ℕ) (confirms : List Confir
 
   -- ---- an item is published
 
-  -- the item comes in turn, since it stands in the line right behind what was taken of its session
+  -- the item comes in turn, since it directly follows in the line what was taken of its session
   IsInTurn-publish : (taken : List Packet) (session tag : ℕ) (item : Item) → IsInTurn taken
       → Contains (sent_by sessions) (Publish session tag item) → session ≡ current_session taken
       → expected_tag taken ≡ Some tag → IsInTurn (taken ++ Publish session tag item ∷ [])

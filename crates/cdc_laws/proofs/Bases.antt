@@ -1,5 +1,5 @@
--- When a session connects to a broker, every event after the start and up to the moment after which it begins was
--- taken.
+-- When a session connects to a broker, every event after the start and up to the timestamp after which the session
+-- begins was taken.
 use Rattle.std.proofs.Common.{◌≡◌, ℕ, zero, suc, ◌+◌, ◌<◌, ◌≤◌, Bool, true, false, List, [], ◌∷◌, length, get_or, map, refl, sym, ap, ◌∙◌, subst, inl, inr, arith}
 use Rattle.std.specs.Prelude.{Contains, Some, slice_get}
 use Rattle.std.specs.Option.{option_map}
@@ -10,7 +10,7 @@ use Rattle.cdc_ledger.specs.Events.{events}
 use Rattle.cdc_ledger.specs.History.{History}
 use Rattle.cdc_ledger.specs.Sound.{IsSound}
 use Rattle.cdc_laws.specs.ConnectorRuns.{AreSessions, IsBase, IsConfirmed, IsConfirmedTo, MayFollow, Shown}
-use Rattle.cdc_laws.specs.Line.{end_mark_if, line_after, told}
+use Rattle.cdc_laws.specs.Line.{end_mark_if, line_after, emitted}
 use Rattle.cdc_laws.specs.Takings.{HasTakenUpTo}
 use Rattle.cdc_laws.proofs.Lines.{split_events}
 use Rattle.cdc_laws.proofs.ListElements.{Contains-cons_cases, each_has, none_there, slice_get-append, slice_get-before}
@@ -25,8 +25,8 @@ use Rattle.cdc_types.specs.declared.events.Event.{Event}
 
 -- ---- events by their places
 
--- an item of a line that is an event stands among its events at the same place
-pub event_at : (es : List Event) (closed : Bool) (k : ℕ) (e : Event) → slice_get (told es closed) k ≡ Some (OfEvent e)
+-- an item of a line that is an event is at the same place among the line's events
+pub event_at : (es : List Event) (closed : Bool) (k : ℕ) (e : Event) → slice_get (emitted es closed) k ≡ Some (OfEvent e)
     → slice_get es k ≡ Some e
 event_at [] true zero e there = cc
 event_at [] true (suc k) e there = cc
@@ -34,14 +34,14 @@ event_at [] false k e there = cc
 event_at (x ∷ es) closed zero e there = let same : x ≡ e = cc in ap (λ y. Some y) same
 event_at (x ∷ es) closed (suc k) e there = event_at es closed k e there
 
--- and an event stands in the line at its place
-pub told_at : (es : List Event) (closed : Bool) (k : ℕ) (e : Event) → slice_get es k ≡ Some e
-    → slice_get (told es closed) k ≡ Some (OfEvent e)
-told_at es closed k e there =
+-- and an event is in the line at its place
+pub emitted_at : (es : List Event) (closed : Bool) (k : ℕ) (e : Event) → slice_get es k ≡ Some e
+    → slice_get (emitted es closed) k ≡ Some (OfEvent e)
+emitted_at es closed k e there =
     slice_get-append (map OfEvent es) (end_mark_if closed) k (OfEvent e)
     (slice_get-map OfEvent es k ∙ ap (option_map OfEvent) there)
 
--- an event that isn't later than another of a rising list stands no further on
+-- an event that isn't later than another of a rising list is no further on
 pub no_further : (t : ℕ) (es : List Event) (i j : ℕ) (a b : Event) → RiseFrom t es → slice_get es i ≡ Some a
     → slice_get es j ≡ Some b → b.timestamp ≤ a.timestamp → j ≤ i
 no_further t es i j a b rise here there early =
@@ -51,19 +51,19 @@ no_further t es i j a b rise here there early =
           let later = rises.rising i j a before (slice_get_within es j b there) in
           let first : get_or es i a ≡ a = get_or_from_slice_get es i a a here in
           let second : get_or es j a ≡ b = get_or_from_slice_get es j b a there in
-          let first_moment = ap (λ (e : Event). e.timestamp) first in
-          let second_moment = ap (λ (e : Event). e.timestamp) second in
-          absurd (omega (arith, later, first_moment, second_moment, early))
+          let first_timestamp = ap (λ (e : Event). e.timestamp) first in
+          let second_timestamp = ap (λ (e : Event). e.timestamp) second in
+          absurd (omega (arith, later, first_timestamp, second_timestamp, early))
       | inr not ↦ not
     ]
 
--- what stands in the first list stands there at the same place
+-- an element of the prefix is at the same place in the whole list
 pub prefix_at : {X : Type 0} (some all : List X) (k : ℕ) (x : X) → IsPrefix some all → slice_get some k ≡ Some x
     → slice_get all k ≡ Some x
 prefix_at {X} some all k x front there =
     subst (λ (xs : List X). slice_get xs k ≡ Some x) front.whole (slice_get-append some front.rest k x there)
 
--- and so the other way round, where the place is within the first list
+-- and conversely, if the place is within the prefix
 pub prefix_has : {X : Type 0} (some all : List X) (k : ℕ) (x : X) → IsPrefix some all → k < length some
     → slice_get all k ≡ Some x → slice_get some k ≡ Some x
 prefix_has {X} some all k x front below there =
@@ -72,7 +72,7 @@ prefix_has {X} some all k x front below there =
     ∙ there
 
 module _ (h : History) (sound : IsSound h) (start : ℕ) where
-  -- an event after a moment stands among those after it
+  -- an event after a timestamp is among those after it
   after_at : (t : ℕ) (e : Event) → Contains (events h) e → t < e.timestamp
       → (k : ℕ) × (slice_get (events_after t (events h)) k ≡ Some e)
   after_at t e there late =
@@ -103,17 +103,17 @@ module _ (h : History) (sound : IsSound h) (start : ℕ) where
       absurd (omega (arith, above, low))
 
   module _ (confirms : List Confirm) (n : ℕ) (taken : List Item) where
-    -- what was confirmed to these sessions, where their number is below n, was taken
+    -- what was confirmed to those of these sessions whose number is below n was taken
     abbrev pub HasConfirmed : List Shown → Type 0
     HasConfirmed sessions =
         (s : Shown) → Contains sessions s → s.number < n → (place : ℕ) (item : Item)
         → slice_get s.items place ≡ Some item → IsConfirmed confirms s.number (place + 1) → Contains taken item
 
-    -- an earlier session that is confirmed up to a moment had all its events up to then taken
-    up_to_confirmed : (sessions : List Shown) (s : Shown) (moment : ℕ) → HasConfirmed sessions → Contains sessions s
+    -- if an earlier session is confirmed up to a timestamp, all its events up to then were taken
+    up_to_confirmed : (sessions : List Shown) (s : Shown) (time : ℕ) → HasConfirmed sessions → Contains sessions s
         → s.number < n → IsPrefix s.items (line_after h s.base) → HasTakenUpTo h start taken s.base
-        → IsConfirmedTo confirms s moment → HasTakenUpTo h start taken moment
-    up_to_confirmed sessions s moment has among below front base is e there low =
+        → IsConfirmedTo confirms s time → HasTakenUpTo h start taken time
+    up_to_confirmed sessions s time has among below front base is e there low =
         elim (cases_lt s.base e.timestamp) [
           | inl late ↦
               let es : List Event = events_after s.base (events h) in
@@ -128,13 +128,13 @@ module _ (h : History) (sound : IsSound h) (start : ℕ) where
               omega (arith, early, slice_get_within s.items is.place (OfEvent is.event) is.published) in
               let here : slice_get s.items found.0 ≡ Some (OfEvent e) =
               prefix_has s.items (line_after h s.base) found.0 (OfEvent e) front within
-              (told_at es h.closed found.0 e found.1) in
+              (emitted_at es h.closed found.0 e found.1) in
               has s among below found.0 (OfEvent e) here
               (is.confirmed (found.0 + 1) (omega arith) (omega (arith, early)))
           | inr early ↦ base e there early
         ]
 
-    -- a session of number n or below begins after such a moment, where those before it did
+    -- a session with number n or below begins after such a timestamp, if those before it did
     of_base : (earlier : List Shown) (x : Shown) → MayFollow h start confirms earlier x
         → AreSessions h start confirms earlier → HasConfirmed earlier → x.number ≤ n
         → ((t : Shown) → Contains earlier t → t.number ≤ n → HasTakenUpTo h start taken t.base)
@@ -149,7 +149,7 @@ module _ (h : History) (sound : IsSound h) (start : ℕ) where
         up_to_confirmed earlier t x.base has among (omega (arith, above, low))
         (follows h start confirms earlier t each among).may.items (before t among (omega (arith, above, low))) is
 
-    -- so each such session begins after a moment up to which every event was taken
+    -- so each such session begins after a timestamp up to which every event was taken
     pub bases_taken : (sessions : List Shown) → AreSessions h start confirms sessions → HasConfirmed sessions
         → (s : Shown) → Contains sessions s → s.number ≤ n → HasTakenUpTo h start taken s.base
     bases_taken [] each has s there low = absurd (none_there s there)

@@ -36,7 +36,7 @@ seen id es = find (λ entry. entry.id == id) (reverse (flat_map sides es))
 abbrev shown : ℕ → Event → Option BookEntry
 shown id e = find (λ entry. entry.id == id) (entry_of e.credit_account ∷ entry_of e.debit_account ∷ [])
 
--- the balances shown, or four zeros where nothing was
+-- the balances shown, or four zeros if nothing was shown
 abbrev sums : Option BookEntry → Balances
 sums o = unwrap_or (option_map (λ entry. entry.balances) o) no_balances
 
@@ -83,14 +83,14 @@ ShowsLast-pushed h e shows within after sides known id =
           ]
         ]
 
--- where entries end
-abbrev end_moment : ℕ → List Entry → ℕ
-end_moment t [] = t
-end_moment t (e ∷ es) = end_moment e.timestamp es
+-- the timestamp of the last entry, or the given one if there are none
+abbrev end_timestamp : ℕ → List Entry → ℕ
+end_timestamp t [] = t
+end_timestamp t (e ∷ es) = end_timestamp e.timestamp es
 
 -- a history with further entries
 abbrev followed : History → List Entry → History
-followed h es = record h { entries = h.entries ++ es; last = end_moment h.last es }
+followed h es = record h { entries = h.entries ++ es; last = end_timestamp h.last es }
 
 -- a history before its first entry
 abbrev before_all : History → History
@@ -108,11 +108,11 @@ IsUpTo-pushed h e within after =
     (AllByRecursion-weaker (λ x. x.timestamp ≤ h.last) (λ x. x.timestamp ≤ e.timestamp)
     (λ x early. omega arith) h.entries within) (omega arith)
 
--- so it goes on through further entries, where some entries more may follow
+-- so it goes on through further entries, even if more entries follow
 ShowsLast-followed : (all : List Entry) (h : History) (es later : List Entry) → h.entries ++ (es ++ later) ≡ all
     → ShowsLast h → IsUpTo h.last h → RiseFrom h.last es
     → AllByRecursion (λ e. AllByRecursion (HasSidesOf e) all) es → AllByRecursion (HasAccounts h) es
-    → ShowsLast (followed h es) × IsUpTo (end_moment h.last es) (followed h es)
+    → ShowsLast (followed h es) × IsUpTo (end_timestamp h.last es) (followed h es)
 ShowsLast-followed all h [] later whole shows within rise sides known = rw append-nil (shows, within)
 ShowsLast-followed all h (e ∷ es) later whole shows within rise sides known =
     let before = all_front (HasSidesOf e) h.entries (e ∷ (es ++ later))
@@ -122,7 +122,7 @@ ShowsLast-followed all h (e ∷ es) later whole shows within rise sides known =
     (IsUpTo-pushed h e within rise.0) rise.1 sides.1 known.1 in
     rw append_assoc at rest
 
--- entries later than a moment leave the balances as of it
+-- entries later than a timestamp leave the balances as of it unchanged
 balances-followed : (h : History) (id t : ℕ) (es : List Entry) → t ≤ h.last → RiseFrom h.last es
     → balances (followed h es) id t ≡ balances h id t
 balances-followed h id t [] within rise = rw append-nil refl
@@ -149,12 +149,12 @@ events-followed h es within rise =
       credit_account = shown_account (unwrap_or (opened h x.transfer.credit_account_id) nobody) credits;
     }
 
--- where the entries end is the timestamp of the last of their events
-last-events : (h : History) (t : ℕ) (es : List Entry) → last_timestamp_from t (map (event_of h) es) ≡ end_moment t es
+-- the last timestamp of entries is that of the last of their events
+last-events : (h : History) (t : ℕ) (es : List Entry) → last_timestamp_from t (map (event_of h) es) ≡ end_timestamp t es
 last-events h t [] = refl
 last-events h t (e ∷ es) = last-events h e.timestamp es
 
--- a beginning of what is made of the elements of a list is made of a beginning of these
+-- a prefix of a mapped list is the image of a prefix of the list
 record Front {X Y : Type 0} (f : X → Y) (xs : List X) (start : List Y) : Type 0 where
   front : List X
   back : List X
@@ -176,8 +176,8 @@ front_of f (x ∷ xs) (y ∷ start) rest same =
       made = ap₂ (λ z zs. z ∷ zs) first more.made;
     }
 
--- the entries behind the first ones are later than where these end, so they change no balances as of then
-rise_back : (t : ℕ) (xs ys : List Entry) → RiseFrom t (xs ++ ys) → RiseFrom (end_moment t xs) ys
+-- the entries after the first ones are later than these, so they change no balances as of the last of these
+rise_back : (t : ℕ) (xs ys : List Entry) → RiseFrom t (xs ++ ys) → RiseFrom (end_timestamp t xs) ys
 rise_back t [] ys rise = rise
 rise_back t (x ∷ xs) ys rise = rise_back x.timestamp xs ys rise.1
 
@@ -199,7 +199,7 @@ holds_front h sound front back whole id =
     rises : RiseFrom 0 (front ++ back)
     rises = subst (RiseFrom 0) (sym whole) sound.rising
 
-    shows : ShowsLast at_front × IsUpTo (end_moment 0 front) at_front
+    shows : ShowsLast at_front × IsUpTo (end_timestamp 0 front) at_front
     shows = ShowsLast-followed h.entries (before_all h) front back whole (λ n. refl) tt (rise_front 0 front back rises)
         (all_front _ front back (subst (AllByRecursion _) (sym whole) (sides_of_all h sound)))
         (all_front _ front back (subst (AllByRecursion _) (sym whole) sound.known))
@@ -208,16 +208,17 @@ holds_front h sound front back whole id =
     same_events =
         rw whole at (events-followed at_front back shows.1 (rise_back 0 front back rises))
 
-    as_of_end : as_of h (last_timestamp (map (event_of h) front)) id ≡ balances at_front id (end_moment 0 front)
+    as_of_end : as_of h (last_timestamp (map (event_of h) front)) id ≡ balances at_front id (end_timestamp 0 front)
     as_of_end =
-        let later : RiseFrom (end_moment 0 front) back = rise_back 0 front back rises in
+        let later : RiseFrom (end_timestamp 0 front) back = rise_back 0 front back rises in
         rw (last-events h 0 front)
-        (rw whole at (balances-followed at_front id (end_moment 0 front) back (omega arith) later))
+        (rw whole at (balances-followed at_front id (end_timestamp 0 front) back (omega arith) later))
 
--- the book of a beginning of a ledger's events holds for every number the ledger's balances as of the last of these
-pub holds-balances : (h : History) (told : List Event) → IsSound h → IsPrefix told (events h) → HoldsBalances h told
-holds-balances h told sound start =
-    let split = front_of (event_of h) h.entries told start.rest start.whole in
+-- the book of a prefix of a ledger's events holds, for every number, the ledger's balances as of the last event of
+-- the prefix
+pub holds-balances : (h : History) (emitted : List Event) → IsSound h → IsPrefix emitted (events h) → HoldsBalances h emitted
+holds-balances h emitted sound start =
+    let split = front_of (event_of h) h.entries emitted start.rest start.whole in
     subst (HoldsBalances h) split.made (holds_front h sound split.front split.back split.whole)
 
 -- what was shown last of an account has its number
@@ -230,24 +231,25 @@ found_id (entry ∷ entries) id =
       | inr other ↦ rw other.0 (found_id entries id)
     ]
 
--- and its balances, or four zeros where nothing was shown
+-- and its balances, or four zeros if nothing was shown
 found_sums : (o : Option BookEntry) (id : ℕ) → (unwrap_or o (unseen id)).balances ≡ sums o
 found_sums None id = refl
 found_sums (Some entry) id = refl
 
--- so each account of a beginning of a ledger's events was shown last with its balances as of the last of these
-pub last_shown-prefix : (h : History) (told : List Event) → IsSound h → IsPrefix told (events h) → (id : ℕ)
-    → last_shown (flat_map sides told) id ≡ record { id = id; balances = as_of h (last_timestamp told) id }
-last_shown-prefix h told sound start id =
-    let number = found_id (reverse (flat_map sides told)) id in
-    let held : (last_shown (flat_map sides told) id).balances ≡ as_of h (last_timestamp told) id =
-    found_sums (seen id told) id ∙ (ap (λ o. unwrap_or o no_balances) (sym (balances_in-book_of told id))
-    ∙ holds-balances h told sound start id) in
+-- so each account of a prefix of a ledger's events was shown last with its balances as of the last event of the
+-- prefix
+pub last_shown-prefix : (h : History) (emitted : List Event) → IsSound h → IsPrefix emitted (events h) → (id : ℕ)
+    → last_shown (flat_map sides emitted) id ≡ record { id = id; balances = as_of h (last_timestamp emitted) id }
+last_shown-prefix h emitted sound start id =
+    let number = found_id (reverse (flat_map sides emitted)) id in
+    let held : (last_shown (flat_map sides emitted) id).balances ≡ as_of h (last_timestamp emitted) id =
+    found_sums (seen id emitted) id ∙ (ap (λ o. unwrap_or o no_balances) (sym (balances_in-book_of emitted id))
+    ∙ holds-balances h emitted sound start id) in
     ap₂ (λ (n : ℕ) (b : Balances). record { id = n; balances = b }) number held
 
--- the whole book of a beginning of a ledger's events: the accounts that these have, in the order of their first
+-- the whole book of a prefix of a ledger's events: the accounts of these events, in the order of their first
 -- appearance, each with the ledger's balances as of the last of these events
-pub book_of-prefix : (h : History) (told : List Event) → IsSound h → IsPrefix told (events h)
-    → book_of told ≡ map (λ id. record { id = id; balances = as_of h (last_timestamp told) id }) (accounts_of told)
-book_of-prefix h told sound start =
-    map_same _ _ (accounts_of told) (AllByRecursion-every _ (last_shown-prefix h told sound start) (accounts_of told))
+pub book_of-prefix : (h : History) (emitted : List Event) → IsSound h → IsPrefix emitted (events h)
+    → book_of emitted ≡ map (λ id. record { id = id; balances = as_of h (last_timestamp emitted) id }) (accounts_of emitted)
+book_of-prefix h emitted sound start =
+    map_same _ _ (accounts_of emitted) (AllByRecursion-every _ (last_shown-prefix h emitted sound start) (accounts_of emitted))

@@ -34,14 +34,14 @@ pub taken_of-push : (arrived : List Packet) (packet : Packet)
     → taken_of (arrived ++ packet ∷ []) ≡ taken_after (taken_of arrived) packet
 taken_of-push arrived packet = fold-append taken_after [] arrived (packet ∷ [])
 
--- what was confirmed was taken, also where more is taken
+-- what was confirmed was taken, also after more is taken
 pub AreOfTaken-taken : (confirms : List Confirm) (taken : List Packet) (packet : Packet) → AreOfTaken confirms taken
     → AreOfTaken confirms (taken ++ packet ∷ [])
 AreOfTaken-taken confirms taken packet are session tag there =
     let old = are session tag there in
     (old.0, Contains-append_left taken (packet ∷ []) (Publish session tag old.0) old.1)
 
--- and where one more publish that was taken is confirmed
+-- and after one more publish that was taken is confirmed
 pub AreOfTaken-confirmed : (confirms : List Confirm) (taken : List Packet) (session tag : ℕ) (item : Item)
     → AreOfTaken confirms taken → Contains taken (Publish session tag item)
     → AreOfTaken (confirms ++ record { session = session; answer = Confirmed tag } ∷ []) taken
@@ -60,7 +60,7 @@ AreOfTaken-confirmed confirms taken session tag item are took c t there =
     ]
 
 module _ (b : BrokerState) (arrived : List Packet) (confirms : List Confirm) (has : HasArrived b arrived confirms) where
-  -- the broker takes what its packets say
+  -- what the broker takes is determined by the packets that have arrived
   takes_is : (packet : Packet) → takes_packet b packet ≡ is_taken (taken_of arrived) packet
   takes_is packet =
       ap₂ (λ (c : ℕ) (e : Option ℕ). is_taken_at c e packet) has.connection has.expected
@@ -107,7 +107,7 @@ module _ (b : BrokerState) (arrived : List Packet) (confirms : List Confirm) (ha
             (AreOfTaken-taken confirms (taken_of arrived) packet has.confirmed);
       }
 
-  -- one that it passes over
+  -- one that it ignores
   pub HasArrived-passed : (packet : Packet) → takes_packet b packet ≡ false
       → HasArrived b (arrived ++ packet ∷ []) confirms
   HasArrived-passed packet passes =

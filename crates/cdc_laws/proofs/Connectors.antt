@@ -14,8 +14,8 @@ use Rattle.cdc_laws.specs.Arrivals.{AreAmong}
 use Rattle.cdc_laws.specs.ConnectorRuns.{AreConfirmed, AreSessions, IsBase, IsConfirmed, IsConfirmedTo, IsConnectorRun, Shown, packets_of, publishes_from, sent_by}
 use Rattle.cdc_laws.specs.Connectors.{ConnectorState, IsLive, KeepsTo, SendsInTurn, StandsLast, after_confirm, held_number, held_start, held_timestamp, shown_of}
 use Rattle.cdc_laws.specs.GoingOn.{GoesOn}
-use Rattle.cdc_laws.specs.Line.{told}
-use Rattle.cdc_laws.proofs.Bases.{prefix_has, told_at}
+use Rattle.cdc_laws.specs.Line.{emitted}
+use Rattle.cdc_laws.proofs.Bases.{prefix_has, emitted_at}
 use Rattle.cdc_laws.proofs.Courses.{IsPrefix-take, MayFollow-course, confirmed_cases, each_number, end_at, publishes_from-push, reaches, take_one}
 use Rattle.cdc_laws.proofs.Lines.{events_after-goes_on}
 use Rattle.cdc_laws.proofs.ListElements.{Contains-cons_cases, none_there, slice_get-append}
@@ -56,7 +56,7 @@ KeepsTo-begin h held none = record {
   live = λ course there. absurd (none-some course there);
 }
 
--- ---- its session ends
+-- ---- its session stops
 
 -- no session runs, and what was sent and received stays
 pub KeepsTo-end : (h : History) (c : ConnectorState) → KeepsTo h c → KeepsTo h (record c { session = None })
@@ -72,8 +72,8 @@ KeepsTo-end h c keeps = record {
 
 -- ---- a session starts
 
--- what is saved as a session begins: its number is a new one; where nothing was held its timestamp is its start, and
--- else both stay
+-- what is saved when a session begins: its number is new; if nothing was held, its timestamp is its start, and
+-- otherwise both stay
 record Begins (held : Option Saved) (saved : Saved) : Type 0 where
   number : held_number held < saved.session
   from : ((held ≡ None) × (saved.timestamp ≡ saved.start))
@@ -87,7 +87,7 @@ begun_parts : (held : Option Saved) (at : Option ℕ) (saved : Saved) → begun 
 begun_parts None at saved is =
     let same : first_saved at ≡ saved = same_Ok (first_saved at) saved (begun None at) refl is in
     subst (Begins None) same (record { number = omega arith; from = inl (refl, refl) })
-begun_parts (Some held) (Some moment) saved is = cc
+begun_parts (Some held) (Some time) saved is = cc
 begun_parts (Some held) None saved is = either (held.session == last_session) is
   where
     next : Saved
@@ -114,7 +114,7 @@ IsLive-new h confirms sessions saved window base above = record {
   last = inl (refl, base, above);
 }
 
--- so where sessions came before it, or none did, a connector keeps to its history
+-- so a connector keeps to its history, whether or not sessions came before this one
 KeepsTo-new : (h : History) (c : ConnectorState) (saved : Saved) (window : ℕ) (sessions : List Shown)
     → sent_by sessions ≡ c.sent → AreSessions h saved.start c.confirms sessions
     → IsBase saved.start c.confirms sessions saved.timestamp
@@ -150,7 +150,7 @@ KeepsTo-start h c at saved window keeps new =
           (λ s there. let low = keeps.numbers s there in omega (arith, low, begins.number))
     ]
 
--- where saving fails the new number may be held without a session
+-- if saving fails, the new number may be held without a session
 pub KeepsTo-half_started : (h : History) (c : ConnectorState) (at : Option ℕ) (saved : Saved) → KeepsTo h c
     → begun c.held at ≡ Ok saved → KeepsTo h (record c { held = Some saved; session = None })
 KeepsTo-half_started h c at saved keeps new =
@@ -159,7 +159,7 @@ KeepsTo-half_started h c at saved keeps new =
 
 -- ---- it sends a packet
 
--- a moment after which a session may begin stays one when another session joins
+-- a timestamp after which a session may begin stays one after another session is added
 IsBase-older : (start : ℕ) (confirms : List Confirm) (sessions : List Shown) (s : Shown) (t : ℕ)
     → IsBase start confirms sessions t → IsBase start confirms (s ∷ sessions) t
 IsBase-older start confirms sessions s t (inl none) = inl none
@@ -196,7 +196,7 @@ IsBase-longer start confirms earlier s longer t number base kept (inr (other, am
       | inr old ↦ inr (other, Contains-append_right (longer ∷ []) earlier other old, which)
     ]
 
--- where a session runs, something is held
+-- if a session runs, something is held
 pub none_held : (h : History) (c : ConnectorState) → KeepsTo h c → c.held ≡ None → (course : Course)
     → c.session ≡ Some course → ⊥
 none_held h c keeps nothing course runs = none-some course (sym (keeps.none_yet nothing).1 ∙ runs)
@@ -214,7 +214,7 @@ module _ (h : History) (c : ConnectorState) (keeps : KeepsTo h c) (course : Cour
       let start : ℕ = held_start c.held in
       let live : IsLive h start c.confirms keeps.sessions (held_number c.held) course = keeps.live course runs in
       let nothing : tags_sent on ≡ 0 = omega (arith, first) in
-      let none : (shown_of on).items ≡ [] = ap (λ n. take n (told course.offered true)) nothing in
+      let none : (shown_of on).items ≡ [] = ap (λ n. take n (emitted course.offered true)) nothing in
       let in_turn : SendsInTurn c.confirms on = inl (omega (arith, first)) in
       let last : IsBase start c.confirms keeps.sessions course.base
       × ((s : Shown) → Contains keeps.sessions s → s.number < course.number) =
@@ -255,7 +255,7 @@ module _ (h : History) (c : ConnectorState) (keeps : KeepsTo h c) (course : Cour
 
   -- it publishes the item that comes next
   KeepsTo-publish : (item : Item) → 0 < course.sent
-      → slice_get (told course.offered true) (tags_sent course) ≡ Some item → SendsInTurn c.confirms on
+      → slice_get (emitted course.offered true) (tags_sent course) ≡ Some item → SendsInTurn c.confirms on
       → KeepsTo h
       (record c { session = Some on; sent = c.sent ++ Publish course.number course.sent item ∷ [] })
   KeepsTo-publish item some here in_turn =
@@ -264,7 +264,7 @@ module _ (h : History) (c : ConnectorState) (keeps : KeepsTo h c) (course : Cour
         | inr (_, (earlier, is)) ↦
             let start : ℕ = held_start c.held in
             let live : IsLive h start c.confirms keeps.sessions (held_number c.held) course = keeps.live course runs in
-            let all : List Item = told course.offered true in
+            let all : List Item = emitted course.offered true in
             let each : AreSessions h start c.confirms (shown_of course ∷ earlier) =
             subst (AreSessions h start c.confirms) is keeps.each in
             let items : (shown_of on).items ≡ (shown_of course).items ++ item ∷ [] =
@@ -332,7 +332,7 @@ module _ (h : History) (c : ConnectorState) (keeps : KeepsTo h c) (course : Cour
       slice_get_within course.offered (tags_sent course) event there in
       subst (λ p. KeepsTo h (record c { session = Some on; sent = c.sent ++ p ∷ [] }))
       (same_Some (Publish course.number course.sent (OfEvent event)) packet is)
-      (KeepsTo-publish (OfEvent event) some (told_at course.offered true (tags_sent course) event there)
+      (KeepsTo-publish (OfEvent event) some (emitted_at course.offered true (tags_sent course) event there)
       (inl (omega (arith, below, some))))
   KeepsTo-next None packet some there is =
       let ends =
@@ -350,7 +350,7 @@ module _ (h : History) (c : ConnectorState) (keeps : KeepsTo h c) (course : Cour
       (omega (arith, low)))).1 in
       subst (λ p. KeepsTo h (record c { session = Some on; sent = c.sent ++ p ∷ [] })) ends.1
       (KeepsTo-publish EndMark some
-      (ap (slice_get (told course.offered true)) place ∙ end_at course.offered)
+      (ap (slice_get (emitted course.offered true)) place ∙ end_at course.offered)
       (inr (parts.0, confirmed)))
 
   -- so a connector keeps to its history when its session sends its next packet
@@ -370,7 +370,7 @@ module _ (h : History) (c : ConnectorState) (keeps : KeepsTo h c) (course : Cour
 
 -- ---- a confirm comes
 
--- a tag that was sent is none behind the last one
+-- a tag that was sent isn't after the last one
 is_sent-most : (course : Course) (tag : ℕ) → is_sent course tag ≡ true → tag ≤ tags_sent course
 is_sent-most course tag sent =
     let parts = and_parts (nat_lt 0 tag) (nat_le tag (tags_sent course)) sent in
@@ -379,7 +379,7 @@ is_sent-most course tag sent =
     up_to : (n m : ℕ) → nat_le n m ≡ true → n ≤ m
     up_to n m is = grind (arith, nat_tests)
 
--- what stands before the end of a beginning is within it
+-- an element before the end of a prefix is within the prefix
 in_take : {X : Type 0} (n : ℕ) (xs : List X) (k : ℕ) (x : X) → k < n → slice_get xs k ≡ Some x
     → k < length (take n xs)
 in_take n xs k x below there =
@@ -494,7 +494,7 @@ KeepsTo-confirm h c confirm keeps =
 
 -- ---- it saves
 
--- what a session saves is a moment after which the next may begin
+-- what a session saves is a timestamp after which the next may begin
 saved_base : (h : History) (c : ConnectorState) (keeps : KeepsTo h c) (course : Course) → c.session ≡ Some course
     → IsBase (held_start c.held) c.confirms keeps.sessions (confirmed_timestamp course)
 saved_base h c keeps course runs =
@@ -519,13 +519,13 @@ saved_base h c keeps course runs =
           elim live.last [
             | inl new ↦ absurd (omega (arith, new.0, last.0))
             | inr (_, (earlier, is)) ↦
-                let all : List Item = told course.offered true in
+                let all : List Item = emitted course.offered true in
                 let here : slice_get (shown_of course).items at.place ≡ Some (OfEvent at.event) =
                 prefix_has (shown_of course).items all at.place (OfEvent at.event)
                 (IsPrefix-take (tags_sent course) all)
                 (in_take (tags_sent course) all at.place (OfEvent at.event) (omega (arith, last.0))
-                (told_at course.offered true at.place at.event at.here))
-                (told_at course.offered true at.place at.event at.here) in
+                (emitted_at course.offered true at.place at.event at.here))
+                (emitted_at course.offered true at.place at.event at.here) in
                 inr (
                   shown_of course,
                   subst (λ xs. Contains xs (shown_of course)) (sym is) (0, omega arith, refl),
@@ -564,8 +564,8 @@ KeepsTo-save h c course keeps runs =
 
 -- ---- the ledger goes on
 
--- a session stays live: it was still offered the first events after its base when later ones join them, and where it
--- knows of the end none do
+-- a session stays live: the events that it was offered are still the first ones after its base when later ones are
+-- added, and if it is complete, none are added
 IsLive-goes_on : (h g : History) (start : ℕ) → GoesOn h g → (confirms : List Confirm) (sessions : List Shown)
     (number : ℕ) (course : Course) → IsLive h start confirms sessions number course
     → IsLive g start confirms sessions number course

@@ -9,7 +9,7 @@ use Rattle.cdc_ledger.specs.Events.{events}
 use Rattle.cdc_ledger.specs.History.{History}
 use Rattle.cdc_laws.specs.ConnectorRuns.{AreConfirmed, IsBase, MayFollow, Shown, publishes_from}
 use Rattle.cdc_laws.specs.Connectors.{SendsInTurn, shown_of}
-use Rattle.cdc_laws.specs.Line.{end_mark_if, line_after, told}
+use Rattle.cdc_laws.specs.Line.{end_mark_if, line_after, emitted}
 use Rattle.cdc_laws.proofs.ListElements.{slice_get-append}
 use Rattle.cdc_laws.proofs.LongerRuns.{IsPrefix-longer}
 use Rattle.cdc_log.specs.Log.{events_after}
@@ -23,7 +23,7 @@ use Rattle.cdc_types.specs.declared.events.Event.{Event}
 
 -- ---- places
 
--- what stands in a beginning stands in the list at the same place, before the beginning's end
+-- an element of a prefix is in the list at the same place, before the prefix's end
 pub of_take : {X : Type 0} (n : ℕ) (xs : List X) (k : ℕ) (x : X) → slice_get (take n xs) k ≡ Some x
     → (k < n) × (slice_get xs k ≡ Some x)
 of_take {X} n xs k x there =
@@ -33,19 +33,19 @@ of_take {X} n xs k x there =
           (slice_get-append (take n xs) (drop n xs) k x there),
     )
 
--- a beginning with one more element
+-- a prefix with one more element
 pub take_one : {X : Type 0} (n : ℕ) (xs : List X) (x : X) → slice_get xs n ≡ Some x
     → take (n + 1) xs ≡ take n xs ++ x ∷ []
 take_one n xs x there =
     take_more xs n x (slice_get_within xs n x there)
     ∙ ap (λ y. take n xs ++ y ∷ []) (get_or_from_slice_get xs n x x there)
 
--- a beginning is a prefix
+-- the first n elements are a prefix
 pub IsPrefix-take : {X : Type 0} (n : ℕ) (xs : List X) → IsPrefix (take n xs) xs
 IsPrefix-take n xs = record { rest = drop n xs; whole = take-append-drop n xs }
 
--- the end mark stands behind the events
-pub end_place : (es : List Event) (closed : Bool) (k : ℕ) → slice_get (told es closed) k ≡ Some EndMark
+-- the end mark comes after the events
+pub end_place : (es : List Event) (closed : Bool) (k : ℕ) → slice_get (emitted es closed) k ≡ Some EndMark
     → k ≡ length es
 end_place [] true zero there = refl
 end_place [] true (suc k) there = cc
@@ -53,8 +53,8 @@ end_place [] false k there = cc
 end_place (x ∷ es) closed zero there = cc
 end_place (x ∷ es) closed (suc k) there = ap suc (end_place es closed k there)
 
--- it stands right there
-pub end_at : (es : List Event) → slice_get (told es true) (length es) ≡ Some EndMark
+-- it comes directly after them
+pub end_at : (es : List Event) → slice_get (emitted es true) (length es) ≡ Some EndMark
 end_at [] = refl
 end_at (x ∷ es) = end_at es
 
@@ -74,17 +74,17 @@ module _ (h : History) (confirms : List Confirm) (course : Course)
     (offered : IsPrefix course.offered (events_after course.base (events h)))
     (complete : course.complete ≡ true
     → (h.closed ≡ true) × (course.offered ≡ events_after course.base (events h))) where
-  -- what it was offered is a beginning of what there is to tell
+  -- what it was offered is a prefix of what there is to publish
   line_offered : line_after h course.base
       ≡ map OfEvent course.offered ++ (map OfEvent offered.rest ++ end_mark_if h.closed)
   line_offered =
-      ap (λ es. told es h.closed) (sym offered.whole)
+      ap (λ es. emitted es h.closed) (sym offered.whole)
       ∙ ap (λ items. items ++ end_mark_if h.closed) (map-append OfEvent course.offered offered.rest)
       ∙ append_assoc (map OfEvent course.offered) (map OfEvent offered.rest) (end_mark_if h.closed)
 
-  -- so what it has sent of that is a beginning too, the end mark among it only where the ledger is closed
+  -- so what it has sent of that is a prefix too, which has the end mark only if the ledger is closed
   pub items_front : (n : ℕ) → (n ≤ length course.offered) ⊎ (course.complete ≡ true)
-      → IsPrefix (take n (told course.offered true)) (line_after h course.base)
+      → IsPrefix (take n (emitted course.offered true)) (line_after h course.base)
   items_front n (inl within) =
       let es : List Item = map OfEvent course.offered in
       let size : length es ≡ length course.offered = length-map course.offered OfEvent in
@@ -94,9 +94,9 @@ module _ (h : History) (confirms : List Confirm) (course : Course)
       (IsPrefix-longer (take n es) es (map OfEvent offered.rest ++ end_mark_if h.closed) (IsPrefix-take n es)))
   items_front n (inr is) =
       let all = complete is in
-      let same : told course.offered true ≡ line_after h course.base =
-      ap₂ told all.1 (sym all.0) in
-      subst (IsPrefix (take n (told course.offered true))) same (IsPrefix-take n (told course.offered true))
+      let same : emitted course.offered true ≡ line_after h course.base =
+      ap₂ emitted all.1 (sym all.0) in
+      subst (IsPrefix (take n (emitted course.offered true))) same (IsPrefix-take n (emitted course.offered true))
 
   -- a session that sends in turn may follow whatever it might follow before
   pub MayFollow-course : (start : ℕ) (earlier : List Shown)
@@ -108,7 +108,7 @@ module _ (h : History) (confirms : List Confirm) (course : Course)
     base = base;
     items = items_front (tags_sent course) (elim in_turn [ inl within ↦ inl within | inr ends ↦ inr ends.0 ]);
     end = λ place there.
-        let parts = of_take (tags_sent course) (told course.offered true) place EndMark there in
+        let parts = of_take (tags_sent course) (emitted course.offered true) place EndMark there in
         let last : place ≡ length course.offered = end_place course.offered true place parts.1 in
         elim in_turn [
           | inl within ↦ absurd (omega (arith, within, last, parts.0))
@@ -159,26 +159,26 @@ confirmed_cases course tag other is = from course.confirmed is
 
 -- ---- how far a session is confirmed
 
--- it is a moment up to which all is confirmed: the one that it began from, or that of an event
-pub record Reaches (course : Course) (tag : ℕ) (es : List Event) (moment : ℕ) : Type 0 where
+-- it is a timestamp up to which all is confirmed: the one after which it began, or that of an event
+pub record Reaches (course : Course) (tag : ℕ) (es : List Event) (time : ℕ) : Type 0 where
   pub place : ℕ
   pub event : Event
   pub here : slice_get es place ≡ Some event
-  pub at : event.timestamp ≡ moment
+  pub at : event.timestamp ≡ time
   pub all : (i : ℕ) → i ≤ place → is_confirmed course (tag + i) ≡ true
 
--- what a session saves is such a moment
-pub reaches : (course : Course) (tag moment : ℕ) (es : List Event)
-    → (confirmed_from course moment tag es ≡ moment) ⊎ Reaches course tag es (confirmed_from course moment tag es)
-reaches course tag moment [] = inl refl
-reaches course tag moment (e ∷ es) =
+-- what a session saves is such a timestamp
+pub reaches : (course : Course) (tag time : ℕ) (es : List Event)
+    → (confirmed_from course time tag es ≡ time) ⊎ Reaches course tag es (confirmed_from course time tag es)
+reaches course tag time [] = inl refl
+reaches course tag time (e ∷ es) =
     by_test (is_confirmed course tag) refl (reaches course (tag + 1) e.timestamp es)
   where
     by_test : (b : Bool) → is_confirmed course tag ≡ b
         → ((confirmed_from course e.timestamp (tag + 1) es ≡ e.timestamp)
         ⊎ Reaches course (tag + 1) es (confirmed_from course e.timestamp (tag + 1) es))
-        → ((if b then confirmed_from course e.timestamp (tag + 1) es else moment) ≡ moment)
-        ⊎ Reaches course tag (e ∷ es) (if b then confirmed_from course e.timestamp (tag + 1) es else moment)
+        → ((if b then confirmed_from course e.timestamp (tag + 1) es else time) ≡ time)
+        ⊎ Reaches course tag (e ∷ es) (if b then confirmed_from course e.timestamp (tag + 1) es else time)
     by_test false is rest = inl refl
     by_test true is (inl same) =
         inr

@@ -24,11 +24,11 @@ items_from : (p : ℕ) (items : List Item) → items_in (deliveries_from p items
 items_from p [] = refl
 items_from p (item ∷ items) = ap (λ more. item ∷ more) (items_from (p + 1) items)
 
--- so what is heard of all deliveries of a queue is the queue
+-- so the items of all deliveries of a queue are the queue
 pub items_in-deliveries : (items : List Item) → items_in (deliveries items) ≡ items
 items_in-deliveries items = items_from 1 items
 
--- further items go on with the position behind the last one
+-- further items continue with the position after the last one
 append_from : (p : ℕ) (items more : List Item)
     → deliveries_from p (items ++ more) ≡ deliveries_from p items ++ deliveries_from (p + length items) more
 append_from p [] more = ap (λ n. deliveries_from n more) (omega arith)
@@ -56,7 +56,7 @@ pub slice_get-deliveries : (items : List Item) (k : ℕ) (item : Item) → slice
 slice_get-deliveries items k item found =
     found_from 1 k items item found ∙ ap (λ n. Some (delivery_at n item)) (omega arith)
 
--- the same of whatever delivery stands at a place
+-- the same for whatever delivery is at a place
 position_from : (p k : ℕ) (items : List Item) (d : Delivery) → k < length items
     → (get_or (deliveries_from p items) k d).position ≡ p + k
 position_from p k [] d below = absurd (omega arith)

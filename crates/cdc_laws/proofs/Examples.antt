@@ -1,4 +1,4 @@
--- The definitions at work: what a small ledger has to tell, and what subscribers that heard some of it have applied.
+-- Examples: what a small ledger has to publish, and what subscribers that received some of it have applied.
 use Rattle.std.specs.Prelude.{ℕ, ◌≡◌, ◌<◌, true, false, Some, List, [], ◌∷◌, length, map, get_or, slice_get, Contains}
 use Rattle.std.proofs.Common.{zero, suc, inl, inr, refl, ap, subst, arith}
 use Rattle.std.proofs.lemmas.Bool.{cases_lt}
@@ -6,7 +6,6 @@ use Rattle.cdc_types.specs.declared.accounts.NewAccount.{NewAccount}
 use Rattle.cdc_types.specs.declared.batches.Batch.TheVariants as batch
 use Rattle.cdc_types.specs.declared.events.Event.{Event}
 use Rattle.cdc_types.specs.declared.transfers.NewTransfer.{NewTransfer}
-use Rattle.cdc_types.specs.Features.{features}
 use Rattle.cdc_ledger.specs.Balances.{as_of}
 use Rattle.cdc_ledger.specs.Events.{events}
 use Rattle.cdc_ledger.specs.History.{History, empty_history}
@@ -15,7 +14,7 @@ use Rattle.cdc_broker.specs.Packets.{items_of}
 use Rattle.cdc_laws.specs.Arrivals.{taken_of}
 use Rattle.cdc_laws.specs.ConnectorRuns.{AreConfirmed, IsConfirmed, IsConnectorRun, Shown, packets_of, sent_by}
 use Rattle.cdc_laws.specs.Deliveries.{deliveries, positions_in}
-use Rattle.cdc_laws.specs.Faithful.{HoldsAccounts, IsFaithful, accounts_told, applied, balances_held, no_balances}
+use Rattle.cdc_laws.specs.Faithful.{HoldsAccounts, IsFaithful, accounts_emitted, applied, balances_held, no_balances}
 use Rattle.cdc_laws.specs.Line.{feed_after, feed_of, line, line_after}
 use Rattle.cdc_laws.proofs.ListElements.{Contains-cons_cases, none_there}
 use Rattle.cdc_match.specs.Arguments.{Arguments}
@@ -31,7 +30,7 @@ use Rattle.cdc_message.specs.declared.packets.Packet.TheVariants.{Connect, Publi
 use Rattle.cdc_message.specs.Items.{events_of, same_item}
 use Rattle.cdc_message.specs.Replays.{IsPrefix, firsts}
 use Rattle.cdc_subscriber.specs.Book.{book_of}
-use Rattle.cdc_subscriber.specs.Heard.{Heard, has_ended}
+use Rattle.cdc_subscriber.specs.Reception.{Reception, has_ended}
 
 -- a request for an account of ledger 700 and code 10
 abbrev account : ℕ → NewAccount
@@ -58,7 +57,7 @@ transfer id code = record {
 -- two accounts are opened; three transfers are made, the second of them of code 2; and the ledger closes
 abbrev history : History
 history =
-    closed_if true (after_batches features empty_history
+    closed_if true (after_batches empty_history
     (batch.Accounts 1000 (account 1 ∷ account 2 ∷ [])
     ∷ batch.Transfers 2000 (transfer 71 1 ∷ transfer 72 2 ∷ transfer 73 1 ∷ []) ∷ []))
 
@@ -70,88 +69,88 @@ abbrev of_code_1 : Arguments
 of_code_1 = record { mode = All; pairs = TransferCode 1 ∷ [] }
 
 -- events by their timestamps
-abbrev moments : List Event → List ℕ
-moments es = map (λ (e : Event). e.timestamp) es
+abbrev times : List Event → List ℕ
+times es = map (λ (e : Event). e.timestamp) es
 
 -- the item of the line at a place
-abbrev told_at : ℕ → Item
-told_at k = get_or (line history) k EndMark
+abbrev emitted_at : ℕ → Item
+emitted_at k = get_or (line history) k EndMark
 
--- a subscriber that heard these items
-abbrev hearing : List Item → Heard
-hearing items = record { items = items; closed = false }
+-- a subscriber that received these items
+abbrev receiving : List Item → Reception
+receiving items = record { items = items; closed = false }
 
--- ---- what there is to tell
+-- ---- what there is to publish
 
 -- an event for each transfer, and the end mark
-events_at : moments (events history) ≡ 2000 ∷ 2001 ∷ 2002 ∷ []
+events_at : times (events history) ≡ 2000 ∷ 2001 ∷ 2002 ∷ []
 events_at = refl
 
--- the end mark stands last
-line_ends : line history ≡ told_at 0 ∷ told_at 1 ∷ told_at 2 ∷ EndMark ∷ []
+-- the end mark comes last
+line_ends : line history ≡ emitted_at 0 ∷ emitted_at 1 ∷ emitted_at 2 ∷ EndMark ∷ []
 line_ends = refl
 
--- after the moment of the first event the others are left, and after the last one the end mark alone
-left_after_first : line_after history 2000 ≡ told_at 1 ∷ told_at 2 ∷ EndMark ∷ []
+-- after the timestamp of the first event the others are left, and after the last one only the end mark
+left_after_first : line_after history 2000 ≡ emitted_at 1 ∷ emitted_at 2 ∷ EndMark ∷ []
 left_after_first = refl
 
 left_after_last : line_after history 2002 ≡ EndMark ∷ []
 left_after_last = refl
 
 -- after 2000 a binding of code 1 takes the third alone
-late_feed_of_one : moments (feed_after history 2000 of_code_1) ≡ 2002 ∷ []
+late_feed_of_one : times (feed_after history 2000 of_code_1) ≡ 2002 ∷ []
 late_feed_of_one = refl
 
 -- a binding of code 1 takes the first and the third
-feed_of_one : moments (feed_of history of_code_1) ≡ 2000 ∷ 2002 ∷ []
+feed_of_one : times (feed_of history of_code_1) ≡ 2000 ∷ 2002 ∷ []
 feed_of_one = refl
 
 -- ---- what was applied
 
--- repeats change nothing, and neither does the time at which they come
-with_repeats : moments (applied (hearing (told_at 0 ∷ told_at 0 ∷ told_at 1 ∷ told_at 0 ∷ told_at 1 ∷ [])))
+-- duplicates change nothing, and neither does the time at which they come
+with_repeats : times (applied (receiving (emitted_at 0 ∷ emitted_at 0 ∷ emitted_at 1 ∷ emitted_at 0 ∷ emitted_at 1 ∷ [])))
     ≡ 2000 ∷ 2001 ∷ []
 with_repeats = refl
 
 -- its book has the ledger's balances as of the second event, and four zeros for an account that no event shows
-book_as_of : balances_held (book_of (applied (hearing (told_at 0 ∷ told_at 1 ∷ [])))) 2 ≡ as_of history 2001 2
+book_as_of : balances_held (book_of (applied (receiving (emitted_at 0 ∷ emitted_at 1 ∷ [])))) 2 ≡ as_of history 2001 2
 book_as_of = refl
 
-book_of_nobody : balances_held (book_of (applied (hearing (told_at 0 ∷ told_at 1 ∷ [])))) 9 ≡ no_balances
+book_of_nobody : balances_held (book_of (applied (receiving (emitted_at 0 ∷ emitted_at 1 ∷ [])))) 9 ≡ no_balances
 book_of_nobody = refl
 
 -- one that joined after the first event: its book has both accounts of the second, with the ledger's balances as of
--- that, though it has heard nothing of the first
-late_book : HoldsAccounts history 2000 (applied (hearing (told_at 1 ∷ [])))
+-- that, although it has received nothing of the first
+late_book : HoldsAccounts history 2000 (applied (receiving (emitted_at 1 ∷ [])))
 late_book = refl
 
--- and one that has heard nothing yet has no account
-late_book_of_nothing : accounts_told history 2000 0 ≡ []
+-- and one that has received nothing yet has no account
+late_book_of_nothing : accounts_emitted history 2000 0 ≡ []
 late_book_of_nothing = refl
 
--- one that heard its whole queue has ended
-ended_at_end : has_ended (hearing (queue (line history) of_code_1)) ≡ true
+-- one that received its whole queue has ended
+ended_at_end : has_ended (receiving (queue (line history) of_code_1)) ≡ true
 ended_at_end = refl
 
--- the moment at a place
-moment_at : ℕ → List Event → ℕ
-moment_at k es = get_or (moments es) k 0
+-- the timestamp at a place
+timestamp_at : ℕ → List Event → ℕ
+timestamp_at k es = get_or (times es) k 0
 
--- two moments are two
+-- these two timestamps differ
 apart : ◌≡◌ {A = ℕ} 2002 2001 → ⊥
 apart same = omega (arith, same)
 
 -- one that missed the second event isn't faithful, though the timestamps of what it has applied rise
-misses_one : IsFaithful history 0 every_event (hearing (told_at 0 ∷ told_at 2 ∷ [])) → ⊥
-unfolding moment_at
-misses_one faithful = apart (ap (moment_at 1) faithful.prefix.whole)
+misses_one : IsFaithful history 0 every_event (receiving (emitted_at 0 ∷ emitted_at 2 ∷ [])) → ⊥
+unfolding timestamp_at
+misses_one faithful = apart (ap (timestamp_at 1) faithful.prefix.whole)
 
 -- a number isn't another
 short : ◌≡◌ {A = ℕ} 2 3 → ⊥
 short same = omega (arith, same)
 
--- one that heard the end without the event before it isn't, though what it has applied is a beginning
-ends_early : IsFaithful history 0 every_event (hearing (told_at 0 ∷ told_at 1 ∷ EndMark ∷ [])) → ⊥
+-- one that received the end mark without the event before it isn't, although what it has applied is a prefix
+ends_early : IsFaithful history 0 every_event (receiving (emitted_at 0 ∷ emitted_at 1 ∷ EndMark ∷ [])) → ⊥
 ends_early faithful = short (ap (λ (es : List Event). length es) (faithful.whole refl).1)
 
 -- ---- deliveries
@@ -164,10 +163,10 @@ positions = refl
 
 -- a first session publishes two events, of which the first is confirmed; so a second one may begin after that
 abbrev first_session : Shown
-first_session = record { number = 1; base = 0; items = told_at 0 ∷ told_at 1 ∷ [] }
+first_session = record { number = 1; base = 0; items = emitted_at 0 ∷ emitted_at 1 ∷ [] }
 
 abbrev second_session : Shown
-second_session = record { number = 2; base = 2000; items = told_at 1 ∷ told_at 2 ∷ EndMark ∷ [] }
+second_session = record { number = 2; base = 2000; items = emitted_at 1 ∷ emitted_at 2 ∷ EndMark ∷ [] }
 
 -- the confirms that came for both
 abbrev confirms : List Confirm
@@ -181,8 +180,8 @@ sent = sent_by (second_session ∷ first_session ∷ [])
 
 -- one after another, with tags from 1 on in each session
 sent_in_turn : sent
-    ≡ Connect 1 ∷ Publish 1 1 (told_at 0) ∷ Publish 1 2 (told_at 1) ∷ Connect 2 ∷ Publish 2 1 (told_at 1)
-    ∷ Publish 2 2 (told_at 2) ∷ Publish 2 3 EndMark ∷ []
+    ≡ Connect 1 ∷ Publish 1 1 (emitted_at 0) ∷ Publish 1 2 (emitted_at 1) ∷ Connect 2 ∷ Publish 2 1 (emitted_at 1)
+    ∷ Publish 2 2 (emitted_at 2) ∷ Publish 2 3 EndMark ∷ []
 sent_in_turn = refl
 
 -- both events of the second session were confirmed
@@ -196,7 +195,7 @@ both_confirmed tag above low =
           let this : 2 ≡ tag = omega (arith, low, two) in subst (IsConfirmed confirms 2) this (2, omega arith, refl)
     ]
 
--- the second session has the end mark behind two events whose tags were confirmed
+-- the second session has the end mark after two events whose tags were confirmed
 ends_after_confirms : (place : ℕ) → slice_get second_session.items place ≡ Some EndMark
     → AreConfirmed confirms 2 place
 ends_after_confirms zero there = cc
@@ -210,7 +209,7 @@ never_ends zero there = cc
 never_ends (suc zero) there = cc
 never_ends (suc (suc place)) there = cc
 
--- the first session alone stands before the second
+-- only the first session is before the second
 only_first : (other : Shown) → Contains (first_session ∷ []) other → other.number < 2
 only_first other there =
     elim (Contains-cons_cases first_session [] other there) [
@@ -247,7 +246,7 @@ two_sessions = record {
       record {
         above = λ other there. absurd (none_there other there);
         base = inl refl;
-        items = record { rest = told_at 2 ∷ EndMark ∷ []; whole = refl };
+        items = record { rest = emitted_at 2 ∷ EndMark ∷ []; whole = refl };
         end = never_ends;
       },
       tt,
@@ -257,28 +256,28 @@ two_sessions = record {
 
 -- ---- what a broker takes
 
--- what comes before its session, again or too late is passed over
+-- what comes before its session, again or too late is ignored
 taken_in_turn : items_of
     (taken_of
-    (Publish 1 1 (told_at 0) ∷ Connect 1 ∷ Publish 1 1 (told_at 0) ∷ Publish 1 1 (told_at 0) ∷ Connect 2
-    ∷ Publish 1 2 (told_at 1) ∷ Publish 2 1 (told_at 1) ∷ Publish 2 2 (told_at 2) ∷ []))
-    ≡ told_at 0 ∷ told_at 1 ∷ told_at 2 ∷ []
+    (Publish 1 1 (emitted_at 0) ∷ Connect 1 ∷ Publish 1 1 (emitted_at 0) ∷ Publish 1 1 (emitted_at 0) ∷ Connect 2
+    ∷ Publish 1 2 (emitted_at 1) ∷ Publish 2 1 (emitted_at 1) ∷ Publish 2 2 (emitted_at 2) ∷ []))
+    ≡ emitted_at 0 ∷ emitted_at 1 ∷ emitted_at 2 ∷ []
 taken_in_turn = refl
 
 -- what both sessions published is taken twice, and the first of each item are the line
 taken_twice : items_of (taken_of sent)
-    ≡ told_at 0 ∷ told_at 1 ∷ told_at 1 ∷ told_at 2 ∷ EndMark ∷ []
+    ≡ emitted_at 0 ∷ emitted_at 1 ∷ emitted_at 1 ∷ emitted_at 2 ∷ EndMark ∷ []
 taken_twice = refl
 
 first_of_each : firsts same_item (items_of (taken_of sent)) ≡ line history
 first_of_each = refl
 
--- the first two moments are two
-other_moment : ◌≡◌ {A = ℕ} 2001 2000 → ⊥
-other_moment same = omega (arith, same)
+-- the first two timestamps differ
+other_timestamp : ◌≡◌ {A = ℕ} 2001 2000 → ⊥
+other_timestamp same = omega (arith, same)
 
--- where confirms came for a session of which nothing arrived, there is a hole: so a law can't leave out that each
--- confirm is of a publish that was taken
+-- if confirms come for a session of which nothing arrived, there is a hole: so a law can't leave out that each
+-- confirm is for a publish that was taken
 hole : IsPrefix (firsts same_item (items_of (taken_of (packets_of second_session)))) (line history) → ⊥
-unfolding moment_at
-hole front = other_moment (ap (λ (items : List Item). moment_at 0 (events_of items)) front.whole)
+unfolding timestamp_at
+hole front = other_timestamp (ap (λ (items : List Item). timestamp_at 0 (events_of items)) front.whole)

@@ -1,4 +1,4 @@
--- The queue of all that a ledger has to tell, and what a replay of it holds.
+-- The queue of all that a ledger has to publish, and what a replay of it holds.
 use Rattle.std.proofs.Common.{◌≡◌, ℕ, Bool, true, false, List, [], ◌∷◌, ◌++◌, map, refl, sym, ap, ◌∙◌, arith}
 use Rattle.std.specs.Prelude.{Contains, filter}
 use Rattle.std.specs.List.{list_any}
@@ -20,8 +20,8 @@ use Rattle.cdc_message.proofs.LineLaws.{HasNoneTwice-events, HasNoneTwice-line, 
 use Rattle.cdc_message.proofs.ReplayLaws.{IsPrefix-firsts, IsReplay-Contains, firsts-all}
 use Rattle.cdc_message.proofs.RisesLaws.{events_of-append, events_of-push_end, rises-firsts}
 use Rattle.cdc_message.proofs.Same.{Decides-same_item}
-use Rattle.cdc_subscriber.specs.Heard.{is_end}
-use Rattle.cdc_laws.specs.Line.{end_mark_if, feed_after, feed_of, line, line_after, told}
+use Rattle.cdc_subscriber.specs.Reception.{is_end}
+use Rattle.cdc_laws.specs.Line.{end_mark_if, feed_after, feed_of, line, line_after, emitted}
 
 -- ---- the queue of a line
 
@@ -31,33 +31,33 @@ queue_end : (binding : Arguments) (closed : Bool)
 queue_end binding true = refl
 queue_end binding false = refl
 
--- the queue of events that are told has those that the binding takes, and the end
-queue-told : (es : List Event) (closed : Bool) (binding : Arguments)
-    → queue (told es closed) binding ≡ told (feed es binding) closed
-queue-told es closed binding =
+-- the queue of published events has those that match the binding, and the end mark
+queue-emitted : (es : List Event) (closed : Bool) (binding : Arguments)
+    → queue (emitted es closed) binding ≡ emitted (feed es binding) closed
+queue-emitted es closed binding =
     filter-append (takes_item binding) (map OfEvent es) (end_mark_if closed)
     ∙ ap (λ items. items ++ filter (takes_item binding) (end_mark_if closed)) (queue-map_messages es binding)
     ∙ ap (λ items. map OfEvent (feed es binding) ++ items) (queue_end binding closed)
 
--- so that of the whole line has the feed, and the end
+-- so the queue of the whole line has the feed, and the end mark
 pub queue-line : (h : History) (binding : Arguments)
-    → queue (line h) binding ≡ told (feed_of h binding) h.closed
-queue-line h binding = queue-told (events h) h.closed binding
+    → queue (line h) binding ≡ emitted (feed_of h binding) h.closed
+queue-line h binding = queue-emitted (events h) h.closed binding
 
--- and that of the line after a moment the feed after it
+-- and the queue of the line after a timestamp has the feed after it
 pub queue-line_after : (h : History) (start : ℕ) (binding : Arguments)
-    → queue (line_after h start) binding ≡ told (feed_after h start binding) h.closed
-queue-line_after h start binding = queue-told (events_after start (events h)) h.closed binding
+    → queue (line_after h start) binding ≡ emitted (feed_after h start binding) h.closed
+queue-line_after h start binding = queue-emitted (events_after start (events h)) h.closed binding
 
 -- ---- a replay of events that rise, and perhaps an end mark
 
--- some end mark stands among the items
+-- some end mark is among the items
 Contains-end : (items : List Item) → list_any is_end items ≡ true → Contains items EndMark
 Contains-end [] ended = cc
 Contains-end (OfEvent e ∷ items) ended = Contains-append_right (OfEvent e ∷ []) items EndMark (Contains-end items ended)
 Contains-end (EndMark ∷ items) ended = (0, omega arith, refl)
 
--- as long as the ledger is open no end mark stands behind the events
+-- as long as the ledger is open, no end mark follows the events
 none_ends : (es : List Event) → list_any is_end (map OfEvent es ++ []) ≡ false
 none_ends [] = refl
 none_ends (e ∷ es) = none_ends es
@@ -71,53 +71,53 @@ no_end_there es there =
     cc
 
 module _ (es : List Event) (rise : TimestampsRise es) where
-  -- nothing stands twice, so the first of each item of a replay are a beginning
-  apart : (closed : Bool) → HasNoneTwice (told es closed)
+  -- no item occurs twice, so the first ones of each item of a replay are a prefix
+  apart : (closed : Bool) → HasNoneTwice (emitted es closed)
   apart true = HasNoneTwice-line es rise
   apart false = rw (append-nil (map OfEvent es)) (HasNoneTwice-events es rise)
 
   -- the events among the items are the events, end mark or not
-  pub events_told : (closed : Bool) → events_of (told es closed) ≡ es
-  events_told true = events_of-push_end (map OfEvent es) ∙ events_of-map es
-  events_told false = ap events_of (append-nil (map OfEvent es)) ∙ events_of-map es
+  pub events_emitted : (closed : Bool) → events_of (emitted es closed) ≡ es
+  events_emitted true = events_of-push_end (map OfEvent es) ∙ events_of-map es
+  events_emitted false = ap events_of (append-nil (map OfEvent es)) ∙ events_of-map es
 
-  -- the events of its first items are a beginning
-  pub IsPrefix-told : (closed : Bool) (w : List Item) → IsReplay w (told es closed)
+  -- the events of its first items are a prefix
+  pub IsPrefix-emitted : (closed : Bool) (w : List Item) → IsReplay w (emitted es closed)
       → IsPrefix (events_of (firsts same_item w)) es
-  IsPrefix-told closed w replay =
-      let f : List Item = told es closed in
+  IsPrefix-emitted closed w replay =
+      let f : List Item = emitted es closed in
       let front = IsPrefix-firsts same_item Decides-same_item w f (apart closed) replay in
       record {
         rest = events_of front.rest;
-        whole = sym (events_of-append (firsts same_item w) front.rest) ∙ ap events_of front.whole ∙ events_told closed;
+        whole = sym (events_of-append (firsts same_item w) front.rest) ∙ ap events_of front.whole ∙ events_emitted closed;
       }
 
-  -- where an end mark has come, there is one, and they are all
-  pub whole-told : (closed : Bool) (w : List Item) → IsReplay w (told es closed)
+  -- if an end mark has come, there is one, and they are all the events
+  pub whole-emitted : (closed : Bool) (w : List Item) → IsReplay w (emitted es closed)
       → list_any is_end w ≡ true → (closed ≡ true) × (events_of (firsts same_item w) ≡ es)
-  whole-told true w replay ended = (
+  whole-emitted true w replay ended = (
     refl,
     ap events_of
         (firsts-all same_item Decides-same_item w (map OfEvent es) EndMark (apart true) replay (Contains-end w ended))
-        ∙ events_told true,
+        ∙ events_emitted true,
   )
-  whole-told false w replay ended =
+  whole-emitted false w replay ended =
       absurd (no_end_there es (IsReplay-Contains w (map OfEvent es ++ []) EndMark replay (Contains-end w ended)))
 
   -- they are those that rise
-  pub rises-told : (closed : Bool) (w : List Item) → IsReplay w (told es closed)
+  pub rises-emitted : (closed : Bool) (w : List Item) → IsReplay w (emitted es closed)
       → events_of (firsts same_item w) ≡ rises (events_of w)
-  rises-told closed w replay =
-      rises-firsts (told es closed) (apart closed) (rw (events_told closed) rise) w replay
+  rises-emitted closed w replay =
+      rises-firsts (emitted es closed) (apart closed) (rw (events_emitted closed) rise) w replay
 
-  -- the first of each of its items are a beginning of the line
-  pub IsPrefix-line : (closed : Bool) (w : List Item) → IsReplay w (told es closed)
-      → IsPrefix (firsts same_item w) (told es closed)
-  IsPrefix-line closed w replay = IsPrefix-firsts same_item Decides-same_item w (told es closed) (apart closed) replay
+  -- the first ones of each of its items are a prefix of the line
+  pub IsPrefix-line : (closed : Bool) (w : List Item) → IsReplay w (emitted es closed)
+      → IsPrefix (firsts same_item w) (emitted es closed)
+  IsPrefix-line closed w replay = IsPrefix-firsts same_item Decides-same_item w (emitted es closed) (apart closed) replay
 
-  -- and where the end mark has come, they are the whole line
-  pub whole-line : (closed : Bool) (w : List Item) → IsReplay w (told es closed) → Contains w EndMark
-      → (closed ≡ true) × (firsts same_item w ≡ told es closed)
+  -- and if the end mark has come, they are the whole line
+  pub whole-line : (closed : Bool) (w : List Item) → IsReplay w (emitted es closed) → Contains w EndMark
+      → (closed ≡ true) × (firsts same_item w ≡ emitted es closed)
   whole-line true w replay there =
       (refl, firsts-all same_item Decides-same_item w (map OfEvent es) EndMark (apart true) replay there)
   whole-line false w replay there =

@@ -8,7 +8,7 @@ use Rattle.cdc_ledger.specs.Due.{due}
 use Rattle.cdc_ledger.specs.Events.{event_of, events}
 use Rattle.cdc_ledger.specs.History.{History, Opened}
 use Rattle.cdc_ledger.specs.Sound.{HasAccounts, IsSound}
-use Rattle.cdc_ledger.specs.Submit.{account_rules, accounts_from, answered, base, entry_of, expiries_from, opened_by, refusal_of, submit, submit_by, taken, transfer_rules, transfers_from, Extends, after_batches, closed_if, history_or}
+use Rattle.cdc_ledger.specs.Submit.{account_rules, accounts_from, answered, base, entry_of, expiries_from, opened_by, refusal_of, submit, taken, transfer_rules, transfers_from, Extends, after_batches, closed_if, history_or}
 use Rattle.cdc_ledger.proofs.ChainLaws.{items_from-keeps}
 use Rattle.cdc_ledger.proofs.Changes.{pushed, with_account, timed}
 use Rattle.cdc_ledger.proofs.Elements.{AllByRecursion-weaker, AllByRecursion_push}
@@ -25,7 +25,6 @@ use Rattle.cdc_types.specs.declared.events.Entry.{Entry}
 use Rattle.cdc_types.specs.declared.transfers.NewTransfer.{NewTransfer}
 use Rattle.cdc_types.specs.declared.transfers.Transfer.{Transfer}
 use Rattle.cdc_types.specs.declared.events.Event.{Event}
-use Rattle.cdc_types.specs.Features.{features}
 use Rattle.cdc_laws.specs.GoingOn.{GoesOn}
 use Rattle.cdc_laws.proofs.ListElements.{AllByRecursion-append}
 
@@ -46,7 +45,7 @@ record Adds (h g : History) : Type 0 where
 Adds-none : (h g : History) → events g ≡ events h → h.last ≤ g.last → Adds h g
 Adds-none h g same last = record { new = []; whole = same ∙ sym (append-nil (events h)); later = tt; last = last }
 
--- what is added first stands before what is added then, so that requests may be taken one by one
+-- what is added first precedes what is added then, so requests may be taken one by one
 Adds-trans : (h g k : History) → Adds h g → Adds g k → Adds h k
 Adds-trans h g k first second = record {
   new = first.new ++ second.new;
@@ -65,7 +64,7 @@ past-later h t is before =
     AllByRecursion-weaker (λ e. e.timestamp ≤ h.last) (λ e. e.timestamp ≤ t) (λ e past. omega (arith, past))
     h.entries is.past
 
--- a refused request takes its timestamp and tells nothing
+-- a refused request takes its timestamp and adds no event
 Adds-timed : (h : History) (t : ℕ) → h.last < t → Adds h (timed h t)
 Adds-timed h t later = Adds-none h (timed h t) refl (omega (arith, later))
 
@@ -109,10 +108,10 @@ past-pushed h e past later =
 
 -- a batch of accounts keeps the events that were there, whichever of its chains are accepted
 Adds-accounts_from : (h : History) (t : ℕ) (rs : List NewAccount) → IsRegular h → h.last < t
-    → Adds h (accounts_from features h t rs).1
+    → Adds h (accounts_from h t rs).1
 Adds-accounts_from h t rs is later =
-    let found : IsRegular (accounts_from features h t rs).1 × Adds h (accounts_from features h t rs).1 =
-    items_from-keeps (account_rules features) (λ g. IsRegular g × Adds h g) (λ n. Unit {0})
+    let found : IsRegular (accounts_from h t rs).1 × Adds h (accounts_from h t rs).1 =
+    items_from-keeps account_rules (λ g. IsRegular g × Adds h g) (λ n. Unit {0})
     (λ g a n so_far before fits none. (
       IsRegular-with_account g (opened_by a n) so_far.0 before,
       Adds-trans h g (with_account g (opened_by a n)) so_far.1 (Adds-with_account g (opened_by a n) so_far.0 before),
@@ -132,10 +131,10 @@ IsPast g = AllByRecursion (λ e. e.timestamp ≤ g.last) g.entries
 -- its timestamp, a chain that fails takes its timestamps alone
 Adds-transfers_from : (h : History) (t : ℕ) (rs : List NewTransfer)
     → AllByRecursion (λ e. e.timestamp ≤ h.last) h.entries → h.last < t
-    → Adds h (transfers_from features h t rs).1
+    → Adds h (transfers_from h t rs).1
 Adds-transfers_from h t rs past later =
-    let found : IsPast (transfers_from features h t rs).1 × Adds h (transfers_from features h t rs).1 =
-    items_from-keeps (transfer_rules features) (λ g. IsPast g × Adds h g) (λ n. Unit {0})
+    let found : IsPast (transfers_from h t rs).1 × Adds h (transfers_from h t rs).1 =
+    items_from-keeps transfer_rules (λ g. IsPast g × Adds h g) (λ n. Unit {0})
     (λ g r n so_far before fits none. (
       past-pushed g (entry_of g r n) so_far.0 before,
       Adds-trans h g (pushed g (entry_of g r n)) so_far.1 (Adds-pushed g (entry_of g r n) so_far.0 before),
@@ -161,7 +160,7 @@ Adds-expiries_from h t (p ∷ ps) past later =
 -- ---- a batch
 
 -- so every batch that a ledger takes adds later events to those that were there, or none
-Adds-taken : (h : History) (b : Batch) → IsSound h → Adds h (taken features h b).1
+Adds-taken : (h : History) (b : Batch) → IsSound h → Adds h (taken h b).1
 Adds-taken h (batch.Accounts now items) sound =
     Adds-accounts_from h (base h now) items (record { past = sound.past; known = sound.known }) (omega arith)
 Adds-taken h (batch.Transfers now items) sound =
@@ -179,7 +178,7 @@ pub GoesOn-submit : (h : History) (b : Batch) (answer : BatchResults × History)
     → GoesOn h answer.1
 GoesOn-submit h b answer sound e =
     let not_closed : h.closed ≡ false = submit_open h b answer e in
-    let is : taken features h b ≡ answer = answered_is (refusal_of h b) (taken features h b) answer e in
+    let is : taken h b ≡ answer = answered_is (refusal_of h b) (taken h b) answer e in
     let adds : Adds h answer.1 = subst (λ (a : BatchResults × History). Adds h a.1) is (Adds-taken h b sound) in
     record {
       new = adds.new;
@@ -232,18 +231,18 @@ GoesOn-batch : (h : History) (answer : Result (BatchResults × History) BatchErr
 GoesOn-batch h (Ok found) taken = taken found refl
 GoesOn-batch h (Err why) taken = GoesOn-same h
 
-pub GoesOn-batches : (h : History) (bs : List Batch) → IsSound h → GoesOn h (after_batches features h bs)
+pub GoesOn-batches : (h : History) (bs : List Batch) → IsSound h → GoesOn h (after_batches h bs)
 GoesOn-batches h [] sound = GoesOn-same h
 GoesOn-batches h (b ∷ bs) sound =
-    let g : History = history_or h (submit_by features h b) in
-    GoesOn-trans h g (after_batches features g bs)
-    (GoesOn-batch h (submit_by features h b) (λ found is. GoesOn-submit h b found sound is))
+    let g : History = history_or h (submit h b) in
+    GoesOn-trans h g (after_batches g bs)
+    (GoesOn-batch h (submit h b) (λ found is. GoesOn-submit h b found sound is))
     (GoesOn-batches g bs (IsSound-after_batches h (b ∷ []) sound))
 
--- whatever a ledger makes of a history goes on from it, and is sound where that was
+-- whatever a ledger adds to a history goes on from it, and is sound if the history was
 pub GoesOn-extends : (g h : History) → IsSound h → Extends g h → GoesOn h g × IsSound g
 GoesOn-extends g h sound extends =
-    let k : History = after_batches features h extends.batches in
+    let k : History = after_batches h extends.batches in
     let is : IsSound k = IsSound-after_batches h extends.batches sound in
     let on : GoesOn h k = GoesOn-batches h extends.batches sound in
     subst (λ (x : History). GoesOn h x × IsSound x) (sym extends.made) (closes extends.close k is on)

@@ -15,7 +15,7 @@ use Rattle.cdc_ledger.specs.Events.{events}
 use Rattle.cdc_ledger.specs.History.{History}
 use Rattle.cdc_ledger.specs.Sound.{IsSound}
 use Rattle.cdc_ledger.proofs.Elements.{AllByRecursion_push, AllByRecursion-weaker, map_same}
-use Rattle.cdc_laws.specs.Faithful.{HoldsAccounts, accounts_told, events_until}
+use Rattle.cdc_laws.specs.Faithful.{HoldsAccounts, accounts_emitted, events_until}
 use Rattle.cdc_laws.proofs.Books.{last_shown-prefix}
 use Rattle.cdc_laws.proofs.Lines.{split_events}
 use Rattle.cdc_laws.proofs.Rising.{RiseFrom-filter, all_later, events_rise}
@@ -26,7 +26,7 @@ use Rattle.cdc_subscriber.specs.Book.{accounts_of, is_among, last_shown, sides, 
 
 -- ---- the events up to the last of the first ones are the first ones
 
--- the last event isn't before the moment that a list rises from
+-- the last event isn't before the timestamp that a list rises from
 last_late : (t : ℕ) (es : List Event) → RiseFrom t es → t ≤ last_timestamp_from t es
 last_late t [] rise = omega arith
 last_late t (e ∷ es) rise = omega (arith, rise.0, last_late e.timestamp es rise.1)
@@ -47,21 +47,21 @@ rise_before : (t : ℕ) (xs ys : List Event) → RiseFrom t (xs ++ ys) → RiseF
 rise_before t [] ys rise = tt
 rise_before t (x ∷ xs) ys rise = (rise.0, rise_before x.timestamp xs ys rise.1)
 
--- the tests of events up to a moment
+-- the tests of events up to a timestamp
 is_up_to : (n t : ℕ) → n ≤ t → nat_le n t ≡ true
 is_up_to n t low = grind (arith, nat_tests)
 
 isnt_up_to : (n t : ℕ) → t < n → nat_le n t ≡ false
 isnt_up_to n t late = grind (arith, nat_tests)
 
--- where none is past it all stay
+-- if none is past it, all stay
 until-all : (t : ℕ) (es : List Event) → AllByRecursion (λ e. e.timestamp ≤ t) es → events_until t es ≡ es
 until-all t [] low = refl
 until-all t (e ∷ es) low =
     ap (λ b. cond b (e ∷ events_until t es) (events_until t es)) (is_up_to e.timestamp t low.0)
     ∙ ap (λ more. e ∷ more) (until-all t es low.1)
 
--- where all are past it none does
+-- if all are past it, none does
 until-none : (t : ℕ) (es : List Event) → AllByRecursion (λ e. t < e.timestamp) es → events_until t es ≡ []
 until-none t [] late = refl
 until-none t (e ∷ es) late =
@@ -82,7 +82,7 @@ until-front xs ys rise =
 abbrev found : ℕ → List BookEntry → Option BookEntry
 found id entries = find (λ entry. entry.id == id) (reverse entries)
 
--- one more entry before them changes nothing where they show it
+-- one more entry before them changes nothing if they show it
 still_found : (o p : Option BookEntry) → IsSome o → IsSome (option_or o p)
 still_found None p is = cc
 still_found (Some entry) p is = is
@@ -91,7 +91,7 @@ same_found : (o p : Option BookEntry) → IsSome o → option_or o p ≡ o
 same_found None p is = cc
 same_found (Some entry) p is = refl
 
--- they show it where they do behind others
+-- what later entries show takes precedence over what earlier ones show
 found-append : (id : ℕ) (before entries : List BookEntry)
     → found id (before ++ entries) ≡ option_or (found id entries) (found id before)
 found-append id before entries =
@@ -142,7 +142,7 @@ accounts_shown es =
     appear_have (λ id. IsSome (found id (flat_map sides es))) (map (λ (e : BookEntry). e.id) (flat_map sides es)) []
     (each_found (flat_map sides es)) tt
 
--- and shown last as it is behind earlier events
+-- and an account that they show is shown last as it is after earlier events
 last_shown-behind : (skipped es : List Event) (id : ℕ) → IsSome (found id (flat_map sides es))
     → last_shown (flat_map sides es) id ≡ last_shown (flat_map sides (skipped ++ es)) id
 last_shown-behind skipped es id is =
@@ -160,9 +160,9 @@ last_behind t [] e es = refl
 last_behind t (x ∷ xs) e es = last_behind x.timestamp xs e es
 
 -- each account that appears was shown last with the ledger's balances
-each_shown : (h : History) → IsSound h → (skipped told : List Event) → IsPrefix (skipped ++ told) (events h)
-    → AllByRecursion (λ id. last_shown (flat_map sides told) id
-    ≡ record { id = id; balances = as_of h (last_timestamp told) id }) (accounts_of told)
+each_shown : (h : History) → IsSound h → (skipped emitted : List Event) → IsPrefix (skipped ++ emitted) (events h)
+    → AllByRecursion (λ id. last_shown (flat_map sides emitted) id
+    ≡ record { id = id; balances = as_of h (last_timestamp emitted) id }) (accounts_of emitted)
 each_shown h sound skipped [] front = tt
 each_shown h sound skipped (e ∷ es) front =
     AllByRecursion-weaker (λ id. IsSome (found id (flat_map sides (e ∷ es))))
@@ -176,21 +176,21 @@ each_shown h sound skipped (e ∷ es) front =
     (accounts_of (e ∷ es)) (accounts_shown (e ∷ es))
 
 -- a book of events after the start has just the accounts of the ledger's events after it and up to the last of these
-pub holds-accounts : (h : History) (start : ℕ) (told : List Event) → IsSound h
-    → IsPrefix told (events_after start (events h)) → HoldsAccounts h start told
-holds-accounts h start told sound front =
+pub holds-accounts : (h : History) (start : ℕ) (emitted : List Event) → IsSound h
+    → IsPrefix emitted (events_after start (events h)) → HoldsAccounts h start emitted
+holds-accounts h start emitted sound front =
     let after : List Event = events_after start (events h) in
     let cut = split_events h start sound in
-    let rise : RiseFrom 0 (told ++ front.rest) =
+    let rise : RiseFrom 0 (emitted ++ front.rest) =
     subst (RiseFrom 0) (sym front.whole)
     (RiseFrom-filter (λ (e : Event). nat_lt start e.timestamp) 0 (events h) (events_rise h sound)) in
-    let accounts : accounts_told h start (last_timestamp told) ≡ accounts_of told =
+    let accounts : accounts_emitted h start (last_timestamp emitted) ≡ accounts_of emitted =
     ap accounts_of
-    (ap (events_until (last_timestamp told)) (sym front.whole) ∙ until-front told front.rest rise) in
-    let all : IsPrefix (cut.0 ++ told) (events h) = record {
+    (ap (events_until (last_timestamp emitted)) (sym front.whole) ∙ until-front emitted front.rest rise) in
+    let all : IsPrefix (cut.0 ++ emitted) (events h) = record {
       rest = front.rest;
-      whole = append_assoc cut.0 told front.rest ∙ ap (λ es. cut.0 ++ es) front.whole ∙ sym cut.1.whole;
+      whole = append_assoc cut.0 emitted front.rest ∙ ap (λ es. cut.0 ++ es) front.whole ∙ sym cut.1.whole;
     } in
-    map_same _ _ (accounts_of told) (each_shown h sound cut.0 told all)
-    ∙ ap (map (λ id. let entry : BookEntry = record { id = id; balances = as_of h (last_timestamp told) id } in entry))
+    map_same _ _ (accounts_of emitted) (each_shown h sound cut.0 emitted all)
+    ∙ ap (map (λ id. let entry : BookEntry = record { id = id; balances = as_of h (last_timestamp emitted) id } in entry))
     (sym accounts)

@@ -9,7 +9,7 @@ mod Examples
 pub mod Faithful
 pub mod Feeds
 pub mod GoingOn
-pub mod Hearing
+pub mod Receiving
 pub mod LateBooks
 pub mod Lines
 pub mod LongerRuns

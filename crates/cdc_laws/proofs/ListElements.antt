@@ -7,14 +7,14 @@ use Rattle.std.proofs.lemmas.Option.{slice_get_within, get_or_from_slice_get, no
 
 -- ---- places
 
--- what stands in a list stands there where it goes on
+-- an element of a list is at the same place after more are appended
 pub slice_get-append : {X : Type 0} (xs ys : List X) (i : ℕ) (x : X) → slice_get xs i ≡ Some x
     → slice_get (xs ++ ys) i ≡ Some x
 slice_get-append [] ys i x h = absurd (none-some x h)
 slice_get-append (y ∷ xs) ys zero x h = h
 slice_get-append (y ∷ xs) ys (suc i) x h = slice_get-append xs ys i x h
 
--- behind the first list stands the second one
+-- after the first list comes the second one
 pub slice_get-behind : {X : Type 0} (xs ys : List X) (i : ℕ) → length xs ≤ i
     → slice_get (xs ++ ys) i ≡ slice_get ys (i - length xs)
 slice_get-behind [] ys i past = ap (λ n. slice_get ys n) (omega arith)
@@ -22,19 +22,19 @@ slice_get-behind (x ∷ xs) ys zero past = absurd (omega arith)
 slice_get-behind (x ∷ xs) ys (suc i) past =
     slice_get-behind xs ys i (omega arith) ∙ ap (λ n. slice_get ys n) (omega arith)
 
--- before it stands the first one
+-- before that comes the first one
 pub slice_get-before : {X : Type 0} (xs ys : List X) (i : ℕ) → i < length xs → slice_get (xs ++ ys) i ≡ slice_get xs i
 slice_get-before [] ys i below = absurd (omega arith)
 slice_get-before (x ∷ xs) ys zero below = refl
 slice_get-before (x ∷ xs) ys (suc i) below = slice_get-before xs ys i (omega arith)
 
--- what is found at a place stands in the list
+-- what is found at a place is in the list
 pub Contains_slice_get : {X : Type 0} (xs : List X) (i : ℕ) (x : X) → slice_get xs i ≡ Some x → Contains xs x
 Contains_slice_get xs i x h = (i, slice_get_within xs i x h, get_or_from_slice_get xs i x x h)
 
 -- ---- each element
 
--- nothing stands in an empty list, as nothing was sent or taken before the first step
+-- an empty list contains nothing, just as nothing was sent or taken before the first step
 pub none_there : {X : Type 0} (x : X) → Contains [] x → ⊥
 none_there x h = omega (arith, h.1)
 
@@ -56,7 +56,7 @@ each_has P (y ∷ xs) x all there =
       | inr later ↦ each_has P xs x all.1 later
     ]
 
--- and what holds of whatever stands in a list holds of each element in turn
+-- and what holds for whatever a list contains holds for each element in turn
 pub each_from : {X : Type 0} (P : X → Type 0) (xs : List X) → ((x : X) → Contains xs x → P x) → AllByRecursion P xs
 each_from P [] has = tt
 each_from P (x ∷ xs) has =

@@ -1,4 +1,4 @@
--- A connector run stays one where more is confirmed, and on every longer line.
+-- A connector run stays one if more is confirmed, and on every longer line.
 use Rattle.std.proofs.Common.{◌≡◌, ℕ, ◌<◌, ◌≤◌, List, [], ◌∷◌, ◌++◌, sym, ap, ◌∙◌, subst, inl, inr, append_assoc, arith}
 use Rattle.std.specs.Prelude.{Contains, Some, slice_get}
 use Rattle.cdc_ledger.specs.Events.{events}
@@ -20,7 +20,7 @@ use Rattle.cdc_message.specs.declared.packets.Packet.{Packet}
 use Rattle.cdc_message.specs.Replays.{IsPrefix}
 use Rattle.cdc_types.specs.declared.events.Event.{Event}
 
--- a beginning of a list is one of each longer list
+-- a prefix of a list is one of each longer list
 pub IsPrefix-longer : {X : Type 0} (some all more : List X) → IsPrefix some all → IsPrefix some (all ++ more)
 IsPrefix-longer {X} some all more front = record {
   rest = front.rest ++ more;
@@ -37,7 +37,7 @@ IsConnectorRun-more h start sent confirms more run kept = record {
 }
 
 module _ (h : History) (sound : IsSound h) (start : ℕ) (confirms : List Confirm) where
-  -- an event that a session has published is later than the moment that the session begins after
+  -- an event that a session has published is later than the timestamp after which the session begins
   event_late : (s : Shown) (place : ℕ) (e : Event) → IsPrefix s.items (line_after h s.base)
       → slice_get s.items place ≡ Some (OfEvent e) → s.base < e.timestamp
   event_late s place e front here =
@@ -78,7 +78,7 @@ module _ (h : History) (sound : IsSound h) (start : ℕ) (confirms : List Confir
         | inr old ↦ each_late earlier each.1 s old
       ]
 
--- sessions stay lawful where the ledger goes on
+-- sessions stay valid if the ledger goes on
 pub AreSessions-goes_on : (h g : History) (start : ℕ) (confirms : List Confirm) → GoesOn h g → (sessions : List Shown)
     → AreSessions h start confirms sessions → AreSessions g start confirms sessions
 AreSessions-goes_on h g start confirms on [] each = tt

@@ -11,7 +11,7 @@ use Rattle.cdc_ledger.specs.Sound.{IsSound}
 use Rattle.cdc_laws.specs.ConnectorRuns.{Shown}
 use Rattle.cdc_laws.specs.Connectors.{ConnectorState, IsLive, KeepsTo, StandsLast, held_number, held_start, shown_of}
 use Rattle.cdc_laws.specs.GoingOn.{GoesOn}
-use Rattle.cdc_laws.specs.Line.{told}
+use Rattle.cdc_laws.specs.Line.{emitted}
 use Rattle.cdc_laws.specs.Readings.{AreReadings, IsOf, KeepsToReadings, Reading}
 use Rattle.cdc_laws.proofs.Connectors.{KeepsTo-goes_on, none_held}
 use Rattle.cdc_laws.proofs.GoingOn.{GoesOn-trans}
@@ -26,10 +26,10 @@ use Rattle.cdc_publisher.specs.Courses.{Course, tags_sent, with_offer}
 use Rattle.cdc_types.specs.declared.events.Event.{Event}
 use Rattle.cdc_types.specs.Timestamps.{last_timestamp_from}
 
--- a beginning of the events is the same whatever follows
-take_told : (n : ℕ) (es more : List Event) → n ≤ length es
-    → take n (told (es ++ more) true) ≡ take n (told es true)
-take_told n es more within =
+-- a prefix of the events is the same whatever follows
+take_emitted : (n : ℕ) (es more : List Event) → n ≤ length es
+    → take n (emitted (es ++ more) true) ≡ take n (emitted es true)
+take_emitted n es more within =
     let size : length (map OfEvent es) ≡ length es = length-map es OfEvent in
     ap (λ (items : List Item). take n (items ++ EndMark ∷ [])) (map-append OfEvent es more)
     ∙ ap (take n) (append_assoc (map OfEvent es) (map OfEvent more) (EndMark ∷ []))
@@ -48,7 +48,7 @@ none_left xs (x ∷ rest) all whole same =
 zero_first : (n : ℕ) → nat_le 0 n ≡ true
 zero_first n = grind (arith, nat_tests)
 
--- what a test says
+-- what these tests mean
 up_to : (n m : ℕ) → nat_le n m ≡ true → n ≤ m
 up_to n m is = grind (arith, nat_tests)
 
@@ -64,7 +64,7 @@ module _ (h : History) (sound : IsSound h) (start : ℕ) (confirms : List Confir
       live.offered.rest
       (SplitsAt-later (events h) course.base cut.0 course.offered live.offered.rest back)
 
-  -- an offer leaves a session that has sent what it had where it stands
+  -- a session that has sent all that it had keeps its place after an offer
   last_so : (es : List Event) (b : Bool) → shown_of course ≡ shown_of (with_offer es b course)
       → StandsLast start confirms sessions course → StandsLast start confirms sessions (with_offer es b course)
   last_so es b same (inl new) = inl new
@@ -77,7 +77,7 @@ module _ (h : History) (sound : IsSound h) (start : ℕ) (confirms : List Confir
       let later : events_after r.after (events h) ≡ live.offered.rest =
       ap (λ t. events_after t (events h)) after ∙ rest_is in
       let given : r.events ≡ take r.limit live.offered.rest = of.events_are ∙ ap (take r.limit) later in
-      let says : r.complete ≡ (h.closed && nat_le (length live.offered.rest) r.limit) =
+      let states : r.complete ≡ (h.closed && nat_le (length live.offered.rest) r.limit) =
       of.complete_is
       ∙ ap (λ (es : List Event). h.closed && nat_le (length es) r.limit) later in
       let next : Course = with_offer r.events r.complete course in
@@ -93,7 +93,7 @@ module _ (h : History) (sound : IsSound h) (start : ℕ) (confirms : List Confir
       let complete : r.complete ≡ true
       → (h.closed ≡ true) × (next.offered ≡ events_after course.base (events h)) =
       λ none.
-      let parts = and_parts h.closed (nat_le (length live.offered.rest) r.limit) (sym says ∙ none) in
+      let parts = and_parts h.closed (nat_le (length live.offered.rest) r.limit) (sym states ∙ none) in
       let all : take r.limit live.offered.rest ≡ live.offered.rest =
       take_all r.limit live.offered.rest (up_to (length live.offered.rest) r.limit parts.1) in (
         parts.0,
@@ -103,7 +103,7 @@ module _ (h : History) (sound : IsSound h) (start : ℕ) (confirms : List Confir
         | inl within ↦
             let same : shown_of course ≡ shown_of next =
             ap (λ (items : List Item). record { number = course.number; base = course.base; items = items })
-            (sym (take_told (tags_sent course) course.offered r.events within)) in
+            (sym (take_emitted (tags_sent course) course.offered r.events within)) in
             record {
               its = live.its;
               starts = live.starts;
@@ -122,7 +122,7 @@ module _ (h : History) (sound : IsSound h) (start : ℕ) (confirms : List Confir
             let stays : next.offered ≡ course.offered =
             ap (λ es. course.offered ++ es) nothing ∙ append-nil course.offered in
             let done : r.complete ≡ true =
-            says
+            states
             ∙ ap₂ (λ (b : Bool) (es : List Event). b && nat_le (length es) r.limit) all.0 none
             ∙ zero_first r.limit in
             let same : shown_of course ≡ shown_of next =

@@ -1,4 +1,4 @@
--- Laws of replays: elements of a beginning, and the same function of all elements.
+-- Laws of replays: elements of a prefix, and the same function of all elements.
 use Rattle.std.proofs.Common.{◌≡◌, ℕ, ◌<◌, Some, List, [], ◌∷◌, length, get_or, map, take, refl, sym, ap, ◌∙◌, subst, arith}
 use Rattle.std.specs.Prelude.{Contains, slice_get}
 use Rattle.std.proofs.lemmas.List.{get_or-map, get_or-take, length-map, length-take, take-map}
@@ -9,9 +9,9 @@ use Rattle.cdc_message.proofs.ReplayLaws.{HaveSame-refl}
 
 -- a list is a replay of itself
 pub IsReplay-same : {X : Type 0} (f : List X) → IsReplay f f
-IsReplay-same f = record { beginnings = λ n. (n, HaveSame-refl (take n f)) }
+IsReplay-same f = record { prefixes = λ n. (n, HaveSame-refl (take n f)) }
 
--- an element of a beginning, by its place: so what is known of all that stands before a place is known of a beginning
+-- an element of a prefix, by its place: so what is known of each element before a place is known of the prefix
 pub from_places : {X : Type 0} (P : X → Type 0) (n : ℕ) (f : List X)
     → ((i : ℕ) (x : X) → i < n → slice_get f i ≡ Some x → P x) → (x : X) → Contains (take n f) x → P x
 from_places P n f before x (i, below, is) =
@@ -38,7 +38,7 @@ Contains-unmap g (x ∷ xs) y (k, below, is) =
       sym (get_or-map g (x ∷ xs) k x y within) ∙ is,
     )
 
--- where two lists have the same deliveries, each item of the one is an item of the other
+-- if two lists have the same deliveries, each item of the one is an item of the other
 map_forth : {X Y : Type 0} (g : X → Y) (xs ys : List X) → HaveSame xs ys → (y : Y) → Contains (map g xs) y
     → Contains (map g ys) y
 map_forth g xs ys same y there =
@@ -55,7 +55,7 @@ HaveSame-map g xs ys same = record {
 -- so the items of a replay of deliveries are a replay of the items
 pub IsReplay-map : {X Y : Type 0} (g : X → Y) (w f : List X) → IsReplay w f → IsReplay (map g w) (map g f)
 IsReplay-map g w f replay = record {
-  beginnings = λ n.
-      let m = replay.beginnings n in
+  prefixes = λ n.
+      let m = replay.prefixes n in
       (m.0, rw (take-map g n w, take-map g m.0 f) (HaveSame-map g (take n w) (take m.0 f) m.1));
 }

@@ -19,12 +19,12 @@ use Rattle.cdc_message.specs.Replays.{IsPrefix}
 
 -- ---- lists that rise
 
--- events that rise from a moment rise from an earlier one, as when one before them was left out
+-- events that rise from a timestamp rise from an earlier one, as if one before them was left out
 pub RiseFrom-earlier : (s t : ℕ) (es : List Event) → s ≤ t → RiseFrom t es → RiseFrom s es
 RiseFrom-earlier s t [] before rise = tt
 RiseFrom-earlier s t (e ∷ es) before rise = (omega (arith, rise.0), rise.1)
 
--- so the events that are left of rising ones, where some are left out, still rise
+-- so rising events of which some are left out still rise
 pub RiseFrom-filter : (p : Event → Bool) (t : ℕ) (es : List Event) → RiseFrom t es → RiseFrom t (filter p es)
 RiseFrom-filter p t [] rise = tt
 RiseFrom-filter p t (e ∷ es) rise = kept_or_not (p e) (RiseFrom-filter p e.timestamp es rise.1)
@@ -34,7 +34,7 @@ RiseFrom-filter p t (e ∷ es) rise = kept_or_not (p e) (RiseFrom-filter p e.tim
     kept_or_not true rest = (rise.0, rest)
     kept_or_not false rest = RiseFrom-earlier t e.timestamp (filter p es) (omega (arith, rise.0)) rest
 
--- each event of a rising list is later than the moment that the list rises from
+-- each event of a rising list is later than the timestamp that the list rises from
 pub all_later : (t : ℕ) (es : List Event) → RiseFrom t es → AllByRecursion (λ e. t < e.timestamp) es
 all_later t [] rise = tt
 all_later t (e ∷ es) rise = (rise.0, all_later t es (RiseFrom-earlier t e.timestamp es (omega (arith, rise.0)) rise.1))
@@ -56,7 +56,7 @@ in_turn t (e ∷ es) rise (suc i) (suc j) d before below = in_turn e.timestamp e
 pub TimestampsRise-from : (es : List Event) → RiseFrom 0 es → TimestampsRise es
 TimestampsRise-from es rise = record { above_zero = later_at 0 es rise; rising = in_turn 0 es rise }
 
--- a beginning of events that rise
+-- a prefix of events that rise
 pub TimestampsRise-prefix : (some es : List Event) → TimestampsRise es → IsPrefix some es → TimestampsRise some
 TimestampsRise-prefix some es rise front =
     let all : TimestampsRise (some ++ front.rest) = rw front.whole rise in
@@ -82,7 +82,7 @@ rise_entries h t (e ∷ es) rise = (rise.0, rise_entries h e.timestamp es rise.1
 pub events_rise : (h : History) → sound.IsSound h → RiseFrom 0 (events h)
 events_rise h is = rise_entries h 0 h.entries is.rising
 
--- the events after a moment rise too
+-- the events after a timestamp rise too
 pub after_rise : (h : History) (start : ℕ) → sound.IsSound h → TimestampsRise (events_after start (events h))
 after_rise h start is =
     TimestampsRise-from (events_after start (events h))

@@ -21,7 +21,7 @@ pub record IsPublished (sessions : List Shown) (number tag : ℕ) (item : Item) 
   pub tagged : tag ≡ place + 1
   pub here : slice_get session.items place ≡ Some item
 
--- the item of a publish stands in the session as far on as its tag is from the first
+-- the item of a publish is as far on in the session as its tag is from the first
 pub publish_place : (session first : ℕ) (items : List Item) (number tag : ℕ) (item : Item)
     → Contains (publishes_from session first items) (Publish number tag item)
     → (session ≡ number) × ((k : ℕ) × (tag ≡ first + k) × (slice_get items k ≡ Some item))
@@ -122,9 +122,9 @@ module _ (confirms more : List Confirm) (kept : AreAmong confirms more) where
   pub AreConfirmed-more : (session count : ℕ) → AreConfirmed confirms session count → AreConfirmed more session count
   AreConfirmed-more session count has tag above within = kept _ (has tag above within)
 
-  -- so a session stays confirmed up to a moment
-  pub IsConfirmedTo-more : (s : Shown) (moment : ℕ) → IsConfirmedTo confirms s moment → IsConfirmedTo more s moment
-  IsConfirmedTo-more s moment is = record {
+  -- so a session stays confirmed up to a timestamp
+  pub IsConfirmedTo-more : (s : Shown) (time : ℕ) → IsConfirmedTo confirms s time → IsConfirmedTo more s time
+  IsConfirmedTo-more s time is = record {
     place = is.place;
     event = is.event;
     published = is.published;
@@ -132,12 +132,12 @@ module _ (confirms more : List Confirm) (kept : AreAmong confirms more) where
     confirmed = AreConfirmed-more s.number (is.place + 1) is.confirmed;
   }
 
-  -- and a moment after which a session may begin stays one
-  pub IsBase-more : (start : ℕ) (earlier : List Shown) (moment : ℕ) → IsBase start confirms earlier moment
-      → IsBase start more earlier moment
-  IsBase-more start earlier moment (inl none) = inl none
-  IsBase-more start earlier moment (inr (s, there, inl same)) = inr (s, there, inl same)
-  IsBase-more start earlier moment (inr (s, there, inr is)) = inr (s, there, inr (IsConfirmedTo-more s moment is))
+  -- and a timestamp after which a session may begin stays one
+  pub IsBase-more : (start : ℕ) (earlier : List Shown) (time : ℕ) → IsBase start confirms earlier time
+      → IsBase start more earlier time
+  IsBase-more start earlier time (inl none) = inl none
+  IsBase-more start earlier time (inr (s, there, inl same)) = inr (s, there, inl same)
+  IsBase-more start earlier time (inr (s, there, inr is)) = inr (s, there, inr (IsConfirmedTo-more s time is))
 
   -- so sessions stay lawful as more is confirmed
   pub AreSessions-more : (h : History) (start : ℕ) (sessions : List Shown) → AreSessions h start confirms sessions

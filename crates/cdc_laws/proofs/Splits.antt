@@ -1,4 +1,4 @@
--- A rising list of events, cut at a moment.
+-- A rising list of events, cut at a timestamp.
 use Rattle.std.proofs.Common.{◌≡◌, ℕ, ◌<◌, ◌≤◌, Bool, true, false, cond, List, [], ◌∷◌, ◌++◌, refl, sym, ap, ap₂, ◌∙◌, subst, inl, inr, append_assoc, append-nil, arith}
 use Rattle.std.specs.Prelude.{nat_lt}
 use Rattle.std.specs.List.{AllByRecursion}
@@ -11,13 +11,13 @@ use Rattle.cdc_types.specs.Timestamps.{last_timestamp_from}
 use Rattle.cdc_types.specs.declared.events.Event.{Event}
 use Rattle.cdc_laws.proofs.Rising.{RiseFrom-earlier, all_later}
 
--- the events of the front are up to the moment t, and those of the back are later and rise
+-- the events of the front are up to the timestamp t, and those of the back are later and rise
 pub record SplitsAt (es : List Event) (t : ℕ) (front back : List Event) : Type 0 where
   pub whole : es ≡ front ++ back
   pub low : AllByRecursion (λ e. e.timestamp ≤ t) front
   pub rise : RiseFrom t back
 
--- an event that is later than the moment is among those read after it
+-- an event that is later than the timestamp is among those read after it
 is_later : (t n : ℕ) → t < n → nat_lt t n ≡ true
 is_later t n later = grind (arith, nat_tests)
 
@@ -25,15 +25,15 @@ is_later t n later = grind (arith, nat_tests)
 is_not_later : (t n : ℕ) → n ≤ t → nat_lt t n ≡ false
 is_not_later t n early = grind (arith, nat_tests)
 
--- what is read after the moment is later
+-- what is read after the timestamp is later
 later_from : (t n : ℕ) → nat_lt t n ≡ true → t < n
 later_from t n is = grind (arith, nat_tests)
 
--- and what isn't read is up to the moment
+-- and what isn't read is up to the timestamp
 early_from : (t n : ℕ) → nat_lt t n ≡ false → n ≤ t
 early_from t n is = grind (arith, nat_tests)
 
--- where all are later, all stay
+-- if all are later, all stay
 pub events_after-all : (t : ℕ) (es : List Event) → AllByRecursion (λ e. t < e.timestamp) es → events_after t es ≡ es
 events_after-all t [] later = refl
 events_after-all t (e ∷ es) later =
@@ -41,14 +41,14 @@ events_after-all t (e ∷ es) later =
     ap (λ b. cond b (e ∷ events_after t es) (events_after t es)) here
     ∙ ap (λ more. e ∷ more) (events_after-all t es later.1)
 
--- where none is, none does
+-- if none is, none does
 pub events_after-none : (t : ℕ) (es : List Event) → AllByRecursion (λ e. e.timestamp ≤ t) es → events_after t es ≡ []
 events_after-none t [] low = refl
 events_after-none t (e ∷ es) low =
     let here : nat_lt t e.timestamp ≡ false = is_not_later t e.timestamp low.0 in
     ap (λ b. cond b (e ∷ events_after t es) (events_after t es)) here ∙ events_after-none t es low.1
 
--- what is read after a moment of what is read after an earlier one is what is read after it of all
+-- the events after a timestamp, among those after an earlier one, are all events after it
 pub events_after-later : (s t : ℕ) → s ≤ t → (es : List Event) → events_after t (events_after s es) ≡ events_after t es
 events_after-later s t early [] = refl
 events_after-later s t early (e ∷ es) =
@@ -73,7 +73,7 @@ events_after-later s t early (e ∷ es) =
         ap (λ c. cond c (e ∷ events_after t (events_after s es)) (events_after t (events_after s es))) second
     by_first false second = refl
 
--- what follows a cut is what is later than its moment
+-- what follows a cut is what is later than its timestamp
 pub events_after-split : (es : List Event) (t : ℕ) (front back : List Event) → SplitsAt es t front back
     → events_after t es ≡ back
 events_after-split es t front back cut =
@@ -81,7 +81,7 @@ events_after-split es t front back cut =
     ∙ filter-append (λ (e : Event). nat_lt t e.timestamp) front back
     ∙ ap₂ (λ xs ys. xs ++ ys) (events_after-none t front cut.low) (events_after-all t back (all_later t back cut.rise))
 
--- the first event, on one side of the moment or the other
+-- the first event, on one side of the timestamp or the other
 split_first : (t : ℕ) (e : Event) (es : List Event) (b : Bool) → nat_lt t e.timestamp ≡ b → RiseFrom e.timestamp es
     → ((front : List Event) × SplitsAt es t front (events_after t es))
     → (front : List Event) × SplitsAt (e ∷ es) t front (cond b (e ∷ events_after t es) (events_after t es))
@@ -105,7 +105,7 @@ split_first t e es false is rise rest = (
   },
 )
 
--- every rising list can be cut at every moment
+-- every rising list can be cut at every timestamp
 pub split_at : (t s : ℕ) (es : List Event) → RiseFrom s es
     → (front : List Event) × SplitsAt es t front (events_after t es)
 split_at t s [] rise = ([], record { whole = refl; low = tt; rise = tt })

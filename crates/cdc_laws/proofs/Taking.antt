@@ -17,7 +17,7 @@ use Rattle.cdc_types.specs.Widths.{max_64}
 
 -- ---- one more packet
 
--- a packet that the broker takes adds its item, if it has one, behind those taken before
+-- a packet that the broker takes adds its item, if it has one, after those taken before
 pub items_of-push : (packets : List Packet) (packet : Packet)
     → items_of (packets ++ packet ∷ []) ≡ items_of packets ++ items_of (packet ∷ [])
 items_of-push packets packet = filter_map-append packet_item packets (packet ∷ [])
@@ -37,7 +37,7 @@ pub is_tag-some : (expected : Option ℕ) (tag : ℕ) → is_tag expected tag �
 is_tag-some None tag is = cc
 is_tag-some (Some next) tag is = ap (λ n. Some n) (eqb-true next tag is)
 
--- tags count up by one, so no tag is passed over between two items that are taken
+-- tags count up by one, so no tag is skipped between two items that are taken
 pub tag_after-is : (tag next : ℕ) → tag_after tag ≡ Some next → next ≡ tag + 1
 tag_after-is tag next is = sym (cond_some (nat_lt (tag + 1) max_64) (tag + 1) next is).1
 
@@ -59,11 +59,11 @@ item_taken (Publish c t x ∷ packets) session tag item there =
 
 -- ---- the current session only rises
 
--- what a test of two numbers says
+-- what this test of two numbers means
 below_from : (t n : ℕ) → nat_lt t n ≡ true → t < n
 below_from t n is = grind (arith, nat_tests)
 
--- a packet that is taken is of the current session or, where it connects, of a later one
+-- a packet that is taken is of the current session or, if it connects, of a later one
 taken_number : (taken : List Packet) (packet : Packet) → is_taken taken packet ≡ true
     → current_session taken ≤ session_of packet
 taken_number taken (Connect session) takes =
@@ -79,7 +79,7 @@ current_rises : (taken : List Packet) (packet : Packet) → is_taken taken packe
 current_rises taken (Connect session) takes = taken_number taken (Connect session) takes
 current_rises taken (Publish session tag item) takes = omega arith
 
--- a packet is taken, or passed over
+-- a packet is taken or ignored
 pub taken_after-true : (taken : List Packet) (packet : Packet) → is_taken taken packet ≡ true
     → taken_after taken packet ≡ taken ++ packet ∷ []
 taken_after-true taken packet takes = ap (λ (b : Bool). if b then taken ++ packet ∷ [] else taken) takes

@@ -1,4 +1,4 @@
--- What is read of a ledger's log may be offered to a session, and it is all that is wanted where its last event is the
+-- What is read of a ledger's log may be offered to a session, and it is all that is wanted if its last event is the
 -- log's last.
 use Rattle.std.proofs.Common.{◌≡◌, ℕ, ◌-◌, ◌<◌, ◌≤◌, Bool, true, false, Some, None, List, [], ◌∷◌, ◌++◌, zero, suc, refl, sym, ap, ap₂, ◌∙◌, append-nil, length, take, get_or, length-take, subst, arith}
 use Rattle.std.specs.Prelude.{Contains, nat_le, ◌&&◌}
@@ -23,7 +23,7 @@ use Rattle.cdc_types.specs.declared.events.Event.{Event}
 use Rattle.cdc_types.proofs.Rising.{last_timestamp_from-slice_get}
 use Rattle.cdc_types.specs.Timestamps.{last_timestamp, last_timestamp_from}
 
--- the last of rising events isn't below the moment that they rise from
+-- the last of rising events isn't before the timestamp that they rise from
 last_rises : (t : ℕ) (es : List Event) → RiseFrom t es → t ≤ last_timestamp_from t es
 last_rises t [] rise = omega arith
 last_rises t (e ∷ es) rise = omega (arith, last_rises e.timestamp es rise.1, rise.0)
@@ -32,7 +32,7 @@ last_rises t (e ∷ es) rise = omega (arith, last_rises e.timestamp es rise.1, r
 le_suc : (a b : ℕ) → nat_le (suc a) (suc b) ≡ nat_le a b
 le_suc a b = grind (arith, nat_tests)
 
--- rising events aren't more than n where the last of the first n is the last of all
+-- rising events are at most n exactly if the last of the first n is the last of all
 take_whole : (t n : ℕ) (es : List Event) → RiseFrom t es
     → nat_le (last_timestamp_from t es) (last_timestamp_from t (take n es)) ≡ nat_le (length es) n
 take_whole t zero [] rise = grind (arith, nat_tests)
@@ -45,7 +45,7 @@ take_whole t zero (e ∷ es) rise =
     left ∙ sym right
 take_whole t (suc n) (e ∷ es) rise = take_whole e.timestamp n es rise.1 ∙ sym (le_suc (length es) n)
 
--- the last of a list whose front is up to a moment, and whose back is later
+-- the last of a list whose front is up to a timestamp, and whose back is later
 last_of_front : (s t : ℕ) (front : List Event) → s ≤ t → AllByRecursion (λ e. e.timestamp ≤ t) front
     → last_timestamp_from s front ≤ t
 last_of_front s t [] low all = low
@@ -102,8 +102,8 @@ IsReply-read h poll legal =
           omega (arith, past, within);
     }
 
--- so a read of a closed ledger's log is whole where its last event is the log's last, and where it has none and the log
--- has none later than the moment
+-- so a read of a closed ledger's log is whole exactly if its last event is the log's last or, if it has none, if the
+-- log has none later than the timestamp
 pub read_is_whole : (h : History) (poll : Poll) (read : List Event) (last last_read : ℕ) → true ≡ h.closed
     → read ≡ take poll.limit (events_after poll.after (events h)) → RiseFrom 0 (events h)
     → last ≡ last_timestamp (events h) → last_read ≡ last_timestamp_from poll.after read
@@ -134,7 +134,7 @@ pub last_read_some : (t : ℕ) (es : List Event) (e : Event) → slice_get es (l
 last_read_some t [] e found = cc
 last_read_some t (x ∷ es) e found = sym (last_timestamp_from-slice_get (x ∷ es) e found)
 
--- where nothing was read, the read has come no further than where it began
+-- if nothing was read, the read is no further than its start
 pub last_read_none : (t : ℕ) (es : List Event) → slice_get es (length es - 1) ≡ None → t ≡ last_timestamp_from t es
 last_read_none t [] found = refl
 last_read_none t (x ∷ es) found = absurd (found_within (x ∷ es) (length (x ∷ es) - 1) (omega arith) found)

@@ -15,7 +15,7 @@ taken_after taken packet = if is_taken taken packet then taken ++ packet ∷ [] 
 abbrev pub taken_of : List Packet → List Packet
 taken_of arrived = fold taken_after [] arrived
 
--- whatever stands in the one list stands in the other, in whatever order and number
+-- whatever is in the one list is in the other, in whatever order and number
 abbrev pub AreAmong : {X : Type 0} → List X → List X → Type 0
 AreAmong {X} some all = (x : X) → Contains some x → Contains all x
 

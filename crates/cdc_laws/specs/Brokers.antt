@@ -1,4 +1,4 @@
--- What holds of a broker and of each of its queues at each moment.
+-- What holds at all times for a broker and for each of its queues.
 use Rattle.std.specs.Prelude.{◌≡◌, ◌+◌, ◌≤◌, List, Contains, length, take}
 use Rattle.cdc_broker.specs.Broker.{BrokerState, HasAccepted}
 use Rattle.cdc_broker.specs.Packets.{current_session, expected_tag, items_of}
@@ -18,13 +18,12 @@ pub record HasArrived (b : BrokerState) (arrived : List Packet) (confirms : List
   pub queues : HasAccepted b (items_of (taken_of arrived))
   pub confirmed : AreOfTaken confirms (taken_of arrived)
 
--- a queue that has handed out these deliveries: late or again, but with none left out, and each up to the greatest
--- position that was handed out; what it hands out next is no further on than right behind that, and no more is
--- acknowledged
-pub record HasHandedOut (q : QueueState) (out : List Delivery) : Type 0 where
+-- a queue that has made these deliveries: late or again, but with none left out, and each up to the greatest position
+-- that was delivered; the next one is at most one position further, and no more is acknowledged than was delivered
+pub record HasDelivered (q : QueueState) (out : List Delivery) : Type 0 where
   pub replay : IsReplay out (deliveries q.items)
-  pub all : (d : Delivery) → Contains (take q.handed (deliveries q.items)) d → Contains out d
-  pub there : q.handed ≤ length q.items
+  pub all : (d : Delivery) → Contains (take q.delivered (deliveries q.items)) d → Contains out d
+  pub there : q.delivered ≤ length q.items
   pub from_one : 1 ≤ q.cursor.next
-  pub next_at_most : q.cursor.next ≤ q.handed + 1
-  pub acked_handed : q.cursor.acked ≤ q.handed
+  pub next_at_most : q.cursor.next ≤ q.delivered + 1
+  pub acked_delivered : q.cursor.acked ≤ q.delivered

@@ -11,7 +11,8 @@ use Rattle.cdc_message.specs.declared.packets.Packet.TheVariants.{Connect, Publi
 use Rattle.cdc_message.specs.Replays.{IsPrefix}
 use Rattle.cdc_types.specs.declared.events.Event.{Event}
 
--- a session as it shows: its number, the moment after which it begins, and the items that it has published, in order
+-- a session as it shows: its number, the timestamp after which it begins, and the items that it has published, in
+-- order
 pub record Shown : Type 0 where
   pub number : ℕ
   pub base : ℕ
@@ -26,7 +27,7 @@ publishes_from session tag (item ∷ items) = Publish session tag item ∷ publi
 abbrev pub packets_of : Shown → List Packet
 packets_of s = Connect s.number ∷ publishes_from s.number 1 s.items
 
--- the packets of sessions one after another, where the latest of them stands first
+-- the packets of sessions one after another; the list has the latest of them first
 abbrev pub sent_by : List Shown → List Packet
 sent_by [] = []
 sent_by (s ∷ earlier) = sent_by earlier ++ packets_of s
@@ -39,24 +40,24 @@ IsConfirmed confirms session tag = Contains confirms (record { session = session
 abbrev pub AreConfirmed : List Confirm → ℕ → ℕ → Type 0
 AreConfirmed confirms session count = (tag : ℕ) → 0 < tag → tag ≤ count → IsConfirmed confirms session tag
 
--- a session is confirmed up to a moment: it is that of an event that the session has published, and the confirms have
--- every tag of the session up to the event's
-pub record IsConfirmedTo (confirms : List Confirm) (s : Shown) (moment : ℕ) : Type 0 where
+-- a session is confirmed up to a timestamp: it is that of an event that the session has published, and the confirms
+-- have every tag of the session up to the event's
+pub record IsConfirmedTo (confirms : List Confirm) (s : Shown) (time : ℕ) : Type 0 where
   pub place : ℕ
   pub event : Event
   pub published : slice_get s.items place ≡ Some (OfEvent event)
-  pub at : event.timestamp ≡ moment
+  pub at : event.timestamp ≡ time
   pub confirmed : AreConfirmed confirms s.number (place + 1)
 
--- a session may begin after a moment where these came before it: after the start, after the moment of an earlier
--- session, or after one up to which an earlier session is confirmed
+-- a session may begin after a timestamp, given the sessions before it: after the start, after the timestamp after
+-- which an earlier session begins, or after one up to which an earlier session is confirmed
 abbrev pub IsBase : ℕ → List Confirm → List Shown → ℕ → Type 0
-IsBase start confirms earlier moment =
-    (moment ≡ start) ⊎ ((s : Shown) × Contains earlier s × ((s.base ≡ moment) ⊎ IsConfirmedTo confirms s moment))
+IsBase start confirms earlier time =
+    (time ≡ start) ⊎ ((s : Shown) × Contains earlier s × ((s.base ≡ time) ⊎ IsConfirmedTo confirms s time))
 
--- a session may come after these: its number is above theirs; it begins after such a moment; what it has published is
--- what there is to tell after that, in order and without a gap; and the end mark only once every tag before it was
--- confirmed
+-- a session may come after these: its number is above theirs; it begins after such a timestamp; what it has published
+-- is what there is to publish after that, in order and without a gap; and the end mark only once every tag before it
+-- was confirmed
 pub record MayFollow (h : History) (start : ℕ) (confirms : List Confirm) (earlier : List Shown) (s : Shown)
     : Type 0 where
   pub above : (other : Shown) → Contains earlier other → other.number < s.number
@@ -64,12 +65,12 @@ pub record MayFollow (h : History) (start : ℕ) (confirms : List Confirm) (earl
   pub items : IsPrefix s.items (line_after h s.base)
   pub end : (place : ℕ) → slice_get s.items place ≡ Some EndMark → AreConfirmed confirms s.number place
 
--- each session may come after those before it, where the latest of them stands first
+-- each session may come after those before it; the list has the latest of them first
 abbrev pub AreSessions : History → ℕ → List Confirm → List Shown → Type 0
 AreSessions h start confirms [] = Unit {0}
 AreSessions h start confirms (s ∷ earlier) = MayFollow h start confirms earlier s × AreSessions h start confirms earlier
 
--- a connector has sent these packets and received these confirms, over what the ledger of this history has to tell
+-- a connector has sent these packets and received these confirms, for what the ledger of this history has to publish
 -- after the start: they are the packets of such sessions
 pub record IsConnectorRun (h : History) (start : ℕ) (sent : List Packet) (confirms : List Confirm) : Type 0 where
   pub sessions : List Shown

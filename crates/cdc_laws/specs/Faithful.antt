@@ -1,4 +1,4 @@
--- What a subscriber may rely on: said of a ledger's history, its binding and what it has heard.
+-- What a subscriber may rely on, given a ledger's history, its binding and what it has received.
 use Rattle.std.specs.Prelude.{◌≡◌, ℕ, min, true, nat_le, List, length, map, filter, unwrap_or}
 use Rattle.cdc_ledger.specs.Balances.{as_of}
 use Rattle.cdc_ledger.specs.Events.{events}
@@ -10,16 +10,16 @@ use Rattle.cdc_message.specs.Items.{TimestampsRise, events_of, same_item}
 use Rattle.cdc_message.specs.Replays.{IsPrefix, firsts}
 use Rattle.cdc_subscriber.specs.declared.book.BookEntry.{BookEntry}
 use Rattle.cdc_subscriber.specs.Book.{accounts_of, balances_in, book_of}
-use Rattle.cdc_subscriber.specs.Heard.{Heard, has_ended}
+use Rattle.cdc_subscriber.specs.Reception.{Reception, has_ended}
 use Rattle.cdc_subscriber.specs.SubscriberState.{SubscriberState}
 use Rattle.cdc_types.specs.declared.accounts.Balances.{Balances}
 use Rattle.cdc_types.specs.declared.events.Event.{Event}
 use Rattle.cdc_types.specs.Timestamps.{last_timestamp}
 use Rattle.cdc_types.specs.Widths.{max_64}
 
--- the events that a subscriber has applied: those that it has heard, without repeats
-abbrev pub applied : Heard → List Event
-applied heard = events_of (firsts same_item heard.items)
+-- the events that a subscriber has applied: those that it has received, without duplicates
+abbrev pub applied : Reception → List Event
+applied reception = events_of (firsts same_item reception.items)
 
 -- the balances of an account that no event has shown
 abbrev pub no_balances : Balances
@@ -31,42 +31,42 @@ balances_held book id = unwrap_or (balances_in book id) no_balances
 
 -- a book of events has for every number the ledger's balances as of the last of them
 abbrev pub HoldsBalances : History → List Event → Type 0
-HoldsBalances h told = (id : ℕ) → balances_held (book_of told) id ≡ as_of h (last_timestamp told) id
+HoldsBalances h emitted = (id : ℕ) → balances_held (book_of emitted) id ≡ as_of h (last_timestamp emitted) id
 
--- the events up to a moment
+-- the events up to a timestamp
 abbrev pub events_until : ℕ → List Event → List Event
 events_until t es = filter (λ e. nat_le e.timestamp t) es
 
--- the accounts that a ledger's events after the start and up to a moment have, in the order of their first appearance
-abbrev pub accounts_told : History → ℕ → ℕ → List ℕ
-accounts_told h start t = accounts_of (events_until t (events_after start (events h)))
+-- the accounts of a ledger's events after the start and up to a timestamp, in the order of their first appearance
+abbrev pub accounts_emitted : History → ℕ → ℕ → List ℕ
+accounts_emitted h start t = accounts_of (events_until t (events_after start (events h)))
 
 -- a book of events has just the accounts of the ledger's events after the start and up to the last of the book's, each
 -- with the ledger's balances as of that last one, whatever moved before the start
 abbrev pub HoldsAccounts : History → ℕ → List Event → Type 0
-HoldsAccounts h start told =
-    book_of told
-    ≡ map (λ id. record { id = id; balances = as_of h (last_timestamp told) id })
-    (accounts_told h start (last_timestamp told))
+HoldsAccounts h start emitted =
+    book_of emitted
+    ≡ map (λ id. record { id = id; balances = as_of h (last_timestamp emitted) id })
+    (accounts_emitted h start (last_timestamp emitted))
 
--- a subscriber has applied the first so many of the events after the start that its binding takes, whose timestamps
--- rise, so that none came twice or out of order; once it has heard the end it has applied all, and the ledger is
--- closed; and where its binding takes every event after the start, its book has just their accounts, each with the
--- balances that the ledger had at the last one applied; where the start is 0, so has every number
-pub record IsFaithful (h : History) (start : ℕ) (binding : Arguments) (heard : Heard) : Type 0 where
-  pub prefix : IsPrefix (applied heard) (feed_after h start binding)
-  pub rising : TimestampsRise (applied heard)
-  pub whole : has_ended heard ≡ true → (h.closed ≡ true) × (applied heard ≡ feed_after h start binding)
-  pub balances : feed_after h start binding ≡ events_after start (events h) → HoldsAccounts h start (applied heard)
+-- a subscriber has applied a prefix of the events after the start that match its binding; their timestamps rise, so
+-- none came twice or out of order; once it has received the end mark it has applied all, and the ledger is closed; if
+-- every event after the start matches its binding, its book has exactly their accounts, each with the balances that
+-- the ledger had at the last one applied; if the start is 0, every number has these balances in its book
+pub record IsFaithful (h : History) (start : ℕ) (binding : Arguments) (reception : Reception) : Type 0 where
+  pub prefix : IsPrefix (applied reception) (feed_after h start binding)
+  pub rising : TimestampsRise (applied reception)
+  pub whole : has_ended reception ≡ true → (h.closed ≡ true) × (applied reception ≡ feed_after h start binding)
+  pub balances : feed_after h start binding ≡ events_after start (events h) → HoldsAccounts h start (applied reception)
   pub every : start ≡ 0 → feed_after h start binding ≡ events_after start (events h)
-      → HoldsBalances h (applied heard)
+      → HoldsBalances h (applied reception)
 
--- what a subscriber keeps, told by what it has applied; it counts up to 2^64-1
-abbrev pub kept_from : Heard → SubscriberState
-kept_from heard = record {
-  book = book_of (applied heard);
-  last = last_timestamp (applied heard);
-  applied = min (length (applied heard)) max_64;
-  ended = has_ended heard;
-  closed = heard.closed;
+-- a subscriber's state, determined by what it has applied; its count saturates at 2^64-1
+abbrev pub kept_from : Reception → SubscriberState
+kept_from reception = record {
+  book = book_of (applied reception);
+  last = last_timestamp (applied reception);
+  applied = min (length (applied reception)) max_64;
+  ended = has_ended reception;
+  closed = reception.closed;
 }

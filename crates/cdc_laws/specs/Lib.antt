@@ -5,7 +5,7 @@ pub mod Connectors
 pub mod Deliveries
 pub mod Faithful
 pub mod GoingOn
-pub mod Hearing
+pub mod Receiving
 pub mod Laws
 pub mod Line
 pub mod Readings

@@ -5,11 +5,11 @@ use Rattle.cdc_broker.specs.Queues.{QueueState, acknowledged, empty_queue, is_un
 use Rattle.cdc_ledger.specs.History.{History}
 use Rattle.cdc_ledger.specs.Sound.{IsSound}
 use Rattle.cdc_laws.specs.Arrivals.{taken_of}
-use Rattle.cdc_laws.specs.Brokers.{HasArrived, HasHandedOut}
+use Rattle.cdc_laws.specs.Brokers.{HasArrived, HasDelivered}
 use Rattle.cdc_laws.specs.ConnectorRuns.{IsConnectorRun}
 use Rattle.cdc_laws.specs.Connectors.{ConnectorState, KeepsTo, after_confirm, held_start, held_timestamp}
 use Rattle.cdc_laws.specs.GoingOn.{GoesOn}
-use Rattle.cdc_laws.specs.Hearing.{HasTaken}
+use Rattle.cdc_laws.specs.Receiving.{HasTaken}
 use Rattle.cdc_laws.specs.Readings.{IsOf, KeepsToReadings, Reading}
 use Rattle.cdc_match.specs.Arguments.{Arguments}
 use Rattle.cdc_message.specs.declared.items.Delivery.{Delivery}
@@ -20,7 +20,7 @@ use Rattle.cdc_message.specs.declared.packets.Packet.{Packet}
 use Rattle.cdc_message.specs.declared.packets.Packet.TheVariants.{Publish}
 use Rattle.cdc_progress.specs.Records.{Saved}
 use Rattle.cdc_publisher.specs.Courses.{Course, begun, new_course, next_packet, progress_of, with_offer, with_sent}
-use Rattle.cdc_subscriber.specs.Heard.{Heard, next, nothing}
+use Rattle.cdc_subscriber.specs.Reception.{Reception, next, nothing}
 use Rattle.cdc_types.specs.Timestamps.{last_timestamp_from}
 
 -- ---- a connector
@@ -34,12 +34,12 @@ ConnectorsBegin = (h : History) (held : Option Saved) → held_timestamp held �
 abbrev pub ConnectorsGoOn : Type 0
 ConnectorsGoOn = (h g : History) (c : ConnectorState) → GoesOn h g → KeepsTo h c → KeepsTo g c
 
--- its session ends, however
+-- its session stops, for whatever reason
 abbrev pub SessionsEnd : Type 0
 SessionsEnd = (h : History) (c : ConnectorState) → KeepsTo h c → KeepsTo h (record c { session = None })
 
--- a session starts under a number that is held then, where nothing was held before perhaps after a moment that was
--- asked for
+-- a session starts under a number that is held then; if nothing was held before, it may start after a timestamp that
+-- was asked for
 abbrev pub SessionsStart : Type 0
 SessionsStart = (h : History) (c : ConnectorState) (at : Option ℕ) (saved : Saved) (window : ℕ) → KeepsTo h c
     → begun c.held at ≡ Ok saved
@@ -63,7 +63,7 @@ PacketsAreSent = (h : History) (c : ConnectorState) (course : Course) (packet : 
     → c.session ≡ Some course → next_packet course ≡ Some packet
     → KeepsTo h (record c { session = Some (with_sent (Some packet) course); sent = c.sent ++ packet ∷ [] })
 
--- a confirm comes, of this session or an earlier one, or where none runs
+-- a confirm comes, for this session or an earlier one, or while none runs
 abbrev pub ConfirmsCome : Type 0
 ConfirmsCome = (h : History) (c : ConnectorState) (confirm : Confirm) → KeepsTo h c
     → KeepsTo h (after_confirm confirm c)
@@ -102,9 +102,9 @@ PacketsAreTaken = (b : BrokerState) (arrived : List Packet) (confirms : List Con
     → HasArrived b arrived confirms → takes_packet b packet ≡ true
     → HasArrived (after_packet b packet) (arrived ++ packet ∷ []) confirms
 
--- a packet comes that it passes over
-abbrev pub PacketsArePassed : Type 0
-PacketsArePassed = (b : BrokerState) (arrived : List Packet) (confirms : List Confirm) (packet : Packet)
+-- a packet comes that it ignores
+abbrev pub PacketsAreIgnored : Type 0
+PacketsAreIgnored = (b : BrokerState) (arrived : List Packet) (confirms : List Confirm) (packet : Packet)
     → HasArrived b arrived confirms → takes_packet b packet ≡ false
     → HasArrived b (arrived ++ packet ∷ []) confirms
 
@@ -114,7 +114,7 @@ ConfirmsAreSent = (b : BrokerState) (arrived : List Packet) (confirms : List Con
     → HasArrived b arrived confirms → Contains (taken_of arrived) (Publish session tag item)
     → HasArrived b arrived (confirms ++ record { session = session; answer = Confirmed tag } ∷ [])
 
--- a queue of it hands out, takes an acknowledgement, or goes back
+-- one of its queues delivers, takes an acknowledgement, or rewinds
 abbrev pub QueuesMove : Type 0
 QueuesMove = (b : BrokerState) (arrived : List Packet) (confirms : List Confirm) (i : ℕ) (delivery : Option Delivery)
     (position : ℕ)
@@ -127,26 +127,26 @@ QueuesMove = (b : BrokerState) (arrived : List Packet) (confirms : List Confirm)
 
 -- nothing has come to it
 abbrev pub QueuesBegin : Type 0
-QueuesBegin = (binding : Arguments) → HasHandedOut (empty_queue binding) []
+QueuesBegin = (binding : Arguments) → HasDelivered (empty_queue binding) []
 
 -- the broker accepts an item, which the binding takes or not
 abbrev pub QueuesGrow : Type 0
-QueuesGrow = (q : QueueState) (out : List Delivery) (item : Item) → HasHandedOut q out
-    → HasHandedOut (queued item q) out
+QueuesGrow = (q : QueueState) (out : List Delivery) (item : Item) → HasDelivered q out
+    → HasDelivered (queued item q) out
 
--- it hands out what is next
-abbrev pub DeliveriesAreHandedOut : Type 0
-DeliveriesAreHandedOut = (q : QueueState) (out : List Delivery) (d : Delivery) → HasHandedOut q out
-    → next_delivery q ≡ Some d → HasHandedOut (with_delivery (Some d) q) (out ++ d ∷ [])
+-- it delivers what is next
+abbrev pub NextIsDelivered : Type 0
+NextIsDelivered = (q : QueueState) (out : List Delivery) (d : Delivery) → HasDelivered q out
+    → next_delivery q ≡ Some d → HasDelivered (with_delivery (Some d) q) (out ++ d ∷ [])
 
--- a position is acknowledged that was handed out
+-- a position is acknowledged that was delivered
 abbrev pub AcknowledgementsCome : Type 0
-AcknowledgementsCome = (q : QueueState) (out : List Delivery) (position : ℕ) → HasHandedOut q out
-    → is_unknown q position ≡ false → HasHandedOut (acknowledged position q) out
+AcknowledgementsCome = (q : QueueState) (out : List Delivery) (position : ℕ) → HasDelivered q out
+    → is_unknown q position ≡ false → HasDelivered (acknowledged position q) out
 
--- it goes back to what isn't acknowledged
-abbrev pub QueuesGoBack : Type 0
-QueuesGoBack = (q : QueueState) (out : List Delivery) → HasHandedOut q out → HasHandedOut (rewound_queue q) out
+-- it rewinds to what isn't acknowledged
+abbrev pub QueuesRewind : Type 0
+QueuesRewind = (q : QueueState) (out : List Delivery) → HasDelivered q out → HasDelivered (rewound_queue q) out
 
 -- ---- a subscriber
 
@@ -154,12 +154,12 @@ QueuesGoBack = (q : QueueState) (out : List Delivery) → HasHandedOut q out →
 abbrev pub SubscribersBegin : Type 0
 SubscribersBegin = HasTaken nothing []
 
--- it takes one more delivery, and hears it or not
+-- it takes one more delivery, and receives it or not
 abbrev pub DeliveriesAreTaken : Type 0
-DeliveriesAreTaken = (heard : Heard) (taken : List Delivery) (d : Delivery) → HasTaken heard taken
-    → HasTaken (next heard d.item) (taken ++ d ∷ [])
+DeliveriesAreTaken = (reception : Reception) (taken : List Delivery) (d : Delivery) → HasTaken reception taken
+    → HasTaken (next reception d.item) (taken ++ d ∷ [])
 
 -- it closes
 abbrev pub SubscribersClose : Type 0
-SubscribersClose = (heard : Heard) (taken : List Delivery) → HasTaken heard taken
-    → HasTaken (record heard { closed = true }) taken
+SubscribersClose = (reception : Reception) (taken : List Delivery) → HasTaken reception taken
+    → HasTaken (record reception { closed = true }) taken

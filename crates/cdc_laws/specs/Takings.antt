@@ -1,5 +1,5 @@
--- The session of a packet, which a law of the broker's end cites, too; and what was taken of a history's events, which
--- proofs alone cite.
+-- The session of a packet, which a law of the broker's actor cites too; and what was taken of a history's events,
+-- which only proofs cite.
 use Rattle.std.specs.Prelude.{ℕ, ◌≤◌, List, Contains}
 use Rattle.cdc_ledger.specs.Events.{events}
 use Rattle.cdc_ledger.specs.History.{History}
@@ -15,7 +15,7 @@ abbrev pub session_of : Packet → ℕ
 session_of (Connect session) = session
 session_of (Publish session tag item) = session
 
--- every event of the history after the start and up to this moment was taken
+-- every event of the history after the start and up to this timestamp was taken
 abbrev pub HasTakenUpTo : History → ℕ → List Item → ℕ → Type 0
 HasTakenUpTo h start taken t =
     (event : Event) → Contains (events_after start (events h)) event → event.timestamp ≤ t

@@ -1,5 +1,5 @@
-//! What holds of lists alone, whoever sends, keeps and takes what stands in them: laws, by functions that do nothing.
-//! And how a ledger is read for a session, whoever moves the two.
+//! Laws of lists of packets, items and deliveries, independent of the actors that send, keep and take them. They are
+//! the postconditions of functions that do nothing. Also how a ledger is read for a session.
 #![tactic(auto)]
 
 pub mod readings;

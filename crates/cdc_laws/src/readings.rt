@@ -12,16 +12,16 @@ use cdc_publisher::Poll;
 use cdc_types::Event;
 use std::alloc::{AllocError, Global};
 
-/// What a session may be offered of a ledger's log.
+/// The events of a ledger's log that a session may be offered.
 #[derive(Drop)]
 pub struct Offer {
-    /// The first events that are wanted, as many as there may be.
+    /// The first events that are wanted, up to the poll's limit.
     pub events: Vec<Event>,
     /// Whether the ledger is closed, and these are all.
     pub complete: bool,
 }
 
-/// Reads what is wanted of a ledger's log as it is now; an error is want of memory for the events.
+/// Reads what is wanted of a ledger's log as it is now. Fails if there is no memory for the events.
 pub fn read(alloc: Global, ledger: &Ledger, poll: Poll) -> Result<Offer, AllocError>
     ensures events { IfOk result (λ offer. offer.events.items
         ≡ take poll.limit (events_after poll.after (events_of ledger.now))) }
@@ -35,7 +35,7 @@ pub fn read(alloc: Global, ledger: &Ledger, poll: Poll) -> Result<Offer, AllocEr
     Ok(Offer { events, complete })
 }
 
-/// Whether no events follow these ones, which were read, and none will.
+/// Whether no events follow those that were read, and none will.
 fn is_whole(ledger: &Ledger, poll: Poll, events: &[Event]) -> bool
     requires { events.now ≡ take poll.limit (events_after poll.after (events_of ledger.now)) }
     ensures { result ≡ none_follow ledger.now poll }

@@ -15,7 +15,6 @@ use Rattle.cdc_types.specs.declared.results.TransferResult.{TransferResult}
 use Rattle.cdc_types.specs.declared.results.TransferResult.TheVariants as transfer
 use Rattle.cdc_types.specs.declared.transfers.NewTransfer.{NewTransfer}
 use Rattle.cdc_types.specs.declared.transfers.Transfer.{Transfer}
-use Rattle.cdc_types.specs.Features.{Features}
 use Rattle.cdc_types.specs.Flags.{is_pending_request, is_post_request, is_void_request, is_plain_request}
 use Rattle.cdc_types.specs.Lines.{first_line}
 use Rattle.cdc_types.specs.Results.{account_number, transfer_number}
@@ -34,25 +33,24 @@ use Rattle.cdc_ledger.proofs.BalanceLaws.{balances_later, resolved_later}
 use Rattle.cdc_ledger.proofs.LineLaws.{first_line_append_none_parts, test_of, test_fails}
 use Rattle.cdc_ledger.proofs.StoredLaws.{stored_has}
 
--- an account that is there is always refused; so where no line applies the id was free
+-- an existing account is always refused; so if no line applies, the id was free
 known_account_none : (o : Option Opened) (a : NewAccount) → first_line (known_account_lines o a) ≡ None → o ≡ None
 known_account_none None a none = refl
 known_account_none (Some o) a none =
     absurd (false≢true (sym (test_fails account_number account.Exists (known_account_lines (Some o) a) none)))
 
 -- an account that is accepted had a free id, so that it can be opened
-pub accepted_account : (offered : Features) (h : History) (a : NewAccount)
-    → account_refused offered h a ≡ None
-    → (first_line (account_shape_lines offered a) ≡ None) × (opened h a.id ≡ None)
-accepted_account offered h a none =
+pub accepted_account : (h : History) (a : NewAccount) → account_refused h a ≡ None
+    → (first_line (account_shape_lines a) ≡ None) × (opened h a.id ≡ None)
+accepted_account h a none =
     let known : List (Bool × AccountResult) = known_account_lines (opened h a.id) a in
-    let parts : (first_line (account_shape_lines offered a) ≡ None) × (first_line known ≡ None) =
-    first_line_append_none_parts (account_shape_lines offered a) known none in
+    let parts : (first_line (account_shape_lines a) ≡ None) × (first_line known ≡ None) =
+    first_line_append_none_parts (account_shape_lines a) known none in
     (parts.0, known_account_none (opened h a.id) a parts.1)
 
 -- a transfer
 
--- a transfer that is there is always refused; so where no line applies the id is new
+-- an existing transfer is always refused; so if no line applies, the id is new
 known_transfer_none : (o : Option Entry) (h : History) (r : NewTransfer)
     → first_line (known_transfer_lines o h r) ≡ None → o ≡ None
 known_transfer_none None h r none = refl
@@ -67,14 +65,13 @@ own_lines h r t =
     else settling_lines (stored h r.pending_id) h r t
 
 -- the three parts of the table, of which no line applies
-no_line_parts : (offered : Features) (h : History) (r : NewTransfer) (t : ℕ)
-    → first_line (transfer_lines offered h r t) ≡ None
-    → (first_line (transfer_shape_lines offered r) ≡ None) × (stored h r.id ≡ None) ×
+no_line_parts : (h : History) (r : NewTransfer) (t : ℕ) → first_line (transfer_lines h r t) ≡ None
+    → (first_line (transfer_shape_lines r) ≡ None) × (stored h r.id ≡ None) ×
     (first_line (own_lines h r t) ≡ None)
-no_line_parts offered h r t none =
+no_line_parts h r t none =
     let known : List (Bool × TransferResult) = known_transfer_lines (stored h r.id) h r in
-    let parts : (first_line (transfer_shape_lines offered r) ≡ None) × (first_line (known ++ own_lines h r t) ≡ None) =
-    first_line_append_none_parts (transfer_shape_lines offered r) (known ++ own_lines h r t) none in
+    let parts : (first_line (transfer_shape_lines r) ≡ None) × (first_line (known ++ own_lines h r t) ≡ None) =
+    first_line_append_none_parts (transfer_shape_lines r) (known ++ own_lines h r t) none in
     let two : (first_line known ≡ None) × (first_line (own_lines h r t) ≡ None) =
     first_line_append_none_parts known (own_lines h r t) parts.1 in
     (parts.0, known_transfer_none (stored h r.id) h r two.0, two.1)
@@ -86,10 +83,9 @@ record ShapePasses (r : NewTransfer) : Type 0 where
   apart : (is_plain_request r && (r.debit_account_id == r.credit_account_id)) ≡ false
 
 -- a request that no shape line refuses asks for one kind at most, and names two accounts if it is plain
-shape_passes : (offered : Features) (r : NewTransfer) → first_line (transfer_shape_lines offered r) ≡ None
-    → ShapePasses r
-shape_passes offered r none =
-    let lines : List (Bool × TransferResult) = transfer_shape_lines offered r in
+shape_passes : (r : NewTransfer) → first_line (transfer_shape_lines r) ≡ None → ShapePasses r
+shape_passes r none =
+    let lines : List (Bool × TransferResult) = transfer_shape_lines r in
     let fails : (result : TransferResult) → test_of transfer_number result lines ≡ false =
     λ result. test_fails transfer_number result lines none in
     record {
@@ -98,7 +94,7 @@ shape_passes offered r none =
       apart = fails transfer.AccountsMustBeDifferent;
     }
 
--- the accounts of a single-phase or a pending transfer are there, both sums fit, and so does the end
+-- both accounts of a single-phase or a pending transfer exist, both sums fit, and so does its expiry time
 record PlainPasses (debited credited : Option Opened) (h : History) (r : NewTransfer) (t : ℕ) : Type 0 where
   debit_there : IsSome debited
   credit_there : IsSome credited
@@ -108,7 +104,7 @@ record PlainPasses (debited credited : Option Opened) (h : History) (r : NewTran
       (balances h r.credit_account_id t).credits_posted + r.amount ≤ max_128
   timely : r.timeout ≢ 0 → expires_at (as_asked r t) ≤ max_timestamp
 
--- a pending transfer that isn't refused for its timeout ends no later than the greatest timestamp
+-- a pending transfer that isn't refused for its timeout expires no later than the greatest timestamp
 ends_in_time : (r : NewTransfer) (t : ℕ)
     → (not (r.timeout == 0) && nat_lt max_timestamp (expires_at (as_asked r t))) ≡ false → r.timeout ≢ 0
     → expires_at (as_asked r t) ≤ max_timestamp
@@ -212,7 +208,7 @@ own_given given own line = by (given == 0) (given == own) refl line
     by false true is other = eqb-true given own is
     by false false is other = absurd (false≢true (sym other))
 
--- an entry at its moment
+-- an entry with its timestamp
 abbrev entry_with : EventKind → Transfer → ℕ → Entry
 entry_with k x t = record { timestamp = t; kind = k; transfer = x }
 
@@ -281,7 +277,7 @@ Follows-settling k h r t sound later requested new passes =
       };
     }
 
--- the end of a pending transfer that nothing settled
+-- the expiry of a pending transfer that nothing settled
 pub Follows-expiry : (h : History) (x : Entry) (t : ℕ) → IsSound h → stored h x.transfer.id ≡ Some x
     → holds x.kind ≡ true → resolved h x.transfer h.last ≡ false → Follows h (expiry x.transfer t)
 Follows-expiry h x t sound there holding unsettled =
@@ -340,12 +336,12 @@ apart_from r plain line same =
     false≢true (sym line ∙ and_from _ _ plain (eq-eqb r.debit_account_id r.credit_account_id same))
 
 -- a request that no line refuses: its entry may come next
-pub Follows-accepted : (offered : Features) (h : History) (r : NewTransfer) (t : ℕ) → IsSound h → h.last < t
-    → first_line (transfer_lines offered h r t) ≡ None → Follows h (entry_of h r t)
-Follows-accepted offered h r t sound later none =
-    let parts : (first_line (transfer_shape_lines offered r) ≡ None) × (stored h r.id ≡ None) ×
-    (first_line (own_lines h r t) ≡ None) = no_line_parts offered h r t none in
-    by (is_plain_request r) refl (shape_passes offered r parts.0) parts.1 parts.2
+pub Follows-accepted : (h : History) (r : NewTransfer) (t : ℕ) → IsSound h → h.last < t
+    → first_line (transfer_lines h r t) ≡ None → Follows h (entry_of h r t)
+Follows-accepted h r t sound later none =
+    let parts : (first_line (transfer_shape_lines r) ≡ None) × (stored h r.id ≡ None) ×
+    (first_line (own_lines h r t) ≡ None) = no_line_parts h r t none in
+    by (is_plain_request r) refl (shape_passes r parts.0) parts.1 parts.2
   where
     by : (plain : Bool) → is_plain_request r ≡ plain → ShapePasses r → stored h r.id ≡ None
         → first_line (own_lines h r t) ≡ None → Follows h (entry_of h r t)

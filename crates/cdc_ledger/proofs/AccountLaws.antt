@@ -12,7 +12,7 @@ use Rattle.cdc_ledger.proofs.Changes.{pushed, with_account, timed, IsUpTo, accou
 use Rattle.cdc_ledger.proofs.Elements.{AllByRecursion-every, map_same, map-map}
 use Rattle.cdc_ledger.proofs.BalanceLaws.{balances_later, balances-pushed, balances_none}
 
--- accounts look the same where each one does, so that balances may be compared account by account
+-- two views of a list of accounts are equal if they agree on each account, so balances can be compared one by one
 map_every : (f g : Opened → Account) → ((o : Opened) → f o ≡ g o) → (os : List Opened) → map f os ≡ map g os
 map_every f g same os = map_same f g os (AllByRecursion-every (λ o. f o ≡ g o) same os)
 

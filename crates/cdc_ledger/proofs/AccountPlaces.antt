@@ -62,7 +62,7 @@ place-only accounts id place k d unique at inside other =
     ]
     refl
 
--- two changed elements, where every other one is as it would be after the change
+-- two elements are changed, and the change would leave every other element as it is
 pub set_two : {X : Type 0} (g : X → X) (xs : List X) (i j : ℕ) (a b d : X) → i < length xs → j < length xs → i ≢ j
     → a ≡ g (get_or xs i d) → b ≡ g (get_or xs j d)
     → ((k : ℕ) → k < length xs → k ≢ i → k ≢ j → g (get_or xs k d) ≡ get_or xs k d)
@@ -98,7 +98,7 @@ part-same side account amount e = ap (λ b. if b then amount else 0) (eq-eqb sid
 part-other : (side account amount : ℕ) → account ≢ side → part side account amount ≡ 0
 part-other side account amount e = ap (λ b. if b then amount else 0) (ne_eqb side account (λ same. e (sym same)))
 
--- balances are equal where their four sums are
+-- balances are equal if their four sums are
 pub same_sums : {x y z w x' y' z' w' : ℕ} → x ≡ x' → y ≡ y' → z ≡ z' → w ≡ w'
     → ◌≡◌ {A = Balances} (record { debits_pending = x; debits_posted = y; credits_pending = z; credits_posted = w })
     (record { debits_pending = x'; debits_posted = y'; credits_pending = z'; credits_posted = w' })
@@ -141,7 +141,7 @@ module _ (f : Effect) (debit credit : ℕ) (apart : debit ≢ credit) (a : Accou
 
 module _ (accounts : List Account) (m : Movement) (placed : IsPlaced accounts m)
     (apart : m.entry.transfer.debit_account_id ≢ m.entry.transfer.credit_account_id) (d : Account) where
-  -- the two accounts stand at two places, since their ids differ
+  -- the two accounts have different indices, since their ids differ
   pub places_apart : m.debit ≢ m.credit
   places_apart same =
       apart (sym (place-id accounts m.entry.transfer.debit_account_id m.debit d placed.debit)

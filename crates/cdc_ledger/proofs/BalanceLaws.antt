@@ -1,4 +1,4 @@
--- Balances at a later moment, after one more entry, and of an account that no entry names.
+-- Balances at a later timestamp, after one more entry, and of an account that no entry names.
 use Rattle.std.proofs.Common.{ℕ, ◌+◌, ◌-◌, ◌<◌, ◌≤◌, Bool, true, false, List, [], ◌∷◌, ◌++◌, ◌≡◌, Option, Some, None, refl, ap, ap₂, sym, subst, ◌∙◌, arith, le-leb, add-zero}
 use Rattle.std.specs.Prelude.{◌==◌, ◌&&◌, ◌||◌, not, nat_le, if◌then◌else◌, sum_by, option_map}
 use Rattle.std.specs.List.{AllByRecursion}
@@ -24,13 +24,13 @@ use Rattle.cdc_ledger.proofs.StoredLaws.{is_stored, stored_has, apart-cons}
 
 -- `balances` reads the entries alone, so a change of accounts, last or closed leaves it by computation
 
--- balances are equal where their four sums are, so that each sum can be looked at by itself
+-- balances are equal if their four sums are, so each sum can be handled separately
 pub same_balances : (x y z w x' y' z' w' : ℕ) → x ≡ x' → y ≡ y' → z ≡ z' → w ≡ w'
     → ◌≡◌ {A = Balances} (record { debits_pending = x; debits_posted = y; credits_pending = z; credits_posted = w })
     (record { debits_pending = x'; debits_posted = y'; credits_pending = z'; credits_posted = w' })
 same_balances x y z w x' y' z' w' a b c d = cc
 
--- two moments at which the same of the entries count
+-- two timestamps at which the same entries count
 pub seen_alike : (e : Entry) (s t : ℕ) → e.timestamp ≤ s → s ≤ t → nat_le e.timestamp t ≡ nat_le e.timestamp s
 seen_alike e s t within later = le-leb e.timestamp t (omega arith) ∙ sym (le-leb e.timestamp s within)
 
@@ -61,7 +61,7 @@ module _ (h : History) (a s t : ℕ) (within : IsUpTo s h) (later : s ≤ t) whe
   held_later : (e : Entry) → held_amount h t e ≡ held_amount h s e
   held_later e = ap (λ b. held_by b e) (resolved_later h e.transfer s t within later)
 
-  -- so the sums of what is held are the same at both moments
+  -- so the sums of the held amounts are the same at both timestamps
   held_agree : (side : Transfer → ℕ)
       → sum_by (share (held_amount h t) side a t) h.entries ≡ sum_by (share (held_amount h s) side a s) h.entries
   held_agree side = share_same (held_amount h t) (held_amount h s) side a s t h.entries
@@ -77,7 +77,7 @@ module _ (h : History) (a s t : ℕ) (within : IsUpTo s h) (later : s ≤ t) whe
       (λ e. (moved_amount e ≡ moved_amount e) × (nat_le e.timestamp t ≡ nat_le e.timestamp s))
       (λ e at. (refl, seen_alike e s t at later)) h.entries within)
 
--- no entry lies between the moments s and t
+-- no entry lies between the timestamps s and t
 pub balances_later : (h : History) (a s t : ℕ) → IsUpTo s h → s ≤ t → balances h a t ≡ balances h a s
 balances_later h a s t within later =
     same_balances _ _ _ _ _ _ _ _ (held_agree h a s t within later debit_side)
@@ -94,12 +94,12 @@ resolved-pushed h e p t = list_any-append (λ x. nat_le x.timestamp t && resolve
     or_no true = refl
     or_no false = refl
 
--- what was resolved is still all that is, where an entry resolves nothing
+-- if an entry resolves nothing, exactly the transfers that were resolved before are resolved
 or_none : (b c : Bool) → c ≡ false → (b || c) ≡ b
 or_none true c q = refl
 or_none false c q = q
 
--- the sums of one side, with one more entry that resolves nothing up to the moment t
+-- the sums of one side, after one more entry that resolves nothing up to the timestamp t
 module _ (h : History) (e : Entry) (a t : ℕ)
     (none : (p : Transfer) → (nat_le e.timestamp t && resolves p e) ≡ false) where
   -- each entry holds what it held, since the new one resolves nothing
@@ -117,11 +117,11 @@ module _ (h : History) (e : Entry) (a t : ℕ)
       (h.entries ++ e ∷ [])
       ∙ sum_by_push (share (held_amount h t) side a t) h.entries e
 
--- an entry after the moment counts in no sum at that moment
+-- an entry after a timestamp counts in no sum at that timestamp
 share_after : (f : Entry → ℕ) (side : Transfer → ℕ) (a t : ℕ) (e : Entry) → t < e.timestamp → share f side a t e ≡ 0
 share_after f side a t e after = ap (λ b. if b && (side e.transfer == a) then f e else 0) (lt-leb e.timestamp t after)
 
--- an entry after the moment t, of any kind
+-- an entry of any kind after the timestamp t
 pub balances-pushed_before : (h : History) (e : Entry) (a t : ℕ) → t < e.timestamp
     → balances (pushed h e) a t ≡ balances h a t
 balances-pushed_before h e a t after =
@@ -141,7 +141,7 @@ balances-pushed_before h e a t after =
     same_balances _ _ _ _ _ _ _ _ (held_same debit_side) (moved_same debit_side) (held_same credit_side)
     (moved_same credit_side)
 
--- the balances after an entry, where each pending sum is known with what was released put back to it
+-- the balances after an entry, from pending sums to which the released amounts are added back
 same_changed : (x y z w dr dh dm cr ch cm : ℕ) (b : Balances) → x + dr ≡ b.debits_pending + dh
     → y ≡ b.debits_posted + dm → z + cr ≡ b.credits_pending + ch → w ≡ b.credits_posted + cm
     → ◌≡◌ {A = Balances} (record { debits_pending = x; debits_posted = y; credits_pending = z; credits_posted = w })
@@ -189,7 +189,7 @@ pub settled_by_is : (h : History) (e x : Entry) → settles e.kind ≡ true → 
     → settled_by h e ≡ Some x.transfer
 settled_by_is h e x is of = settled_kind e.kind h e.transfer x is of.named of.shown
 
--- a single-phase or a pending transfer brings none to its end
+-- a single-phase or a pending transfer settles no other transfer
 settled_kind_none : (k : EventKind) (h : History) (y : Transfer) → settles k ≡ false → settled_in k h y ≡ None
 settled_kind_none SinglePhase h y none = refl
 settled_kind_none TwoPhasePending h y none = refl
@@ -217,7 +217,7 @@ stores-holds TwoPhasePosted is = absurd (false≢true is)
 stores-holds TwoPhaseVoided is = absurd (false≢true is)
 stores-holds TwoPhaseExpired is = absurd (false≢true is)
 
--- what is resolved right after an entry: what was, and what it brings to its end
+-- the transfers that are resolved right after an entry: those resolved before, and the one that it settles
 pub resolved_then : (h : History) (e : Entry) (p : Transfer) → IsUpTo h.last h → h.last < e.timestamp
     → resolved (pushed h e) p e.timestamp
     ≡ (resolved h p h.last || (settles e.kind && (settled_id e.kind e.transfer == p.id)))
@@ -351,7 +351,7 @@ module _ (h : History) (e : Entry) (a : ℕ) (sound : IsSound h) (follows : Foll
       settles-holds TwoPhaseVoided is = absurd (false≢true is)
       settles-holds TwoPhaseExpired is = absurd (false≢true is)
 
-  -- it holds back its whole amount, where it is pending
+  -- it holds back its whole amount if it is pending
   own_held : (b : Bool) → holds e.kind ≡ b
       → (if holds e.kind && not (resolved (pushed h e) e.transfer e.timestamp) then e.transfer.amount else 0)
       ≡ (if holds e.kind then e.transfer.amount else 0)
@@ -360,7 +360,7 @@ module _ (h : History) (e : Entry) (a : ℕ) (sound : IsSound h) (follows : Foll
   own_held false is = ap (λ b. if b && not (resolved (pushed h e) e.transfer e.timestamp) then e.transfer.amount else 0)
       is ∙ sym (ap (λ b. if b then e.transfer.amount else 0) is)
 
-  -- so its share is what the effect says is held
+  -- so its share is the held amount of the effect
   own : (side : Transfer → ℕ) → right_after side e ≡ part (side e.transfer) a (effect_of h e).held
   own side = ap₂ (λ b n. if b && (side e.transfer == a) then n else 0) (le-leb e.timestamp e.timestamp (omega arith))
       (own_held (holds e.kind) refl)
@@ -372,7 +372,7 @@ module _ (h : History) (e : Entry) (a : ℕ) (sound : IsSound h) (follows : Foll
   then_sum side = sum_by_push (right_after side) h.entries e
       ∙ ap (λ n. sum_by (right_after side) h.entries + n) (own side)
 
-  -- where it settles nothing, all others hold what they held
+  -- if it settles nothing, all others hold what they held
   unchanged : settles e.kind ≡ false → (side : Transfer → ℕ)
       → sum_by (right_after side) h.entries ≡ sum_by (before side) h.entries
   unchanged none side =
@@ -389,7 +389,7 @@ module _ (h : History) (e : Entry) (a : ℕ) (sound : IsSound h) (follows : Foll
       ))
       h.entries sound.past)
 
-  -- where it settles one, that one holds nothing any more
+  -- if it settles a transfer, that transfer no longer holds anything
   falls_one : settles e.kind ≡ true → (side : Transfer → ℕ) (x : Entry) → x.timestamp ≤ h.last
       → Falls (settled_id e.kind e.transfer) (before side) (right_after side) x
   falls_one is side x at =
@@ -417,7 +417,7 @@ module _ (h : History) (e : Entry) (a : ℕ) (sound : IsSound h) (follows : Foll
       (stored_has (λ y. y.timestamp ≤ h.last) h (settled_id e.kind e.transfer) x sound.past named))
       (ap₂ (λ b c. if b && not c then x.transfer.amount else 0) is unsettled)
 
-  -- so the sum of the old entries falls by what the effect says is released
+  -- so the sum of the old entries falls by the released amount of the effect
   pub settled_sum : (side : Transfer → ℕ) → settles e.kind ≡ true → (x : Entry) → Settles h e x
       → resolved h x.transfer h.last ≡ false → side e.transfer ≡ side x.transfer
       → sum_by (right_after side) h.entries + part (side e.transfer) a (effect_of h e).released
@@ -431,7 +431,7 @@ module _ (h : History) (e : Entry) (a : ℕ) (sound : IsSound h) (follows : Foll
       (AllByRecursion-weaker (λ y. y.timestamp ≤ h.last)
       (Falls (settled_id e.kind e.transfer) (before side) (right_after side)) (falls_one is side) h.entries sound.past)
 
-  -- where nothing is released, nothing leaves the sums of an account, named or not
+  -- if nothing is released, the sums of an account don't fall, whether the entry names it or not
   nothing : (b : Bool) → ◌≡◌ {A = ℕ} (if b then 0 else 0) 0
   nothing true = refl
   nothing false = refl

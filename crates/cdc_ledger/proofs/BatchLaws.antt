@@ -8,11 +8,11 @@ use Rattle.std.proofs.lemmas.List.{take_more, at_drop_more, at_drop_all, drop_al
 use Rattle.std.proofs.Math.Seq.{drop-drop, take-length, drop-length}
 use Rattle.cdc_types.specs.declared.accounts.NewAccount.{NewAccount}
 use Rattle.cdc_types.specs.declared.transfers.NewTransfer.{NewTransfer}
-use Rattle.cdc_ledger.specs.Chains.{Rules, chains_of, in_front, is_none_left, before_others, refused_in_chain, unjudged, unjudged_one, played, history_after, chains_from, items_from}
+use Rattle.cdc_ledger.specs.Chains.{Rules, chains_of, in_front, is_none_left, before_others, refused_in_chain, unvalidated, unvalidated_one, played, history_after, chains_from, items_from}
 use Rattle.cdc_ledger.specs.History.{History}
 use Rattle.cdc_ledger.specs.Stops.{AreUnrefused, IsStopped, taken_all}
 
--- what is read where no request stands
+-- the value that is read past the last request
 abbrev pub no_account : NewAccount
 no_account =
     record { id = 0; user_data_128 = 0; user_data_64 = 0; user_data_32 = 0; ledger = 0; code = 0; flags = 0 }
@@ -34,7 +34,7 @@ no_transfer = record {
   flags = 0;
 }
 
--- ---- where the first chain ends
+-- ---- the end of the first chain
 
 module _ {A : Type 0} (linked : A → Bool) where
   -- it ends with the first item that isn't linked
@@ -74,7 +74,7 @@ module _ {A : Type 0} (linked : A → Bool) where
       chain_open d items some each
       ∙ ap₂ (λ chain rest. chain ∷ chains_of linked rest) (sym (take-length items)) (sym (drop-length items))
 
--- an item is the last one where nothing is behind it
+-- an item is the last one if nothing follows it
 pub last_left : {A : Type 0} (items : List A) (i : ℕ) → i < length items
     → (i + 1 == length items) ≡ is_none_left (drop (i + 1) items)
 last_left {A = A} items i inside = by (drop (i + 1) items) refl
@@ -105,7 +105,7 @@ AllByRecursion_whole {X = X} P xs n front back =
     both [] all = back
     both (y ∷ ys) all = (all.0, both ys all.1)
 
--- a slice from a place to the end
+-- a slice from an index to the end
 slice_to_end : {X : Type 0} (xs : List X) (n : ℕ) → take (length xs - n) (drop n xs) ≡ drop n xs
 slice_to_end xs n = ap (λ m. take m (drop n xs)) (sym (length-drop n xs)) ∙ take-length (drop n xs)
 
@@ -153,7 +153,7 @@ module _ {A R : Type 0} (rules : Rules A R) where
       ∙ ap (λ m. replicate m (if is_some later.1 then rules.accepted else rules.failed) ++ later.0)
       (sym (add-one n)))
 
-  -- the first i items of a chain were accepted from the moment t on, which made the history g of h
+  -- the first i items of a chain were accepted from the timestamp t on, which turned the history h into g
   pub record IsOnItsWay (h : History) (t : ℕ) (chain : List A) (i : ℕ) (g : History) : Type 0 where
     pub rest : played rules h t chain ≡ after_accepted i (played rules g (t + i) (drop i chain))
     pub made : g ≡ taken_all rules h t (take i chain)
@@ -277,23 +277,23 @@ module _ {A R : Type 0} (rules : Rules A R) where
       ∙ ap₂ (λ rs n. (rs, Some g)) (append-nil (replicate i rules.accepted)) all
       ∙ ap (λ n. (replicate n rules.accepted, Some g)) all
 
-  -- ---- items that aren't judged
+  -- ---- items that aren't validated
 
   -- one more result
   pub unjudged_more : (done : List R) (all : List A) (i : ℕ) (d : A) → i < length all
-      → (done ++ unjudged_one rules (get_or all i d) (i + 1 == length all) ∷ []) ++ unjudged rules (drop (i + 1) all)
-      ≡ done ++ unjudged rules (drop i all)
+      → (done ++ unvalidated_one rules (get_or all i d) (i + 1 == length all) ∷ []) ++ unvalidated rules (drop (i + 1) all)
+      ≡ done ++ unvalidated rules (drop i all)
   unjudged_more done all i d inside =
-      append_assoc done (unjudged_one rules (get_or all i d) (i + 1 == length all) ∷ [])
-      (unjudged rules (drop (i + 1) all))
+      append_assoc done (unvalidated_one rules (get_or all i d) (i + 1 == length all) ∷ [])
+      (unvalidated rules (drop (i + 1) all))
       ∙ ap (λ xs. done ++ xs)
-      (ap (λ b. unjudged_one rules (get_or all i d) b ∷ unjudged rules (drop (i + 1) all)) (last_left all i inside)
-      ∙ sym (at_drop_more (unjudged rules) all i d inside))
+      (ap (λ b. unvalidated_one rules (get_or all i d) b ∷ unvalidated rules (drop (i + 1) all)) (last_left all i inside)
+      ∙ sym (at_drop_more (unvalidated rules) all i d inside))
 
   -- all of them
   pub unjudged_all : (done : List R) (all : List A) (i : ℕ) → length all ≤ i
-      → done ++ unjudged rules (drop i all) ≡ done
-  unjudged_all done all i past = ap (λ xs. done ++ unjudged rules xs) (drop_all i all past) ∙ append-nil done
+      → done ++ unvalidated rules (drop i all) ≡ done
+  unjudged_all done all i past = ap (λ xs. done ++ unvalidated rules xs) (drop_all i all past) ∙ append-nil done
 
   -- ---- a chain of one
 
@@ -336,11 +336,11 @@ module _ {A R : Type 0} (rules : Rules A R) where
   ItemsGoOn_more h t all i j n chain done done' now now' parts long to results after goes =
       let rest : ℕ → List A → List R × History =
       λ m items. items_from rules (history_after rules now (t + i) chain) m items in
-      let moment : t + j ≡ t + i + length chain = omega arith in
+      let time : t + j ≡ t + i + length chain = omega arith in
       let left : drop j all ≡ drop n (drop i all) = ap (λ m. drop m all) to ∙ sym (drop-drop n i all) in
       let same : items_from rules now' (t + j) (drop j all)
       ≡ rest (t + i + length chain) (drop n (drop i all)) =
-      ap (λ g. items_from rules g (t + j) (drop j all)) after ∙ ap₂ rest moment left in
+      ap (λ g. items_from rules g (t + j) (drop j all)) after ∙ ap₂ rest time left in
       let cut : items_from rules now (t + i) (drop i all)
       ≡ (
         (played rules now (t + i) chain).0 ++ (rest (t + i + length chain) (drop n (drop i all))).0,

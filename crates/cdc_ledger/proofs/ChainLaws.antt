@@ -26,7 +26,7 @@ total-chains_of linked (a ∷ rest) =
     let others = total-chains_of linked rest in
     omega (arith, more, others)
 
--- what follows of each history holds where there is one
+-- a weaker property still holds of a history, if there is one
 some_weaker : (o : Option History) (X Y : History → Type 0) → ((g : History) → X g → Y g) → IfSome o X → IfSome o Y
 some_weaker None X Y weaker holds = tt
 some_weaker (Some g) X Y weaker holds = weaker g holds
@@ -42,7 +42,7 @@ module _ {A R : Type 0} (rules : Rules A R) (P : History → Type 0) (Q : ℕ �
     → P (rules.taken h a t))
     (on_timed : (h : History) (t : ℕ) → P h → h.last < t → Q t → P (timed h t))
     (at : (h : History) (a : A) (t : ℕ) → (rules.taken h a t).last ≡ t) where
-  -- it holds of a history that hasn't come to the moment t
+  -- P holds of a history whose last timestamp is before t
   pub record Before (t : ℕ) (g : History) : Type 0 where
     pub holds : P g
     pub later : g.last < t

@@ -26,11 +26,11 @@ filter_same : (p q : Entry → Bool) (es : List Entry) → AllByRecursion (λ e.
 filter_same p q [] agree = refl
 filter_same p q (e ∷ es) agree = ap₂ (λ b more. if b then e ∷ more else more) agree.0 (filter_same p q es agree.1)
 
--- the entry has a triple, and its end has come
+-- the entry has a triple, and its expiry time has come
 abbrev pub is_ready : History → ℕ → Entry → Bool
 is_ready h now e = is_open h e && nat_le (expires_at e.transfer) now
 
--- whether the end has come may be asked after whether the transfer is still open
+-- the order of the tests doesn't matter: the expiry time can be tested last
 ends_last : (held timed ended done : Bool)
     → (held && timed && ended && not done) ≡ ((held && timed && not done) && ended)
 ends_last true true true true = refl
@@ -40,7 +40,7 @@ ends_last true true false false = refl
 ends_last true false ended done = refl
 ends_last false timed ended done = refl
 
--- a transfer is due exactly where it has a triple whose end has come
+-- a transfer is due if and only if it has a triple whose expiry time has come
 pub is_due-ready : (h : History) (now : ℕ) (e : Entry) → is_due h now e ≡ is_ready h now e
 is_due-ready h now e =
     ends_last (holds e.kind) (not (e.transfer.timeout == 0)) (nat_le (expires_at e.transfer) now)
@@ -50,7 +50,7 @@ is_due-ready h now e =
 filter-ready : (h : History) (now : ℕ) (es : List Entry) → filter (is_due h now) es ≡ filter (is_ready h now) es
 filter-ready h now es = filter_agree (is_due h now) (is_ready h now) (is_due-ready h now) es
 
--- the triples whose end has come
+-- the triples whose expiry time has come
 abbrev pub ready_triples : History → ℕ → List Triple
 ready_triples h now = triples_from (is_ready h now) 0 h.entries
 
@@ -61,7 +61,7 @@ ready_triples-filter h now =
     filter-triples_from (λ t. nat_le t.expires_at now) (is_open h) (λ e. nat_le (expires_at e.transfer) now)
     (λ n e. refl) 0 h.entries
 
--- as many transfers are due as there are triples whose end has come
+-- the number of due transfers is the number of triples whose expiry time has come
 pub length-due : (h : History) (now : ℕ)
     → length (due h now) ≡ length (filter (λ t. nat_le t.expires_at now) (open_triples h))
 length-due h now =
@@ -86,7 +86,7 @@ passing-append test xs ys =
 passing-same : (p q : Entry → Bool) (es : List Entry) → AllByRecursion (λ e. p e ≡ q e) es → passing p es ≡ passing q es
 passing-same p q es agree = ap (map (λ e. e.transfer)) (filter_same p q es agree)
 
--- a transfer that ends before each one that passes is the soonest of them all
+-- a transfer that expires before each one that passes is the soonest of them all
 soonest_passing : (p : Transfer) (test : Entry → Bool) (es : List Entry)
     → AllByRecursion (λ y. test y ≡ true → is_sooner p y.transfer ≡ true) es → IsSoonest p (passing test es)
 soonest_passing p test [] all = tt
@@ -99,11 +99,11 @@ soonest_passing p test (y ∷ es) all = either (test y) refl (soonest_passing p 
 
 -- the one that is due and soonest comes first, and then the others
 module _ (h : History) (now : ℕ) (e : Entry) (among : IsAmong h.entries e) where
-  -- the others that are due, in the order of their ends
+  -- the others that are due, in the order of their expiry times
   abbrev pub others : List Transfer
   others = in_order_of_end (passing (is_due h now) among.front ++ passing (is_due h now) among.back)
 
-  -- so a pulse begins with the transfer that ends first
+  -- so a pulse starts with the transfer that expires first
   pub due-first : is_due h now e ≡ true
       → Around (λ y. is_due h now y ≡ true → is_sooner e.transfer y.transfer ≡ true) among.front among.back
       → due h now ≡ e.transfer ∷ others

@@ -1,4 +1,4 @@
--- Transfers in the order of their ends: the soonest of all stands first, and the others follow as they would alone.
+-- Transfers in the order of their expiry times: the soonest of all is first, and the rest are ordered as without it.
 use Rattle.std.proofs.Common.{ℕ, suc, Bool, true, false, List, [], ◌∷◌, ◌++◌, ◌≡◌, length, refl, ap, ◌∙◌, arith}
 use Rattle.std.specs.Prelude.{◌==◌, ◌&&◌, ◌||◌, nat_lt, if◌then◌else◌}
 use Rattle.std.specs.List.{AllByRecursion}
@@ -7,12 +7,12 @@ use Rattle.cdc_types.specs.declared.transfers.Transfer.{Transfer}
 use Rattle.cdc_ledger.specs.Due.{is_sooner, insert_by_end, in_order_of_end}
 use Rattle.cdc_ledger.specs.Filling.{expires_at}
 
--- one moment and number before another isn't after it
+-- if one pair of timestamp and number is before another, the other isn't before it
 sooner_once : (a b s t : ℕ) → (nat_lt a b || ((a == b) && nat_lt s t)) ≡ true
     → (nat_lt b a || ((b == a) && nat_lt t s)) ≡ false
 sooner_once a b s t sooner = grind (arith, nat_tests)
 
--- of two transfers at most one ends sooner than the other
+-- of two transfers at most one expires sooner than the other
 pub is_sooner-once : (p q : Transfer) → is_sooner p q ≡ true → is_sooner q p ≡ false
 is_sooner-once p q = sooner_once (expires_at p) (expires_at q) p.timestamp q.timestamp
 
@@ -23,7 +23,7 @@ either P false xs ys here there = there
 
 -- what holds of each stays so in the order
 module _ (P : Transfer → Type 0) where
-  -- a transfer put in its place is like those that it stands among
+  -- a property of a transfer and of each of a list's transfers still holds of each after the insert
   pub All-insert_by_end : (p : Transfer) (qs : List Transfer) → P p → AllByRecursion P qs
       → AllByRecursion P (insert_by_end p qs)
   All-insert_by_end p [] here all = (here, tt)
@@ -52,13 +52,13 @@ length-in_order (p ∷ ps) = length-insert_by_end p (in_order_of_end ps) ∙ ap 
 abbrev pub IsSoonest : Transfer → List Transfer → Type 0
 IsSoonest p = AllByRecursion (λ q. is_sooner p q ≡ true)
 
--- one that ends sooner than all others is put before them
+-- a transfer that expires sooner than all others is inserted before them
 insert_by_end-first : (p : Transfer) (qs : List Transfer) → IsSoonest p qs → insert_by_end p qs ≡ p ∷ qs
 insert_by_end-first p [] all = refl
 insert_by_end-first p (q ∷ qs) all =
     ap (λ b. if b then q ∷ insert_by_end p qs else p ∷ q ∷ qs) (is_sooner-once p q all.0)
 
--- wherever the soonest stands, the order has it first
+-- the order puts the soonest transfer first, wherever it was
 pub in_order-soonest : (p : Transfer) (front back : List Transfer) → IsSoonest p front → IsSoonest p back
     → in_order_of_end (front ++ p ∷ back) ≡ p ∷ in_order_of_end (front ++ back)
 in_order-soonest p [] back before after =

@@ -5,7 +5,7 @@ use Rattle.std.specs.List.{AllByRecursion, list_any}
 use Rattle.std.proofs.lemmas.List.Sums.{sum_by-cons}
 
 module _ {X : Type 0} where
-  -- where a fact holds of each element, so does what follows from it
+  -- if a fact holds of each element, so does anything that it implies
   pub AllByRecursion-weaker : (P Q : X → Type 0) → ((x : X) → P x → Q x) → (xs : List X) → AllByRecursion P xs
       → AllByRecursion Q xs
   AllByRecursion-weaker P Q f [] h = tt
@@ -28,13 +28,13 @@ module _ {X : Type 0} where
   AllByRecursion-both P Q [] h k = tt
   AllByRecursion-both P Q (x ∷ xs) h k = ((h.0, k.0), AllByRecursion-both P Q xs h.1 k.1)
 
-  -- sums over entries are equal where each entry adds the same to both
+  -- sums over entries are equal if each entry adds the same to both
   pub sum_by_same : (f g : X → ℕ) (xs : List X) → AllByRecursion (λ x. f x ≡ g x) xs → sum_by f xs ≡ sum_by g xs
   sum_by_same f g [] h = refl
   sum_by_same f g (x ∷ xs) h = sum_by-cons f x xs
       ∙ (ap₂ (λ a b. a + b) h.0 (sum_by_same f g xs h.1) ∙ sym (sum_by-cons g x xs))
 
-  -- so they are where both add the same for anything
+  -- so they are equal if both functions agree on every value
   pub sum_by_every : (f g : X → ℕ) → ((x : X) → f x ≡ g x) → (xs : List X) → sum_by f xs ≡ sum_by g xs
   sum_by_every f g h xs = sum_by_same f g xs (AllByRecursion-every (λ x. f x ≡ g x) h xs)
 
@@ -49,12 +49,12 @@ module _ {X : Type 0} where
   list_any_same p q [] h = refl
   list_any_same p q (x ∷ xs) h = ap₂ (λ a b. a || b) h.0 (list_any_same p q xs h.1)
 
-  -- no entry passes where each one fails
+  -- if each entry fails the test, no entry passes it
   pub list_any_none : (p : X → Bool) (xs : List X) → AllByRecursion (λ x. p x ≡ false) xs → list_any p xs ≡ false
   list_any_none p [] h = refl
   list_any_none p (x ∷ xs) h = ap₂ (λ a b. a || b) h.0 (list_any_none p xs h.1)
 
-  -- what is shown of each account, or told of each entry, is shown of the list
+  -- two functions that agree on each element give the same list
   pub map_same : {Y : Type 0} (f g : X → Y) (xs : List X) → AllByRecursion (λ x. f x ≡ g x) xs → map f xs ≡ map g xs
   map_same f g [] h = refl
   map_same f g (x ∷ xs) h = ap₂ (λ a b. a ∷ b) h.0 (map_same f g xs h.1)

@@ -27,12 +27,12 @@ use Rattle.cdc_ledger.proofs.Elements.{AllByRecursion-every, map_same}
 use Rattle.cdc_ledger.proofs.IndexKept.{settles-settled_by}
 use Rattle.cdc_ledger.proofs.Pending.{Around, Around-weaker, IsAmong, IsOther, IsOther-around, IsStored-found}
 
--- where one of two holds, neither does
+-- if a disjunction is false, so are both parts
 neither : (a b : Bool) → (a || b) ≡ false → (a ≡ false) × (b ≡ false)
 neither true b none = absurd (false≢true (sym none))
 neither false b none = (refl, none)
 
--- the entry neither posts nor voids the transfer p, nor is it its end
+-- the entry neither posts nor voids the transfer p, nor is it the expiry of p
 record LeavesOpen (p : Transfer) (e : Entry) : Type 0 where
   unposted : posts e.kind e.transfer p ≡ false
   unvoided : voids e.kind e.transfer p ≡ false
@@ -45,13 +45,13 @@ leaves_open p e none =
     let first = neither (posts e.kind e.transfer p) (voids e.kind e.transfer p) last.0 in
     record { unposted = first.0; unvoided = first.1; unexpired = last.1 }
 
--- none of these entries brought the transfer p to its end
+-- none of these entries ended the transfer p
 record IsUnended (es : List Entry) (p : Transfer) : Type 0 where
   unposted : list_any (λ x. posts x.kind x.transfer p) es ≡ false
   unvoided : list_any (λ x. voids x.kind x.transfer p) es ≡ false
   unexpired : list_any (λ x. expires x.kind x.transfer p) es ≡ false
 
--- so it is where none resolved it by a moment that none of them is past
+-- p is unended if none of the entries resolved it by the timestamp t, and none of them is later than t
 unended_from : (p : Transfer) (t : ℕ) (es : List Entry) → AllByRecursion (λ e. e.timestamp ≤ t) es
     → list_any (λ e. nat_le e.timestamp t && resolves p e) es ≡ false → IsUnended es p
 unended_from p t [] past none = record { unposted = refl; unvoided = refl; unexpired = refl }
@@ -104,7 +104,7 @@ ending_kept es e p none =
     (any_kept (λ x. voids x.kind x.transfer p) es e own.unvoided)
     (any_kept (λ x. expires x.kind x.transfer p) es e own.unexpired)
 
--- the end that an entry brings is that of its kind
+-- the ending that an entry causes is that of its kind
 ending_kind : (k : EventKind) (x p : Transfer) → (settles k && (settled_id k x == p.id)) ≡ true
     → ending_from (posts k x p) (voids k x p) (expires k x p) ≡ ending_by k
 ending_kind SinglePhase x p is = absurd (false≢true is)
@@ -113,7 +113,7 @@ ending_kind TwoPhasePosted x p is = ap (λ b. ending_from b false false) is
 ending_kind TwoPhaseVoided x p is = ap (λ b. ending_from false b false) is
 ending_kind TwoPhaseExpired x p is = ap (λ b. ending_from false false b) is
 
--- an entry that settles a transfer which was open brings it to this end
+-- an entry that settles a transfer that was open gives it this ending
 ending_new : (es : List Entry) (e : Entry) (p : Transfer) → IsUnended es p
     → (settles e.kind && (settled_id e.kind e.transfer == p.id)) ≡ true
     → ending_among (es ++ e ∷ []) p ≡ ending_by e.kind
@@ -123,16 +123,16 @@ ending_new es e p unended is =
     (any_last (λ x. expires x.kind x.transfer p) es e unended.unexpired)
     ∙ ending_kind e.kind e.transfer p is
 
--- what none of the entries brought to its end is open
+-- a transfer that none of the entries ended is open
 ending_open : (es : List Entry) (p : Transfer) → IsUnended es p → ending_among es p ≡ Open
 ending_open es p unended = ending_same _ _ _ _ _ _ unended.unposted unended.unvoided unended.unexpired
 
--- the entry x stands at this place: so many come before it
+-- the entry x is at this index: the number of entries before it is the index
 record IsAt (es : List Entry) (place : ℕ) (x : Entry) : Type 0 where
   among : IsAmong es x
   before : length among.front ≡ place
 
--- what is read at a place stands there
+-- the entry that is read at an index is at that index
 at_place : (es : List Entry) (place : ℕ) (x : Entry) → slice_get es place ≡ Some x → IsAt es place x
 at_place [] place x at = cc
 at_place (y ∷ es) zero x at =
@@ -154,7 +154,7 @@ set_seam : {X : Type 0} (xs : List X) (y z : X) (ys : List X) → set (xs ++ y �
 set_seam [] y z ys = refl
 set_seam (x ∷ xs) y z ys = ap (λ more. x ∷ more) (set_seam xs y z ys)
 
--- what is noted of each entry, where that of one entry alone changed
+-- the values of all entries, if only that of one entry changed
 map_at : (f g : Entry → Ending) (es : List Entry) (place : ℕ) (x : Entry) (at : IsAt es place x)
     → Around (λ y. f y ≡ g y) at.among.front at.among.back → map f es ≡ set (map g es) place (f x)
 map_at f g es place x at others =
@@ -179,7 +179,7 @@ pub ending_within : (h : History) (endings : List Ending) (place : ℕ) → endi
 ending_within h endings place same within =
     let long = endings_long h endings same in omega (arith, within, long)
 
--- which says how its transfer ended
+-- the value read is how the transfer of the entry at that index ended
 pub ending_read : (h : History) (endings : List Ending) (place : ℕ) (d : Ending) → endings ≡ endings_of h.entries
     → place < length h.entries
     → option_map (ending_of h.entries) (slice_get h.entries place) ≡ Some (get_or endings place d)
@@ -200,7 +200,7 @@ module _ (h : History) (e : Entry) (sound : IsSound h) (follows : Follows h e) w
   abbrev all : List Entry
   all = h.entries ++ e ∷ []
 
-  -- a transfer that another id is settled of ends as it did
+  -- a transfer keeps its ending if the entry settles another id
   kept_of : (y : Entry) → (holds y.kind ≡ true → resolves y.transfer e ≡ false)
       → ending_of all y ≡ ending_of h.entries y
   kept_of y other = by (holds y.kind) refl
@@ -225,7 +225,7 @@ module _ (h : History) (e : Entry) (sound : IsSound h) (follows : Follows h e) w
           (resolved_none h e.transfer h.last sound.standing (follows.fresh (stores-holds e.kind is))))
       by false s is settling = ap (λ b. if b then ending_among all e.transfer else Open) is
 
-  -- where it settles nothing, the others are as they were
+  -- if the entry settles nothing, the others keep their endings
   unsettled : settles e.kind ≡ false → endings_of all ≡ endings_of h.entries ++ Open ∷ []
   unsettled none =
       map_push (ending_of all) h.entries e
@@ -234,7 +234,7 @@ module _ (h : History) (e : Entry) (sound : IsSound h) (follows : Follows h e) w
       (λ y. kept_of y (λ is. resolves_is e y.transfer
       ∙ ap (λ b. b && (settled_id e.kind e.transfer == y.transfer.id)) none)) h.entries)) own_open
 
-  -- where it settles a pending transfer, that one alone has come to its end
+  -- if the entry settles a pending transfer, only the ending of that transfer changes
   settled_at : settles e.kind ≡ true → (p : Pending) → settled_by h e ≡ Some p.transfer
       → IsStoredAt h p.transfer.id p.place
       → endings_of all ≡ set (endings_of h.entries) p.place (ending_by e.kind) ++ Open ∷ []

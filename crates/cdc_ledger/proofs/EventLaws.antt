@@ -28,12 +28,12 @@ event_with e debit credit debits credits = record {
   credit_account = shown_account (unwrap_or credit nobody) credits;
 }
 
--- an event stays the same where the balances that it shows do
+-- an event stays the same if the balances that it shows do
 same_balances : (e : Entry) (d c : Option Opened) (s s' t t' : Balances) → s ≡ s' → t ≡ t'
     → event_with e d c s t ≡ event_with e d c s' t'
 same_balances e d c s s' t t' p q = ap₂ (λ x y. event_with e d c x y) p q
 
--- and where its two accounts do
+-- an event stays the same if its two accounts do
 same_accounts : (e : Entry) (d d' c c' : Option Opened) (s t : Balances) → d ≡ d' → c ≡ c'
     → event_with e d c s t ≡ event_with e d' c' s t
 same_accounts e d d' c c' s t p q = ap₂ (λ x y. event_with e x y s t) p q
@@ -50,7 +50,7 @@ events-pushed h e within after =
     (balances-pushed_before h e x.transfer.credit_account_id x.timestamp (omega arith)))
     h.entries within))
 
--- one more account, where each entry's accounts were there
+-- one more account leaves the events as they are, if the accounts of each entry already existed
 pub events-with_account : (h : History) (o : Opened) → AllByRecursion (HasAccounts h) h.entries
     → events (with_account h o) ≡ events h
 events-with_account h o known = map_same (event_of (with_account h o)) (event_of h) h.entries

@@ -1,5 +1,5 @@
--- The definitions at work: what they compute for small histories, beside what the rules say in words. Accounts 1 and 2
--- are opened at 1000 and 1001 in each, of ledger 700 and code 10.
+-- The definitions at work: what they compute for small histories, next to the rules in prose. In each history,
+-- accounts 1 and 2 of ledger 700 and code 10 are opened at 1000 and 1001.
 use Rattle.std.specs.Prelude.{ℕ, ◌≡◌, Result, Ok, Err, List, [], ◌∷◌, map}
 use Rattle.std.proofs.Common.{refl}
 use Rattle.cdc_types.specs.declared.accounts.Balances.{Balances}
@@ -16,12 +16,11 @@ use Rattle.cdc_types.specs.declared.results.AccountResult.TheVariants as account
 use Rattle.cdc_types.specs.declared.results.TransferResult.{TransferResult}
 use Rattle.cdc_types.specs.declared.results.TransferResult.TheVariants as result
 use Rattle.cdc_types.specs.declared.transfers.NewTransfer.{NewTransfer}
-use Rattle.cdc_types.specs.Features.{features}
 use Rattle.cdc_ledger.specs.declared.errors.BatchError.{BatchError}
 use Rattle.cdc_ledger.specs.declared.errors.BatchError.TheVariants.{TimestampsExhausted}
 use Rattle.cdc_ledger.specs.History.{History, empty_history}
 use Rattle.cdc_ledger.specs.Balances.{balances}
-use Rattle.cdc_ledger.specs.Submit.{submit_by, history_or, after_batches}
+use Rattle.cdc_ledger.specs.Submit.{submit, history_or, after_batches}
 use Rattle.cdc_ledger.specs.Events.{events}
 
 -- a request for an account of ledger 700 and code 10
@@ -71,13 +70,13 @@ answer_of (Err why) = Err why
 -- what each batch is answered in turn
 abbrev answers : History → List Batch → List Answer
 answers h [] = []
-answers h (b ∷ bs) = answer_of (submit_by features h b) ∷ answers (history_or h (submit_by features h b)) bs
+answers h (b ∷ bs) = answer_of (submit h b) ∷ answers (history_or h (submit h b)) bs
 
--- the results of requests for transfers, how many came to their end at a pulse, and a refusal of the whole batch
+-- the results of requests for transfers, the number of expiries of a pulse, and the refusal of a whole batch
 abbrev given : List TransferResult → Answer
 given items = Ok (results.Transfers items)
 
--- so many pending transfers came to their end at a pulse
+-- this number of pending transfers expired at a pulse
 abbrev pulsed : ℕ → Answer
 pulsed count = Ok (results.Pulsed count)
 
@@ -97,9 +96,9 @@ two_opened = Ok (results.Accounts (account_result.Accepted ∷ account_result.Ac
 abbrev sums : ℕ → ℕ → ℕ → ℕ → Balances
 sums dp d cp c = record { debits_pending = dp; debits_posted = d; credits_pending = cp; credits_posted = c }
 
--- what an event says of the movement: when, what, how much, and the sums of both accounts
-abbrev told : Event → ℕ × EventKind × ℕ × Balances × Balances
-told e =
+-- the main fields of an event: its timestamp, kind and amount, and the balances of both accounts
+abbrev emitted : Event → ℕ × EventKind × ℕ × Balances × Balances
+emitted e =
     let d = e.debit_account in
     let c = e.credit_account in (
       e.timestamp,
@@ -111,9 +110,9 @@ told e =
 
 -- the history that these batches make of nothing
 abbrev history : List Batch → History
-history = after_batches features empty_history
+history = after_batches empty_history
 
--- the greatest amount, which as that of a post stands for the whole
+-- the greatest amount; in a post it means the whole pending amount
 abbrev whole : ℕ
 whole = 340282366920938463463374607431768211455
 
@@ -132,12 +131,12 @@ one_transfer-answers : answers empty_history one_transfer ≡
 one_transfer-answers = refl
 
 -- its event shows 100 debited on the one side and credited on the other
-one_transfer-events : map told (events (history one_transfer)) ≡
+one_transfer-events : map emitted (events (history one_transfer)) ≡
     (2000, SinglePhase, 100, sums 0 100 0 0, sums 0 0 0 100) ∷
     []
 one_transfer-events = refl
 
--- two transfers in one batch: each event shows the balances after itself, not those of the batch's end
+-- two transfers in one batch: each event shows the balances right after itself, not those at the end of the batch
 abbrev two_transfers : List Batch
 two_transfers =
     two_accounts ∷
@@ -145,7 +144,7 @@ two_transfers =
     []
 
 -- the first event doesn't show the 7 that the second transfer moves
-two_transfers-events : map told (events (history two_transfers)) ≡
+two_transfers-events : map emitted (events (history two_transfers)) ≡
     (2000, SinglePhase, 5, sums 0 5 0 0, sums 0 0 0 5) ∷
     (2001, SinglePhase, 7, sums 0 12 0 0, sums 0 0 0 12) ∷
     []
@@ -160,7 +159,7 @@ posted_in_part =
     []
 
 -- the post moves 40, and nothing of the 100 is held back after it
-posted_in_part-events : map told (events (history posted_in_part)) ≡
+posted_in_part-events : map emitted (events (history posted_in_part)) ≡
     (2000, TwoPhasePending, 100, sums 100 0 0 0, sums 0 0 100 0) ∷
     (3000, TwoPhasePosted, 40, sums 0 40 0 0, sums 0 0 0 40) ∷
     []
@@ -175,7 +174,7 @@ voided =
     batch.Transfers 4000 (settling 12 10 0 8 ∷ []) ∷
     []
 
--- the first void is accepted, and the second one is told that the transfer was voided
+-- the first void is accepted; the result of the second one is that the transfer was already voided
 voided-answers : answers empty_history voided ≡
     two_opened ∷
     given (result.Accepted ∷ []) ∷
@@ -185,14 +184,14 @@ voided-answers : answers empty_history voided ≡
 voided-answers = refl
 
 -- the void releases all 100 and moves nothing; the refused one has no event
-voided-events : map told (events (history voided)) ≡
+voided-events : map emitted (events (history voided)) ≡
     (2000, TwoPhasePending, 100, sums 100 0 0 0, sums 0 0 100 0) ∷
     (3000, TwoPhaseVoided, 100, sums 0 0 0 0, sums 0 0 0 0) ∷
     []
 voided-events = refl
 
--- a transfer that is pending for a second ends at 1000002000: a post a nanosecond before is taken, and one at the end
--- isn't, though nothing has swept it yet
+-- a transfer with a timeout of one second expires at 1000002000: a post one nanosecond before that is accepted, and a
+-- post at that timestamp isn't, even though no pulse has expired the transfer yet
 abbrev posted_in_time : List Batch
 posted_in_time =
     two_accounts ∷
@@ -217,7 +216,7 @@ posted_too_late =
     batch.Pulse 1000003000 ∷
     []
 
--- the post is refused as expired, and it is left to the pulse to bring the transfer to its end
+-- the post is refused as expired, and the next pulse expires the transfer
 posted_too_late-answers : answers empty_history posted_too_late ≡
     two_opened ∷
     given (result.Accepted ∷ []) ∷
@@ -226,8 +225,8 @@ posted_too_late-answers : answers empty_history posted_too_late ≡
     []
 posted_too_late-answers = refl
 
--- the expiry is told at the moment of the pulse, not at the end itself
-posted_too_late-events : map told (events (history posted_too_late)) ≡
+-- the expiry's event has the timestamp of the pulse, not the transfer's expiry time
+posted_too_late-events : map emitted (events (history posted_too_late)) ≡
     (2000, TwoPhasePending, 100, sums 100 0 0 0, sums 0 0 100 0) ∷
     (1000003000, TwoPhaseExpired, 100, sums 0 0 0 0, sums 0 0 0 0) ∷
     []
@@ -256,11 +255,11 @@ limited-balances : (balances (history limited) 1 2004 ≡ sums 0 100 0 101)
     × (balances (history limited) 2 2004 ≡ sums 0 101 0 100)
 limited-balances = (refl, refl)
 
--- five requests took five timestamps, of which the last was given out in a batch of the moment 5
+-- five requests took five timestamps, the last of them in a batch whose own timestamp is 5
 limited-last : (history limited).last ≡ 2004
 limited-last = refl
 
--- of two pending transfers the one that ends first expires first, whatever their ids
+-- of two pending transfers the one with the earlier expiry time expires first, whatever their ids
 abbrev swept : List Batch
 swept =
     two_accounts ∷
@@ -269,7 +268,7 @@ swept =
     []
 
 -- transfer 11 of 2 was made after transfer 10 of 1, and expires before it
-swept-events : map told (events (history swept)) ≡
+swept-events : map emitted (events (history swept)) ≡
     (2000, TwoPhasePending, 1, sums 1 0 0 0, sums 0 0 1 0) ∷
     (2001, TwoPhasePending, 2, sums 3 0 0 0, sums 0 0 3 0) ∷
     (3000000000, TwoPhaseExpired, 2, sums 1 0 0 0, sums 0 0 1 0) ∷
@@ -277,7 +276,7 @@ swept-events : map told (events (history swept)) ≡
     []
 swept-events = refl
 
--- a transfer that comes again is told so, and is told so otherwise where it differs; a post is compared as it was
+-- a duplicate of a transfer is refused as such, and one with other fields has another refusal; a post is compared as
 -- filled in
 abbrev repeated : List Batch
 repeated =
@@ -298,7 +297,7 @@ repeated-answers : answers empty_history repeated ≡
     []
 repeated-answers = refl
 
--- no sum passes 128 bits: neither the posted one, nor pending and posted together; and no end passes 63 bits
+-- no sum exceeds 128 bits, neither the posted one nor pending and posted together, and no expiry time exceeds 63 bits
 abbrev too_much : List Batch
 too_much =
     two_accounts ∷
@@ -312,7 +311,7 @@ too_much-answers : answers empty_history too_much ≡
     []
 too_much-answers = refl
 
--- the greatest amount held back, and 1 more to be moved beside it
+-- the greatest amount is held back, and 1 more is to be moved
 abbrev too_much_together : List Batch
 too_much_together =
     two_accounts ∷
@@ -386,7 +385,7 @@ all_faulty =
     batch.Transfers 2000 (map (λ row. row.0) faulty) ∷
     []
 
--- each is refused with the result that stands beside it
+-- each is refused with the result in its row
 faulty-answers : answers empty_history all_faulty ≡
     two_opened ∷
     given (map (λ row. row.1) faulty) ∷
@@ -419,13 +418,13 @@ failed_chain-answers : answers empty_history failed_chain ≡
 failed_chain-answers = refl
 
 -- the transfer after the chain has the fourth timestamp of the batch
-failed_chain-events : map told (events (history failed_chain)) ≡
+failed_chain-events : map emitted (events (history failed_chain)) ≡
     (2003, SinglePhase, 9, sums 0 9 0 0, sums 0 0 0 9) ∷
     []
 failed_chain-events = refl
 
--- a chain that is taken; one that is open at the batch's end; one that fails at its first item, whose id is there;
--- and an open one that fails at its first item
+-- a chain that is accepted; one that is open at the end of the batch; one that fails at its first item, whose id
+-- exists; and an open one that fails at its first item
 abbrev four_chains : List Batch
 four_chains =
     two_accounts ∷
@@ -446,7 +445,7 @@ four_chains-answers : answers empty_history four_chains ≡
 four_chains-answers = refl
 
 -- only the first chain has events
-four_chains-events : map told (events (history four_chains)) ≡
+four_chains-events : map emitted (events (history four_chains)) ≡
     (2000, SinglePhase, 5, sums 0 5 0 0, sums 0 0 0 5) ∷
     (2001, SinglePhase, 7, sums 0 12 0 0, sums 0 0 0 12) ∷
     []
@@ -470,8 +469,8 @@ post_taken_back-answers : answers empty_history post_taken_back ≡
     []
 post_taken_back-answers = refl
 
--- it is held back, and comes to its end
-post_taken_back-events : map told (events (history post_taken_back)) ≡
+-- the amount is held back, and the transfer expires
+post_taken_back-events : map emitted (events (history post_taken_back)) ≡
     (2000, TwoPhasePending, 100, sums 100 0 0 0, sums 0 0 100 0) ∷
     (1000002000, TwoPhaseExpired, 100, sums 0 0 0 0, sums 0 0 0 0) ∷
     []

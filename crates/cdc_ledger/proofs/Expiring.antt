@@ -15,7 +15,8 @@ use Rattle.cdc_ledger.proofs.AcceptedLaws.{Follows-expiry}
 use Rattle.cdc_ledger.proofs.IndexKept.{due-none}
 use Rattle.cdc_ledger.proofs.IndexNext.{IsNext, IsNext-least}
 
--- this many of those that were due at the moment now in the history h expired, from the moment base on, which made g
+-- this number of the transfers that were due at the timestamp now in the history h expired, from the timestamp base
+-- on, which turned h into g
 pub record GoesOn (h : History) (base now count done : ℕ) (g : History) : Type 0 where
   pub left : length (due g now) + done ≡ count
   pub rest : expiries_from g (base + done) (due g now) ≡ expiries_from h base (due h now)
@@ -40,14 +41,14 @@ pub GoesOn-some : (h : History) (base now count done : ℕ) (g : History) → Go
 GoesOn-some h base now count done g on more none =
     let long = ap (λ (ps : List Transfer). length ps) none in absurd (omega (arith, on.left, long))
 
--- the index has an answer where some are due, so that the first of them is found
+-- if some transfers are due, the index has an answer
 pub IsSome-answer : (g : History) (s : Triples) (now : ℕ) (answer : Option Triple) → s ≡ index_of g → due g now ≢ []
     → IsLeast (due_at s now) answer → IsSome answer
 IsSome-answer g s now None kept some least =
     absurd (some (due-none g now (subst (λ u. IsLeast (due_at u now) None) kept least)))
 IsSome-answer g s now (Some t) kept some least = refl
 
--- what the index answers, where it is kept
+-- the answer of an index that is kept up to date
 pub IsNext-answer : (g : History) (s : Triples) (now : ℕ) (answer : Option Triple) (x : Triple) → IsSound g
     → s ≡ index_of g
     → IsLeast (due_at s now) answer → answer ≡ Some x → IsNext g now x
@@ -55,7 +56,7 @@ IsNext-answer g s now answer x sound kept least is =
     IsNext-least g now x sound (subst (λ a. IsLeast (due_at (index_of g) now) a) is
     (subst (λ u. IsLeast (due_at u now) answer) kept least))
 
--- its transfer may come to its end at any later moment, and the others are due after it
+-- its transfer may expire at any later timestamp, and then the others are due
 pub IsDueNext-next : (g : History) (now : ℕ) (x : Triple) → IsSound g → (next : IsNext g now x)
     → IsDueNext g now next.found.entry.transfer
 IsDueNext-next g now x sound next = record {

@@ -1,4 +1,4 @@
--- The set that an index keeps, after each change of a history, and what its answers say of what is due.
+-- The set that an index keeps after each change of a history, and what its answers imply about the due transfers.
 use Rattle.std.proofs.Common.{ℕ, ◌<◌, ◌≤◌, ◌^◌, Bool, true, false, Option, Some, None, List, [], ◌∷◌, ◌≡◌, length, refl, ap, sym, ◌∙◌, arith, subst, ⊎_elim}
 use Rattle.std.specs.Prelude.{nat_le, filter, not, ◌==◌, if◌then◌else◌, IfSome}
 use Rattle.std.specs.FinSet as set
@@ -40,7 +40,7 @@ settles-settled_by h e follows none = by_settling (settles e.kind) refl
         let named = settled_by_is h e (follows.settling is).pending is (follows.settling is).settles in cc
     by_settling false is = is
 
--- a single-phase or a pending one: it has a triple where it has a timeout
+-- a single-phase or a pending transfer: it has a triple if it is pending and has a timeout
 module _ (h : History) (e : Entry) (sound : IsSound h) (follows : Follows h e) (after : h.last < e.timestamp)
     (none : settled_by h e ≡ None) where
   -- one with a timeout is added to the index, at the place that its entry will have
@@ -79,7 +79,7 @@ IsSettled-settled_by h e p follows some = by_settling (settles e.kind) refl
         record { is = is; x = unsettled.pending; settled = unsettled.settles; own = cc }
     by_settling false isnt = let none : settled_by h e ≡ None = settled_by_none h e isnt in cc
 
--- the end of a pending transfer is a timestamp, and so it is without a timeout, when it is the moment of its entry
+-- the expiry time of a pending transfer is in range, even without a timeout: then it is the timestamp of its entry
 end_fits : (h : History) (x : Entry) → IsSound h → IsAmong h.entries x → holds x.kind ≡ true
     → expires_at x.transfer ≤ max_timestamp
 end_fits h x sound among held =
@@ -95,7 +95,7 @@ end_fits h x sound among held =
         let within : h.last ≤ max_timestamp = sound.within in
         omega arith
 
--- so the end of a settled transfer can be computed, by which its triple is looked for
+-- so the expiry time of a settled transfer, by which its triple is looked up, can be computed
 pub expires_at-settled : (h : History) (e : Entry) (p : Transfer) → IsSound h → Follows h e → settled_by h e ≡ Some p
     → expires_at p ≤ max_timestamp
 expires_at-settled h e p sound follows some =
@@ -103,11 +103,11 @@ expires_at-settled h e p sound follows some =
     let at = IsStored-found h (settled_id e.kind e.transfer) it.x it.settled.named in
     subst (λ (q : Transfer). expires_at q ≤ max_timestamp) it.own (end_fits h it.x sound at.among it.settled.pending)
 
--- a transfer that was made then has the same end
+-- a transfer that was created at the same timestamp has the same expiry time
 abbrev EndsAlike : Entry → Entry → Type 0
 EndsAlike x y = y.transfer.timestamp ≡ x.transfer.timestamp → expires_at y.transfer ≡ expires_at x.transfer
 
--- the triple of a timestamp has the end of the transfer that was made then
+-- the triple of a timestamp has the expiry time of the transfer that was created then
 ends_alike : (h : History) (x : Entry) → IsSound h → IsAmong h.entries x → stores x.kind ≡ true
     → All (λ t. t.timestamp ≡ x.transfer.timestamp → t.expires_at ≡ expires_at x.transfer) (open_triples h)
 ends_alike h x sound among is =
@@ -163,14 +163,14 @@ index_of-ended h e sound follows after = by_settled (settled_by h e) refl
     by_settled (Some p) is = index_of-settled h e p sound follows after is
     by_settled None is = by_opening (opens e) refl is
 
--- the end of what it settles can be computed
+-- the expiry time of the transfer that an entry settles can be computed
 pub settled-end : (h : History) (e : Entry) (o : Option Transfer) → IsSound h → Follows h e → o ≡ settled_by h e
     → IfSome o (λ p. expires_at p < 2 ^ 64)
 settled-end h e None sound follows is = tt
 settled-end h e (Some p) sound follows is =
     let fits = expires_at-settled h e p sound follows (sym is) in omega (arith, fits)
 
--- and so can its own end, where it has a triple
+-- and so can the entry's own expiry time, if it has a triple
 pub opens-end : (h : History) (e : Entry) → Follows h e → opens e ≡ true → expires_at e.transfer < 2 ^ 64
 opens-end h e follows is =
     let timeout = eqb-false e.transfer.timeout 0

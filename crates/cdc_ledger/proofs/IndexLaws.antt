@@ -39,7 +39,7 @@ open_triples-later h accounts t closed sound later =
     every [] = tt
     every (e ∷ es) = (ap (λ b. open_by b e) (resolved_later h e.transfer h.last t sound.past later), every es)
 
--- the entry e brings the transfer of y to its end
+-- the entry e settles the transfer of y
 abbrev ends : Entry → Entry → Bool
 ends e y = settles e.kind && (settled_id e.kind e.transfer == y.transfer.id)
 
@@ -48,12 +48,12 @@ is_open-then : (h : History) (e y : Entry) → IsSound h → h.last < e.timestam
     → is_open (pushed h e) y ≡ open_by (resolved h y.transfer h.last || ends e y) y
 is_open-then h e y sound after = ap (λ b. open_by b y) (resolved_then h e y.transfer sound.past after)
 
--- what was resolved is still all that is, where the new entry settles nothing
+-- if the new entry settles nothing, exactly the transfers that were resolved before are resolved
 or_none : (b c : Bool) → c ≡ false → (b || c) ≡ b
 or_none true c none = refl
 or_none false c none = none
 
--- a new pending transfer isn't resolved yet, so its timeout alone says whether it has a triple
+-- a new pending transfer isn't resolved yet, so it has a triple if and only if it has a timeout
 new_open : (held timed done : Bool) → (held ≡ true → done ≡ false) → (held && timed && not done) ≡ (held && timed)
 new_open true true done fresh = ap not (fresh refl)
 new_open true false done fresh = refl
@@ -61,7 +61,7 @@ new_open false timed done fresh = refl
 
 module _ (h : History) (e : Entry) (sound : IsSound h) (follows : Follows h e) (after : h.last < e.timestamp)
     (unsettling : settles e.kind ≡ false) where
-  -- an entry that settles nothing brings no transfer to its end
+  -- an entry that settles nothing ends no transfer
   ends_none : (y : Entry) → ends e y ≡ false
   ends_none y = ap (λ b. b && (settled_id e.kind e.transfer == y.transfer.id)) unsettling
 
@@ -74,7 +74,7 @@ module _ (h : History) (e : Entry) (sound : IsSound h) (follows : Follows h e) (
     old_alike es,
   )
 
-  -- the new one has a triple where it is pending and has a timeout
+  -- the new entry has a triple if it is pending and has a timeout
   own : is_open (pushed h e) e ≡ opens e
   own = is_open-then h e e sound after
       ∙ new_open (holds e.kind) (not (e.transfer.timeout == 0)) (resolved h e.transfer h.last || ends e e)

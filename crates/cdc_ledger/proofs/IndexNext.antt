@@ -1,4 +1,4 @@
--- Which entry the index's answers name, and that it is the one whose pending transfer comes to its end first.
+-- The entry that an index's answer names: it is the one whose pending transfer expires first.
 use Rattle.std.proofs.Common.{ℕ, ◌+◌, ◌<◌, Bool, true, false, Some, List, [], ◌∷◌, ◌++◌, ◌≡◌, ◌≢◌, length, refl, ap, ap₂, sym, ◌∙◌, arith, subst}
 use Rattle.std.specs.Prelude.{◌==◌, ◌&&◌, ◌||◌, not, nat_lt, nat_le, filter, slice_get, slice_index_or}
 use Rattle.std.specs.List.{AllByRecursion, Contains}
@@ -36,7 +36,7 @@ pub record IsOpenAt (h : History) (t : Triple) : Type 0 where
   pub pending : holds entry.kind ≡ true
   pub unsettled : resolved h entry.transfer h.last ≡ false
 
--- the entry between those before it and those after it stands at the slot of its triple
+-- the entry between those before it and those after it is at the slot of its triple
 get_seam : (front : List Entry) (e : Entry) (back : List Entry) → slice_get (front ++ e ∷ back) (length front) ≡ Some e
 get_seam [] e back = refl
 get_seam (x ∷ front) e back = get_seam front e back
@@ -75,10 +75,10 @@ module _ (h : History) (t : Triple) (sound : IsSound h) (of : IsOf (is_open h) 0
 pub record IsNext (h : History) (now : ℕ) (t : Triple) : Type 0 where
   pub found : IsOpenAt h t
   pub contained : Contains (open_triples h) t
-  pub first : (moment : ℕ) → h.last < moment
-      → due h now ≡ found.entry.transfer ∷ due (pushed h (expiry found.entry.transfer moment)) now
+  pub first : (time : ℕ) → h.last < time
+      → due h now ≡ found.entry.transfer ∷ due (pushed h (expiry found.entry.transfer time)) now
 
--- of triples with different timestamps the lesser one is of the transfer that ends sooner: slots never decide
+-- of triples with different timestamps the lesser one belongs to the transfer that expires sooner: slots never decide
 sooner_numbers : (a b s t m n : ℕ)
     → is_le (triple_cmp (record { expires_at = a; timestamp = s; slot = m })
     (record { expires_at = b; timestamp = t; slot = n })) ≡ true
@@ -96,11 +96,11 @@ module _ (h : History) (now : ℕ) (t : Triple) (sound : IsSound h) (of : IsOf (
   is : is_open h of.entry ≡ true
   is = (and_parts (is_open h of.entry) (nat_le (expires_at of.entry.transfer) now) of.passes).0
 
-  -- it ends sooner than this entry, or was made before it
+  -- it expires sooner than this entry's transfer; at equal expiry times the earlier timestamp is the sooner
   abbrev IsSooner : Entry → Type 0
   IsSooner y = y.transfer.timestamp ≢ of.entry.transfer.timestamp → is_sooner of.entry.transfer y.transfer ≡ true
 
-  -- than every other one whose end has come
+  -- it is sooner than every other one whose expiry time has come
   sooner : AllByRecursion (λ y. is_ready h now y ≡ true → IsSooner y) h.entries
   sooner =
       All-triples_from (λ u. is_le (triple_cmp t u) ≡ true) IsSooner
@@ -138,13 +138,13 @@ module _ (h : History) (now : ℕ) (t : Triple) (sound : IsSound h) (of : IsOf (
   })
 
   -- the pulse's next expiry is this one, and after it the others are due as they were
-  due-found : (moment : ℕ) → h.last < moment
-      → due h now ≡ found.entry.transfer ∷ due (pushed h (expiry found.entry.transfer moment)) now
+  due-found : (time : ℕ) → h.last < time
+      → due h now ≡ found.entry.transfer ∷ due (pushed h (expiry found.entry.transfer time)) now
   unfolding IsOpenAt-of
-  due-found moment later =
+  due-found time later =
       due-first h now of.entry among (is_due-ready h now of.entry ∙ of.passes) others_later
       ∙ ap (λ more. of.entry.transfer ∷ more) (sym (due-rest h now of.entry among sound (holds-open h of.entry is)
-      moment later))
+      time later))
 
 -- a triple that is due is one of the index
 contains_filtered : (keep : Triple → Bool) (xs : List Triple) (x : Triple) → Contains (filter keep xs) x → Contains xs x

@@ -1,4 +1,4 @@
--- The timestamps of triples: no two are the same, and none is past the last moment.
+-- The timestamps of triples: no two are the same, and none is later than the history's last timestamp.
 use Rattle.std.proofs.Common.{ℕ, ◌+◌, ◌<◌, ◌≤◌, Bool, true, false, List, [], ◌∷◌, ◌≡◌, ◌≢◌, refl, arith}
 use Rattle.std.specs.Prelude.{◌==◌, ◌&&◌, not, if◌then◌else◌}
 use Rattle.std.specs.List.{All, AllByRecursion}
@@ -29,7 +29,7 @@ dated : (h : History) → (es : List Entry) → AllByRecursion (Stands h) es
 dated h = AllByRecursion-weaker (Stands h) (λ e. is_open h e ≡ true → e.transfer.timestamp ≡ e.timestamp)
     (λ e stands is. stands.dated (stores-holds e.kind (holds-open h e is)))
 
--- triples of different timestamps that are later than this moment
+-- triples that have different timestamps and are later than the timestamp t
 record RiseApart (t : ℕ) (xs : List Triple) : Type 0 where
   later : AllByRecursion (λ x. t < x.timestamp) xs
   differ : TimestampsDiffer xs

@@ -6,7 +6,7 @@ use Rattle.cdc_expiry.specs.declared.triple.Triple.{Triple}
 use Rattle.cdc_types.specs.declared.events.Entry.{Entry}
 use Rattle.cdc_ledger.specs.OpenTriples.{triple_at, triples_from}
 
--- a triple, where the test passes
+-- a triple, if the test passes
 abbrev here_if : Bool → Triple → List Triple
 here_if b x = if b then x ∷ [] else []
 
@@ -35,7 +35,7 @@ triples_from-same test also n (e ∷ es) agree =
     ap₂ (λ b more. if b then triple_at n e ∷ more else more) agree.0
     (triples_from-same test also (n + 1) es agree.1)
 
--- a filter drops the first entry's triple, or keeps it where there is one
+-- a filter drops or keeps the triple of the first entry, if it has one
 filter_if : (keep : Triple → Bool) (b : Bool) (x : Triple) (xs : List Triple)
     → filter keep (if b then x ∷ xs else xs) ≡ (if b && keep x then x ∷ filter keep xs else filter keep xs)
 filter_if keep true x xs = refl
@@ -118,7 +118,7 @@ of_rest test n e es x rest = record {
   made = rest.made ∙ ap (λ m. triple_at m rest.entry) (omega arith);
 }
 
--- a triple is of the first entry, where that one passes, or of a later entry
+-- a triple belongs to the first entry, if that entry passes, or to a later one
 of_cons : (test : Entry → Bool) (n : ℕ) (e : Entry) (es : List Entry) (x : Triple) (b : Bool) → test e ≡ b
     → (Contains (triples_from test (n + 1) es) x → IsOf test (n + 1) es x)
     → Contains (if b then triple_at n e ∷ triples_from test (n + 1) es else triples_from test (n + 1) es) x

@@ -7,14 +7,13 @@ use Rattle.cdc_types.specs.declared.batches.Batch.{Batch}
 use Rattle.cdc_types.specs.declared.batches.Batch.TheVariants as batch
 use Rattle.cdc_types.specs.declared.batches.BatchResults.{BatchResults}
 use Rattle.cdc_types.specs.declared.transfers.NewTransfer.{NewTransfer}
-use Rattle.cdc_types.specs.Features.{features}
 use Rattle.cdc_ledger.specs.declared.errors.BatchError.{BatchError}
 use Rattle.cdc_ledger.specs.declared.errors.BatchError.TheVariants.{LedgerClosed, BatchTooLarge, TimestampsExhausted}
 use Rattle.cdc_ledger.specs.BatchErrors.{batch_error_number}
 use Rattle.cdc_ledger.specs.Due.{due}
 use Rattle.cdc_ledger.specs.History.{History, empty_history}
 use Rattle.cdc_ledger.specs.Sound.{IsSound}
-use Rattle.cdc_ledger.specs.Submit.{opened_by, entry_of, account_rules, transfer_rules, accounts_from, transfers_from, base, moment, items_of, is_too_large, is_past_the_end, refusal_of, taken, answered, submit, history_or, after_batches, IsLegal}
+use Rattle.cdc_ledger.specs.Submit.{opened_by, entry_of, account_rules, transfer_rules, accounts_from, transfers_from, base, time, items_of, is_too_large, is_past_the_end, refusal_of, taken, answered, submit, history_or, after_batches, IsLegal}
 use Rattle.cdc_ledger.specs.Verdict.{max_timestamp}
 use Rattle.cdc_ledger.proofs.AcceptedLaws.{accepted_account, Follows-accepted}
 use Rattle.cdc_ledger.proofs.ChainLaws.{items_from-keeps}
@@ -25,11 +24,11 @@ use Rattle.cdc_ledger.proofs.SoundLaws.{IsSound-empty, IsSound-timed, IsSound-sh
 -- requests for accounts, of which the last comes no later than the greatest timestamp
 pub IsSound-accounts_from : (h : History) (t : ℕ) (rs : List NewAccount) → IsSound h → h.last < t
     → (0 < length rs → t + length rs ≤ max_timestamp + 1)
-    → IsSound (accounts_from features h t rs).1
+    → IsSound (accounts_from h t rs).1
 IsSound-accounts_from h t rs sound later fits =
-    items_from-keeps (account_rules features) IsSound (λ n. n ≤ max_timestamp)
+    items_from-keeps account_rules IsSound (λ n. n ≤ max_timestamp)
     (λ g a n sound' later' within none.
-    IsSound-with_account g (opened_by a n) sound' (accepted_account features g a none).1 (omega arith) within)
+    IsSound-with_account g (opened_by a n) sound' (accepted_account g a none).1 (omega arith) within)
     (λ g n sound' later' within. IsSound-timed g n sound' (omega arith) within)
     (λ g a n. refl) h t rs sound later
     (λ n from below. let whole : t + length rs ≤ max_timestamp + 1 = fits (omega arith) in omega arith)
@@ -37,11 +36,11 @@ IsSound-accounts_from h t rs sound later fits =
 -- the same of requests for transfers
 pub IsSound-transfers_from : (h : History) (t : ℕ) (rs : List NewTransfer) → IsSound h → h.last < t
     → (0 < length rs → t + length rs ≤ max_timestamp + 1)
-    → IsSound (transfers_from features h t rs).1
+    → IsSound (transfers_from h t rs).1
 IsSound-transfers_from h t rs sound later fits =
-    items_from-keeps (transfer_rules features) IsSound (λ n. n ≤ max_timestamp)
+    items_from-keeps transfer_rules IsSound (λ n. n ≤ max_timestamp)
     (λ g r n sound' later' within none.
-    IsSound-pushed g (entry_of g r n) sound' (Follows-accepted features g r n sound' later' none) later' within)
+    IsSound-pushed g (entry_of g r n) sound' (Follows-accepted g r n sound' later' none) later' within)
     (λ g n sound' later' within. IsSound-timed g n sound' (omega arith) within)
     (λ g r n. refl) h t rs sound later
     (λ n from below. let whole : t + length rs ≤ max_timestamp + 1 = fits (omega arith) in omega arith)
@@ -56,7 +55,8 @@ within_end h now n not_past some =
     (base h now + n - 1) e in omega arith)
     (and_cases (nat_lt 0 n) (nat_lt max_timestamp (base h now + n - 1)) not_past)
 
--- the first timestamp of a batch is later than any given out before, whatever the batch's moment
+-- the first timestamp of a batch is later than any that the ledger gave out before, whatever the batch's own
+-- timestamp
 pub after_last : (h : History) (now : ℕ) → h.last < base h now
 after_last h now = omega arith
 
@@ -68,13 +68,13 @@ answered_parts (Some error) answer found e = cc
 
 -- no test of a refusal holds
 pub submit_parts : (h : History) (b : Batch) (answer : BatchResults × History) → submit h b ≡ Ok answer
-    → (is_past_the_end h (moment b) (items_of h b) ≡ false) × (taken features h b ≡ answer)
+    → (is_past_the_end h (time b) (items_of h b) ≡ false) × (taken h b ≡ answer)
 submit_parts h b answer e =
-    let parts : (refusal_of h b ≡ None) × (taken features h b ≡ answer) =
-    answered_parts (refusal_of h b) (taken features h b) answer e in
+    let parts : (refusal_of h b ≡ None) × (taken h b ≡ answer) =
+    answered_parts (refusal_of h b) (taken h b) answer e in
     let lines : List (Bool × BatchError) =
     (h.closed, LedgerClosed) ∷ (is_too_large b, BatchTooLarge) ∷
-    (is_past_the_end h (moment b) (items_of h b), TimestampsExhausted) ∷ [] in
+    (is_past_the_end h (time b) (items_of h b), TimestampsExhausted) ∷ [] in
     (test_fails batch_error_number TimestampsExhausted lines parts.0, parts.1)
 
 -- a batch that is answered
@@ -82,16 +82,16 @@ pub IsSound-submit : (h : History) (b : Batch) (answer : BatchResults × History
     → IsSound answer.1
 IsSound-submit h (batch.Accounts now items) answer sound e =
     let parts : (is_past_the_end h now (length items) ≡ false) ×
-    (taken features h (batch.Accounts now items) ≡ answer) = submit_parts h (batch.Accounts now items) answer e in
+    (taken h (batch.Accounts now items) ≡ answer) = submit_parts h (batch.Accounts now items) answer e in
     subst (λ (a : BatchResults × History). IsSound a.1) parts.1
     (IsSound-accounts_from h (base h now) items sound (after_last h now) (within_end h now (length items) parts.0))
 IsSound-submit h (batch.Transfers now items) answer sound e =
     let parts : (is_past_the_end h now (length items) ≡ false) ×
-    (taken features h (batch.Transfers now items) ≡ answer) = submit_parts h (batch.Transfers now items) answer e in
+    (taken h (batch.Transfers now items) ≡ answer) = submit_parts h (batch.Transfers now items) answer e in
     subst (λ (a : BatchResults × History). IsSound a.1) parts.1
     (IsSound-transfers_from h (base h now) items sound (after_last h now) (within_end h now (length items) parts.0))
 IsSound-submit h (batch.Pulse now) answer sound e =
-    let parts : (is_past_the_end h now (length (due h now)) ≡ false) × (taken features h (batch.Pulse now) ≡ answer) =
+    let parts : (is_past_the_end h now (length (due h now)) ≡ false) × (taken h (batch.Pulse now) ≡ answer) =
     submit_parts h (batch.Pulse now) answer e in
     subst (λ (a : BatchResults × History). IsSound a.1) parts.1
     (IsSound-pulse h now (base h now) sound (after_last h now) (within_end h now (length (due h now)) parts.0))
@@ -103,7 +103,7 @@ sound_or h b (Ok answer) e sound = IsSound-submit h b answer sound e
 sound_or h b (Err error) e sound = sound
 
 -- and so do any number of batches
-pub IsSound-after_batches : (h : History) (bs : List Batch) → IsSound h → IsSound (after_batches features h bs)
+pub IsSound-after_batches : (h : History) (bs : List Batch) → IsSound h → IsSound (after_batches h bs)
 IsSound-after_batches h [] sound = sound
 IsSound-after_batches h (b ∷ bs) sound =
     IsSound-after_batches (history_or h (submit h b)) bs (sound_or h b (submit h b) refl sound)
@@ -111,7 +111,7 @@ IsSound-after_batches h (b ∷ bs) sound =
 -- every history that batches make
 pub IsSound-from_legal : (h : History) → IsLegal h → IsSound h
 IsSound-from_legal h legal =
-    let before : History = after_batches features empty_history legal.batches in
+    let before : History = after_batches empty_history legal.batches in
     subst IsSound (sym legal.made)
     (IsSound-shut before (legal.close || before.closed)
     (IsSound-after_batches empty_history legal.batches IsSound-empty))

@@ -18,7 +18,7 @@ use Rattle.cdc_ledger.specs.Submit.{IsLegal}
 use Rattle.cdc_ledger.proofs.LegalLaws.{IsLegal-submit}
 use Rattle.cdc_ledger.proofs.OpenedLaws.{opened_id}
 
--- what holds anyway holds where the answer isn't a refusal
+-- what holds unconditionally also holds if the answer isn't a refusal
 pub on_ok : {A E : Type 0} (P : Type 0) (r : Result A E) → P → OnOk r P
 on_ok P (Ok x) holds = holds
 on_ok P (Err e) holds = tt
@@ -55,7 +55,7 @@ some_bounded : (h : History) (id : ℕ) (found : Option Opened) → IsBounded h
 some_bounded h id None bounded = (tt, tt)
 some_bounded h id (Some o) bounded = bounded id
 
--- so who asks for balances may add up the debits, pending and posted
+-- so the pending and the posted debits of a balance query can be added without overflow
 pub debits_bounded : (h : History) (id : ℕ) (r : Option Balances) → IsBounded h
     → r ≡ option_map (λ (o : Opened). balances h id h.last) (opened h id)
     → IfSome r (λ b. b.debits_pending + b.debits_posted ≤ max_128)

@@ -4,13 +4,12 @@ use Rattle.std.specs.Prelude.{◌||◌}
 use Rattle.std.proofs.lemmas.Bool.{or_parts}
 use Rattle.cdc_types.specs.declared.batches.Batch.{Batch}
 use Rattle.cdc_types.specs.declared.batches.BatchResults.{BatchResults}
-use Rattle.cdc_types.specs.Features.{Features, features}
 use Rattle.cdc_ledger.specs.declared.errors.BatchError.{BatchError}
 use Rattle.cdc_ledger.specs.declared.errors.BatchError.TheVariants.{LedgerClosed, BatchTooLarge, TimestampsExhausted}
 use Rattle.cdc_ledger.specs.BatchErrors.{batch_error_number}
 use Rattle.cdc_ledger.specs.Fits.{BatchFits}
 use Rattle.cdc_ledger.specs.History.{History, empty_history}
-use Rattle.cdc_ledger.specs.Submit.{submit, submit_by, refusal_of, is_too_large, is_past_the_end, moment, items_of, taken, answered, history_or, after_batches, closed_if, Extends, IsLegal}
+use Rattle.cdc_ledger.specs.Submit.{submit, refusal_of, is_too_large, is_past_the_end, time, items_of, taken, answered, history_or, after_batches, closed_if, Extends, IsLegal}
 use Rattle.cdc_ledger.proofs.Elements.{AllByRecursion_push}
 use Rattle.cdc_ledger.proofs.LineLaws.{test_fails}
 
@@ -30,21 +29,20 @@ pub submit_open : (h : History) (b : Batch) (answer : BatchResults × History) �
 submit_open h b answer e =
     test_fails batch_error_number LedgerClosed
     ((h.closed, LedgerClosed) ∷ (is_too_large b, BatchTooLarge)
-    ∷ (is_past_the_end h (moment b) (items_of h b), TimestampsExhausted) ∷ [])
-    (answered_ok (refusal_of h b) (taken features h b) answer e)
+    ∷ (is_past_the_end h (time b) (items_of h b), TimestampsExhausted) ∷ [])
+    (answered_ok (refusal_of h b) (taken h b) answer e)
 
 -- the last of several batches comes upon the history that those before it left
-pub after_batches_push : (offered : Features) (h : History) (bs : List Batch) (b : Batch)
-    → after_batches offered h (bs ++ b ∷ []) ≡ history_or (after_batches offered h bs)
-    (submit_by offered (after_batches offered h bs) b)
-after_batches_push offered h [] b = refl
-after_batches_push offered h (x ∷ bs) b = after_batches_push offered (history_or h (submit_by offered h x)) bs b
+pub after_batches_push : (h : History) (bs : List Batch) (b : Batch)
+    → after_batches h (bs ++ b ∷ []) ≡ history_or (after_batches h bs) (submit (after_batches h bs) b)
+after_batches_push h [] b = refl
+after_batches_push h (x ∷ bs) b = after_batches_push (history_or h (submit h x)) bs b
 
 -- a batch that is answered goes on from what the batches before it made
 pub Extends-submit : (g h k : History) (b : Batch) (r : BatchResults) → BatchFits b → Extends g h
     → submit g b ≡ Ok (r, k) → Extends k h
 Extends-submit g h k b r fits from e =
-    let before : History = after_batches features h from.batches in
+    let before : History = after_batches h from.batches in
     let shut : from.close || before.closed ≡ false = sym (ap (λ x. x.closed) from.made) ∙ submit_open g b (r, k) e in
     let same : g ≡ before = from.made ∙ ap (λ c. closed_if c before) (or_parts from.close before.closed shut).0 in
     let taken_now : submit before b ≡ Ok (r, k) = sym (ap (λ x. submit x b) same) ∙ e in
@@ -52,7 +50,7 @@ Extends-submit g h k b r fits from e =
       batches = from.batches ++ b ∷ [];
       close = false;
       fit = AllByRecursion_push BatchFits from.batches b from.fit fits;
-      made = sym (after_batches_push features h from.batches b ∙ ap (history_or before) taken_now);
+      made = sym (after_batches_push h from.batches b ∙ ap (history_or before) taken_now);
     }
 
 -- the history of a new ledger is one that batches make

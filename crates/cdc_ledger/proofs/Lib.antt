@@ -31,9 +31,9 @@ pub mod EndingLaws
 pub mod IndexNext
 pub mod Expiring
 pub mod Pulsed
-pub mod Judged
+pub mod Validated
 pub mod Recorded
-pub mod ToldLaws
+pub mod EmittedLaws
 pub mod RecordedLaws
 pub mod TakenBack
 pub mod Unlinked

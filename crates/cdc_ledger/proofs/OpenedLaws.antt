@@ -27,7 +27,7 @@ pub opened-with_account_same : (h : History) (o : Opened) (id : ℕ) → IsSome 
     → opened (with_account h o) id ≡ opened h id
 opened-with_account_same h o id there = opened-with_account h o id ∙ some_stays (opened h id) _ there
 
--- where the new account has another id, it adds nothing to the answer
+-- a new account with another id adds nothing to the answer
 or_none : (p : Option Opened) → option_or p None ≡ p
 or_none None = refl
 or_none (Some x) = refl
@@ -64,7 +64,7 @@ AreApart_push [] n apart new = (tt, tt)
 AreApart_push (m ∷ ns) n apart new =
     (AllByRecursion_push (λ k. m ≢ k) ns n apart.0 new.0, AreApart_push ns n apart.1 new.1)
 
--- where no account is found, neither the first one nor a later one has the id
+-- if no account is found, neither the first one nor a later one has the id
 not_found_id : (id : ℕ) (x : Opened) (rest : Option Opened) (b : Bool) → (x.request.id == id) ≡ b
     → (if b then Some x else rest) ≡ None → (x.request.id ≢ id) × (rest ≡ None)
 not_found_id id x rest true same e = cc

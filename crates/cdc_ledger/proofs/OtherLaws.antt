@@ -1,4 +1,4 @@
--- An entry leaves the balances of every account that it doesn't name, also where it settles a pending transfer.
+-- An entry leaves the balances of every account that it doesn't name, even if it settles a pending transfer.
 use Rattle.std.proofs.Common.{ℕ, ◌<◌, ◌≤◌, ◌+◌, Bool, true, false, ◌∷◌, [], ◌++◌, ◌≡◌, ◌≢◌, Option, Some, refl, sym, ap, ap₂, ◌∙◌, arith, add-zero}
 use Rattle.std.specs.Prelude.{◌==◌, ◌&&◌, ◌||◌, not, nat_le, if◌then◌else◌, sum_by}
 use Rattle.std.specs.List.{AllByRecursion}
@@ -16,7 +16,7 @@ use Rattle.cdc_ledger.proofs.Changes.{pushed, IsUpTo}
 use Rattle.cdc_ledger.proofs.Elements.{AllByRecursion-weaker, AllByRecursion-both, sum_by_same}
 use Rattle.cdc_ledger.proofs.StoredLaws.{stored_each}
 
--- where the entry e settles the entry x, it is between the same accounts
+-- if the entry e settles the entry x, both have the same accounts
 pub record HasSidesOf (e x : Entry) : Type 0 where
   pub debit : holds x.kind ≡ true → resolves x.transfer e ≡ true
       → e.transfer.debit_account_id ≡ x.transfer.debit_account_id
@@ -71,7 +71,7 @@ module _ (h : History) (e : Entry) (a : ℕ) (within : IsUpTo h.last h) (after :
   abbrev right_after : (Transfer → ℕ) → Entry → ℕ
   right_after side x = share (held_amount (pushed h e) e.timestamp) side a e.timestamp x
 
-  -- what an entry holds, where this one doesn't settle it
+  -- the amount that an entry holds, if this one doesn't settle it
   kept : (x : Entry) → resolves x.transfer e ≡ false → held_amount (pushed h e) e.timestamp x ≡ held_amount h h.last x
   kept x unresolved =
       ap (λ b. held_by b x)

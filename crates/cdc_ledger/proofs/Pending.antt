@@ -1,5 +1,5 @@
--- The entries of a sound history: where one of them stands among the others, and that no two stored one id or have one
--- timestamp.
+-- The entries of a sound history: the position of an entry among the others; no two of them stored one id, and no two
+-- have one timestamp.
 use Rattle.std.proofs.Common.{ℕ, ◌<◌, ◌≤◌, Bool, true, false, Some, List, [], ◌∷◌, ◌++◌, ◌≡◌, ◌≢◌, refl, ap, sym, subst, ◌∙◌, arith}
 use Rattle.std.specs.Prelude.{◌==◌, ◌&&◌, find, if◌then◌else◌}
 use Rattle.std.specs.List.{AllByRecursion}
@@ -89,7 +89,7 @@ found_further test x es e found = record {
   passes = found.passes;
 }
 
--- the first entry is found where it passes, else a later one
+-- the first entry is found if it passes, otherwise a later one
 found_here : (test : Entry → Bool) (x : Entry) (es : List Entry) (e : Entry) (b : Bool) → test x ≡ b
     → (find test es ≡ Some e → IsFirst test es e) → (if b then Some x else find test es) ≡ Some e
     → IsFirst test (x ∷ es) e
@@ -123,11 +123,11 @@ IsStored-found h id e found =
 abbrev HasOtherId : Entry → Entry → Type 0
 HasOtherId e y = is_stored e.transfer.id y ≡ false
 
--- that two ids differ may be said from either side
+-- the inequality of two ids is symmetric
 id_turned : (stored : Bool) (m n : ℕ) → (true && (m == n)) ≡ false → (stored && (n == m)) ≡ false
 id_turned stored m n other = and_right stored (n == m) (ne_eqb n m (λ same. eqb-false m n other (sym same)))
 
--- where no two entries stored one id, no entry before or after this one stored its id
+-- if no two entries stored one id, no entry before or after this one stored its id
 other_ids : (e : Entry) (front back : List Entry) → stores e.kind ≡ true → AreApart (stored_ids (front ++ e ∷ back))
     → Around (HasOtherId e) front back
 other_ids e [] back is apart = record { before = tt; after = (apart-cons e back apart).1 is }
@@ -165,13 +165,13 @@ all_later : (t : ℕ) (e : Entry) (es : List Entry) → t ≤ e.timestamp → Ri
 all_later t e [] later rising = tt
 all_later t e (x ∷ es) later rising = (λ same. omega arith, all_later t x es (omega arith) rising.1)
 
--- an entry of a rising list is later than the moment that the list rises from
+-- an entry of a rising list is later than the timestamp that the list rises from
 own_later : (t : ℕ) (e : Entry) (front back : List Entry) → RiseFrom t (front ++ e ∷ back) → t < e.timestamp
 own_later t e [] back rising = rising.0
 own_later t e (x ∷ front) back rising = let later : x.timestamp < e.timestamp = own_later x.timestamp e front back
     rising.1 in omega arith
 
--- no entry before or after this one has its timestamp, where timestamps rise
+-- no entry before or after this one has its timestamp, if timestamps rise
 other_times : (t : ℕ) (e : Entry) (front back : List Entry) → RiseFrom t (front ++ e ∷ back)
     → Around (λ y. y.timestamp ≢ e.timestamp) front back
 other_times t e [] back rising = record { before = tt; after = all_later e.timestamp e back (omega arith) rising.1 }

@@ -16,18 +16,18 @@ use Rattle.cdc_ledger.specs.Kinds.{stores}
 use Rattle.cdc_ledger.specs.PlacesById.{PlacesById, place_of, account_place, stored_place}
 use Rattle.cdc_ledger.proofs.Found.{find-same}
 
--- the place that a search answers is the one where it stopped
+-- the index that a search returns is the one at which it stopped
 place_from : (b : Bool) (n k : ℕ) → cond b (Some n) None ≡ Some k → n ≡ k
 place_from true n k e = cc
 place_from false n k e = cc
 
--- a search that answers no place has come past the end
+-- a search that returns no index went past the end
 no_place : (b : Bool) (n : ℕ) → cond b (Some n) None ≡ None → b ≡ false
 no_place true n e = cc
 no_place false n e = refl
 
 module _ {X : Type 0} (test : X → Bool) where
-  -- what stands at the place that a search answers is the element that it finds
+  -- the element at the index that a search returns is the one that it finds
   pub find-place : (xs : List X) (place : ℕ) (d : X) → position test xs ≡ Some place
       → find test xs ≡ Some (get_or xs place d)
   find-place xs place d at =
@@ -35,7 +35,7 @@ module _ {X : Type 0} (test : X → Bool) where
       place_from (nat_lt (position_or_len test xs) (length xs)) _ place at in
       find_at test xs ∙ ap (slice_get xs) same ∙ slice_get-get_or xs place d (position-Some test xs place d at).0
 
-  -- where it answers none, there is none
+  -- if a search returns no index, no element passes
   pub find-no_place : (xs : List X) → position test xs ≡ None → find test xs ≡ None
   find-no_place xs at =
       let past : length xs ≤ position_or_len test xs =
@@ -53,7 +53,7 @@ module _ {X : Type 0} (test : X → Bool) where
   first_of false true i n y found later now new rest = rest (λ q. new refl) ∙ ap Some (omega arith)
   first_of false false i n y found later now new rest = rest (λ q. absurd (false≢true q))
 
-  -- the last element is found where it passes and none before it does
+  -- the last element is found if it passes and no element before it does
   from_pushed : (i : ℕ) (xs : List X) (x : X) → (test x ≡ true → find test xs ≡ None)
       → position_from test i (xs ++ x ∷ [])
       ≡ (if test x then Some (i + length xs) else position_from test i xs)

@@ -1,4 +1,4 @@
--- A pulse keeps what holds of every history: each transfer that is due may come to its end, and so may the others after
+-- A pulse preserves what holds of every history: each transfer that is due may expire, and so may the others after
 -- it.
 use Rattle.std.proofs.Common.{ℕ, ◌+◌, ◌<◌, ◌≤◌, Bool, true, false, List, [], ◌∷◌, ◌≡◌, ◌≢◌, Some, map, refl, sym, ap, ap₂, ◌∙◌, subst, arith, length}
 use Rattle.std.specs.Prelude.{◌==◌, ◌&&◌, ◌||◌, not, nat_le, filter, if◌then◌else◌}
@@ -37,7 +37,7 @@ abbrev pub HaveOwnIds : List Transfer → Type 0
 HaveOwnIds [] = Unit {0}
 HaveOwnIds (p ∷ ps) = AllByRecursion (λ q. p.id ≢ q.id) ps × HaveOwnIds ps
 
--- the order of their ends leaves what holds of each, and of each two
+-- sorting by expiry time preserves what holds of each transfer, and of each pair
 
 -- a transfer put in its place among others of different ids leaves all ids different
 placed_ids : (p : Transfer) (qs : List Transfer) → AllByRecursion (λ q. p.id ≢ q.id) qs → HaveOwnIds qs
@@ -50,7 +50,7 @@ placed_ids p (q ∷ qs) other own = either (is_sooner q p) (placed_ids p qs othe
     either true more = (All-insert_by_end (λ x. q.id ≢ x.id) p qs (λ same. other.0 (sym same)) own.0, more)
     either false more = (other, own)
 
--- so the order of their ends brings no transfer twice
+-- so the sorted list has no transfer twice
 in_order_ids : (ps : List Transfer) → HaveOwnIds ps → HaveOwnIds (in_order_of_end ps)
 in_order_ids [] own = tt
 in_order_ids (p ∷ ps) own = placed_ids p (in_order_of_end ps) (All-in_order (λ q. p.id ≢ q.id) ps own.0)
@@ -69,7 +69,7 @@ module _ (test : Entry → Bool) where
       either true passes more = (all.0 passes, more)
       either false passes more = more
 
-  -- where entries that pass stored their transfers, no two of these have one id
+  -- if all entries that pass stored their transfers, no two of these have one id
   passing_ids : ((e : Entry) → test e ≡ true → stores e.kind ≡ true) → (es : List Entry) → AreApart (stored_ids es)
       → HaveOwnIds (map (λ e. e.transfer) (filter test es))
   passing_ids storing [] apart = tt
@@ -125,7 +125,7 @@ pub due_ids : (h : History) (now : ℕ) → IsSound h → HaveOwnIds (due h now)
 due_ids h now sound = in_order_ids (map (λ e. e.transfer) (filter (is_due h now) h.entries))
     (passing_ids (is_due h now) (λ e is. stores-holds e.kind (due_parts h now e is).holding) h.entries sound.once)
 
--- one that is open may come to its end
+-- a transfer that is open may expire
 pub Follows-open : (h : History) (p : Transfer) (t : ℕ) → IsSound h → IsOpen h p → Follows h (expiry p t)
 Follows-open h p t sound open_one =
     let P : Transfer → Type 0 = λ x. Follows h (expiry x t) in
@@ -134,7 +134,7 @@ Follows-open h p t sound open_one =
     (ap (λ (x : Transfer). stored h x.id) open_one.same ∙ open_one.there) open_one.holding
     (ap (λ x. resolved h x h.last) open_one.same ∙ open_one.unsettled))
 
--- the end of one leaves another open
+-- the expiry of one transfer leaves another one open
 open_after : (h : History) (p q : Transfer) (t : ℕ) → IsSound h → h.last < t → p.id ≢ q.id → IsOpen h q
     → IsOpen (pushed h (expiry p t)) q
 open_after h p q t sound later other open_one = record {

@@ -23,7 +23,7 @@ pub due_count-kept : (h : History) (s : Triples) (now count : ℕ) → IsSound h
 due_count-kept h s now count sound kept counted =
     counted ∙ (ap (λ u. set.len (due_at u now)) kept ∙ due_count-index_of h now sound)
 
--- no test of a whole batch refuses it for want of memory
+-- the checks of a whole batch never refuse it as out of memory
 never_memory : (a b c : Bool)
     → first_line ((a, LedgerClosed) ∷ (b, BatchTooLarge) ∷ (c, TimestampsExhausted) ∷ []) ≡ Some OutOfMemory → ⊥
 never_memory true b c wrong = cc
@@ -57,7 +57,7 @@ module _ (h : History) (now count : ℕ) (counted : count ≡ length (due h now)
   )
   pulse-refused OutOfMemory refused = absurd (never_memory h.closed false (is_past_the_end h now count) refused)
 
-  -- where none does, all that is due expires
+  -- if none of them refuses it, all due transfers expire
   taken : refusal_at h false now count ≡ None
       → submit h (Pulse now) ≡ Ok (Pulsed (length (due h now)), expiries_from h (base h now) (due h now))
   taken unrefused = by_refusal ∙ ap (λ r. answered r
@@ -68,7 +68,7 @@ module _ (h : History) (now count : ℕ) (counted : count ≡ length (due h now)
       → submit h (Pulse now) ≡ Ok (Pulsed count, g)
   pulse-taken g unrefused made = taken unrefused ∙ ap₂ (λ n after. Ok (Pulsed n, after)) (sym counted) (sym made)
 
-  -- where memory runs out before that, the history stays
+  -- if memory runs out before that, the history stays the same
   pub pulse-unmade : (g : History) (result : Result ℕ BatchError) → refusal_at h false now count ≡ None → g ≡ h
       → IsErrAnd result (λ e. e ≡ OutOfMemory)
       → Answers Pulsed h (Pulse now) result g

@@ -68,7 +68,7 @@ no_position test xs d none = by (position test xs) refl
     by None is = is
     by (Some place) is = let found = find-place test xs place d is in cc
 
--- the places without the last element, where it is the only one that passes
+-- a search without the last element, if that element is the only one that can pass
 position_back : {X : Type 0} (test : X → Bool) (xs : List X) (x : X) → (test x ≡ true → find test xs ≡ None)
     → (if test x then None else position test (xs ++ x ∷ [])) ≡ position test xs
 position_back test xs x new = by (test x) refl
@@ -160,7 +160,7 @@ module _ (g : History) (r : Recorded) (was : IsRecorded g r) where
       was.movement.found)
       ∙ endings_after_back r.movement.settled was.movement.settled was.movement.found
 
-  -- the pending transfer that it settled stands before it
+  -- the pending transfer that it settled is before it
   pub settled_inside : (endings : List Ending) → endings ≡ endings_of (g.entries ++ r.movement.entry ∷ [])
       → IfSome r.movement.settled (λ p. p.place + 1 < length endings)
   settled_inside endings same =
@@ -268,7 +268,7 @@ pub IsKept-shut : (t t' : Inside) (a : Account) (n : ℕ) (last : IsLastOpened (
     → IsKept t' × (history_of t' ≡ last.before)
 IsKept-shut t t' a n last kept popped places entries endings same_places dated shut =
     let g : History = last.before in
-    let o : Opened = opened_by last.request last.moment in
+    let o : Opened = opened_by last.request last.time in
     let made : history_of t ≡ with_account g o = last.made in
     let fresh : Account = account_with o no_balances in
     let all : t.accounts.items ≡ accounts_now g ++ fresh ∷ [] =

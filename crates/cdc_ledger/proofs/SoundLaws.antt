@@ -25,17 +25,17 @@ use Rattle.cdc_ledger.proofs.StoredLaws.{stored-pushed_kept, once-pushed}
 abbrev FitBoth : Balances → Type 0
 FitBoth b = (b.debits_pending + b.debits_posted ≤ max_128) × (b.credits_pending + b.credits_posted ≤ max_128)
 
--- sums that fit 128 bits still do at a later moment, while no entry comes
+-- sums that fit 128 bits still fit at a later timestamp, as long as there is no new entry
 bounded_later : (h : History) (t : ℕ) → IsSound h → h.last ≤ t → (id : ℕ) → FitBoth (balances h id t)
 bounded_later h t sound later id =
     subst FitBoth (sym (balances_later h id h.last t sound.past later)) (sound.bounded id)
 
--- what happened by a moment has happened by any later one
+-- what happened by a timestamp has happened by any later one
 IsUpTo-later : (h : History) (s t : ℕ) → IsUpTo s h → s ≤ t → IsUpTo t h
 IsUpTo-later h s t within later =
     AllByRecursion-weaker (λ e. e.timestamp ≤ s) (λ e. e.timestamp ≤ t) (λ e at. omega arith) h.entries within
 
--- an entry settles what it did where the entries are the same
+-- an entry settles the same transfer in any history with the same entries
 Settles-again : (h g : History) (e x : Entry) → g.entries ≡ h.entries → Settles h e x → Settles g e x
 Settles-again h g e x same of = record {
   named = cc;
@@ -46,7 +46,7 @@ Settles-again h g e x same of = record {
   shown = of.shown;
 }
 
--- an entry stands as before where the entries are the same
+-- `Stands` depends on the entries of a history only
 Stands-again : (h g : History) (e : Entry) → g.entries ≡ h.entries → Stands h e → Stands g e
 Stands-again h g e same stands = record {
   apart = stands.apart;
@@ -72,7 +72,7 @@ Settles-pushed h new e x of = record {
   shown = of.shown;
 }
 
--- so an entry stands as before after one more
+-- so an entry still satisfies `Stands` after one more entry
 pub Stands-pushed : (h : History) (new e : Entry) → Stands h e → Stands (pushed h new) e
 Stands-pushed h new e stands = record {
   apart = stands.apart;
@@ -215,7 +215,7 @@ bounded-pushed h e sound follows after id =
           (λ same. subst (CreditFits h e sound follows) same fits.1),
     )
 
--- the new entry stands too
+-- the new entry satisfies `Stands` too
 Stands-new : (h : History) (e : Entry) → Follows h e → Stands (pushed h e) e
 Stands-new h e follows = record {
   apart = follows.apart;

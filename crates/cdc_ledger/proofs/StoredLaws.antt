@@ -44,13 +44,13 @@ module _ {X : Type 0} (test : X → Bool) where
   find_all P (x ∷ xs) found all e =
       found_from P (test x) x found (find test xs) refl all.0 (find_all P xs found all.1) e
 
-  -- where none is found, the first one fails and none of the others is found
+  -- if none is found, the first one fails and none of the others is found
   not_found_from : (b : Bool) (x : X) (rest : Option X) → test x ≡ b → (if b then Some x else rest) ≡ None
       → (test x ≡ false) × (rest ≡ None)
   not_found_from true x rest is e = cc
   not_found_from false x rest is e = (is, e)
 
-  -- where none is found, none passes
+  -- if none is found, none passes
   pub find_none : (xs : List X) → find test xs ≡ None → AllByRecursion (λ x. test x ≡ false) xs
   find_none [] e = tt
   find_none (x ∷ xs) e =
@@ -109,7 +109,7 @@ ids_without id (e ∷ es) others =
     subst (AllByRecursion (λ m. m ≢ id)) (sym (stored_ids-cons e es))
     (none_id id (stores e.kind) e (stored_ids es) refl others.0 (ids_without id es others.1))
 
--- where ids are apart, the first differs from the rest, and the rest are apart
+-- if ids are distinct, the first differs from the rest, and the rest are distinct
 apart_parts : (b : Bool) (id : ℕ) (ns : List ℕ) → AreApart (if b then id ∷ ns else ns)
     → AreApart ns × (b ≡ true → AllByRecursion (λ m. id ≢ m) ns)
 apart_parts true id ns apart = (apart.1, λ q. apart.0)
@@ -130,7 +130,7 @@ cons_if : (b : Bool) (n : ℕ) (ns ms : List ℕ)
 cons_if true n ns ms = refl
 cons_if false n ns ms = refl
 
--- an entry that stores a transfer adds its id at the end, and an expiry adds none
+-- an entry that stores a transfer appends its id, and an expiry appends none
 pub stored_ids_push : (es : List Entry) (e : Entry)
     → stored_ids (es ++ e ∷ []) ≡ stored_ids es ++ (if stores e.kind then e.transfer.id ∷ [] else [])
 stored_ids_push [] e = stored_ids-cons e []
@@ -140,7 +140,7 @@ stored_ids_push (x ∷ es) e =
     ∙ (cons_if (stores x.kind) x.transfer.id (stored_ids es) (if stores e.kind then e.transfer.id ∷ [] else [])
     ∙ sym (ap (λ ns. ns ++ (if stores e.kind then e.transfer.id ∷ [] else [])) (stored_ids-cons x es))))
 
--- ids stay apart where a new one joins them, or none does
+-- ids stay distinct if a new one is added, or none
 apart_more : (b : Bool) (id : ℕ) (ns : List ℕ) → AreApart ns → (b ≡ true → AllByRecursion (λ m. m ≢ id) ns)
     → AreApart (ns ++ (if b then id ∷ [] else []))
 apart_more true id ns apart new = AreApart_push ns id apart (new refl)
@@ -150,7 +150,7 @@ apart_more false id ns apart new = subst AreApart (sym (append_nothing ns)) apar
     append_nothing [] = refl
     append_nothing (m ∷ ms) = ap (λ ks. m ∷ ks) (append_nothing ms)
 
--- one more entry, whose id is new where it stores a transfer
+-- one more entry, whose id is new if it stores a transfer
 pub once-pushed : (h : History) (e : Entry) → AreApart (stored_ids h.entries)
     → (stores e.kind ≡ true → stored h e.transfer.id ≡ None) → AreApart (stored_ids (pushed h e).entries)
 once-pushed h e apart fresh =
@@ -167,7 +167,7 @@ found_first : (x : Entry) (es : List Entry) → stores x.kind ≡ true → store
 found_first x es is = ap (λ b. if b then Some x else stored_in es x.transfer.id)
     (and_from (stores x.kind) (x.transfer.id == x.transfer.id) is (eq-eqb x.transfer.id x.transfer.id refl))
 
--- an entry that stored another id is passed over
+-- a search skips an entry that stored another id
 other_first : (x y : Entry) (es : List Entry) → (stores x.kind ≡ true → is_stored x.transfer.id y ≡ false)
     → IsFound es y → IsFound (x ∷ es) y
 other_first x y es apart found is =
@@ -182,7 +182,7 @@ other_first x y es apart found is =
         (ne_eqb x.transfer.id y.transfer.id (λ same. eqb-false y.transfer.id x.transfer.id other (sym same)))
     not_both false stored_x = ap (λ b. b && (x.transfer.id == y.transfer.id)) stored_x
 
--- so each stored transfer is found by its id, where no two have one id
+-- so each stored transfer is found by its id, if no two have the same id
 all_found : (es : List Entry) → AreApart (stored_ids es) → AllByRecursion (IsFound es) es
 all_found [] apart = tt
 all_found (x ∷ es) apart =

@@ -2,10 +2,9 @@
 use Rattle.std.proofs.Common.{ℕ, zero, suc, ◌+◌, ◌-◌, ◌<◌, ◌≤◌, ◌≡◌, List, [], ◌∷◌, ◌++◌, length, get_or, take, refl, ap, sym, ◌∙◌, subst, arith, add-one}
 use Rattle.std.proofs.lemmas.List.{take_more, length-take-le}
 use Rattle.cdc_types.specs.declared.accounts.NewAccount.{NewAccount}
-use Rattle.cdc_types.specs.Features.{features}
 use Rattle.cdc_types.specs.Timestamps.{last_timestamp}
 use Rattle.cdc_ledger.specs.declared.recording.Recorded.{Recorded}
-use Rattle.cdc_ledger.specs.declared.told.Told.{Told}
+use Rattle.cdc_ledger.specs.declared.emitted.Emitted.{Emitted}
 use Rattle.cdc_ledger.specs.Changes.{pushed, with_account}
 use Rattle.cdc_ledger.specs.History.{History}
 use Rattle.cdc_ledger.specs.Recorded.{AreRecorded, IsLastOpened, IsLastRecorded, IsRecorded, grown, without_account, without_entry}
@@ -14,14 +13,14 @@ use Rattle.cdc_ledger.specs.OpenTriples.{ends_after}
 use Rattle.cdc_ledger.specs.Sound.{IsSound}
 use Rattle.cdc_ledger.specs.Stops.{AreUnrefused, taken_all}
 use Rattle.cdc_ledger.specs.Submit.{account_rules, opened_by}
-use Rattle.cdc_ledger.specs.ToldHistory.{IsTold}
+use Rattle.cdc_ledger.specs.EmittedHistory.{IsEmitted}
 use Rattle.cdc_ledger.specs.Verdict.{max_timestamp}
 use Rattle.cdc_ledger.proofs.AcceptedLaws.{accepted_account}
 use Rattle.cdc_ledger.proofs.BatchLaws.{AreUnrefused_less, no_account, taken_all_more}
 use Rattle.cdc_ledger.proofs.ChainLaws.{taken_all-keeps}
 use Rattle.cdc_ledger.proofs.RecordedLaws.{AreRecorded_pop, grown_push, without_account-opened, without_entry-pushed}
 use Rattle.cdc_ledger.proofs.SoundLaws.{IsSound-timed, IsSound-with_account}
-use Rattle.cdc_ledger.proofs.ToldLaws.{CanTell, IsTold-told, tell-later}
+use Rattle.cdc_ledger.proofs.EmittedLaws.{CanEmit, IsEmitted-emitted, emit-later}
 
 -- ---- accounts
 
@@ -29,25 +28,25 @@ module _ (h : History) (t : ℕ) (chain : List NewAccount) (sound : IsSound h) (
     (fits : t + length chain ≤ max_timestamp + 1) where
   -- the history after the first n accounts
   abbrev pub opened_all : ℕ → History
-  opened_all n = taken_all (account_rules features) h t (take n chain)
+  opened_all n = taken_all account_rules h t (take n chain)
 
   -- none of them was refused
   abbrev pub AllOpened : ℕ → Type 0
-  AllOpened n = AreUnrefused (account_rules features) h t (take n chain)
+  AllOpened n = AreUnrefused account_rules h t (take n chain)
 
   -- one more of them
   opened_more : (i : ℕ) → i < length chain
       → opened_all (i + 1) ≡ with_account (opened_all i) (opened_by (get_or chain i no_account) (t + i))
-  opened_more i inside = taken_all_more (account_rules features) h t chain i no_account inside
+  opened_more i inside = taken_all_more account_rules h t chain i no_account inside
 
   -- it is sound, and has come no further than its accounts
   opened_sound : (i : ℕ) → i ≤ length chain → AllOpened i
       → IsSound (opened_all i) × ((opened_all i).last < t + i)
   opened_sound i inside all =
       let long : length (take i chain) ≡ i = length-take-le i chain inside in
-      let found = taken_all-keeps (account_rules features) IsSound (λ n. n ≤ max_timestamp)
+      let found = taken_all-keeps account_rules IsSound (λ n. n ≤ max_timestamp)
       (λ g a n sound' later' within none.
-      IsSound-with_account g (opened_by a n) sound' (accepted_account features g a none).1 (omega arith) within)
+      IsSound-with_account g (opened_by a n) sound' (accepted_account g a none).1 (omega arith) within)
       (λ g n sound' later' within. IsSound-timed g n sound' (omega arith) within)
       (λ g a n. refl) h t (take i chain) sound later
       (λ n from below. let all_in : length (take i chain) ≡ i = long in omega arith) all in
@@ -65,15 +64,15 @@ module _ (h : History) (t : ℕ) (chain : List NewAccount) (sound : IsSound h) (
   pub IsLastOpened-chain : (g : History) (i last : ℕ) → i < length chain → g ≡ opened_all (i + 1) → AllOpened (i + 1)
       → last ≡ (opened_all i).last → IsLastOpened g last
   IsLastOpened-chain g i last inside made all dated =
-      let less = AreUnrefused_less (account_rules features) h t chain i no_account inside all in
+      let less = AreUnrefused_less account_rules h t chain i no_account inside all in
       let found = opened_sound i (omega arith) less.0 in
       record {
         before = opened_all i;
         request = get_or chain i no_account;
-        moment = t + i;
+        time = t + i;
         made = made ∙ opened_more i inside;
         sound = found.0;
-        free = (accepted_account features (opened_all i) (get_or chain i no_account) less.1).1;
+        free = (accepted_account (opened_all i) (get_or chain i no_account) less.1).1;
         dated = dated;
         later = omega (arith, found.1);
       }
@@ -89,7 +88,7 @@ module _ (h : History) (t : ℕ) (chain : List NewAccount) (sound : IsSound h) (
   -- and those before it weren't refused
   pub AllOpened-less : (i : ℕ) → i < length chain → AllOpened (i + 1) → AllOpened i
   AllOpened-less i inside all =
-      (AreUnrefused_less (account_rules features) h t chain i no_account inside all).0
+      (AreUnrefused_less account_rules h t chain i no_account inside all).0
 
 -- ---- entries
 
@@ -124,11 +123,11 @@ pub grown_more : (h : History) (rs : List Recorded) (i : ℕ) (d : Recorded) →
 grown_more h rs i d inside =
     ap (grown h) (take_more rs i d inside) ∙ grown_push h (take i rs) (get_or rs i d)
 
--- it may be told of once those before it are
-pub CanTell-tail : (h : History) (told : Told) (rs : List Recorded) (i : ℕ) (d : Recorded) → i < length rs
-    → AreRecorded h rs → IsTold (grown h (take i rs)) told
-    → CanTell (grown h (take i rs)) told (get_or rs i d).movement
-CanTell-tail h told rs i d inside all is =
+-- an entry can be logged once those before it are
+pub CanEmit-tail : (h : History) (emitted : Emitted) (rs : List Recorded) (i : ℕ) (d : Recorded) → i < length rs
+    → AreRecorded h rs → IsEmitted (grown h (take i rs)) emitted
+    → CanEmit (grown h (take i rs)) emitted (get_or rs i d).movement
+CanEmit-tail h emitted rs i d inside all is =
     let was = AreRecorded_at h rs i d inside all in
     record {
       sound = was.sound;
@@ -138,25 +137,25 @@ CanTell-tail h told rs i d inside all is =
       so_far = is;
     }
 
--- its event is later than all that were told
-pub tail-later : (h : History) (told : Told) (rs : List Recorded) (i : ℕ) (d : Recorded) → i < length rs
-    → AreRecorded h rs → IsTold (grown h (take i rs)) told
-    → last_timestamp told.log.events < (get_or rs i d).event.timestamp
-tail-later h told rs i d inside all is =
-    tell-later (grown h (take i rs)) told (get_or rs i d).movement (CanTell-tail h told rs i d inside all is)
+-- its event is later than all logged events
+pub tail-later : (h : History) (emitted : Emitted) (rs : List Recorded) (i : ℕ) (d : Recorded) → i < length rs
+    → AreRecorded h rs → IsEmitted (grown h (take i rs)) emitted
+    → last_timestamp emitted.log.events < (get_or rs i d).event.timestamp
+tail-later h emitted rs i d inside all is =
+    emit-later (grown h (take i rs)) emitted (get_or rs i d).movement (CanEmit-tail h emitted rs i d inside all is)
     (get_or rs i d).event (AreRecorded_at h rs i d inside all).event
 
--- once it is told of, one more of them is
-pub IsTold-tail : (h : History) (told told' : Told) (rs : List Recorded) (i : ℕ) (d : Recorded) → i < length rs
-    → AreRecorded h rs → IsTold (grown h (take i rs)) told
-    → told'.log.events ≡ told.log.events ++ (get_or rs i d).event ∷ []
-    → told'.index.triples ≡ ends_after (settled_transfer (get_or rs i d).movement) (get_or rs i d).movement.entry
-    (get_or rs i d).place told.index.triples
-    → IsTold (grown h (take (i + 1) rs)) told'
-IsTold-tail h told told' rs i d inside all is log index =
+-- after it is logged, one more of the entries is logged
+pub IsEmitted-tail : (h : History) (emitted emitted' : Emitted) (rs : List Recorded) (i : ℕ) (d : Recorded) → i < length rs
+    → AreRecorded h rs → IsEmitted (grown h (take i rs)) emitted
+    → emitted'.log.events ≡ emitted.log.events ++ (get_or rs i d).event ∷ []
+    → emitted'.index.triples ≡ ends_after (settled_transfer (get_or rs i d).movement) (get_or rs i d).movement.entry
+    (get_or rs i d).place emitted.index.triples
+    → IsEmitted (grown h (take (i + 1) rs)) emitted'
+IsEmitted-tail h emitted emitted' rs i d inside all is log index =
     let was = AreRecorded_at h rs i d inside all in
-    subst (λ (g : History). IsTold g told') (sym (grown_more h rs i d inside))
-    (IsTold-told (grown h (take i rs)) told (get_or rs i d).movement (CanTell-tail h told rs i d inside all is) told'
+    subst (λ (g : History). IsEmitted g emitted') (sym (grown_more h rs i d inside))
+    (IsEmitted-emitted (grown h (take i rs)) emitted (get_or rs i d).movement (CanEmit-tail h emitted rs i d inside all is) emitted'
     (get_or rs i d).place (get_or rs i d).event was.place was.event log index)
 
 -- ---- a chain that failed

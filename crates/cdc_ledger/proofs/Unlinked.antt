@@ -1,4 +1,5 @@
--- A batch without a linked item: each item is judged by what those before it left, and taken by itself.
+-- A batch without a linked item: each item is validated against the history after those before it, and recorded by
+-- itself.
 use Rattle.std.proofs.Common.{ℕ, ◌+◌, ◌-◌, ◌≡◌, List, [], ◌∷◌, ◌++◌, Option, Some, None, false, refl, ap, ◌∙◌, arith}
 use Rattle.std.specs.Prelude.{unwrap_or}
 use Rattle.std.specs.List.{AllByRecursion}
@@ -8,12 +9,12 @@ use Rattle.cdc_ledger.specs.History.{History}
 use Rattle.cdc_ledger.proofs.BatchLaws.{alone_accepted, alone_refused}
 
 module _ {A R : Type 0} (rules : Rules A R) where
-  -- the result of an item and the history after it, where this line refuses it, if any does
+  -- the result of a single item and the history after it; the line that refuses the item is given, if there is one
   abbrev pub alone : History → A → ℕ → Option R → R × History
   alone h a t (Some refusal) = (refusal, timed h t)
   alone h a t None = (rules.accepted, rules.taken h a t)
 
-  -- the results of items one by one from the moment t on, and the history after them
+  -- the results of items one by one from the timestamp t on, and the history after them
   abbrev pub each_from : History → ℕ → List A → List R × History
   each_from h t [] = ([], h)
   each_from h t (a ∷ rest) =
@@ -31,7 +32,7 @@ module _ {A R : Type 0} (rules : Rules A R) where
   abbrev with_one : ℕ → List A → R → History → List R × History
   with_one t rest r g = let later = items_from rules g (t + 1) rest in (r ∷ later.0, later.1)
 
-  -- so a batch means what it means item by item, where none is linked
+  -- so if no item of a batch is linked, the batch has the same effect as its items one by one
   pub items_from-unlinked : (h : History) (t : ℕ) (items : List A)
       → AllByRecursion (λ a. rules.linked a ≡ false) items
       → items_from rules h t items ≡ each_from h t items

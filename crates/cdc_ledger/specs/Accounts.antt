@@ -48,7 +48,7 @@ HasBoundedSums a =
     (a.balances.debits_pending + a.balances.debits_posted ≤ max_128)
     × (a.balances.credits_pending + a.balances.credits_posted ≤ max_128)
 
--- an event's account, where the account is there
+-- an account as an event shows it; if there is none, all fields are 0
 abbrev pub shown_in : List Account → ℕ → EventAccount
 shown_in accounts id =
     unwrap_or (option_map shown_as (find (λ a. a.id == id) accounts)) (shown_account nobody no_balances)

@@ -7,8 +7,8 @@ use Rattle.cdc_ledger.specs.declared.errors.BatchError.TheVariants.{LedgerClosed
 use Rattle.cdc_ledger.specs.History.{History}
 use Rattle.cdc_ledger.specs.Submit.{submit}
 
--- from the history h to the history g the batch was answered as `submit` says, or memory ran out for an answer;
--- after any refusal the history is as it was
+-- the batch turned the history h into g with the result that `submit` gives, or memory ran out for a result; after
+-- any refusal the history is unchanged
 abbrev pub Answers : {A : Type 0} → (A → BatchResults) → History → Batch → Result A BatchError → History → Type 0
 Answers shown h b (Ok results) g = submit h b ≡ Ok (shown results, g)
 Answers shown h b (Err LedgerClosed) g = (submit h b ≡ Err LedgerClosed) × (g ≡ h)

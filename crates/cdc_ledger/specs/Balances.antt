@@ -12,15 +12,15 @@ use Rattle.cdc_ledger.specs.Kinds.{holds, moves, posts, voids, expires}
 abbrev pub resolves : Transfer → Entry → Bool
 resolves p e = posts e.kind e.transfer p || voids e.kind e.transfer p || expires e.kind e.transfer p
 
--- the test holds of some entry up to the moment t
+-- the test holds for some entry up to the timestamp t
 abbrev pub some_by : History → ℕ → (Entry → Bool) → Bool
 some_by h t test = list_any (λ e. nat_le e.timestamp t && test e) h.entries
 
--- some entry up to the moment t resolves the pending transfer p
+-- some entry up to the timestamp t resolves the pending transfer p
 abbrev pub resolved : History → Transfer → ℕ → Bool
 resolved h p t = some_by h t (resolves p)
 
--- what the entry still holds back at the moment t
+-- the amount that the entry still holds back at the timestamp t
 abbrev pub held_amount : History → ℕ → Entry → ℕ
 held_amount h t e = if holds e.kind && not (resolved h e.transfer t) then e.transfer.amount else 0
 
@@ -28,7 +28,7 @@ held_amount h t e = if holds e.kind && not (resolved h e.transfer t) then e.tran
 abbrev pub moved_amount : Entry → ℕ
 moved_amount e = if moves e.kind then e.transfer.amount else 0
 
--- the amount of an entry, where it stands up to the moment t and this side of it is the account
+-- the amount of an entry that is no later than the timestamp t and has the account on this side, otherwise 0
 abbrev pub share : (Entry → ℕ) → (Transfer → ℕ) → ℕ → ℕ → Entry → ℕ
 share amount side account t e = if nat_le e.timestamp t && (side e.transfer == account) then amount e else 0
 
@@ -40,7 +40,7 @@ debit_side x = x.debit_account_id
 abbrev pub credit_side : Transfer → ℕ
 credit_side x = x.credit_account_id
 
--- the balances of an account at the moment t
+-- the balances of an account at the timestamp t
 abbrev pub balances : History → ℕ → ℕ → Balances
 balances h account t = record {
   debits_pending = sum_by (share (held_amount h t) debit_side account t) h.entries;
@@ -49,7 +49,7 @@ balances h account t = record {
   credits_posted = sum_by (share moved_amount credit_side account t) h.entries;
 }
 
--- the balances of every number as an account, as of the moment t
+-- the balances at the timestamp t, as a function of the account's id
 abbrev pub as_of : History → ℕ → ℕ → Balances
 as_of h t = λ account. balances h account t
 

@@ -17,6 +17,6 @@ with_account h o = record h { accounts = h.accounts ++ o ∷ []; last = o.timest
 abbrev pub timed : History → ℕ → History
 timed h t = record h { last = t }
 
--- the pending transfer p expires at the moment t
+-- the entry by which the pending transfer p expires at the timestamp t
 abbrev pub expiry : Transfer → ℕ → Entry
 expiry p t = record { timestamp = t; kind = TwoPhaseExpired; transfer = p }

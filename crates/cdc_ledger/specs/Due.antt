@@ -7,14 +7,14 @@ use Rattle.cdc_ledger.specs.Kinds.{holds}
 use Rattle.cdc_ledger.specs.Balances.{resolved}
 use Rattle.cdc_ledger.specs.Filling.{expires_at}
 
--- the entry's transfer is pending, has a timeout that is up at the moment now, and was neither posted, voided nor
+-- the entry's transfer is pending, has a timeout that is up at the timestamp now, and was neither posted, voided nor
 -- expired
 abbrev pub is_due : History → ℕ → Entry → Bool
 is_due h now e =
     holds e.kind && not (e.transfer.timeout == 0) && nat_le (expires_at e.transfer) now
     && not (resolved h e.transfer h.last)
 
--- p expires before q, or was asked for before it where both expire at once
+-- p expires before q, or, if both expire at the same time, has the earlier timestamp
 abbrev pub is_sooner : Transfer → Transfer → Bool
 is_sooner p q =
     nat_lt (expires_at p) (expires_at q) || ((expires_at p == expires_at q) && nat_lt p.timestamp q.timestamp)
@@ -24,11 +24,11 @@ abbrev pub insert_by_end : Transfer → List Transfer → List Transfer
 insert_by_end p [] = p ∷ []
 insert_by_end p (q ∷ qs) = if is_sooner q p then q ∷ insert_by_end p qs else p ∷ q ∷ qs
 
--- the transfers in the order of their ends
+-- the transfers in the order of their expiry times
 abbrev pub in_order_of_end : List Transfer → List Transfer
 in_order_of_end [] = []
 in_order_of_end (p ∷ ps) = insert_by_end p (in_order_of_end ps)
 
--- the pending transfers that are due at the moment now, in the order of their ends
+-- the pending transfers that are due at the timestamp now, in the order of their expiry times
 abbrev pub due : History → ℕ → List Transfer
 due h now = in_order_of_end (map (λ e. e.transfer) (filter (is_due h now) h.entries))

@@ -25,7 +25,7 @@ settled_in TwoPhaseExpired h x = Some x
 abbrev pub settled_by : History → Entry → Option Transfer
 settled_by h e = settled_in e.kind h e.transfer
 
--- the amount of a pending transfer, 0 where there is none
+-- the amount of a pending transfer, 0 if there is none
 abbrev pub amount_of : Option Transfer → ℕ
 amount_of None = 0
 amount_of (Some p) = p.amount
@@ -42,7 +42,7 @@ effect_by p e = record {
 abbrev pub effect_of : History → Entry → Effect
 effect_of h e = effect_by (settled_by h e) e
 
--- the amount where this side of a transfer is the account
+-- the amount, if the account is on this side of a transfer, otherwise 0
 abbrev pub part : ℕ → ℕ → ℕ → ℕ
 part side account amount = if side == account then amount else 0
 

@@ -26,7 +26,7 @@ ending_among entries p =
     ending_from (list_any (λ x. posts x.kind x.transfer p) entries) (list_any (λ x. voids x.kind x.transfer p) entries)
     (list_any (λ x. expires x.kind x.transfer p) entries)
 
--- how the transfer of an entry ended, where it is pending
+-- how the transfer of an entry ended, if it is pending, otherwise open
 abbrev pub ending_of : List Entry → Entry → Ending
 ending_of entries e = if holds e.kind then ending_among entries e.transfer else Open
 
@@ -34,7 +34,7 @@ ending_of entries e = if holds e.kind then ending_among entries e.transfer else 
 abbrev pub endings_of : List Entry → List Ending
 endings_of entries = map (ending_of entries) entries
 
--- the end to which an entry of this kind brings the pending transfer that it settles
+-- the ending that an entry of this kind gives the pending transfer that it settles
 abbrev pub ending_by : EventKind → Ending
 ending_by SinglePhase = Open
 ending_by TwoPhasePending = Open
@@ -52,7 +52,7 @@ abbrev pub endings_before : Option Pending → List Ending → List Ending
 endings_before None endings = take (length endings - 1) endings
 endings_before (Some p) endings = set (take (length endings - 1) endings) p.place Open
 
--- why a pending transfer that ended so can't be settled at the moment t, if so: its timeout ends it too
+-- why a pending transfer with this ending can't be settled at the timestamp t, if it can't; its timeout ends it too
 abbrev pub ended_refusal : Ending → Transfer → ℕ → Option TransferResult
 ended_refusal Posted p t = Some transfer.PendingTransferAlreadyPosted
 ended_refusal Voided p t = Some transfer.PendingTransferAlreadyVoided

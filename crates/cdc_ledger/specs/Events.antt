@@ -1,4 +1,4 @@
--- What the ledger tells of its entries (TigerBeetle, Change Data Capture).
+-- The events that the ledger publishes for its entries (TigerBeetle, Change Data Capture).
 use Rattle.std.specs.Prelude.{ℕ, unwrap_or, List, map}
 use Rattle.cdc_types.specs.declared.accounts.Balances.{Balances}
 use Rattle.cdc_types.specs.declared.accounts.Account.{Account}
@@ -63,18 +63,18 @@ shown_account o sums = record {
   timestamp = o.timestamp;
 }
 
--- what is shown where there is no such account; an entry of a ledger has both of its own
+-- the account that is shown if there is none; both accounts of a ledger's entry exist
 abbrev pub nobody : Opened
 nobody = record {
   request = record { id = 0; user_data_128 = 0; user_data_64 = 0; user_data_32 = 0; ledger = 0; code = 0; flags = 0 };
   timestamp = 0;
 }
 
--- the account of this id at the moment t
+-- the account of this id at the timestamp t
 abbrev pub account_at : History → ℕ → ℕ → EventAccount
 account_at h id t = shown_account (unwrap_or (opened h id) nobody) (balances h id t)
 
--- the event of an entry: both accounts stand as they are after it
+-- the event of an entry, with both accounts as they are right after it
 abbrev pub event_of : History → Entry → Event
 event_of h e = record {
   timestamp = e.timestamp;

@@ -35,7 +35,7 @@ as_asked r t = record {
   timestamp = t;
 }
 
--- what was given, where 0 stands for the pending transfer's own
+-- the given value; 0 means the pending transfer's own
 abbrev pub or_own : ℕ → ℕ → ℕ
 or_own given own = if given == 0 then own else given
 
@@ -62,7 +62,7 @@ abbrev pub filled_by : Option Entry → NewTransfer → ℕ → Transfer
 filled_by None r t = as_asked r t
 filled_by (Some e) r t = filled_from e.transfer r t
 
--- the transfer that is stored for the request at the moment t
+-- the transfer that is stored for the request at the timestamp t
 abbrev pub filled : History → NewTransfer → ℕ → Transfer
 filled h r t = if is_plain_request r then as_asked r t else filled_by (stored h r.pending_id) r t
 

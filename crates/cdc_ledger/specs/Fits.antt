@@ -31,7 +31,7 @@ pub record NewTransferFits (r : NewTransfer) : Type 0 where
   pub code : r.code < 2 ^ 16
   pub flags : r.flags < 2 ^ 16
 
--- a batch: its moment, and each of its items
+-- a batch: its timestamp, and each of its items
 abbrev pub BatchFits : Batch → Type 0
 BatchFits (Accounts now items) = (now < 2 ^ 64) × AllByRecursion NewAccountFits items
 BatchFits (Transfers now items) = (now < 2 ^ 64) × AllByRecursion NewTransferFits items

@@ -12,7 +12,7 @@ use Rattle.cdc_ledger.specs.Kinds.{holds, settles, stores}
 use Rattle.cdc_ledger.specs.Sound.{HasAccounts, Settles}
 use Rattle.cdc_ledger.specs.Verdict.{max_timestamp}
 
--- the amount of an entry fits beside what is pending and posted, on both sides
+-- the sum of an entry's amount and of the pending and posted amounts fits 128 bits, on both sides
 pub record HasRoom (h : History) (e : Entry) : Type 0 where
   pub debit : (balances h e.transfer.debit_account_id h.last).debits_pending
       + (balances h e.transfer.debit_account_id h.last).debits_posted + e.transfer.amount ≤ max_128
@@ -32,14 +32,14 @@ pub record Follows (h : History) (e : Entry) : Type 0 where
   -- a transfer that it stores has a new id and its timestamp
   pub fresh : stores e.kind ≡ true → stored h e.transfer.id ≡ None
   pub dated : stores e.kind ≡ true → e.transfer.timestamp ≡ e.timestamp
-  -- the end of a pending transfer is a timestamp
+  -- the expiry time of a pending transfer is in range
   pub timely : holds e.kind ≡ true → e.transfer.timeout ≢ 0 → expires_at e.transfer ≤ max_timestamp
   -- a single-phase or a pending one has room; any other one settles a pending transfer
   pub room : settles e.kind ≡ false → HasRoom h e
   pub settling : settles e.kind ≡ true → SettlesOpen h e
 
--- the pending transfer p is the first to end of those that are due at the moment now: at any later moment it may
--- expire, and the others are due after it
+-- of the pending transfers that are due at the timestamp now, p is the first to expire: it may expire at any later
+-- timestamp, and then the others are due
 pub record IsDueNext (h : History) (now : ℕ) (p : Transfer) : Type 0 where
   pub follows : (t : ℕ) → Follows h (expiry p t)
   pub first : (t : ℕ) → h.last < t → due h now ≡ p ∷ due (pushed h (expiry p t)) now

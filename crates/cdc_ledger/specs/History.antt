@@ -1,4 +1,4 @@
--- What a ledger stands for: all that was ever accepted.
+-- A ledger's history: everything that it ever accepted.
 use Rattle.std.specs.Prelude.{ℕ, Bool, false, ◌==◌, Option, List, [], find}
 use Rattle.cdc_types.specs.declared.accounts.NewAccount.{NewAccount}
 use Rattle.cdc_types.specs.declared.events.Entry.{Entry}

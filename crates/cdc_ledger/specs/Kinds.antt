@@ -60,7 +60,7 @@ voids TwoPhasePosted x p = false
 voids TwoPhaseVoided x p = x.pending_id == p.id
 voids TwoPhaseExpired x p = false
 
--- an entry of this kind with this transfer is the end of the pending transfer p
+-- an entry of this kind with this transfer is the expiry of the pending transfer p
 abbrev pub expires : EventKind → Transfer → Transfer → Bool
 expires SinglePhase x p = false
 expires TwoPhasePending x p = false

@@ -25,4 +25,4 @@ pub mod Recorded
 pub mod Sound
 pub mod Stops
 pub mod Tables
-pub mod ToldHistory
+pub mod EmittedHistory

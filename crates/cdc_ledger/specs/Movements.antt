@@ -1,10 +1,9 @@
--- What an entry and the places of its two accounts are beside a history (for private contracts).
+-- An entry and the indices of its two accounts, in relation to a history (for private contracts).
 use Rattle.std.specs.Prelude.{ℕ, ◌+◌, ◌-◌, ◌<◌, ◌≤◌, ◌^◌, ◌≡◌, ◌==◌, Option, Some, None, option_map, IfSome, List, map, position, slice_get}
 use Rattle.cdc_types.specs.declared.accounts.Account.{Account}
 use Rattle.cdc_types.specs.declared.events.Entry.{Entry}
 use Rattle.cdc_types.specs.declared.transfers.NewTransfer.{NewTransfer}
 use Rattle.cdc_types.specs.declared.transfers.Transfer.{Transfer}
-use Rattle.cdc_types.specs.Features.{features}
 use Rattle.cdc_types.specs.Lines.{first_line}
 use Rattle.cdc_ledger.specs.declared.movements.Movement.{Movement}
 use Rattle.cdc_ledger.specs.Effects.{Effect, effect_by, settled_by, account_after}
@@ -15,7 +14,7 @@ use Rattle.cdc_ledger.specs.History.{History}
 use Rattle.cdc_ledger.specs.Submit.{entry_of}
 use Rattle.cdc_ledger.specs.Verdict.{transfer_lines}
 
--- the account of this id stands at this place
+-- the account of this id is at this index
 abbrev pub IsPlace : List Account → ℕ → ℕ → Type 0
 IsPlace accounts id place = position (λ a. a.id == id) accounts ≡ Some place
 
@@ -27,11 +26,11 @@ settled_transfer m = option_map (λ p. p.transfer) m.settled
 abbrev pub effect_of_movement : Movement → Effect
 effect_of_movement m = effect_by (settled_transfer m) m.entry
 
--- the entry that stored the transfer of this id stands at this place
+-- the entry that stored the transfer of this id is at this index
 abbrev pub IsStoredAt : History → ℕ → ℕ → Type 0
 IsStoredAt h id place = (e : Entry) × (slice_get h.entries place ≡ Some e) × (stored h id ≡ Some e)
 
--- both accounts of the movement stand at its places
+-- both accounts of the movement are at its indices
 pub record IsPlaced (accounts : List Account) (m : Movement) : Type 0 where
   pub debit : IsPlace accounts m.entry.transfer.debit_account_id m.debit
   pub credit : IsPlace accounts m.entry.transfer.credit_account_id m.credit
@@ -43,9 +42,9 @@ pub record IsMovement (h : History) (m : Movement) : Type 0 where
   pub settled : settled_transfer m ≡ settled_by h m.entry
   pub found : IfSome m.settled (λ p. IsStoredAt h p.transfer.id p.place)
 
--- no line refuses the request at the moment n, and the movement is that of its entry, which may come next
-pub record IsJudged (h : History) (r : NewTransfer) (n : ℕ) (m : Movement) : Type 0 where
-  pub unrefused : first_line (transfer_lines features h r n) ≡ None
+-- no line refuses the request at the timestamp n, and the movement is that of its entry, which may come next
+pub record IsValidated (h : History) (r : NewTransfer) (n : ℕ) (m : Movement) : Type 0 where
+  pub unrefused : first_line (transfer_lines h r n) ≡ None
   pub entry : m.entry ≡ entry_of h r n
   pub movement : IsMovement h m
   pub follows : Follows h m.entry
@@ -74,7 +73,7 @@ credited_account f a = record a {
   };
 }
 
--- the sums of an account take the effect, where it is one of the two
+-- the balances of an account can take the effect, if it is one of the two accounts
 abbrev pub Takes : Effect → ℕ → ℕ → Account → Type 0
 Takes f debit credit a =
     (a.id ≡ debit → SideFits f a.balances.debits_pending a.balances.debits_posted)

@@ -15,7 +15,7 @@ use Rattle.cdc_ledger.specs.Filling.{expires_at}
 abbrev pub is_open : History → Entry → Bool
 is_open h e = holds e.kind && not (e.transfer.timeout == 0) && not (resolved h e.transfer h.last)
 
--- the end of the entry's transfer, when it was made, and the entry's place
+-- the expiry time of the entry's transfer, the timestamp of its creation, and the index of the entry
 abbrev pub triple_at : ℕ → Entry → Triple
 triple_at place e =
     record { expires_at = expires_at e.transfer; timestamp = e.transfer.timestamp; slot = place }
@@ -30,7 +30,7 @@ triples_from test place (e ∷ es) =
 abbrev pub open_triples : History → List Triple
 open_triples h = triples_from (is_open h) 0 h.entries
 
--- the set of them, which says nothing of an order
+-- the set of these triples, without their order
 abbrev pub index_of : History → Triples
 index_of h = from_list (open_triples h)
 

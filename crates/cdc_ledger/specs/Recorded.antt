@@ -38,16 +38,17 @@ pub record IsLastRecorded (h : History) (r : Recorded) : Type 0 where
   pub made : h ≡ pushed before r.movement.entry
   pub recorded : IsRecorded before r
 
--- the last account of the history was opened by this request at this moment, and before it this was the last timestamp
+-- the last account of the history was opened by this request at this timestamp, and before that `last` was the last
+-- timestamp
 pub record IsLastOpened (h : History) (last : ℕ) : Type 0 where
   pub before : History
   pub request : NewAccount
-  pub moment : ℕ
-  pub made : h ≡ with_account before (opened_by request moment)
+  pub time : ℕ
+  pub made : h ≡ with_account before (opened_by request time)
   pub sound : IsSound before
   pub free : opened before request.id ≡ None
   pub dated : last ≡ before.last
-  pub later : before.last ≤ moment
+  pub later : before.last ≤ time
 
 -- the history after all of these entries
 abbrev pub grown : History → List Recorded → History

@@ -9,7 +9,7 @@ use Rattle.cdc_ledger.specs.History.{History, opened}
 use Rattle.cdc_ledger.specs.Kinds.{holds, settles, settled_id, stores}
 use Rattle.cdc_ledger.specs.Verdict.{max_timestamp}
 
--- each entry is later than this moment, and than the one before it
+-- each entry is later than this timestamp and later than the entry before it
 abbrev pub RiseFrom : ℕ → List Entry → Type 0
 RiseFrom t [] = Unit {0}
 RiseFrom t (e ∷ es) = (t < e.timestamp) × RiseFrom e.timestamp es

@@ -1,5 +1,5 @@
--- What the ledger's tables stand for, and what is kept of them between two calls (for private contracts and the
--- laws).
+-- The history that a ledger's tables represent, and the invariant of the tables between two calls (for private
+-- contracts and the laws).
 use Rattle.std.specs.Prelude.{ℕ, ◌-◌, ◌≡◌, min, map, vec_len, vec_capacity}
 use Rattle.cdc_ledger.specs.declared.tables.Tables.TheInside.{Inside}
 use Rattle.cdc_ledger.specs.Accounts.{opened_as}

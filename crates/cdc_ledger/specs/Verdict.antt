@@ -12,7 +12,6 @@ use Rattle.cdc_types.specs.declared.results.TransferResult.TheVariants as transf
 use Rattle.cdc_types.specs.declared.transfers.NewTransfer.{NewTransfer}
 use Rattle.cdc_types.specs.declared.transfers.Transfer.{Transfer}
 use Rattle.cdc_types.specs.declared.bounds.TheConstants.Limits.{TIMESTAMP}
-use Rattle.cdc_types.specs.Features.{Features}
 use Rattle.cdc_types.specs.Flags.{has_flag, is_pending_request, is_void_request, is_plain_request}
 use Rattle.cdc_types.specs.Lines.{first_line}
 use Rattle.cdc_types.specs.Shapes.{account_shape_lines, transfer_shape_lines}
@@ -39,15 +38,15 @@ known_account_lines (Some o) a =
     (not (is_same_account a o.request), account.ExistsWithDifferentFields) ∷ (true, account.Exists) ∷ []
 
 -- all lines on an account, in order
-abbrev pub account_lines : Features → History → NewAccount → List (Bool × AccountResult)
-account_lines offered h a = account_shape_lines offered a ++ known_account_lines (opened h a.id) a
+abbrev pub account_lines : History → NewAccount → List (Bool × AccountResult)
+account_lines h a = account_shape_lines a ++ known_account_lines (opened h a.id) a
 
 -- why a request for an account is refused, if it is
-abbrev pub account_refused : Features → History → NewAccount → Option AccountResult
-account_refused offered h a = first_line (account_lines offered h a)
+abbrev pub account_refused : History → NewAccount → Option AccountResult
+account_refused h a = first_line (account_lines h a)
 
--- the lines on a transfer that is there already: a post or a void is filled in before it is compared. Timestamps aren't
--- compared, so the entry's own one, which fills the request in here, stands for any
+-- the lines on a transfer that exists already: a post or a void is filled in before it is compared. Timestamps aren't
+-- compared; here the request is filled in with the entry's timestamp, and any other would do
 abbrev pub known_transfer_lines : Option Entry → History → NewTransfer → List (Bool × TransferResult)
 known_transfer_lines None h r = []
 known_transfer_lines (Some e) h r =
@@ -67,7 +66,7 @@ overflow_lines debit credit r =
     (nat_lt max_128 (credit.credits_pending + credit.credits_posted + r.amount), transfer.OverflowsCredits) ∷
     []
 
--- the line on an end that is past the greatest timestamp
+-- the line on an expiry time that exceeds the greatest timestamp
 abbrev pub timeout_lines : NewTransfer → ℕ → List (Bool × TransferResult)
 timeout_lines r t =
     (not (r.timeout == 0) && nat_lt max_timestamp (expires_at (as_asked r t)), transfer.OverflowsTimeout) ∷ []
@@ -103,7 +102,7 @@ plain_lines (Some debited) (Some credited) h r t =
 abbrev pub is_other : ℕ → ℕ → Bool
 is_other given own = not (given == 0) && not (given == own)
 
--- the lines on the fields of a post or a void, beside those of the entry of the pending transfer that it names
+-- the lines on the fields of a post or a void, compared with the entry of the pending transfer that it names
 abbrev pub field_lines : Entry → NewTransfer → List (Bool × TransferResult)
 field_lines e r =
     let p = e.transfer in
@@ -117,12 +116,12 @@ field_lines e r =
     (is_void_request r && nat_lt amount p.amount, transfer.PendingTransferHasDifferentAmount) ∷
     []
 
--- the pending transfer has expired by the moment t, swept or not
+-- the pending transfer has expired by the timestamp t, even if no pulse has recorded the expiry
 abbrev pub is_over : History → Transfer → ℕ → Bool
 is_over h p t =
     some_by h t (λ e. expires e.kind e.transfer p) || (not (p.timeout == 0) && nat_le (expires_at p) t)
 
--- the lines on a pending transfer that was settled already by the moment t
+-- the lines on a pending transfer that was already settled by the timestamp t
 abbrev pub end_lines : History → Transfer → ℕ → List (Bool × TransferResult)
 end_lines h p t =
     (some_by h t (λ x. posts x.kind x.transfer p), transfer.PendingTransferAlreadyPosted) ∷
@@ -136,13 +135,13 @@ settling_lines None h r t = (true, transfer.PendingTransferNotFound) ∷ []
 settling_lines (Some e) h r t = field_lines e r ++ end_lines h e.transfer t
 
 -- all lines on a transfer, in order
-abbrev pub transfer_lines : Features → History → NewTransfer → ℕ → List (Bool × TransferResult)
-transfer_lines offered h r t =
-    transfer_shape_lines offered r ++ known_transfer_lines (stored h r.id) h r
+abbrev pub transfer_lines : History → NewTransfer → ℕ → List (Bool × TransferResult)
+transfer_lines h r t =
+    transfer_shape_lines r ++ known_transfer_lines (stored h r.id) h r
     ++ (if is_plain_request r
     then plain_lines (opened h r.debit_account_id) (opened h r.credit_account_id) h r t
     else settling_lines (stored h r.pending_id) h r t)
 
--- why a request for a transfer at the moment t is refused, if it is
-abbrev pub transfer_refused : Features → History → NewTransfer → ℕ → Option TransferResult
-transfer_refused offered h r t = first_line (transfer_lines offered h r t)
+-- why a request for a transfer at the timestamp t is refused, if it is
+abbrev pub transfer_refused : History → NewTransfer → ℕ → Option TransferResult
+transfer_refused h r t = first_line (transfer_lines h r t)

@@ -1,4 +1,4 @@
-//! The accounts of a ledger: how one is opened, compared and shown.
+//! Opening, comparing and showing the accounts of a ledger.
 
 ghost use Rattle.std.specs.Prelude.{◌≡◌};
 ghost use Rattle.cdc_ledger.specs.Accounts.{fresh_account, shown_as, opened_as};
@@ -6,7 +6,7 @@ ghost use Rattle.cdc_ledger.specs.Verdict.{is_same_account as same_account};
 
 use cdc_types::{Account, Balances, EventAccount, NewAccount};
 
-/// A new account: all of its balances are 0.
+/// A new account with all balances 0.
 pub(crate) fn opened_account(request: &NewAccount, timestamp: u64) -> Account
     ensures { result ≡ fresh_account request.now timestamp }
 {
@@ -48,7 +48,7 @@ pub(crate) fn shown_account(account: &Account) -> EventAccount
     }
 }
 
-/// Whether the account was opened by an equal request.
+/// Whether an equal request opened the account.
 pub(crate) fn is_same_account(account: &Account, request: &NewAccount) -> bool
     ensures { result ≡ same_account request.now (opened_as account.now).request }
 {

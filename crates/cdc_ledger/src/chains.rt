@@ -1,23 +1,22 @@
-//! Chains of linked requests: how long they are, and the results of those that fail.
+//! Chains of linked requests: their length, and the results of a chain that fails.
 
 ghost use Rattle.std.specs.Prelude.{◌≡◌, ◌+◌, ◌≤◌, ◌<◌, ◌++◌, ◌∷◌, true, All, drop, length, replicate, take, vec_capacity, vec_len};
 ghost use Rattle.std.specs.List.{AllByRecursion};
-ghost use Rattle.cdc_types.specs.Features.{features};
 ghost use Rattle.cdc_types.specs.Flags.{is_linked_account, is_linked_transfer};
-ghost use Rattle.cdc_ledger.specs.Chains.{chains_of, unjudged, unjudged_one};
+ghost use Rattle.cdc_ledger.specs.Chains.{chains_of, unvalidated, unvalidated_one};
 ghost use Rattle.cdc_ledger.specs.Fits.{NewAccountFits, NewTransferFits};
 ghost use Rattle.cdc_ledger.specs.Submit.{account_rules, transfer_rules};
 
 use cdc_types::{AccountResult, NewAccount, NewTransfer, TransferResult};
 
-/// The item of a chain at which it failed: its place in the chain, from 0, and why it was refused.
+/// The item at which a chain failed: its index in the chain, from 0, and why it was refused.
 #[derive(Clone, Copy)]
 pub(crate) struct Stop<R> {
     pub(crate) place: usize,
     pub(crate) refusal: R,
 }
 
-/// How many requests the first chain of a batch has.
+/// The number of requests in the first chain of a batch. The batch isn't empty.
 pub(crate) fn account_chain_len(requests: &[NewAccount]) -> usize
     requires { 0 < length requests.now }
     ensures some { 0 < result }
@@ -33,7 +32,7 @@ pub(crate) fn account_chain_len(requests: &[NewAccount]) -> usize
     requests.len()
 }
 
-/// How many requests the first chain of a batch has.
+/// The number of requests in the first chain of a batch. The batch isn't empty.
 pub(crate) fn transfer_chain_len(requests: &[NewTransfer]) -> usize
     requires { 0 < length requests.now }
     ensures some { 0 < result }
@@ -49,7 +48,8 @@ pub(crate) fn transfer_chain_len(requests: &[NewTransfer]) -> usize
     requests.len()
 }
 
-/// For how many requests a chain of the batch has to be kept until it is accepted: for none where none is linked.
+/// The number of requests that memory has to be reserved for until their chain is accepted: 0 if no request is
+/// linked.
 pub(crate) fn tail_len(requests: &[NewTransfer]) -> usize
     ensures { All (λ r. is_linked_transfer r ≡ true → length requests.now ≤ result) requests.now }
 {
@@ -60,7 +60,7 @@ pub(crate) fn tail_len(requests: &[NewTransfer]) -> usize
     }
 }
 
-/// The same result for this many requests more. There is room for it.
+/// Appends the same result `times` times. Memory is reserved for them.
 pub(crate) fn push_times<R: Copy>(results: &mut Vec<R>, each: R, times: usize)
     requires { vec_len results.old + times ≤ vec_capacity results.old }
     ensures items { results.new.items ≡ results.old.items ++ replicate times each }
@@ -72,9 +72,9 @@ pub(crate) fn push_times<R: Copy>(results: &mut Vec<R>, each: R, times: usize)
     }
 }
 
-/// The result of a request that isn't judged, since one before it in its chain was refused.
+/// The result of a request that isn't validated since one before it in its chain was refused.
 fn unjudged_account(request: NewAccount, is_last: bool) -> AccountResult
-    ensures result { result ≡ unjudged_one (account_rules features) request is_last }
+    ensures result { result ≡ unvalidated_one account_rules request is_last }
     ensures fits { NewAccountFits request }
 {
     if request.is_linked() && is_last {
@@ -84,9 +84,9 @@ fn unjudged_account(request: NewAccount, is_last: bool) -> AccountResult
     }
 }
 
-/// The result of a request that isn't judged, since one before it in its chain was refused.
+/// The result of a request that isn't validated since one before it in its chain was refused.
 fn unjudged_transfer(request: NewTransfer, is_last: bool) -> TransferResult
-    ensures result { result ≡ unjudged_one (transfer_rules features) request is_last }
+    ensures result { result ≡ unvalidated_one transfer_rules request is_last }
     ensures fits { NewTransferFits request }
 {
     if request.is_linked() && is_last {
@@ -96,11 +96,10 @@ fn unjudged_transfer(request: NewTransfer, is_last: bool) -> TransferResult
     }
 }
 
-/// The results of requests that aren't judged. There is room for them.
-pub(crate) fn push_unjudged_accounts(results: &mut Vec<AccountResult>, requests: &[NewAccount])
+/// Appends the results of requests that aren't validated. Memory is reserved for them.
+pub(crate) fn push_unvalidated_accounts(results: &mut Vec<AccountResult>, requests: &[NewAccount])
     requires { vec_len results.old + length requests.now ≤ vec_capacity results.old }
-    ensures items { results.new.items
-        ≡ results.old.items ++ unjudged (account_rules features) requests.now }
+    ensures items { results.new.items ≡ results.old.items ++ unvalidated account_rules requests.now }
     ensures len { vec_len results.new ≡ vec_len results.old + length requests.now }
     ensures capacity { vec_capacity results.new ≡ vec_capacity results.old }
     ensures fit { AllByRecursion NewAccountFits requests.now }
@@ -110,11 +109,13 @@ pub(crate) fn push_unjudged_accounts(results: &mut Vec<AccountResult>, requests:
     }
 }
 
-/// The results of requests that aren't judged. There is room for them.
-pub(crate) fn push_unjudged_transfers(results: &mut Vec<TransferResult>, requests: &[NewTransfer])
+/// Appends the results of requests that aren't validated. Memory is reserved for them.
+pub(crate) fn push_unvalidated_transfers(
+    results: &mut Vec<TransferResult>,
+    requests: &[NewTransfer],
+)
     requires { vec_len results.old + length requests.now ≤ vec_capacity results.old }
-    ensures items { results.new.items
-        ≡ results.old.items ++ unjudged (transfer_rules features) requests.now }
+    ensures items { results.new.items ≡ results.old.items ++ unvalidated transfer_rules requests.now }
     ensures len { vec_len results.new ≡ vec_len results.old + length requests.now }
     ensures capacity { vec_capacity results.new ≡ vec_capacity results.old }
     ensures fit { AllByRecursion NewTransferFits requests.now }

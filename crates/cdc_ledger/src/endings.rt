@@ -1,4 +1,4 @@
-//! How pending transfers end: each entry has a note of its own, so that no post or void has to search for one.
+//! How pending transfers ended. It is stored for each entry, so that a post or a void doesn't have to search for it.
 
 ghost use Rattle.std.specs.Prelude.{◌≡◌, ◌+◌, ◌-◌, ◌<◌, ◌≤◌, IfSome, length, vec_capacity, vec_len};
 ghost use Rattle.cdc_ledger.specs.Endings.{ending_by as ending_of_kind, endings_after, endings_before};
@@ -6,17 +6,16 @@ ghost use Rattle.cdc_ledger.specs.Endings.{ending_by as ending_of_kind, endings_
 use crate::movements::Movement;
 use cdc_types::EventKind;
 
-/// How a pending transfer ended.
 #[derive(Clone, Copy)]
 pub(crate) enum Ending {
-    /// Nothing settled it yet. So it is with an entry that isn't of a pending transfer, too.
+    /// Nothing has settled the transfer. It is also the value for a transfer that isn't pending.
     Open,
     Posted,
     Voided,
     Expired,
 }
 
-/// How an entry of this kind settles its pending transfer.
+/// The ending that an entry of this kind gives the pending transfer that it settles.
 fn ending_by(kind: EventKind) -> Ending
     ensures { result ≡ ending_of_kind kind }
 {
@@ -28,8 +27,8 @@ fn ending_by(kind: EventKind) -> Ending
     }
 }
 
-/// Notes how the pending transfer that the movement settles ended, if it settles one, and begins the note of the
-/// movement's own entry. There is room for it.
+/// Stores the ending of the pending transfer that the movement settles, if it settles one, and appends an open ending
+/// for the movement's own entry. Memory is reserved for it.
 pub(crate) fn follow_ending(endings: &mut Vec<Ending>, movement: &Movement)
     requires there { IfSome movement.now.settled (λ p. p.place < length endings.old.items) }
     requires room { vec_len endings.old < vec_capacity endings.old }
@@ -44,8 +43,8 @@ pub(crate) fn follow_ending(endings: &mut Vec<Ending>, movement: &Movement)
     endings.push_reserved(Ending::Open);
 }
 
-/// Takes the note of the movement's own entry out again, which is the last one, and that on the pending transfer that
-/// it settled, if it settled one: it is open again.
+/// Reverts `follow_ending`: removes the last ending, which belongs to the movement's entry, and makes the pending
+/// transfer that the movement settled open again, if it settled one.
 pub(crate) fn forget_ending(endings: &mut Vec<Ending>, movement: &Movement)
     requires { IfSome movement.now.settled (λ p. p.place + 1 < length endings.old.items) }
     ensures endings { endings.new.items ≡ endings_before movement.now.settled endings.old.items }

@@ -1,4 +1,4 @@
-//! Why a batch is refused as a whole.
+//! Errors of whole batches.
 
 ghost use Rattle.std.specs.Prelude.{◌≡◌};
 ghost use Rattle.cdc_ledger.specs.BatchErrors.{batch_error_number, batch_error_name};
@@ -6,19 +6,16 @@ ghost use Rattle.cdc_ledger.specs.BatchErrors.{batch_error_number, batch_error_n
 use std::alloc::AllocError;
 use thiserror::Error;
 
-/// Why a batch is refused as a whole; the ledger is then as it was.
+/// Why a batch is refused as a whole. A refused batch leaves the ledger unchanged.
 #[derive(Clone, Copy, Debug, PartialEq, Eq, Error)]
 pub enum BatchError {
-    /// The ledger takes no more batches.
     #[error("the ledger is closed")]
     LedgerClosed,
-    /// The batch has more than 1,000 items.
     #[error("the batch has more than 1,000 items")]
     BatchTooLarge,
-    /// Its items would pass the greatest timestamp, 2^63-1.
+    /// The timestamp of its last item would exceed 2^63-1.
     #[error("its timestamps would pass 2^63-1")]
     TimestampsExhausted,
-    /// Memory ran out.
     #[error("out of memory")]
     OutOfMemory,
 }
@@ -35,7 +32,7 @@ impl From<AllocError> for BatchError {
 }
 
 impl BatchError {
-    /// The refusal's number, from 1 on; of several that apply the least is answered.
+    /// The error's number, from 1. If several errors apply, the ledger returns the one with the lowest number.
     pub fn number(self) -> u8
         ensures { result ≡ batch_error_number self }
     {
@@ -47,7 +44,7 @@ impl BatchError {
         }
     }
 
-    /// The refusal's name.
+    /// The name that is printed.
     pub fn name(self) -> &'static str
         ensures { result.now ≡ batch_error_name self }
     {

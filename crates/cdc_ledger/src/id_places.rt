@@ -1,4 +1,4 @@
-//! The places of accounts and of transfers by their ids: a hash map, with room that was made ahead.
+//! Maps from the ids of accounts and transfers to their indices: hash maps with memory reserved ahead.
 
 ghost use Rattle.std.specs.Prelude.{◌≡◌, ◌+◌, ◌≤◌, ◌<◌, ◌==◌, ℕ, [], None, Some, if◌then◌else◌, OnOk};
 ghost use Rattle.cdc_ledger.specs.PlacesById.{place_of};
@@ -7,11 +7,12 @@ use indexmap::IndexMap;
 use std::alloc::{AllocError, Global};
 use std::marker::Model;
 
-/// A map from ids to places. A clause sees the ids with their places, and for how many more there is room.
+/// A map from ids to indices. Contracts see the ids with their indices, and the number of ids that can be added
+/// without allocating.
 #[derive(Drop)]
 pub(crate) struct IdPlaces {
     map: IndexMap<u128, usize>,
-    /// How many more ids can be added; the map has room for as many at least.
+    /// The number of ids that can be added without allocating. The map has memory for at least as many.
     room: usize,
 }
 
@@ -28,7 +29,7 @@ impl Model for IdPlaces {
 }
 
 impl IdPlaces {
-    /// No id has a place.
+    /// An empty map with no reserved memory.
     pub(crate) fn new(alloc: Global) -> IdPlaces
         ensures { result.places ≡ [] }
     {
@@ -38,14 +39,14 @@ impl IdPlaces {
         }
     }
 
-    /// The place of this id.
+    /// The index of this id. `None` if the map doesn't have the id.
     pub(crate) fn find(&self, id: u128) -> Option<usize>
         ensures { result ≡ place_of self.now id }
     {
         self.map.get(&id).copied()
     }
 
-    /// Makes room for this many more ids.
+    /// Reserves memory for `additional` more ids. An error means out of memory.
     pub(crate) fn reserve(&mut self, additional: usize) -> Result<(), AllocError>
         ensures places { self.new.places ≡ self.old.places }
         ensures room { OnOk result (additional ≤ self.new.room) }
@@ -55,7 +56,7 @@ impl IdPlaces {
         Ok(())
     }
 
-    /// Gives the id this place. There is room for it.
+    /// Maps the id to this index. Memory is reserved for it.
     pub(crate) fn add(&mut self, id: u128, place: usize)
         requires { 0 < self.old.room }
         ensures places { (other : ℕ) → place_of self.new other
@@ -66,7 +67,7 @@ impl IdPlaces {
         self.room -= 1;
     }
 
-    /// Takes the id out again. What was room for it isn't counted as room once more.
+    /// Removes the id. Its memory doesn't count as reserved again.
     pub(crate) fn remove(&mut self, id: u128)
         ensures places { (other : ℕ) → place_of self.new other
             ≡ (if id == other then None else place_of self.old other) }

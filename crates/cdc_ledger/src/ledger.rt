@@ -1,4 +1,4 @@
-//! The ledger as its callers see it.
+//! The public interface of the ledger.
 
 ghost use Rattle.std.specs.Prelude.{◌≡◌, ◌+◌, ◌≤◌, true, IfSome, option_map};
 ghost use Rattle.std.specs.Option.{option_copied};
@@ -12,9 +12,9 @@ ghost use Rattle.cdc_ledger.specs.Balances.{IsBounded};
 ghost use Rattle.cdc_ledger.specs.Submit.{IsLegal};
 ghost use Rattle.cdc_ledger.specs.Verdict.{max_timestamp};
 
+use crate::emitted::Emitted;
 use crate::errors::BatchError;
 use crate::tables::Tables;
-use crate::told::Told;
 use cdc_log::EventLog;
 use cdc_types::{
     Account, AccountResult, Balances, Batch, BatchResults, Entry, Items, NewAccount, NewTransfer,
@@ -23,17 +23,20 @@ use cdc_types::{
 use std::alloc::Global;
 use std::marker::Model;
 
-/// A ledger: accounts and transfers, taken in batches, and the events that they make. A clause sees its history: all
-/// that was ever accepted, the last timestamp, and whether it is closed.
+/// A ledger: accounts and transfers, accepted in batches, and their events. Contracts see its history: everything
+/// that it ever accepted, its last timestamp, and whether it is closed.
 pub struct Ledger {
     tables: Tables,
-    told: Told,
+    emitted: Emitted,
 }
 
-// By hand, so that whoever lets go of a ledger calls this, and doesn't take it apart anew.
+// Implemented by hand: code that drops a ledger then calls this function instead of repeating the drop of each field.
 impl Drop for Ledger {
     fn drop(self) {
-        let Ledger { tables: _, told: _ } = self;
+        let Ledger {
+            tables: _,
+            emitted: _,
+        } = self;
     }
 }
 
@@ -43,28 +46,29 @@ impl Model for Ledger {
     ghost Value = { History };
 
     ghost use Rattle.cdc_ledger.specs.Submit.{IsLegal};
-    ghost use Rattle.cdc_ledger.specs.ToldHistory.{IsTold};
+    ghost use Rattle.cdc_ledger.specs.EmittedHistory.{IsEmitted};
 
     ghost view = { λ ledger. ledger.tables.history };
 
     ghost invariant = { λ ledger.
-        IsLegal ledger.tables.history × IsTold ledger.tables.history ledger.told };
+        IsLegal ledger.tables.history × IsEmitted ledger.tables.history ledger.emitted };
 }
 
 impl Ledger {
-    /// A ledger that has taken nothing yet. It takes no memory.
+    /// An empty ledger. It doesn't allocate.
     pub fn new(alloc: Global) -> Ledger
         ensures { result ≡ empty_history }
     {
         Ledger {
             tables: Tables::new(alloc),
-            told: Told::new(alloc),
+            emitted: Emitted::new(alloc),
         }
     }
 
-    /// Opens accounts at the moment `now`, in nanoseconds: each request gets its result, in order (TigerBeetle,
-    /// `create_accounts`). Refused as a whole where the ledger is closed, where there are more than 1,000 requests,
-    /// where their timestamps would pass 2^63-1, and where memory runs out, in this order.
+    /// Opens accounts at the timestamp `now`, in nanoseconds, and returns a result for each request, in order
+    /// (TigerBeetle, `create_accounts`). The batch is refused as a whole if the ledger is closed, if there are more
+    /// than 1,000 requests, if their timestamps would exceed 2^63-1, or if memory runs out; the first of these that
+    /// applies is the error.
     pub fn create_accounts(
         &mut self,
         alloc: Global,
@@ -77,8 +81,9 @@ impl Ledger {
         self.tables.create_accounts(alloc, now, requests)
     }
 
-    /// Makes transfers at the moment `now`, in nanoseconds: each request gets its result, in order (TigerBeetle,
-    /// `create_transfers`). Refused as a whole as `create_accounts` is.
+    /// Creates transfers at the timestamp `now`, in nanoseconds, and returns a result for each request, in order
+    /// (TigerBeetle, `create_transfers`). The batch is refused as a whole for the same reasons as in
+    /// `create_accounts`.
     pub fn create_transfers(
         &mut self,
         alloc: Global,
@@ -88,20 +93,22 @@ impl Ledger {
         ensures { Answers (λ v. BatchResults.Transfers v.items) self.old
             (Batch.Transfers now requests.now) result self.new }
     {
-        let told = &mut self.told;
-        self.tables.create_transfers(told, alloc, now, requests)
+        let emitted = &mut self.emitted;
+        self.tables.create_transfers(emitted, alloc, now, requests)
     }
 
-    /// Lets the pending transfers expire whose time is up at the moment `now`, in nanoseconds, and answers how many
-    /// they were, which may be any number (TigerBeetle, Two-Phase Transfers, `timeout`). Refused as a whole
-    /// where the ledger is closed, where their timestamps would pass 2^63-1, and where memory runs out, in this order.
+    /// Expires the pending transfers that are due at the timestamp `now`, in nanoseconds, and returns their number,
+    /// which has no limit (TigerBeetle, Two-Phase Transfers, `timeout`). The pulse is refused as a whole if the
+    /// ledger is closed, if the timestamps would exceed 2^63-1, or if memory runs out; the first of these that
+    /// applies is the error.
     pub fn pulse(&mut self, now: u64) -> Result<u64, BatchError>
         ensures { Answers BatchResults.Pulsed self.old (Batch.Pulse now) result self.new }
     {
-        self.tables.pulse(&mut self.told, now)
+        self.tables.pulse(&mut self.emitted, now)
     }
 
-    /// Takes a batch of any kind by the call of its kind, and is refused where that one is.
+    /// Submits a batch of any kind. It calls `create_accounts`, `create_transfers` or `pulse`, and fails if that
+    /// does.
     pub fn submit(&mut self, alloc: Global, batch: &Batch) -> Result<BatchResults, BatchError>
         ensures { Answers (λ r. r) self.old batch.now result self.new }
     {
@@ -118,21 +125,21 @@ impl Ledger {
         }
     }
 
-    /// Takes no more batches from now on. A second call changes nothing.
+    /// Closes the ledger: it refuses every later batch. A second call changes nothing.
     pub fn close(&mut self)
         ensures { self.new ≡ record self.old { closed = true } }
     {
         self.tables.close();
     }
 
-    /// Whether the ledger takes no more batches.
+    /// Whether the ledger refuses every batch.
     pub fn closed(&self) -> bool
         ensures { result ≡ self.now.closed }
     {
         self.tables.closed()
     }
 
-    /// The accounts in the order in which they were opened, with their balances now.
+    /// The accounts in the order in which they were opened, with their current balances.
     pub fn accounts(&self) -> &[Account]
         ensures accounts { result.now ≡ accounts_now self.now }
         ensures bounded { IsBounded self.now }
@@ -140,7 +147,7 @@ impl Ledger {
         self.tables.accounts()
     }
 
-    /// The account of this id, if there is one, with its balances now.
+    /// The account of this id with its current balances. `None` if there is none.
     pub fn account(&self, id: u128) -> Option<&Account>
         ensures account { option_copied result
             ≡ option_map (account_now self.now) (opened self.now id) }
@@ -149,8 +156,8 @@ impl Ledger {
         self.tables.account(id)
     }
 
-    /// The balances of the account of this id now, if there is one. On each side what is pending and what is posted
-    /// fit 128 bits together.
+    /// The current balances of the account of this id. `None` if there is none. On each side the sum of the pending
+    /// and the posted balance fits 128 bits.
     pub fn balances(&self, id: u128) -> Option<Balances>
         ensures balances { result
             ≡ option_map (λ _. sums.balances self.now id self.now.last) (opened self.now id) }
@@ -160,21 +167,21 @@ impl Ledger {
         self.account(id).map(|account| account.balances)
     }
 
-    /// The stored transfer of this id, if there is one.
+    /// The stored transfer of this id. `None` if there is none.
     pub fn transfer(&self, id: u128) -> Option<&Transfer>
         ensures { option_copied result ≡ option_map (λ e. e.transfer) (stored self.now id) }
     {
         self.tables.entry(id).map(|entry| &entry.transfer)
     }
 
-    /// The movements in the order of their timestamps.
+    /// The movements in timestamp order.
     pub fn entries(&self) -> &[Entry]
         ensures { result.now ≡ self.now.entries }
     {
         self.tables.entries()
     }
 
-    /// The last timestamp that was given out, in nanoseconds, or 0.
+    /// The last timestamp that the ledger gave out, in nanoseconds; 0 if it gave out none.
     pub fn last(&self) -> u64
         ensures last { result ≡ self.now.last }
         ensures within { self.now.last ≤ max_timestamp }
@@ -183,10 +190,10 @@ impl Ledger {
         self.tables.last()
     }
 
-    /// The events of the movements, in order.
+    /// The log of the ledger's events: one for each movement, in order.
     pub fn log(&self) -> &EventLog
         ensures { result.now.events ≡ events self.now }
     {
-        &self.told.log
+        &self.emitted.log
     }
 }

@@ -4,10 +4,10 @@
 mod accounts;
 mod batches;
 mod chains;
+mod emitted;
 mod endings;
 pub mod errors;
 mod id_places;
-mod judging;
 pub mod ledger;
 mod movements;
 mod plain_refusals;
@@ -16,8 +16,8 @@ mod recording;
 mod requests;
 mod settling_refusals;
 mod tables;
-mod told;
 mod transfers;
+mod validation;
 
 pub use errors::BatchError;
 pub use ledger::Ledger;

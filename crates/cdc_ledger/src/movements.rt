@@ -1,4 +1,4 @@
-//! What an entry does to the two accounts of its transfer, and what is told of it.
+//! The effect of an entry on the two accounts of its transfer, and the event of the entry.
 
 ghost use Rattle.std.specs.Prelude.{◌≡◌, ◌≢◌, All};
 ghost use Rattle.cdc_ledger.specs.Accounts.{event_from};
@@ -10,19 +10,19 @@ use crate::accounts::shown_account;
 use crate::transfers::shown_transfer;
 use cdc_types::{Account, Entry, Event, EventKind, Transfer};
 
-/// What an entry does to the balances of its two accounts (TigerBeetle, Two-Phase Transfers).
+/// The effect of an entry on the balances of its two accounts (TigerBeetle, Two-Phase Transfers).
 #[derive(Clone, Copy)]
 pub(crate) struct Effect {
-    /// What goes out of the pending balances.
+    /// The amount that is subtracted from the pending balances.
     released: u128,
-    /// What is added to the pending balances.
+    /// The amount that is added to the pending balances.
     held: u128,
-    /// What is added to the posted balances.
+    /// The amount that is added to the posted balances.
     moved: u128,
 }
 
 impl Effect {
-    /// Changes the balances of the account that is debited.
+    /// Updates the balances of the debited account.
     fn debit(&self, account: &mut Account)
         requires { let sums = account.old.balances in
             SideFits self.now sums.debits_pending sums.debits_posted }
@@ -33,7 +33,7 @@ impl Effect {
         balances.debits_posted += self.moved;
     }
 
-    /// Changes the balances of the account that is credited.
+    /// Updates the balances of the credited account.
     fn credit(&self, account: &mut Account)
         requires { let sums = account.old.balances in
             SideFits self.now sums.credits_pending sums.credits_posted }
@@ -45,22 +45,22 @@ impl Effect {
     }
 }
 
-/// A pending transfer, with the place of the entry that stored it, from 0.
+/// A pending transfer, with the index of the entry that stored it, from 0.
 #[derive(Clone, Copy)]
 pub(crate) struct Pending {
     pub(crate) transfer: Transfer,
     pub(crate) place: usize,
 }
 
-/// An entry that the ledger can take, with the places of its two accounts.
+/// An entry that the ledger can record, with the indices of its two accounts.
 #[derive(Clone, Copy)]
 pub(crate) struct Movement {
     pub(crate) entry: Entry,
-    /// The place of the account that is debited, from 0.
+    /// The index of the debited account, from 0.
     pub(crate) debit: usize,
-    /// The place of the account that is credited, from 0.
+    /// The index of the credited account, from 0.
     pub(crate) credit: usize,
-    /// The pending transfer that it posts, voids or lets expire.
+    /// The pending transfer that the entry posts, voids or expires.
     pub(crate) settled: Option<Pending>,
 }
 
@@ -72,8 +72,8 @@ fn moves(kind: EventKind) -> bool
 }
 
 impl Movement {
-    /// What the entry does to the balances of its two accounts: it releases what the settled transfer holds, if it
-    /// settles one, and it holds its own amount, moves it, or does neither, as its kind asks.
+    /// The effect of the entry on the balances of its two accounts. It releases the amount that the settled transfer
+    /// holds, if it settles one. Depending on its kind it holds its own amount, moves it, or does neither.
     fn effect(&self) -> Effect
         ensures { result ≡ effect_of_movement self.now }
     {
@@ -89,7 +89,7 @@ impl Movement {
         }
     }
 
-    /// Changes the balances of the two accounts.
+    /// Updates the balances of the two accounts.
     pub(crate) fn apply(&self, accounts: &mut [Account])
         requires placed { IsPlaced accounts.old self.now }
         requires apart { let transfer = self.now.entry.transfer in
@@ -105,7 +105,7 @@ impl Movement {
         effect.credit(&mut accounts[self.credit]);
     }
 
-    /// The event of the entry, from the accounts as they are after it.
+    /// The event of the entry. `accounts` are the accounts right after the entry.
     pub(crate) fn event(&self, accounts: &[Account]) -> Event
         requires { IsPlaced accounts.now self.now }
         ensures { result ≡ event_from accounts.now self.now.entry }

@@ -1,4 +1,4 @@
-//! What the sums of two accounts say of a transfer between them.
+//! The refusals of a transfer that follow from the balances of its two accounts.
 
 ghost use Rattle.std.specs.Prelude.{◌≡◌, ◌+◌, ◌==◌, ◌<◌, ◌≤◌, ◌∷◌, [], ◌^◌, nat_lt};
 ghost use Rattle.cdc_types.specs.Flags.{is_pending_request};
@@ -10,14 +10,14 @@ ghost use Rattle.cdc_ledger.specs.Verdict.{max_timestamp, overflow_lines, timeou
 use crate::transfers::{as_asked, expires_at};
 use cdc_types::{Account, AccountFlags, Balances, Limits, NewTransfer, TransferResult};
 
-/// Whether the amount takes the sum past 128 bits.
+/// Whether the sum with the amount exceeds 128 bits.
 fn overflows(sum: u128, amount: u128) -> bool
     ensures { result ≡ nat_lt max_128 (sum + amount) }
 {
     sum.checked_add(amount).is_none()
 }
 
-/// The first sum that doesn't fit 128 bits after a single-phase or a pending transfer.
+/// The first sum that doesn't fit 128 bits after a single-phase or a pending transfer. `None` if all of them fit.
 fn overflow_refusal(
     debit: &Balances,
     credit: &Balances,
@@ -45,7 +45,7 @@ fn overflow_refusal(
     }
 }
 
-/// Whether the transfer would expire after the greatest timestamp.
+/// The refusal of a transfer that would expire after the greatest timestamp. `None` if it wouldn't.
 fn timeout_refusal(request: &NewTransfer, timestamp: u64) -> Option<TransferResult>
     requires { timestamp ≤ max_timestamp }
     ensures { result ≡ first_line (timeout_lines request.now timestamp) }
@@ -57,7 +57,7 @@ fn timeout_refusal(request: &NewTransfer, timestamp: u64) -> Option<TransferResu
     }
 }
 
-/// The first limit that an account's flags set and that the transfer passes; what is pending counts as well.
+/// The first limit, set by an account's flags, that the transfer exceeds. Pending amounts count as well.
 fn limit_refusal(debited: &Account, credited: &Account, amount: u128) -> Option<TransferResult>
     requires debit { let b = debited.now.balances in
         b.debits_pending + b.debits_posted + amount ≤ max_128 }
@@ -82,9 +82,9 @@ fn limit_refusal(debited: &Account, credited: &Account, amount: u128) -> Option<
     }
 }
 
-/// The first refusal that the sums after a single-phase or a pending transfer call for: they fit 128 bits, its end is
-/// not past the greatest timestamp, and they keep to the limits that the two accounts' flags set (TigerBeetle,
-/// `create_transfers`).
+/// The first refusal of a single-phase or a pending transfer that follows from the balances after it: a sum doesn't
+/// fit 128 bits, its expiry time exceeds the greatest timestamp, or it exceeds a limit that an account's flags set
+/// (TigerBeetle, `create_transfers`).
 pub(crate) fn sum_refusal(
     debited: &Account,
     credited: &Account,
@@ -108,7 +108,7 @@ pub(crate) fn sum_refusal(
     limit_refusal(debited, credited, request.amount)
 }
 
-/// The first refusal that a single-phase or a pending transfer between these two accounts calls for.
+/// The first refusal of a single-phase or a pending transfer that follows from its two accounts.
 pub(crate) fn refusal_between(
     debited: &Account,
     credited: &Account,

@@ -1,5 +1,5 @@
-//! The changes that the tables take: a timestamp, one more account, one more entry, and the last account or entry out
-//! again.
+//! The changes of the tables: taking a timestamp, adding an account or an entry, and reverting the last one that was
+//! added.
 
 ghost use Rattle.std.specs.Prelude.{◌≡◌, ◌+◌, ◌≤◌, ◌<◌, ◌==◌, ◌&&◌, ℕ, true, None, Some, length, slice_set, if◌then◌else◌};
 ghost use Rattle.cdc_ledger.specs.Changes.{pushed, with_account, timed};
@@ -22,23 +22,23 @@ use crate::tables::Tables;
 use crate::transfers::stores;
 use cdc_types::{Account, Entry, Event, NewAccount};
 
-/// An entry that was taken, with its event, and with what it takes to take it out again.
+/// An entry that was recorded, with its event, and with the state that is needed to revert it.
 #[derive(Clone, Copy)]
 pub(crate) struct Recorded {
     pub(crate) movement: Movement,
-    /// The place of the entry, from 0.
+    /// The index of the entry, from 0.
     pub(crate) place: usize,
     pub(crate) event: Event,
-    /// The last timestamp before it.
+    /// The last timestamp before the entry.
     last: u64,
-    /// The account that it debits, as it was before.
+    /// The debited account before the entry.
     debit: Account,
-    /// The account that it credits, as it was before.
+    /// The credited account before the entry.
     credit: Account,
 }
 
 impl Recorded {
-    /// Makes the two accounts what they were before.
+    /// Restores the two accounts to their state before the entry.
     fn restore(&self, accounts: &mut [Account])
         requires debit { self.now.movement.debit < length accounts.old }
         requires credit { self.now.movement.credit < length accounts.old }
@@ -51,7 +51,7 @@ impl Recorded {
     }
 }
 
-/// Keeps the place that an entry will have, where it stores its transfer.
+/// Maps the id of the entry's transfer to the entry's index, if the entry stores its transfer.
 fn keep_place(places: &mut IdPlaces, entry: &Entry, place: usize)
     requires { kinds.stores entry.now.kind ≡ true → 0 < places.old.room }
     ensures places { (id : ℕ) → place_of places.new id
@@ -64,7 +64,7 @@ fn keep_place(places: &mut IdPlaces, entry: &Entry, place: usize)
     }
 }
 
-/// Forgets the place of an entry, where it stored its transfer.
+/// Removes the id of the entry's transfer from the map, if the entry stored its transfer.
 fn forget_place(places: &mut IdPlaces, entry: &Entry)
     ensures places { (id : ℕ) → place_of places.new id
         ≡ (if kinds.stores entry.now.kind && (entry.now.transfer.id == id) then None
@@ -77,7 +77,7 @@ fn forget_place(places: &mut IdPlaces, entry: &Entry)
 }
 
 impl Tables {
-    /// Takes this timestamp, and nothing else.
+    /// Uses up this timestamp and changes nothing else.
     pub(crate) fn take_timestamp(&mut self, timestamp: u64)
         requires later { self.old.history.last ≤ timestamp }
         requires within { timestamp ≤ max_timestamp }
@@ -86,7 +86,7 @@ impl Tables {
         self.last = timestamp;
     }
 
-    /// Opens the account that is asked for. No account has its id, and there is room for it.
+    /// Opens the requested account. No account has its id, and memory is reserved for it.
     pub(crate) fn open_account(&mut self, request: &NewAccount, timestamp: u64)
         requires later { self.old.history.last ≤ timestamp }
         requires within { timestamp ≤ max_timestamp }
@@ -103,7 +103,7 @@ impl Tables {
         self.last = timestamp;
     }
 
-    /// Takes the last account out again, before which this was the last timestamp.
+    /// Removes the last account again. `last` is the last timestamp before that account.
     pub(crate) fn take_account_back(&mut self, last: u64)
         requires { IsLastOpened self.old.history last }
         ensures history { self.new.history ≡ without_account self.old.history last }
@@ -114,7 +114,7 @@ impl Tables {
         self.last = last;
     }
 
-    /// Takes the movement's entry, and answers its event. There is room for it.
+    /// Records the movement's entry and returns its event. Memory is reserved for it.
     pub(crate) fn record(&mut self, movement: &Movement) -> Event
         requires later { self.old.history.last < movement.now.entry.timestamp }
         requires within { movement.now.entry.timestamp ≤ max_timestamp }
@@ -140,8 +140,7 @@ impl Tables {
         event
     }
 
-    /// Takes the movement's entry, and answers what it takes to tell of it or to take it out again. There is room for
-    /// it.
+    /// Records the movement's entry and returns what is needed to log it or to revert it. Memory is reserved for it.
     pub(crate) fn record_for_chain(&mut self, movement: &Movement) -> Recorded
         requires later { self.old.history.last < movement.now.entry.timestamp }
         requires within { movement.now.entry.timestamp ≤ max_timestamp }
@@ -170,7 +169,7 @@ impl Tables {
         }
     }
 
-    /// Takes the last entry out again, as if it had never come.
+    /// Removes the last entry and reverts its effects.
     pub(crate) fn take_back(&mut self, recorded: &Recorded)
         requires { IsLastRecorded self.old.history recorded.now }
         ensures history { self.new.history

@@ -1,4 +1,4 @@
-//! What refuses a post or a void of a pending transfer.
+//! The refusals of a post or a void of a pending transfer.
 
 ghost use Rattle.std.specs.Prelude.{◌≡◌, ◌≢◌, ◌==◌, ◌&&◌, not, nat_le, ◌<◌, ◌^◌};
 ghost use Rattle.cdc_types.specs.Lines.{first_line};
@@ -10,14 +10,15 @@ use crate::endings::Ending;
 use crate::transfers::{expires_at, settled_amount};
 use cdc_types::{Entry, EventKind, NewTransfer, Transfer, TransferResult};
 
-/// Whether something was given that isn't the pending transfer's own.
+/// Whether a value is given that differs from the pending transfer's own. 0 means that none is given.
 fn is_other(given: u128, own: u128) -> bool
     ensures { result ≡ lines.is_other given own }
 {
     given != 0 && given != own
 }
 
-/// The first refusal that the fields of a post or a void call for, against those of the transfer that it names.
+/// The first refusal of a post or a void that follows from comparing its fields with those of the transfer that it
+/// names. `None` if they agree.
 pub(crate) fn field_refusal(entry: &Entry, request: &NewTransfer) -> Option<TransferResult>
     ensures { result ≡ first_line (lines.field_lines entry.now request.now) }
 {
@@ -42,7 +43,7 @@ pub(crate) fn field_refusal(entry: &Entry, request: &NewTransfer) -> Option<Tran
     }
 }
 
-/// Whether the pending transfer has a timeout that is up at this moment.
+/// Whether the pending transfer has a timeout that is up at this timestamp.
 fn is_up(pending: &Transfer, timestamp: u64) -> bool
     requires { pending.now.timeout ≢ 0 → filling.expires_at pending.now < 2 ^ 64 }
     ensures { result
@@ -51,8 +52,8 @@ fn is_up(pending: &Transfer, timestamp: u64) -> bool
     pending.timeout != 0 && expires_at(pending) <= timestamp
 }
 
-/// Why a pending transfer that ended so can't be settled any more, if so: it was posted or voided, or it has expired,
-/// swept or not.
+/// Why the pending transfer can't be settled any more: it was posted or voided, or it has expired, even if no pulse
+/// has recorded the expiry. `None` if it can be settled.
 pub(crate) fn end_refusal(
     ending: Ending,
     pending: &Transfer,

@@ -1,4 +1,4 @@
-//! What the ledger keeps between two batches.
+//! The state of a ledger between two batches.
 
 ghost use Rattle.std.specs.Prelude.{◌≡◌, ◌<◌, ◌≤◌, true, Some, length, option_map, slice_get, OnOk, IfErr};
 ghost use Rattle.std.specs.Option.{option_copied};
@@ -17,17 +17,17 @@ use cdc_types::{Account, Entry};
 use std::alloc::Global;
 use std::marker::Model;
 
-/// The accounts with their running balances, the entries, and how far the ledger has come. A clause sees the history
-/// that they hold, and for how many more of each there is room.
+/// The accounts with their current balances, the entries, and the last timestamp. Contracts see the history that the
+/// tables represent, and the number of accounts and entries that can be added without allocating.
 #[derive(Drop)]
 pub(crate) struct Tables {
     pub(crate) accounts: Vec<Account>,
-    /// The place of each account.
+    /// The index of each account in `accounts`, by the account's id.
     pub(crate) account_places: IdPlaces,
     pub(crate) entries: Vec<Entry>,
-    /// The place of the entry that stored each transfer.
+    /// The index in `entries` of the entry that stored each transfer, by the transfer's id.
     pub(crate) transfer_places: IdPlaces,
-    /// How the transfer of each entry ended.
+    /// How the transfer of each entry ended, at the entry's index.
     pub(crate) endings: Vec<Ending>,
     pub(crate) last: u64,
     pub(crate) closed: bool,
@@ -46,7 +46,7 @@ impl Model for Tables {
 }
 
 impl Tables {
-    /// Nothing was taken yet.
+    /// The tables of an empty ledger.
     pub(crate) fn new(alloc: Global) -> Tables
         ensures { result.history ≡ empty_history }
     {
@@ -61,7 +61,7 @@ impl Tables {
         }
     }
 
-    /// The accounts in the order in which they were opened, with their balances now.
+    /// The accounts in the order in which they were opened, with their current balances.
     pub(crate) fn accounts(&self) -> &[Account]
         ensures accounts { result.now ≡ accounts_now self.now.history }
         ensures sound { IsSound self.now.history }
@@ -69,7 +69,7 @@ impl Tables {
         self.accounts.as_slice()
     }
 
-    /// The account of this id with its balances now.
+    /// The account of this id with its current balances. `None` if there is none.
     pub(crate) fn account(&self, id: u128) -> Option<&Account>
         ensures account { let h = self.now.history in
             option_copied result ≡ option_map (account_now h) (opened h id) }
@@ -80,14 +80,14 @@ impl Tables {
         Some(&accounts[place])
     }
 
-    /// The place of the account of this id, from 0.
+    /// The index of the account of this id, from 0. `None` if there is none.
     pub(crate) fn account_place(&self, id: u128) -> Option<usize>
         ensures { result ≡ account_place (accounts_now self.now.history) id }
     {
         self.account_places.find(id)
     }
 
-    /// The entries in the order of their timestamps.
+    /// The entries in timestamp order.
     pub(crate) fn entries(&self) -> &[Entry]
         ensures entries { result.now ≡ self.now.history.entries }
         ensures sound { IsSound self.now.history }
@@ -95,7 +95,7 @@ impl Tables {
         self.entries.as_slice()
     }
 
-    /// The entry that stored the transfer of this id.
+    /// The entry that stored the transfer of this id. `None` if there is none.
     pub(crate) fn entry(&self, id: u128) -> Option<&Entry>
         ensures { option_copied result ≡ stored self.now.history id }
     {
@@ -103,14 +103,14 @@ impl Tables {
         Some(&self.entries[place])
     }
 
-    /// The place of the entry that stored the transfer of this id, from 0.
+    /// The index of the entry that stored the transfer of this id, from 0. `None` if there is none.
     pub(crate) fn entry_place(&self, id: u128) -> Option<usize>
         ensures { result ≡ stored_place self.now.history.entries id }
     {
         self.transfer_places.find(id)
     }
 
-    /// How the transfer of the entry at this place ended.
+    /// How the transfer of the entry at this index ended.
     pub(crate) fn ending(&self, place: usize) -> Ending
         requires { place < length self.now.history.entries }
         ensures { let entries = self.now.history.entries in
@@ -119,7 +119,7 @@ impl Tables {
         self.endings[place]
     }
 
-    /// The last timestamp that was given out, or 0.
+    /// The last timestamp that the ledger gave out; 0 if it gave out none.
     pub(crate) fn last(&self) -> u64
         ensures last { result ≡ self.now.history.last }
         ensures within { self.now.history.last ≤ max_timestamp }
@@ -127,21 +127,21 @@ impl Tables {
         self.last
     }
 
-    /// Whether no more batches are taken.
+    /// Whether the ledger refuses every batch.
     pub(crate) fn closed(&self) -> bool
         ensures { result ≡ self.now.history.closed }
     {
         self.closed
     }
 
-    /// Takes no more batches.
+    /// Makes the ledger refuse every later batch.
     pub(crate) fn close(&mut self)
         ensures { self.new.history ≡ record self.old.history { closed = true } }
     {
         self.closed = true;
     }
 
-    /// Makes room for this many more accounts.
+    /// Reserves memory for `additional` more accounts.
     pub(crate) fn reserve_accounts(&mut self, additional: usize) -> Result<(), BatchError>
         ensures history { self.new.history ≡ self.old.history }
         ensures room { OnOk result (additional ≤ self.new.account_room) }
@@ -152,7 +152,7 @@ impl Tables {
         Ok(())
     }
 
-    /// Makes room for this many more entries.
+    /// Reserves memory for `additional` more entries.
     pub(crate) fn reserve_entries(&mut self, additional: usize) -> Result<(), BatchError>
         ensures history { self.new.history ≡ self.old.history }
         ensures room { OnOk result (additional ≤ self.new.entry_room) }
@@ -163,7 +163,7 @@ impl Tables {
         Ok(())
     }
 
-    /// Makes room for this many more transfers: their entries and their places.
+    /// Reserves memory for `additional` more transfers: for their entries and for the map from ids to indices.
     pub(crate) fn reserve_transfers(&mut self, additional: usize) -> Result<(), BatchError>
         ensures history { self.new.history ≡ self.old.history }
         ensures room { OnOk result (additional ≤ self.new.entry_room) }

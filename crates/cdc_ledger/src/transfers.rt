@@ -1,4 +1,4 @@
-//! Transfers: what is stored for a request.
+//! The transfers that are stored for requests.
 
 ghost use Rattle.std.specs.Prelude.{◌≡◌, ◌<◌, ◌^◌};
 ghost use Rattle.cdc_ledger.specs.Events as shown;
@@ -8,7 +8,7 @@ ghost use Rattle.cdc_ledger.specs.Submit as submit;
 
 use cdc_types::{Entry, EventKind, EventTransfer, NewTransfer, Transfer};
 
-/// The request with its timestamp.
+/// The request's fields with a timestamp.
 pub(crate) fn as_asked(request: &NewTransfer, timestamp: u64) -> Transfer
     ensures { result ≡ filling.as_asked request.now timestamp }
 {
@@ -29,7 +29,8 @@ pub(crate) fn as_asked(request: &NewTransfer, timestamp: u64) -> Transfer
     }
 }
 
-/// The amount that a post or a void settles of the pending one: the greatest number posts the whole, and 0 voids it.
+/// The amount that a post or a void settles. In a post the greatest number means the whole pending amount; in a void
+/// 0 does.
 pub(crate) fn settled_amount(request: &NewTransfer, pending: &Transfer) -> u128
     ensures { result ≡ filling.settled_amount request.now pending.now }
 {
@@ -41,8 +42,8 @@ pub(crate) fn settled_amount(request: &NewTransfer, pending: &Transfer) -> u128
     }
 }
 
-/// A post or a void of the pending transfer: where the request has 0 it takes the pending transfer's own (TigerBeetle,
-/// Two-Phase Transfers).
+/// A post or a void of the pending transfer. A field that is 0 in the request is taken from the pending transfer
+/// (TigerBeetle, Two-Phase Transfers).
 pub(crate) fn filled_from(pending: &Transfer, request: &NewTransfer, timestamp: u64) -> Transfer
     ensures { result ≡ filling.filled_from pending.now request.now timestamp }
 {
@@ -60,35 +61,35 @@ pub(crate) fn filled_from(pending: &Transfer, request: &NewTransfer, timestamp: 
     }
 }
 
-/// What was given, where 0 stands for the pending transfer's own.
+/// The given value; 0 means the pending transfer's own.
 fn or_own_128(given: u128, own: u128) -> u128
     ensures { result ≡ filling.or_own given own }
 {
     if given == 0 { own } else { given }
 }
 
-/// What was given, where 0 stands for the pending transfer's own.
+/// The given value; 0 means the pending transfer's own.
 fn or_own_64(given: u64, own: u64) -> u64
     ensures { result ≡ filling.or_own given own }
 {
     if given == 0 { own } else { given }
 }
 
-/// What was given, where 0 stands for the pending transfer's own.
+/// The given value; 0 means the pending transfer's own.
 fn or_own_32(given: u32, own: u32) -> u32
     ensures { result ≡ filling.or_own given own }
 {
     if given == 0 { own } else { given }
 }
 
-/// What was given, where 0 stands for the pending transfer's own.
+/// The given value; 0 means the pending transfer's own.
 fn or_own_16(given: u16, own: u16) -> u16
     ensures { result ≡ filling.or_own given own }
 {
     if given == 0 { own } else { given }
 }
 
-/// What the request is once it is accepted.
+/// The kind of the entry that an accepted request leads to.
 pub(crate) fn kind_of(request: &NewTransfer) -> EventKind
     ensures { result ≡ submit.kind_of request.now }
 {
@@ -103,7 +104,7 @@ pub(crate) fn kind_of(request: &NewTransfer) -> EventKind
     }
 }
 
-/// When a pending transfer expires, in nanoseconds; its timeout is in seconds.
+/// When a pending transfer expires, in nanoseconds. Its timeout is in seconds.
 pub(crate) fn expires_at(pending: &Transfer) -> u64
     requires { filling.expires_at pending.now < 2 ^ 64 }
     ensures { result ≡ filling.expires_at pending.now }
@@ -129,7 +130,7 @@ pub(crate) fn shown_transfer(transfer: &Transfer) -> EventTransfer
     }
 }
 
-/// Whether every field but the timestamp is equal.
+/// Whether all fields except the timestamp are equal.
 pub(crate) fn is_same_transfer(asked: &Transfer, stored: &Transfer) -> bool
     ensures { result ≡ filling.is_same_transfer asked.now stored.now }
 {
@@ -147,7 +148,7 @@ pub(crate) fn is_same_transfer(asked: &Transfer, stored: &Transfer) -> bool
         && asked.flags == stored.flags
 }
 
-/// Whether an entry of this kind stored its transfer: an expiry shows one that was stored before.
+/// Whether an entry of this kind stores its transfer. An expiry doesn't: its transfer was stored before.
 pub(crate) fn stores(kind: EventKind) -> bool
     ensures { result ≡ kinds.stores kind }
 {

@@ -1,7 +1,8 @@
 //! Linked chains, by the worked examples.
 
 use crate::courses::{
-    ACCOUNT, MAX, PULSE, SETTLING, TRANSFER, answer, answers, batches, open_two, sums_of, told_by,
+    ACCOUNT, MAX, PULSE, SETTLING, TRANSFER, answer, answers, batches, emitted_by, open_two,
+    sums_of,
 };
 use cdc_ledger::Ledger;
 use cdc_types::{AccountResult, EventKind, NewAccount, NewTransfer};
@@ -9,7 +10,7 @@ use std::alloc::Global;
 use std::process::Abort;
 use std::test::Fail;
 
-// A transfer of this id and this amount, with these flags.
+// A transfer with this id, this amount and these flags.
 fn transfer(id: u128, amount: u128, flags: u16) -> NewTransfer {
     NewTransfer {
         id,
@@ -30,7 +31,7 @@ fn post(id: u128, flags: u16) -> NewTransfer {
     }
 }
 
-// Plays chains that are taken, that fail at each place, and that are open.
+// Plays chains that are accepted, that fail at each place, and that are open.
 fn plays_chains(rt: &impl Abort, alloc: Global, ledger: &mut Ledger) -> Result<(), Fail> {
     open_two(alloc, ledger, 0)?;
     let nobody = NewTransfer {
@@ -75,7 +76,7 @@ fn plays_chains(rt: &impl Abort, alloc: Global, ledger: &mut Ledger) -> Result<(
         ..transfer(10, 100, 2)
     };
     answers(rt, alloc, ledger, 6000, &[pending], &[0])?;
-    // What a chain posted before it failed is pending again, and comes to its end.
+    // What a chain posted before it failed is pending again, and expires.
     answers(
         rt,
         alloc,
@@ -129,12 +130,12 @@ fn plays_chains(rt: &impl Abort, alloc: Global, ledger: &mut Ledger) -> Result<(
     ];
     assert_eq!(rt; ledger.log().len(), events.len());
     for (place, expected) in events.iter().enumerate() {
-        assert_eq!(rt; ledger.log().get(place).map(told_by), Some(*expected));
+        assert_eq!(rt; ledger.log().get(place).map(emitted_by), Some(*expected));
     }
     Ok(())
 }
 
-// The items of a chain are taken all together or not at all.
+// The items of a chain are accepted together or not at all.
 #[test]
 fn chains_are_taken_whole_or_not_at_all(rt: HostRuntime) -> Result<(), Fail> {
     let alloc = rt.alloc();
@@ -168,7 +169,7 @@ fn opens_chains(rt: &impl Abort, alloc: Global, ledger: &mut Ledger) -> Result<(
     Ok(())
 }
 
-// So are those of accounts.
+// The same for chains of accounts.
 #[test]
 fn accounts_are_opened_in_chains(rt: HostRuntime) -> Result<(), Fail> {
     let alloc = rt.alloc();
@@ -176,7 +177,8 @@ fn accounts_are_opened_in_chains(rt: HostRuntime) -> Result<(), Fail> {
     opens_chains(&rt, alloc, &mut ledger)
 }
 
-// A chain is taken whole, and so is one beside it; between them and after them items are judged by themselves.
+// A chain is accepted as a whole, and so is one next to it; between them and after them items are validated one by
+// one.
 #[test]
 fn chains_of_transfers_are_taken(rt: HostRuntime) -> Result<(), Fail> {
     let first = [
@@ -212,8 +214,8 @@ fn chains_of_transfers_are_taken(rt: HostRuntime) -> Result<(), Fail> {
     )
 }
 
-// A chain that fails leaves nothing, and takes its timestamps; the chains beside it don't fail with it. An item that
-// comes after a refused one isn't judged: it would be refused for another reason. An open chain of one item is found to
+// A chain that fails leaves nothing, and takes its timestamps; the chains next to it don't fail with it. An item
+// after a refused one isn't validated: it would be refused for another reason. An open chain of one item is found to
 // be open before anything else.
 #[test]
 fn a_chain_fails_whole(rt: HostRuntime) -> Result<(), Fail> {
@@ -259,7 +261,7 @@ fn a_chain_fails_whole(rt: HostRuntime) -> Result<(), Fail> {
     )
 }
 
-// What a chain that failed asked for may be asked for again: its ids are free.
+// What a chain that failed asked for may be requested again: its ids are free.
 #[test]
 fn ids_of_a_failed_chain_are_free(rt: HostRuntime) -> Result<(), Fail> {
     let failed = [
@@ -284,7 +286,7 @@ fn ids_of_a_failed_chain_are_free(rt: HostRuntime) -> Result<(), Fail> {
     )
 }
 
-// A void of a chain that fails is undone, and its pending transfer may be posted, which takes its end out.
+// A void of a chain that fails is undone, and its pending transfer may be posted, which removes its expiry.
 #[test]
 fn a_void_is_undone_with_its_chain(rt: HostRuntime) -> Result<(), Fail> {
     let pending = [(2, 10, 0, 100, 1, 0)];
@@ -303,8 +305,8 @@ fn a_void_is_undone_with_its_chain(rt: HostRuntime) -> Result<(), Fail> {
     )
 }
 
-// The numbers of the first and the last result of a chain of a thousand transfers, pending for a second: the last has
-// this id.
+// The numbers of the first and the last result of a chain of a thousand transfers, pending for a second. The last
+// transfer has this id.
 fn thousand_linked(
     alloc: Global,
     ledger: &mut Ledger,
@@ -338,8 +340,8 @@ fn thousand_linked(
     }
 }
 
-// A chain of a thousand that fails at its last item leaves balances and log as they were; the same one with
-// a good last item is then taken.
+// A chain of a thousand that fails at its last item leaves balances and log as they were; the same one with a good
+// last item is then accepted.
 fn takes_chain_of_thousand(
     rt: &impl Abort,
     alloc: Global,

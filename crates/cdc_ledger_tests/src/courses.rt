@@ -1,7 +1,7 @@
 //! Courses of a ledger: what it is asked, what it answers, and which events it has then.
 //!
-//! Each test makes a ledger and lends it: a function that holds one is proved to let go of it at each of its ends, and
-//! a `?` is an end.
+//! Each test creates a ledger and lends it: a function that owns one is proved to drop it at each of its exits, and a
+//! `?` is an exit.
 
 use cdc_ledger::Ledger;
 use cdc_types::{Event, EventKind, NewAccount, NewTransfer};
@@ -11,7 +11,7 @@ use std::test::Fail;
 
 pub(crate) const MAX: u128 = u128::MAX;
 
-/// When rows of batches end with a pulse: after a timeout of a second that begins at 2000 or 3002.
+/// The timestamp of the pulse after a row of batches: after a timeout of a second that begins at 2000 or 3002.
 pub(crate) const PULSE: u64 = 1_000_003_002;
 
 /// A request for an account.
@@ -25,7 +25,7 @@ pub(crate) const ACCOUNT: NewAccount = NewAccount {
     flags: 0,
 };
 
-/// A request for a transfer of nothing from account 1 to account 2.
+/// A request for a transfer of amount 0 from account 1 to account 2.
 pub(crate) const TRANSFER: NewTransfer = NewTransfer {
     id: 1,
     debit_account_id: 1,
@@ -41,7 +41,7 @@ pub(crate) const TRANSFER: NewTransfer = NewTransfer {
     flags: 0,
 };
 
-/// A post or a void, by its flags, that leaves all else to the pending transfer.
+/// A post or a void, depending on its flags, that leaves all else to the pending transfer.
 pub(crate) const SETTLING: NewTransfer = NewTransfer {
     id: 1,
     debit_account_id: 0,
@@ -57,8 +57,8 @@ pub(crate) const SETTLING: NewTransfer = NewTransfer {
     flags: 4,
 };
 
-/// A batch of one request at its moment: the flags, the id, the pending id, the amount and the timeout; 0 as the id
-/// stands for a pulse. Then the answer: the result's number, or how many expired.
+/// A batch of one request with its timestamp: the flags, the id, the pending id, the amount and the timeout; an id of
+/// 0 means a pulse. Then the answer: the result's number, or how many transfers expired.
 type Step = (u64, u16, u128, u128, u128, u32, u64);
 
 /// A request of a batch: the flags, the id, the pending id, the amount and the timeout; then the number of its result.
@@ -66,7 +66,7 @@ type Item = (u16, u128, u128, u128, u32, u8);
 
 /// An event's timestamp, its kind, the amount, and the debited account's four balances after it: debits pending and
 /// posted, credits pending and posted.
-type Told = (u64, EventKind, u128, [u128; 4]);
+type Emitted = (u64, EventKind, u128, [u128; 4]);
 
 /// Opens accounts 1 and 2 at 1000 and 1001; the flags are account 1's.
 pub(crate) fn open_two(alloc: Global, ledger: &mut Ledger, flags: u16) -> Result<(), Fail> {
@@ -91,7 +91,7 @@ fn request_of(flags: u16, id: u128, pending_id: u128, amount: u128, timeout: u32
     }
 }
 
-/// What the ledger answers to a step.
+/// The ledger's answer to a step, as a number.
 pub(crate) fn answer(alloc: Global, ledger: &mut Ledger, step: &Step) -> Result<u64, Fail> {
     let (now, flags, id, pending_id, amount, timeout, _) = *step;
     if id == 0 {
@@ -104,8 +104,8 @@ pub(crate) fn answer(alloc: Global, ledger: &mut Ledger, step: &Step) -> Result<
     }
 }
 
-/// What an event tells.
-pub(crate) fn told_by(event: &Event) -> Told {
+/// What the tests compare of an event.
+pub(crate) fn emitted_by(event: &Event) -> Emitted {
     let debit = event.debit_account;
     let sums = [
         debit.debits_pending,
@@ -116,7 +116,7 @@ pub(crate) fn told_by(event: &Event) -> Told {
     (event.timestamp, event.kind, event.transfer.amount, sums)
 }
 
-/// An account's four balances, in the order in which events are told here.
+/// An account's four balances, in the order of `Emitted`.
 pub(crate) fn sums_of(ledger: &Ledger, id: u128) -> Option<[u128; 4]> {
     let sums = ledger.balances(id)?;
     Some([
@@ -127,28 +127,29 @@ pub(crate) fn sums_of(ledger: &Ledger, id: u128) -> Option<[u128; 4]> {
     ])
 }
 
-/// These are the ledger's events.
-fn tells(rt: &impl Abort, ledger: &Ledger, events: &[Told]) {
+/// Asserts that these are the ledger's events.
+fn emits(rt: &impl Abort, ledger: &Ledger, events: &[Emitted]) {
     assert_eq!(rt; ledger.log().len(), events.len());
     for (place, expected) in events.iter().enumerate() {
-        assert_eq!(rt; ledger.log().get(place).map(told_by), Some(*expected));
+        assert_eq!(rt; ledger.log().get(place).map(emitted_by), Some(*expected));
     }
 }
 
-/// On a ledger of two accounts, the steps one after the other have these answers, and these are its events.
+/// Asserts that these steps, taken one after another on a ledger of two accounts, have these answers, and that these
+/// are the ledger's events then.
 fn plays(
     rt: &impl Abort,
     alloc: Global,
     ledger: &mut Ledger,
     flags: u16,
     steps: &[Step],
-    events: &[Told],
+    events: &[Emitted],
 ) -> Result<(), Fail> {
     open_two(alloc, ledger, flags)?;
     for step in steps {
         assert_eq!(rt; answer(alloc, ledger, step)?, step.6);
     }
-    tells(rt, ledger, events);
+    emits(rt, ledger, events);
     Ok(())
 }
 
@@ -158,13 +159,13 @@ pub(crate) fn row(
     alloc: Global,
     flags: u16,
     steps: &[Step],
-    events: &[Told],
+    events: &[Emitted],
 ) -> Result<(), Fail> {
     let mut ledger = Ledger::new(alloc);
     plays(rt, alloc, &mut ledger, flags, steps, events)
 }
 
-/// A batch of requests for transfers has these results.
+/// Asserts that a batch of requests for transfers has these results.
 pub(crate) fn answers(
     rt: &impl Abort,
     alloc: Global,
@@ -202,15 +203,16 @@ fn transfer_numbers(
     Ok(numbers)
 }
 
-/// On a ledger of two accounts, the batches one after the other have these results, so many pending transfers expire by
-/// a pulse after them, and then these are its events; account 1 was debited what account 2 was credited.
+/// Asserts that these batches, taken one after another on a ledger of two accounts, have these results, that
+/// `expired` pending transfers expire by a pulse after them, and that these are then the ledger's events. Account 1
+/// was debited what account 2 was credited.
 fn plays_batches(
     rt: &impl Abort,
     alloc: Global,
     ledger: &mut Ledger,
     batches: &[(u64, &[Item])],
     expired: u64,
-    events: &[Told],
+    events: &[Emitted],
 ) -> Result<(), Fail> {
     open_two(alloc, ledger, 0)?;
     for (now, items) in batches {
@@ -221,7 +223,7 @@ fn plays_batches(
         }
     }
     assert_eq!(rt; ledger.pulse(PULSE)?, expired);
-    tells(rt, ledger, events);
+    emits(rt, ledger, events);
     let sums = events.last().map_or([0, 0, 0, 0], |event| event.3);
     assert_eq!(rt; sums_of(ledger, 1), Some(sums));
     assert_eq!(rt;
@@ -237,7 +239,7 @@ pub(crate) fn batches(
     alloc: Global,
     batches: &[(u64, &[Item])],
     expired: u64,
-    events: &[Told],
+    events: &[Emitted],
 ) -> Result<(), Fail> {
     let mut ledger = Ledger::new(alloc);
     plays_batches(rt, alloc, &mut ledger, batches, expired, events)

@@ -1,4 +1,4 @@
-//! Tests of the ledger: what no clause of its crate says.
+//! Tests of the ledger: what its contracts don't state.
 #![tactic(auto)]
 
 #[cfg(test)]

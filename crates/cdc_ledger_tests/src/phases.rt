@@ -1,4 +1,4 @@
-//! Transfers of two phases, and what limits sums, by the worked examples.
+//! Two-phase transfers, and what limits sums, by the worked examples.
 
 use crate::courses::{MAX, row};
 use cdc_types::EventKind;
@@ -23,7 +23,7 @@ fn pending_transfers_are_posted_and_voided(rt: HostRuntime) -> Result<(), Fail> 
     row(&rt, rt.alloc(), 0, &steps, &events)
 }
 
-// A post at the end of its pending transfer is too late; those that end first expire first.
+// A post at the expiry of its pending transfer is too late; transfers expire in the order of their expiry.
 #[test]
 fn pending_transfers_come_to_their_end(rt: HostRuntime) -> Result<(), Fail> {
     let steps = [
@@ -42,14 +42,15 @@ fn pending_transfers_come_to_their_end(rt: HostRuntime) -> Result<(), Fail> {
     row(&rt, rt.alloc(), 0, &steps, &events)
 }
 
-// A limit on debits holds from the first transfer on; what it refused isn't there to be voided.
+// A limit on debits holds from the first transfer on; a transfer that it refused isn't there to be voided.
 #[test]
 fn sums_keep_to_a_limit(rt: HostRuntime) -> Result<(), Fail> {
     let steps = [(2000, 0, 2, 0, 1, 0, 36), (2000, 8, 3, 2, 0, 0, 18)];
     row(&rt, rt.alloc(), 2, &steps, &[])
 }
 
-// Sums fit 128 bits, pending and posted together. What is asked for again exists, as it is or with another amount.
+// Sums fit 128 bits, pending and posted together. A request for an existing transfer, unchanged or with another
+// amount, is refused.
 #[test]
 fn sums_fit(rt: HostRuntime) -> Result<(), Fail> {
     let steps = [

@@ -1,4 +1,5 @@
-//! That a ledger finds memory, also for much; what its readers find; and its end.
+//! Tests that the allocations of a ledger succeed, also for many items, that its getters find what it has, and how it
+//! comes to an end.
 
 use crate::courses::{ACCOUNT, TRANSFER, answer, answers, open_two};
 use cdc_ledger::{BatchError, Ledger};
@@ -10,7 +11,7 @@ use std::alloc::Global;
 use std::process::Abort;
 use std::test::Fail;
 
-// Two accounts with a transfer of 5 and a pending one of 7 between them are found, one by one and together.
+// Two accounts, with a transfer of 5 and a pending one of 7 between them, are found, one by one and together.
 fn readers(rt: &impl Abort, alloc: Global, ledger: &mut Ledger) -> Result<(), Fail> {
     let single = NewTransfer {
         amount: 5,
@@ -50,7 +51,7 @@ fn readers_find_what_was_stored(rt: HostRuntime) -> Result<(), Fail> {
     readers(&rt, rt.alloc(), &mut ledger)
 }
 
-// Whether a batch of a thousand transfers, pending for a second, with the ids from this one on, is taken.
+// Whether a batch of a thousand transfers, pending for a second, with the ids from `first` on, is accepted.
 fn takes_thousand(alloc: Global, ledger: &mut Ledger, first: u32) -> Result<bool, Fail> {
     let mut requests = Vec::with_capacity(alloc, 1000)?;
     for place in 0..1000u32 {
@@ -70,7 +71,7 @@ fn takes_thousand(alloc: Global, ledger: &mut Ledger, first: u32) -> Result<bool
     )
 }
 
-// More than a thousand pending transfers, all of which expire by a pulse.
+// More than a thousand pending transfers, all of which expire by one pulse.
 fn expires_many(rt: &impl Abort, alloc: Global, ledger: &mut Ledger) -> Result<(), Fail> {
     open_two(alloc, ledger, 0)?;
     for first in [1, 1001] {
@@ -87,7 +88,7 @@ fn a_pulse_is_of_any_size(rt: HostRuntime) -> Result<(), Fail> {
     expires_many(&rt, rt.alloc(), &mut ledger)
 }
 
-// The most accounts that a batch may have.
+// A batch of as many accounts as a batch may have.
 fn thousand_accounts(alloc: Global) -> Result<Batch, Fail> {
     let mut requests = Vec::with_capacity(alloc, Limits::BATCH_ITEMS)?;
     for id in 1..=1000u32 {
@@ -102,7 +103,7 @@ fn thousand_accounts(alloc: Global) -> Result<Batch, Fail> {
     })
 }
 
-// How many of these results there are, if they are of accounts, all of which were opened.
+// How many results there are, if they are those of accounts, all of which were opened.
 fn opened_count(results: &BatchResults) -> Option<usize> {
     let BatchResults::Accounts(answers) = results else {
         return None;
@@ -114,7 +115,7 @@ fn opened_count(results: &BatchResults) -> Option<usize> {
     if all { Some(answers.len()) } else { None }
 }
 
-// A thousand accounts are opened by one batch; a batch of one more is refused.
+// A batch of a thousand accounts is accepted; a batch of one more is refused.
 fn takes_at_most_thousand(rt: &impl Abort, alloc: Global, ledger: &mut Ledger) -> Result<(), Fail> {
     let many = vec![in alloc; ACCOUNT; 1001]?;
     let refused = ledger.create_accounts(alloc, 1, many.as_slice());
@@ -131,7 +132,7 @@ fn a_batch_of_a_thousand_accounts(rt: HostRuntime) -> Result<(), Fail> {
     takes_at_most_thousand(&rt, rt.alloc(), &mut ledger)
 }
 
-// The last timestamp is given out once, and a closed ledger takes no batch.
+// The last timestamp is assigned once, and a closed ledger accepts no batch.
 fn comes_to_an_end(rt: &impl Abort, alloc: Global, ledger: &mut Ledger) -> Result<(), Fail> {
     let two = ledger.create_accounts(alloc, Limits::TIMESTAMP, &[ACCOUNT, ACCOUNT]);
     assert!(rt; matches!(two, Err(BatchError::TimestampsExhausted)));

@@ -13,7 +13,7 @@ abbrev pub Away : ℕ → List ℕ → Type 0
 Away j [] = Unit {0}
 Away j (x ∷ xs) = (x ≢ j) × Away j xs
 
--- no number stands twice
+-- no number occurs twice
 abbrev pub Distinct : List ℕ → Type 0
 Distinct [] = Unit {0}
 Distinct (x ∷ xs) = Away x xs × Distinct xs
@@ -23,7 +23,7 @@ abbrev pub Below : ℕ → List ℕ → Type 0
 Below n [] = Unit {0}
 Below n (x ∷ xs) = (x < n) × Below n xs
 
--- how often a number stands there
+-- how often a number occurs
 abbrev pub hits : ℕ → List ℕ → ℕ
 hits j [] = 0
 hits j (x ∷ xs) = cond (j == x) 1 0 + hits j xs
@@ -44,7 +44,7 @@ in_or_away j [] = inr tt
 in_or_away j (x ∷ xs) =
     dite (ℕ_discrete x j) (λ e. inl (inl e)) (λ ne. ⊎_elim (λ h. inl (inr h)) (λ h. inr (ne, h)) (in_or_away j xs))
 
--- a number among them stands at some place
+-- a number among them is at some place
 pub in-contains : (j : ℕ) (xs : List ℕ) → In j xs → Contains xs j
 in-contains j [] h = absurd h
 in-contains j (x ∷ xs) (inl e) = (0, omega arith, e)
@@ -116,14 +116,14 @@ not_both j x [] e h i = i
 not_both j x (y ∷ ys) e h (inl is) = h.0 (is ∙ sym e)
 not_both j x (y ∷ ys) e h (inr i) = not_both j x ys e h.1 i
 
--- a number that isn't there stands there 0 times
+-- a number that isn't there occurs 0 times
 hits-away : (j : ℕ) (xs : List ℕ) → Away j xs → hits j xs ≡ 0
 hits-away j [] h = refl
 hits-away j (x ∷ xs) h =
     let rest = hits-away j xs h.1 in
     by_equal j x (λ b. cond b 1 0 + hits j xs ≡ 0) (λ e. absurd (h.0 (sym e))) (λ _. omega arith)
 
--- one of different numbers stands there once
+-- one of distinct numbers occurs once
 pub hits-once : (j : ℕ) (xs : List ℕ) → Distinct xs → In j xs → hits j xs ≡ 1
 hits-once j [] h i = absurd i
 hits-once j (x ∷ xs) h (inl e) =

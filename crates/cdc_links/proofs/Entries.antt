@@ -41,7 +41,7 @@ module _ {M N : Type 0} where
       of_sender-append j xs (e ∷ [])
       ∙ (ap (λ l. of_sender j xs ++ l) (of_sender-other j e [] apart) ∙ append-nil (of_sender j xs))
 
-  -- a message of this sender in the middle
+  -- a message of this sender between two others
   pub of_sender-middle : (e : ℕ × (M × N)) (xs ys : List (ℕ × (M × N)))
       → of_sender e.0 (xs ++ e ∷ ys) ≡ of_sender e.0 xs ++ e.1 ∷ of_sender e.0 ys
   of_sender-middle e xs ys = of_sender-append e.0 xs (e ∷ ys) ∙ ap (λ l. of_sender e.0 xs ++ l) (of_sender-own e ys)
@@ -57,7 +57,7 @@ module _ {M N : Type 0} where
           (subst (λ l. may_follow j l m) (sym (append_assoc before (x ∷ []) xs)) next),
     )
 
-    -- a message in the middle could follow those before it
+    -- a message between two others could follow those before it
     pub follow-middle : (j : ℕ) (before messages : List (M × N)) (m : M × N) (rest : List (M × N))
         → FollowFrom may_follow j before (messages ++ m ∷ rest) → may_follow j (before ++ messages) m
     follow-middle j before [] m rest chain = subst (λ l. may_follow j l m) (sym (append-nil before)) chain.0
@@ -65,7 +65,7 @@ module _ {M N : Type 0} where
         subst (λ l. may_follow j l m) (append_assoc before (x ∷ []) xs)
         (follow-middle j (before ++ x ∷ []) xs m rest chain.1)
 
-    -- a beginning of what could be sent could be sent
+    -- a prefix of what could be sent could be sent
     pub follow-prefix : (j : ℕ) (before messages rest : List (M × N))
         → FollowFrom may_follow j before (messages ++ rest)
         → FollowFrom may_follow j before messages

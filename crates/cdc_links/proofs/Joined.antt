@@ -11,7 +11,7 @@ module _ {M N : Type 0} where
   apart-snoc j [] x _ ne = (ne, tt)
   apart-snoc j (y ∷ ys) x h ne = (h.0, apart-snoc j ys x h.1 ne)
 
-  -- each number stands once, also once a new one was taken in
+  -- each number occurs once, also after a new one was joined
   pub once-snoc : (xs : List (ℕ × List (M × N))) (x : ℕ × List (M × N)) → AreApart xs → IsApart x.0 xs
       → AreApart (xs ++ x ∷ [])
   once-snoc [] x _ _ = (tt, tt)

@@ -16,7 +16,7 @@ sum_by-zero [] = refl
 sum_by-zero (k ∷ ks) = let rest = sum_by-zero ks in let first = sum_by-cons (λ _. 0) k ks in omega arith
 
 module _ {M N : Type 0} where
-  -- the numbers of the ends
+  -- the numbers of the endpoints
   abbrev numbers : List (Outgoing M N) → List ℕ
   numbers ends = map (λ end. end.number) ends
 
@@ -37,14 +37,14 @@ module _ {M N : Type 0} where
   numbers-length [] = refl
   numbers-length (x ∷ xs) = ap suc (numbers-length xs)
 
-  -- each end that was taken in with what it has sent
+  -- each joined endpoint has sent exactly its part of the entries
   all_whole : (entries : List (ℕ × (M × N))) (n : ℕ) (ends : List (Outgoing M N)) → AreWhole entries n (joined_of ends)
       → All (λ end. of_sender end.number entries ≡ end.sent) ends
   all_whole entries n [] h = All-nil (λ end. of_sender end.number entries ≡ end.sent)
   all_whole entries n (x ∷ xs) h =
       All-cons (λ end. of_sender end.number entries ≡ end.sent) x xs h.0 (all_whole entries n xs h.2)
 
-  -- one entry more counts once for each time that its sender's number stands there
+  -- one more entry counts once for each occurrence of its sender's number
   count-more : (e : ℕ × (M × N)) (es : List (ℕ × (M × N))) (ns : List ℕ)
       → sum_by (λ k. length (of_sender k (e ∷ es))) ns ≡ hits e.0 ns + sum_by (λ k. length (of_sender k es)) ns
   count-more e es [] = refl
@@ -61,7 +61,7 @@ module _ {M N : Type 0} where
       omega arith)
       (λ ne. let other : more k ≡ part k = ap length (of_sender-other k e es ne) in omega arith)
 
-  -- where each entry's sender stands once among the numbers, there are as many entries as those senders have sent
+  -- if each entry's sender occurs once among the numbers, there are as many entries as those senders have sent
   count-all : (entries : List (ℕ × (M × N))) (n : ℕ) (ns : List ℕ) → Distinct ns → ((j : ℕ) → j < n → In j ns)
       → ((j : ℕ) → n ≤ j → of_sender j entries ≡ []) → length entries ≡ sum_by (λ k. length (of_sender k entries)) ns
   count-all [] n ns once there fresh = sum_by-zero ns
@@ -74,7 +74,7 @@ module _ {M N : Type 0} where
       let more = count-more e es ns in
       omega arith
 
-  -- summed over the ends, what each has sent is its part of the entries
+  -- summed over the endpoints, what each has sent is its part of the entries
   sum_sent : (entries : List (ℕ × (M × N))) (n : ℕ) (ends : List (Outgoing M N)) → AreWhole entries n (joined_of ends)
       → sum_by (λ k. length (of_sender k entries)) (numbers ends) ≡ sum_by (λ end. length end.sent) ends
   sum_sent entries n [] h = refl
@@ -105,7 +105,7 @@ module _ {M N : Type 0} where
         ),
       )
 
-  -- one end more was taken in
+  -- one more endpoint was joined
   pub joined_more : (v w after : Knowledge M N) (ends : List (Outgoing M N)) (end : Outgoing M N)
       → w ≡ with_all_joined v ends
       → after ≡ with_joined w end → after ≡ with_all_joined v (ends ++ end ∷ [])

@@ -1,4 +1,4 @@
--- What the ends keep to themselves stays so after each of their steps.
+-- What the endpoints keep private is preserved by each of their steps.
 use Rattle.std.proofs.Common.{◌≡◌, ◌+◌, ◌<◌, ℕ, false, List, [], ◌∷◌, ◌++◌, length, sym, ap, ◌∙◌, subst, length-append, arith}
 use Rattle.std.proofs.Math.Numerals.{add-one}
 use Rattle.crossbeam_channel.specs.Fifo.{Pushes}
@@ -8,13 +8,13 @@ use Rattle.atomic_table.specs.Seated.{TableId}
 use Rattle.cdc_links.specs.declared.rule.Parcel.{Parcel}
 use Rattle.cdc_links.specs.declared.rule.Parcel.TheVariants.{Message}
 use Rattle.cdc_links.specs.declared.rule.Knowledge.{Knowledge}
-use Rattle.cdc_links.specs.Links.{LinkId, Incoming, of_sender, fresh_ends, with_received, CanSend}
+use Rattle.cdc_links.specs.Links.{LinkId, Incoming, of_sender, fresh_endpoints, with_received, CanSend}
 use Rattle.cdc_links.specs.Rule.{sending, receiving, IsRuled, Sent, Took}
 use Rattle.cdc_links.proofs.Entries.{follow-snoc}
 use Rattle.cdc_links.proofs.Steps.{lawful-sent, sends}
 
 module _ {M N : Type 0} where
-  -- the receiver's end shows one message more
+  -- the receiver's endpoint shows one more message
   pub received_end : (table after_table : TableId) (slots after_slots : Badge (Key (Parcel M))) (v w : Knowledge M N)
       (e : ℕ × (M × N))
       → after_table ≡ table → after_slots ≡ slots → w ≡ receiving (v.received ++ e ∷ []) v.given v.joined
@@ -31,11 +31,11 @@ module _ {M N : Type 0} where
 
   -- one sender more
   pub fresh_more : (link : LinkId M) (n : ℕ)
-      → fresh_ends {N = N} link (n + 1) ≡ fresh_ends link n ++ record { link = link; number = n; sent = [] } ∷ []
-  fresh_more link n = ap (fresh_ends {N = N} link) (add-one n)
+      → fresh_endpoints {N = N} link (n + 1) ≡ fresh_endpoints link n ++ record { link = link; number = n; sent = [] } ∷ []
+  fresh_more link n = ap (fresh_endpoints {N = N} link) (add-one n)
 
   module _ (may_follow : ℕ → List (M × N) → M × N → Type 0) where
-    -- a send under the number of the end
+    -- a send under the number of the endpoint
     pub sends_as : (n pass number : ℕ) (v : Knowledge M N) (m : M) (name : N) → v ≡ sending number v.sent false
         → may_follow number v.sent (m, name)
         → Pushes (IsRuled may_follow) n pass v (Message number m) (Sent name v (Message number m))
@@ -44,7 +44,7 @@ module _ {M N : Type 0} where
         → Pushes (IsRuled may_follow) n pass v (Message k m) (Sent name v (Message k m)))
         (ap (λ u. u.number) is) (sends may_follow n pass v m name (ap (λ u. u.sends) is))
 
-    -- a sender's end after a send
+    -- a sender's endpoint after a send
     pub sent_stays : (number count : ℕ) (v w : Knowledge M N) (m : M × N) → v ≡ sending number v.sent false
         → count ≡ length v.sent
         → CanSend may_follow number v.sent → may_follow number v.sent m → w ≡ sending v.number (v.sent ++ m ∷ []) false
@@ -56,24 +56,24 @@ module _ {M N : Type 0} where
           subst (CanSend may_follow number) (sym sent) (follow-snoc may_follow number [] v.sent m lawful next),
         )
 
-    -- the receiver's end after a receive
+    -- the receiver's endpoint after a receive
     pub received_stays : (count : ℕ) (v : Knowledge M N) (x : ℕ × M) (w : Knowledge M N)
         → v ≡ receiving v.received v.given []
         → count ≡ length v.received → ((j : ℕ) → CanSend may_follow j (of_sender j v.received))
         → Took may_follow v x w
         → (w ≡ receiving w.received w.given []) × (count + 1 ≡ length w.received)
         × ((j : ℕ) → CanSend may_follow j (of_sender j w.received))
-    received_stays count v x w is n lawful told =
-        let e : ℕ × (M × N) = (x.0, (x.1, told.0)) in
-        let received : w.received ≡ v.received ++ e ∷ [] = ap (λ u. u.received) told.3 in
-        let given : w.given ≡ v.given = ap (λ u. u.given) told.3 in (
-          told.3 ∙ (λ i. receiving (sym received i) (sym given i) ((is i).joined)),
+    received_stays count v x w is n lawful emitted =
+        let e : ℕ × (M × N) = (x.0, (x.1, emitted.0)) in
+        let received : w.received ≡ v.received ++ e ∷ [] = ap (λ u. u.received) emitted.3 in
+        let given : w.given ≡ v.given = ap (λ u. u.given) emitted.3 in (
+          emitted.3 ∙ (λ i. receiving (sym received i) (sym given i) ((is i).joined)),
           omega (arith, ap length received, length-append v.received (e ∷ [])),
           λ j. subst (λ l. CanSend may_follow j (of_sender j l)) (sym received)
-              (lawful-sent may_follow v.received e told.2 lawful j),
+              (lawful-sent may_follow v.received e emitted.2 lawful j),
         )
 
-    -- what a receive answers, of the end as it was shown before
+    -- what a receive answers, for the endpoint as it was shown before
     pub received_answer : (table after_table : TableId) (slots after_slots : Badge (Key (Parcel M)))
         (v w : Knowledge M N) (x : ℕ × M)
         (before : Incoming M N) → after_table ≡ table → after_slots ≡ slots → Took may_follow v x w
@@ -83,7 +83,7 @@ module _ {M N : Type 0} where
         × (◌≡◌ {A = Incoming M N} (record
         { link = record { table = after_table; slots = after_slots }; senders = w.given; received = w.received })
         (with_received before (j, (x.1, name))))
-    received_answer table after_table slots after_slots v w x before same_table same_slots told shown =
+    received_answer table after_table slots after_slots v w x before same_table same_slots emitted shown =
         let after : Incoming M N =
         record {
           link = record { table = after_table; slots = after_slots };
@@ -94,9 +94,9 @@ module _ {M N : Type 0} where
         × may_follow j (of_sender j o.received) (x.1, name)
         × (after ≡ with_received o (j, (x.1, name)))) shown (
           x.0,
-          told.0,
-          told.1,
-          told.2,
+          emitted.0,
+          emitted.1,
+          emitted.2,
           received_end table after_table slots after_slots v w
-              (x.0, (x.1, told.0)) same_table same_slots told.3,
+              (x.0, (x.1, emitted.0)) same_table same_slots emitted.3,
         )

@@ -54,7 +54,7 @@ module _ {M : Type 0} where
   carried-message (Message s m ∷ rest) sender value = ap (λ l. (s, m) ∷ l) (carried-message rest sender value)
   carried-message (Halt ∷ rest) sender value = carried-message rest sender value
 
-  -- that a sender was given up is no message
+  -- that a sender was aborted is no message
   carried-halt : (items : List (Parcel M)) → carried (items ++ Halt ∷ []) ≡ carried items
   carried-halt [] = refl
   carried-halt (Message s m ∷ rest) = ap (λ l. (s, m) ∷ l) (carried-halt rest)
@@ -184,12 +184,13 @@ module _ {M N : Type 0} where
           known = each-set F F views pass v h.known (h.known pass v at) (λ j u _ f. f);
         }
 
-    -- give up: that a sender was given up goes to the back, and no pass knows of it
+    -- abort: the notice that a sender was aborted goes to the back, and no pass knows of it
     pub halts : (n pass : ℕ) (v : Knowledge M N) → Pushes Rule n pass v Halt (λ w. w ≡ v)
     halts n pass v items views _ h at =
         (v, stays pass v items (items ++ Halt ∷ []) views h at (sym (carried-halt items)), refl)
 
-    -- receive: what is at the front leaves, and where it is a message the receiver's pass knows it with what it names
+    -- receive: the parcel at the front leaves, and if it is a message, the receiver's pass knows it with what it
+    -- names
     pub receives : (pass : ℕ) (v : Knowledge M N) → v.receives ≡ true → Pops Rule pass v (Received may_follow v)
     receives pass v may Halt items views h at = (v, stays pass v (Halt ∷ items) items views h at refl, refl)
     receives pass v may (Message sender value) items views h at =

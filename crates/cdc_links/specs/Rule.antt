@@ -21,7 +21,7 @@ use Rattle.cdc_links.specs.Links.{LinkId, Outgoing, Incoming, of_sender, CanSend
 abbrev pub LinkChannel : Type 0 → Type 0 → Type 0 → Type 0 → Type 0 → Type 0 → Type 0
 LinkChannel M V Q K L A = Rows (Badge (Key (Parcel M))) (Doing (Parcel M) V) Q K (Key (Parcel M)) L A
 
--- the messages that travel in these parcels, with their senders' numbers; that a sender was given up is none
+-- the messages that travel in these parcels, with their senders' numbers; that a sender was aborted is none
 abbrev pub carried : {M : Type 0} → List (Parcel M) → List (ℕ × M)
 carried [] = []
 carried (Message sender value ∷ rest) = (sender, value) ∷ carried rest
@@ -71,30 +71,30 @@ module _ {M N : Type 0} where
         joined = [];
       }
 
-  -- a message as it travels, with its sender's number: its name is left behind
+  -- a message as it travels, with its sender's number and without its name
   abbrev pub carried_of : ℕ × (M × N) → ℕ × M
   carried_of e = (e.0, e.1.0)
 
-  -- what the send of a parcel tells: a message was sent, under this name
+  -- what is known after the send of a parcel: a message was sent, under this name
   abbrev pub Sent : N → Knowledge M N → Parcel M → Knowledge M N → Type 0
   Sent name v (Message sender value) w = w ≡ sending v.number (v.sent ++ (value, name) ∷ []) false
   Sent name v Halt w = w ≡ v
 
-  -- of each end that was handed back, its number and what it has sent
+  -- the number of each endpoint that was returned, and what it has sent
   abbrev pub joined_of : List (Outgoing M N) → List (ℕ × List (M × N))
   joined_of ends = map (λ end. (end.number, end.sent)) ends
 
-  -- a number that stands at none of the places
+  -- a number that occurs at none of the places
   abbrev pub IsApart : ℕ → List (ℕ × List (M × N)) → Type 0
   IsApart j [] = Unit {0}
   IsApart j (x ∷ xs) = ¬ (x.0 ≡ j) × IsApart j xs
 
-  -- each number stands once
+  -- each number occurs once
   abbrev pub AreApart : List (ℕ × List (M × N)) → Type 0
   AreApart [] = Unit {0}
   AreApart (x ∷ xs) = IsApart x.0 xs × AreApart xs
 
-  -- each stands with what its sender has sent, and is below the number of senders
+  -- each is paired with what its sender has sent, and is below the number of senders
   abbrev pub AreWhole : List (ℕ × (M × N)) → ℕ → List (ℕ × List (M × N)) → Type 0
   AreWhole entries given [] = Unit {0}
   AreWhole entries given (x ∷ xs) = (of_sender x.0 entries ≡ x.1) × (x.0 < given) × AreWhole entries given xs
@@ -136,8 +136,8 @@ module _ {M N : Type 0} where
       pub known : (pass : ℕ) (v : Knowledge M N) → get_elem? views pass ≡ some v
           → Fits all log given joined reader seat pass v
 
-    -- what the receive of a message tells: some sender has sent it, under some name, and it could follow what was
-    -- received of that sender before
+    -- what is known after the receive of a message: some sender has sent it, under some name, and it could follow
+    -- what was received of that sender before
     abbrev pub Took : Knowledge M N → ℕ × M → Knowledge M N → Type 0
     Took v x w =
         (name : N)
@@ -145,7 +145,7 @@ module _ {M N : Type 0} where
         × may_follow x.0 (of_sender x.0 v.received) (x.1, name)
         × (w ≡ receiving (v.received ++ (x.0, (x.1, name)) ∷ []) v.given v.joined)
 
-    -- what the receive of a parcel tells: of one without a message nothing, and nothing has changed
+    -- what is known after the receive of a parcel: if it is no message, nothing has changed
     abbrev pub Received : Knowledge M N → Parcel M → Knowledge M N → Type 0
     Received v (Message sender value) w = Took v (sender, value) w
     Received v Halt w = w ≡ v
@@ -164,11 +164,11 @@ abbrev pub link_of : {M V : Type 0} → Pass (Parcel M) V → LinkId M
 link_of pass = record { table = pass.table_id; slots = pass.me.0.of }
 
 module _ {M N : Type 0} where
-  -- what a clause sees of a sender's end
+  -- what contracts see of a sender's endpoint
   abbrev pub shown_out : ℕ → Pass (Parcel M) (Knowledge M N) → Outgoing M N
   shown_out number pass = record { link = link_of pass; number = number; sent = (view pass).sent }
 
-  -- what a clause sees of the receiver's end
+  -- what contracts see of the receiver's endpoint
   abbrev pub shown_in : Pass (Parcel M) (Knowledge M N) → Incoming M N
   shown_in pass = record { link = link_of pass; senders = (view pass).given; received = (view pass).received }
 
@@ -180,17 +180,17 @@ module _ {M N : Type 0} where
   abbrev pub HasTakenNone : Knowledge M N → Type 0
   HasTakenNone v = v ≡ receiving v.received v.given []
 
-  -- the view, once one end more was taken in
+  -- the view after one more endpoint was joined
   abbrev pub with_joined : Knowledge M N → Outgoing M N → Knowledge M N
   with_joined v end = receiving v.received v.given (v.joined ++ (end.number, end.sent) ∷ [])
 
-  -- the view, once these ends were taken in
+  -- the view after these endpoints were joined
   abbrev pub with_all_joined : Knowledge M N → List (Outgoing M N) → Knowledge M N
   with_all_joined v ends = receiving v.received v.given (joined_of ends)
 
   module _ (may_follow : ℕ → List (M × N) → M × N → Type 0) where
-    -- what a sender's end keeps: its pass is of its channel, and knows its number and what it has sent, which is
-    -- counted, and could be sent
+    -- the invariant of a sender's endpoint: its pass is of its channel, and knows its number and what it has sent,
+    -- which is counted, and could be sent
     abbrev pub KeepsOut : {Q K L A B : Type 0} → Bool → Sending (LinkChannel M (Knowledge M N) Q K L A) B
         → Pass (Parcel M) (Knowledge M N) → ℕ → ℕ → Type 0
     KeepsOut closed sender pass number count =
@@ -199,8 +199,8 @@ module _ {M N : Type 0} where
         × (count ≡ length (view pass).sent)
         × CanSend may_follow number (view pass).sent
 
-    -- what the receiver's end keeps: its pass is of its channel, has taken no sender in, and knows what was received,
-    -- which is counted, and could be sent by each sender
+    -- the invariant of the receiver's endpoint: its pass is of its channel, has joined no sender, and knows what was
+    -- received, which is counted, and could be sent by each sender
     abbrev pub KeepsIn : {Q K L A B : Type 0} → Receiving (LinkChannel M (Knowledge M N) Q K L A) B
         → Pass (Parcel M) (Knowledge M N) → ℕ → Type 0
     KeepsIn receiver pass count =

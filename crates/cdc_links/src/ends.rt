@@ -1,10 +1,10 @@
-//! The ends of a link.
+//! The endpoints of a link.
 
 ghost use Rattle.std.specs.Prelude.{◌≡◌, ◌<◌, ◌-◌, ◌^◌, ℕ, true, [], ◌∷◌, ◌++◌, List, length, All, sum_by, min, IfOk, IfErr, vec_len};
 ghost use Rattle.crossbeam_channel.specs.Claims.{IsSeatAt, view as known};
 ghost use Rattle.crossbeam_channel.specs.Ends.{receives_on, sends_on};
 ghost use Rattle.cdc_links.specs.declared.errors.LinkFault.TheVariants.{PeerGone, OutOfMemory};
-ghost use Rattle.cdc_links.specs.Links.{of_sender, fresh_end, fresh_ends, with_sent, with_sender, Takes, CanSend, IsAccount};
+ghost use Rattle.cdc_links.specs.Links.{of_sender, fresh_endpoint, fresh_endpoints, with_sent, with_sender, Takes, CanSend, IsAccount};
 ghost use Rattle.cdc_links.specs.Rule.{IsPassOf, Received, IsReceiver, HasTakenNone, with_joined, with_all_joined, IsSettled, IsLinkOf};
 
 use crate::errors::{LinkFault, SendRefused};
@@ -19,23 +19,23 @@ use std::hint::spin_loop;
 use std::marker::Model;
 use std::sync::Wait;
 
-/// A sender's end of a link. A clause sees which link it is of, the end's number there, and what it has sent so far
-/// with what each message names.
+/// A sender's endpoint of a link. Contracts see its link, its number there, and what it has sent so far with what
+/// each message names.
 pub struct LinkOut<M: Message> {
     number: u64,
     count: u64,
-    is_given_up: bool,
+    is_aborted: bool,
     sender: RuledSender<Parcel<M>, Knowledge<M, M::Name>, Ruled>,
     pass: Pass<Parcel<M>, Knowledge<M, M::Name>>,
 }
 
-// By hand, so that whoever lets go of an end calls this, and doesn't take it apart anew.
+// Written by hand, so that code that drops an endpoint calls this instead of dropping each field itself.
 impl<M: Message> Drop for LinkOut<M> {
     fn drop(self) {
         let Self {
             number: _,
             count: _,
-            is_given_up: _,
+            is_aborted: _,
             sender: _,
             pass: _,
         } = self;
@@ -55,8 +55,8 @@ impl<M: Message> Model for LinkOut<M> {
 }
 
 impl<M: Message> LinkOut<M> {
-    /// Sends a message, under the name that `K` picks. It waits while the link is full. Where the receiver is gone, the
-    /// end was given up or 2^64 - 1 messages were sent, the message comes back and nothing has changed.
+    /// Sends a message, under the name that `K` picks. Blocks while the link is full. If the receiver is gone, the
+    /// endpoint was aborted or 2^64-1 messages were sent, it returns the message, and nothing has changed.
     pub fn send<K: Naming<M::Name>, R: Wait>(
         &mut self,
         rt: &R,
@@ -66,7 +66,7 @@ impl<M: Message> LinkOut<M> {
         ensures sent { IfOk result (λ _. self.new ≡ with_sent self.old (value, K.name)) }
         ensures refused { IfErr result (λ it. (it.value ≡ value) × (self.new ≡ self.old)) }
     {
-        if self.is_given_up || self.count == u64::MAX {
+        if self.is_aborted || self.count == u64::MAX {
             return Err(SendRefused { value });
         }
         let parcel = Parcel::Message {
@@ -96,38 +96,39 @@ impl<M: Message> LinkOut<M> {
         self.count
     }
 
-    /// Tells the receiver that nothing more comes of this end, as far as there is room for that, which is never waited
-    /// for. From then on nothing is sent, and a further call does nothing. No account shows it.
-    pub fn give_up<R: Wait>(&mut self, rt: &R)
+    /// Aborts the endpoint: notifies the receiver that nothing more comes from it, if there is room for that; it
+    /// never blocks. From then on nothing is sent, and a further call does nothing. What was sent so far still counts
+    /// as sent.
+    pub fn abort<R: Wait>(&mut self, rt: &R)
         ensures { self.new ≡ self.old }
     {
-        if self.is_given_up {
+        if self.is_aborted {
             return;
         }
-        self.is_given_up = true;
-        // Where there is no room for it, or nobody to hear it, it is passed over.
+        self.is_aborted = true;
+        // If there is no room for it, or nobody to receive it, it is dropped.
         let _ = self
             .sender
             .try_send_as::<Halts, R>(rt, &mut self.pass, Parcel::Halt);
     }
 
-    /// Gives the end up, and then hands it back.
+    /// Aborts the endpoint, and then returns what is left of it.
     pub fn hang_up<R: Wait>(self, rt: &R) -> Handed<M>
         ensures { result ≡ self }
     {
         let mut end = self;
-        end.give_up(rt);
+        end.abort(rt);
         end.hand_back()
     }
 
-    /// Ends the sending without a word to the receiver; `settle` takes what comes of it.
+    /// Stops sending without a notice to the receiver, and returns what `settle` needs of the endpoint.
     pub fn hand_back(self) -> Handed<M>
         ensures { result ≡ self }
     {
         let Self {
             number,
             count,
-            is_given_up: _,
+            is_aborted: _,
             sender,
             mut pass,
         } = self;
@@ -141,7 +142,7 @@ impl<M: Message> LinkOut<M> {
     }
 }
 
-/// What is left of a sender's end that was handed back. A clause sees of it what it saw of the end.
+/// What is left of a sender's endpoint that was returned. Contracts see the same of it as of the endpoint.
 pub struct Handed<M: Message> {
     number: u64,
     count: u64,
@@ -149,7 +150,7 @@ pub struct Handed<M: Message> {
     pass: Pass<Parcel<M>, Knowledge<M, M::Name>>,
 }
 
-// By hand, as a sender's end.
+// Written by hand, as for a sender's endpoint.
 impl<M: Message> Drop for Handed<M> {
     fn drop(self) {
         let Self {
@@ -174,8 +175,8 @@ impl<M: Message> Model for Handed<M> {
 }
 
 impl<M: Message> Handed<M> {
-    /// The receiver's pass takes this end in, and learns what the link still holds. Answers how many messages the end
-    /// has sent.
+    /// Joins this endpoint to the receiver's pass, which learns what the link still holds. Returns how many messages
+    /// the endpoint has sent.
     fn join(self, pass: &mut Pass<Parcel<M>, Knowledge<M, M::Name>>) -> u64
         requires own { IsPassOf self.link pass.old }
         requires receiver { IsReceiver (known pass.old) }
@@ -199,8 +200,8 @@ impl<M: Message> Handed<M> {
     }
 }
 
-/// The receiver's end of a link. A clause sees which link it is of, how many senders that has, and what was received so
-/// far, with its sender's number and what it names.
+/// The receiver's endpoint of a link. Contracts see its link, how many senders that has, and what was received so
+/// far, each message with its sender's number and what it names.
 pub struct LinkIn<M: Message> {
     received: u64,
     patience: Patience,
@@ -208,7 +209,7 @@ pub struct LinkIn<M: Message> {
     pass: Pass<Parcel<M>, Knowledge<M, M::Name>>,
 }
 
-// By hand, as a sender's end.
+// Written by hand, as for a sender's endpoint.
 impl<M: Message> Drop for LinkIn<M> {
     fn drop(self) {
         let Self {
@@ -231,8 +232,8 @@ impl<M: Message> Model for LinkIn<M> {
     ghost invariant = { λ into. KeepsIn M.may_follow into.receiver into.pass into.received };
 }
 
-// The parcel at the front. Where there is none it looks again, as often as that has paid lately, and then sleeps until
-// there is one.
+// Takes the parcel at the front. If there is none, it looks again as often as `patience` allows, and then sleeps
+// until there is one.
 fn next_parcel<M: Message, R: Wait>(
     rt: &R,
     receiver: &RuledReceiver<Parcel<M>, Knowledge<M, M::Name>, Ruled>,
@@ -263,8 +264,9 @@ fn next_parcel<M: Message, R: Wait>(
 }
 
 impl<M: Message> LinkIn<M> {
-    /// Receives the message at the front. It waits while there is none. `PeerGone`, with nothing changed: the senders
-    /// are gone, one of them was given up after all that is received by now, or 2^64 - 1 messages were received.
+    /// Receives the message at the front. Blocks while there is none. `PeerGone`: the senders are gone, the next
+    /// parcel is the notice that one of them was aborted, or 2^64-1 messages were received. In each case nothing has
+    /// changed.
     pub fn receive<R: Wait>(&mut self, rt: &R) -> Result<M, LinkFault>
         ensures received { IfOk result (λ value. Takes M.may_follow self.old value self.new) }
         ensures refused { IfErr result (λ fault. (fault ≡ PeerGone) × (self.new ≡ self.old)) }
@@ -291,7 +293,8 @@ impl<M: Message> LinkIn<M> {
 }
 
 impl<M: Message> LinkIn<M> {
-    /// The receiver's end of a new link, which has no sender yet, and what sends on it.
+    /// Creates the receiver's endpoint of a link that has no sender yet, and the channel's sender, which `add_sender`
+    /// clones.
     fn new(
         alloc: Global,
         capacity: usize,
@@ -322,7 +325,7 @@ impl<M: Message> LinkIn<M> {
         Ok((sender, into))
     }
 
-    /// One sender more, under the next number.
+    /// Adds a sender to the link, under the next number.
     fn add_sender(
         &mut self,
         sender: &RuledSender<Parcel<M>, Knowledge<M, M::Name>, Ruled>,
@@ -330,7 +333,7 @@ impl<M: Message> LinkIn<M> {
     ) -> Result<LinkOut<M>, AllocError>
         requires same { IsLinkOf self.old.link (sends_on sender.now) }
         requires next { number ≡ self.old.senders }
-        ensures end { IfOk result (λ end. end ≡ fresh_end self.old.link number) }
+        ensures end { IfOk result (λ end. end ≡ fresh_endpoint self.old.link number) }
         ensures more { IfOk result (λ _. self.new ≡ with_sender self.old) }
     {
         let sender = sender.try_clone()?;
@@ -338,15 +341,16 @@ impl<M: Message> LinkIn<M> {
         Ok(LinkOut {
             number,
             count: 0,
-            is_given_up: false,
+            is_aborted: false,
             sender,
             pass,
         })
     }
 }
 
-/// A link for so many messages on their way, and its ends: of each sender, numbered from 0, and of the receiver. There
-/// is a place more for each sender, for the word that it was given up, as long as messages don't take these too.
+/// Creates a link for up to `capacity` messages in transit, and its endpoints: those of the senders, numbered from 0,
+/// and that of the receiver. There is one more place for each sender, for the notice that it was aborted, as long as
+/// messages don't take these places too.
 pub fn link<M: Message>(
     alloc: Global,
     capacity: usize,
@@ -354,7 +358,7 @@ pub fn link<M: Message>(
 ) -> Result<(Vec<LinkOut<M>>, LinkIn<M>), LinkFault>
     requires capacity { 0 < capacity }
     requires senders { 0 < senders }
-    ensures outs { IfOk result (λ ends. ends.0.items ≡ fresh_ends ends.1.link senders) }
+    ensures outs { IfOk result (λ ends. ends.0.items ≡ fresh_endpoints ends.1.link senders) }
     ensures into { IfOk result (λ ends. (ends.1.senders ≡ senders) × (ends.1.received ≡ [])) }
     ensures memory { IfErr result (λ fault. fault ≡ OutOfMemory) }
 {
@@ -368,16 +372,16 @@ pub fn link<M: Message>(
     Ok((outs, into))
 }
 
-/// How many messages a link was sent, and how many were received.
+/// How many messages were sent over a link, and how many were received.
 #[derive(Clone, Copy, Debug, PartialEq, Eq)]
 pub struct Tally {
-    /// How many all senders have sent; 2^64 - 1 stands for more as well.
+    /// How many all senders have sent. The count saturates at 2^64-1.
     pub sent: u64,
-    /// How many were received.
+    /// How many the receiver has received.
     pub received: u64,
 }
 
-/// The receiver's pass takes all these ends in. Answers how many messages they have sent, 2^64 - 1 at most.
+/// Joins all these endpoints to the receiver's pass. Returns how many messages they have sent, at most 2^64-1.
 fn join_all<M: Message>(
     pass: &mut Pass<Parcel<M>, Knowledge<M, M::Name>>,
     handed: Vec<Handed<M>>,
@@ -398,7 +402,7 @@ fn join_all<M: Message>(
 }
 
 impl<M: Message> LinkIn<M> {
-    /// What `settle` does, here since an end that has a `drop` is taken apart by a method of its own alone.
+    /// The body of `settle`. It is a method because only a method can destructure a type that has a `drop`.
     fn settle(self, handed: Vec<Handed<M>>) -> Tally
         requires ours { All (λ end. end.link ≡ self.link) handed.items }
         requires all { vec_len handed ≡ self.senders }
@@ -419,7 +423,7 @@ impl<M: Message> LinkIn<M> {
     }
 }
 
-/// Takes the receiver's end and all senders that were handed back, and compares what they know.
+/// Takes the receiver's endpoint and those of all senders, and compares what they know.
 pub fn settle<M: Message>(into: LinkIn<M>, handed: Vec<Handed<M>>) -> Tally
     requires ours { All (λ end. end.link ≡ into.link) handed.items }
     requires all { vec_len handed ≡ into.senders }

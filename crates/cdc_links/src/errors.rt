@@ -1,4 +1,4 @@
-//! Why a call on a link did nothing.
+//! Errors of a link.
 
 ghost use Rattle.std.specs.Prelude.{◌≡◌};
 ghost use Rattle.cdc_links.specs.Errors.{link_fault_number, link_fault_name};
@@ -6,13 +6,13 @@ ghost use Rattle.cdc_links.specs.Errors.{link_fault_number, link_fault_name};
 use std::alloc::AllocError;
 use thiserror::Error;
 
-/// Why a link wasn't made, or nothing was received.
+/// Why a link wasn't created, or nothing was received.
 #[derive(Clone, Copy, Debug, PartialEq, Eq, Error)]
 pub enum LinkFault {
-    /// The senders are gone, one of them was given up, or 2^64 - 1 messages were received.
+    /// The senders are gone, one of them was aborted, or 2^64-1 messages were received.
     #[error("the other side of the link is gone")]
     PeerGone,
-    /// There was no memory to make the link.
+    /// There was no memory to create the link.
     #[error("out of memory")]
     OutOfMemory,
 }
@@ -28,7 +28,6 @@ impl LinkFault {
         }
     }
 
-    /// The fault's name.
     pub fn name(self) -> &'static str
         ensures { result.now ≡ link_fault_name self }
     {
@@ -49,9 +48,9 @@ impl From<AllocError> for LinkFault {
     }
 }
 
-/// A message that wasn't sent: the receiver is gone, the end was given up, or 2^64 - 1 messages were sent.
+/// A message that wasn't sent: the receiver is gone, the endpoint was aborted, or 2^64-1 messages were sent.
 #[derive(Drop)]
 pub struct SendRefused<M> {
-    /// The message.
+    /// The message, which its caller gets back.
     pub value: M,
 }

@@ -1,4 +1,4 @@
-//! The rule of a link: what each pass knows, and what each step tells it. Only a `Parcel` has a value when a
+//! The rule of a link: what each pass knows, and what it learns in each step. Only a `Parcel` has a value when a
 //! program runs.
 
 use crate::messages::{Message, Naming};
@@ -6,17 +6,18 @@ use crossbeam_channel::protocol::{Join, Lesson, Outcome, Protocol, Split};
 use std::collections::LinkedList;
 use std::marker::PhantomData;
 
-/// What is on its way over a link.
+/// What is in transit over a link.
 #[derive(Drop)]
 pub enum Parcel<M> {
     /// A message, with the number of its sender.
     Message { sender: u64, value: M },
-    /// That a sender was given up. No account shows it.
+    /// The notice that a sender was aborted. It counts as no message.
     Halt,
 }
 
-/// What a pass knows. A sender's pass knows its number, what it has sent, and whether it was handed back; the
-/// receiver's what it has received of whom, how many senders there are, and what those sent that it took in.
+/// What a pass knows. A sender's pass knows its number, what it has sent, and whether it was returned. The receiver's
+/// pass knows what it has received from whom, how many senders there are, and what the senders that it joined have
+/// sent.
 pub struct Knowledge<M, N> {
     pub sends: bool,
     pub closed: bool,
@@ -28,7 +29,7 @@ pub struct Knowledge<M, N> {
     pub joined: LinkedList<(u64, LinkedList<(M, N)>)>,
 }
 
-/// The rule.
+/// The rule of a link, which ties what was received to what each sender has sent.
 pub struct Ruled;
 
 impl<M: Message> Protocol<Parcel<M>, Knowledge<M, M::Name>> for Ruled {
@@ -40,7 +41,7 @@ impl<M: Message> Protocol<Parcel<M>, Knowledge<M, M::Name>> for Ruled {
     ghost first = { receiving [] 0 [] };
 }
 
-/// The receiver's pass makes a sender's.
+/// The step in which the receiver's pass makes a sender's.
 pub struct Seats;
 
 impl<M, N> Split<Knowledge<M, N>> for Seats {
@@ -52,7 +53,7 @@ impl<M, N> Split<Knowledge<M, N>> for Seats {
     ghost right = { λ v. sending v.given [] false };
 }
 
-/// A sender's pass becomes one that was handed back.
+/// The step in which a sender's pass becomes one that was returned.
 pub struct HandsBack;
 
 impl<M, N> Split<Knowledge<M, N>> for HandsBack {
@@ -64,7 +65,7 @@ impl<M, N> Split<Knowledge<M, N>> for HandsBack {
     ghost right = { λ v. nobody };
 }
 
-/// The receiver's pass takes in one that was handed back.
+/// The step in which the receiver's pass joins one that was returned.
 pub struct TakesIn;
 
 impl<M, N> Join<Knowledge<M, N>> for TakesIn {
@@ -76,7 +77,7 @@ impl<M, N> Join<Knowledge<M, N>> for TakesIn {
     ghost spent = { nobody };
 }
 
-/// A send tells its pass that it has sent the message, under the name that was picked.
+/// The step of a send: its pass learns that it has sent the message, under the name that was picked.
 pub struct Sends<K> {
     of: PhantomData<K>,
 }
@@ -93,7 +94,7 @@ impl<M, N, K: Naming<N>> Lesson<Parcel<M>, Knowledge<M, N>> for Sends<K> {
     ghost fact = { λ v items. ⊤ };
 }
 
-/// That a sender was given up leaves what its pass knows as it is.
+/// The step of an abort: what its pass knows stays as it is.
 pub struct Halts;
 
 impl<M, N> Outcome<Parcel<M>, Knowledge<M, N>> for Halts {
@@ -108,8 +109,8 @@ impl<M, N> Lesson<Parcel<M>, Knowledge<M, N>> for Halts {
     ghost fact = { λ v items. ⊤ };
 }
 
-/// A receive tells its pass who has sent the message, under what name, and that it could follow; where a sender was
-/// given up, nothing.
+/// The step of a receive: its pass learns who has sent the message, under which name, and that it could follow; or
+/// nothing, if a sender was aborted.
 pub struct Receives;
 
 impl<M: Message> Outcome<Parcel<M>, Knowledge<M, M::Name>> for Receives {
@@ -124,7 +125,7 @@ impl<M, N> Lesson<Parcel<M>, Knowledge<M, N>> for Receives {
     ghost fact = { λ v items. ⊤ };
 }
 
-/// What the receiver's pass learns of what is still in the link.
+/// The step in which the receiver's pass learns what is still in the link.
 pub struct Settles;
 
 impl<M: Message> Lesson<Parcel<M>, Knowledge<M, M::Name>> for Settles {

@@ -1,4 +1,4 @@
--- A rising list of events, and what of it is later than a moment.
+-- A rising list of events, and its part that is later than a timestamp.
 use Rattle.std.proofs.Common.{◌≡◌, ℕ, suc, ◌<◌, List, [], ◌∷◌, refl, arith, zero, true, false, cond, nat_lt, nat_le, drop, sym, ap, ◌∙◌}
 use Rattle.std.specs.List.Sorted.{IsNonDecreasingBy, IsPartitionPoint}
 use Rattle.std.proofs.lemmas.Bool.Decides.{nat_tests}
@@ -20,11 +20,11 @@ IsNonDecreasingBy-rising t (x ∷ es) rising (suc i) zero d below within = absur
 IsNonDecreasingBy-rising t (x ∷ es) rising (suc i) (suc j) d below within =
     IsNonDecreasingBy-rising x.timestamp es rising.1 i j d (omega arith) (omega arith)
 
--- the two tests of a moment against another
+-- a timestamp that isn't up to another is later than it
 not_up_to : (n t : ℕ) → nat_le n t ≡ false → nat_lt t n ≡ true
 not_up_to n t later = grind (arith, nat_tests)
 
--- and the other way: an event up to the moment isn't one after it
+-- conversely, a timestamp up to another isn't later than it
 not_later : (n t : ℕ) → nat_le n t ≡ true → nat_lt t n ≡ false
 not_later n t up_to = grind (arith, nat_tests)
 

@@ -1,4 +1,4 @@
--- The events of a log's segments: where each stands, and what a push and a search leave.
+-- The events of a log's segments: the index of each event, and the effect of a push and of a search.
 use Rattle.std.proofs.Common.{◌≡◌, ℕ, suc, zero, ◌+◌, ◌-◌, ◌*◌, ◌^◌, ◌<◌, ◌≤◌, true, false, inl, inr, cond, min, nat_le, nat_lt, List, [], ◌∷◌, ◌++◌, length, get_or, set, drop, take, Some, None, slice_get, refl, sym, ap, ◌∙◌, subst, arith, append_assoc, length-append}
 use Rattle.std.specs.List.Sorted.{IsPartitionedBy, IsPartitionPoint}
 use Rattle.std.specs.Option.{MatchOption}
@@ -46,7 +46,7 @@ length-segment n (s ∷ segments) zero filled within = filled.0 ∙ ap (λ m. mi
 length-segment n (s ∷ segments) (suc i) filled within =
     let rest = length-segment (n - 1024) segments i filled.1 (omega arith) in omega arith
 
--- an event that goes behind the last one, into the segment that has its place
+-- pushing an event into the segment that the next index belongs to appends it to the joined list
 pub joined-push : (n : ℕ) (segments : List (List Event)) (i r : ℕ) (e : Event) → AreFilled n segments
     → n ≡ 1024 * i + r → r < 1024 → i < length segments
     → (joined (set segments i (get_or segments i [] ++ e ∷ [])) ≡ joined segments ++ e ∷ [])
@@ -77,13 +77,13 @@ slice_get-front [] ys k low = absurd (omega arith)
 slice_get-front (x ∷ xs) ys zero low = refl
 slice_get-front (x ∷ xs) ys (suc k) low = slice_get-front xs ys k (omega arith)
 
--- and behind it
+-- an index past the first list reads from the second
 slice_get-behind : (xs ys : List Event) (k m : ℕ) → m ≡ length xs + k → slice_get (xs ++ ys) m ≡ slice_get ys k
 slice_get-behind [] ys k m at = let same : m ≡ k = omega arith in ap (slice_get ys) same
 slice_get-behind (x ∷ xs) ys k zero at = absurd (omega arith)
 slice_get-behind (x ∷ xs) ys k (suc m) at = slice_get-behind xs ys k m (omega arith)
 
--- nothing is read past the end
+-- an index past the end reads nothing
 slice_get-past : (xs : List Event) (k : ℕ) → length xs ≤ k → slice_get xs k ≡ None
 slice_get-past [] k past = refl
 slice_get-past (x ∷ xs) zero past = absurd (omega arith)
@@ -117,7 +117,7 @@ slice_get-joined n (s ∷ segments) k (suc i) r filled at low =
     ] in
     subst (λ o. MatchOption (slice_get segments i) (o ≡ None) (λ s. o ≡ slice_get s r)) (sym here) rest
 
--- what is left of a rising list rises from where the list does
+-- a suffix of a rising list rises from the timestamp that the list rises from
 RiseFrom-behind : (t : ℕ) (xs es : List Event) → RiseFrom t (xs ++ es) → RiseFrom t es
 RiseFrom-behind t [] es rising = rising
 RiseFrom-behind t (x ∷ xs) es rising =
@@ -136,7 +136,7 @@ RiseFrom-segment t (s ∷ segments) zero rising = RiseFrom-front t s (joined seg
 RiseFrom-segment t (s ∷ segments) (suc i) rising =
     RiseFrom-segment t segments i (RiseFrom-behind t s (joined segments) rising)
 
--- what an event before the moment that a list rises from, or at it, says of the test
+-- the test `nat_le` of a timestamp implies the order
 at_or_before : (m t : ℕ) → nat_le m t ≡ true → m ≤ t
 at_or_before m t up_to = grind (arith, nat_tests)
 
@@ -152,7 +152,7 @@ is_not_later m t up_to = grind (arith, nat_tests)
 is_up_to : (m t : ℕ) → m ≤ t → nat_le m t ≡ true
 is_up_to m t up_to = grind (arith, nat_tests)
 
--- where a segment of what rises from a moment begins by t, the moment is before t
+-- if the joined segments rise from a timestamp and a segment begins by t, that timestamp is before t
 begun_after : (t from : ℕ) (segments : List (List Event)) (j : ℕ) (d : List Event) → RiseFrom from (joined segments)
     → j < length segments → begins_by t (get_or segments j d) ≡ true → from < t
 begun_after t from [] j d rising within begins = absurd (omega arith)
@@ -162,7 +162,7 @@ begun_after t from ((x ∷ s) ∷ segments) zero d rising within begins =
 begun_after t from (s ∷ segments) (suc j) d rising within begins =
     begun_after t from segments j d (RiseFrom-behind from s (joined segments) rising) (omega arith) begins
 
--- a segment that begins by a moment has events
+-- a segment that begins by a timestamp has events
 begun_filled : (t n : ℕ) (segments : List (List Event)) (j : ℕ) (d : List Event) → AreFilled n segments
     → j < length segments → begins_by t (get_or segments j d) ≡ true → 1024 * j < n
 begun_filled t n [] j d filled within begins = absurd (omega arith)
@@ -171,7 +171,7 @@ begun_filled t n ((x ∷ s) ∷ segments) zero d filled within begins = omega (a
 begun_filled t n (s ∷ segments) (suc j) d filled within begins =
     let rest = begun_filled t (n - 1024) segments j d filled.1 (omega arith) begins in omega arith
 
--- before a segment that begins by a moment all do, so that they can be searched by halves
+-- if a segment begins by a timestamp, so do all segments before it: binary search finds the last of them
 pub begun-parted : (t n from : ℕ) (segments : List (List Event)) → AreFilled n segments
     → RiseFrom from (joined segments) → IsPartitionedBy (begins_by t) segments
 begun-parted t n from [] filled rising i j d low within begins = absurd (omega arith)
@@ -187,7 +187,7 @@ begun-parted t n from (s ∷ segments) filled rising (suc i) (suc j) d low withi
     begun-parted t (n - 1024) from segments filled.1 (RiseFrom-behind from s (joined segments) rising) i j d
     (omega arith) (omega arith) begins
 
--- what rises from a moment is later
+-- the events of a list that rises from a timestamp are later than it
 all_after : (t from : ℕ) (es : List Event) → t ≤ from → RiseFrom from es → events_after t es ≡ es
 all_after t from [] low rising = refl
 all_after t from (e ∷ es) low rising =
@@ -195,7 +195,7 @@ all_after t from (e ∷ es) low rising =
     let rest = all_after t e.timestamp es (omega (arith, rising.0)) rising.1 in
     (λ i. cond (here i) (e ∷ events_after t es) (events_after t es)) ∙ ap (λ later. e ∷ later) rest
 
--- where no segment begins by a moment, all events are later
+-- if no segment begins by a timestamp, all events are later
 pub none-begun : (t from : ℕ) (segments : List (List Event)) → RiseFrom from (joined segments)
     → ((k : ℕ) (d : List Event) → k < length segments → begins_by t (get_or segments k d) ≡ false)
     → events_after t (joined segments) ≡ joined segments
@@ -209,7 +209,7 @@ none-begun t from ((x ∷ s) ∷ segments) rising none =
     let rest = all_after t x.timestamp es (omega arith) rising.1 in
     (λ i. cond (here i) (x ∷ events_after t es) (events_after t es)) ∙ ap (λ later. x ∷ later) rest
 
--- the moment that a list rises from is before each event
+-- a list rises from a timestamp that is before each of its events
 before_next : (from : ℕ) (xs : List Event) (y : Event) (es : List Event) → RiseFrom from (xs ++ y ∷ es)
     → from < y.timestamp
 before_next from [] y es rising = rising.0
@@ -225,7 +225,7 @@ none_after t from (x ∷ xs) y es rising up_to =
     let here = is_not_later x.timestamp t (omega arith) in
     (λ i. cond (here i) (x ∷ events_after t xs) (events_after t xs)) ∙ none_after t x.timestamp xs y es rising.1 up_to
 
--- a segment in front of one that begins by a moment is full, and has nothing that is later
+-- a segment before one that begins by a timestamp is full, and none of its events is later
 full_before : (t n from : ℕ) (s : List Event) (segments : List (List Event)) → AreFilled n (s ∷ segments)
     → RiseFrom from (s ++ joined segments) → begins_by t (get_or segments 0 []) ≡ true
     → (length s ≡ 1024) × (events_after t s ≡ [])
@@ -247,7 +247,8 @@ events_after-append t (x ∷ xs) ys =
       | false ↦ events_after-append t xs ys
     ]
 
--- a place in the last segment that begins by a moment, behind what isn't later there, is the place in all of them
+-- take the last segment that begins by a timestamp: the index in it of its first later event is also the index of the
+-- first later event in the joined list
 pub place-joined : (t n from : ℕ) (segments : List (List Event)) (l p : ℕ) → AreFilled n segments
     → RiseFrom from (joined segments)
     → IsPartitionPoint (λ s. begins_by t s ≡ true) (λ s. begins_by t s ≡ false) segments (suc l)
@@ -313,7 +314,7 @@ IsKept-push segments n i r e kept at low within later =
       countable = omega arith;
     }
 
--- what is read up to the place behind an event ends with it
+-- a range that is extended by one index gains the event at that index
 pub take-next : (es : List Event) (first place n : ℕ) (e : Event) → place ≡ first + n → slice_get es place ≡ Some e
     → take (suc n) (drop first es) ≡ take n (drop first es) ++ e ∷ []
 take-next [] first place n e at found = let never : ⊥ = cc in absurd never

@@ -13,7 +13,7 @@ abbrev pub AreFilled : ℕ → List (List Event) → Type 0
 AreFilled n [] = n ≡ 0
 AreFilled n (s ∷ segments) = (length s ≡ min n 1024) × AreFilled (n - 1024) segments
 
--- the first event is no later than the moment t
+-- the first event is no later than the timestamp t
 abbrev pub begins_by : ℕ → List Event → Bool
 begins_by t [] = false
 begins_by t (e ∷ events) = nat_le e.timestamp t

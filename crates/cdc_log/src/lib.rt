@@ -1,4 +1,4 @@
-//! The log of events: a list in the order of their timestamps, with room made ahead.
+//! The log of events: a list in timestamp order, with memory reserved ahead of each push.
 #![tactic(auto)]
 
 pub mod log;

@@ -1,4 +1,4 @@
-//! The log itself.
+//! The log, kept in segments of fixed size.
 
 ghost use Rattle.std.specs.Prelude.{◌≡◌, slice_get};
 ghost use Rattle.std.specs.Option.{option_copied};
@@ -8,17 +8,16 @@ use cdc_types::Event;
 use std::alloc::{AllocError, Global};
 use std::marker::Model;
 
-// As many segments as may be: they have room for 2^63 events.
+// The maximum number of segments. They have room for 2^63 events.
 const MOST_SEGMENTS: usize = 1 << 53;
 
-/// The events of a ledger in the order of their timestamps. A clause sees the list of them, and for how many more
-/// there is room.
+/// The events of a ledger in timestamp order. Contracts see the list of events and the number of events that can be
+/// pushed without allocating.
 #[derive(Drop)]
 pub struct EventLog {
     alloc: Global,
-    /// The events, 1,024 in each segment before the one that is filled next; those behind it are empty.
+    /// Every segment before the one that is filled next holds 1,024 events; every segment after it is empty.
     segments: Vec<Segment>,
-    /// How many events there are.
     len: usize,
 }
 
@@ -43,7 +42,7 @@ impl EventLog {
     ghost use Rattle.cdc_types.specs.Timestamps.{last_timestamp};
     ghost use Rattle.cdc_log.specs.Log.{events_after, RiseFrom};
 
-    /// A log with no event and no room.
+    /// An empty log with no reserved memory.
     pub fn new(alloc: Global) -> EventLog
         ensures { result.events ≡ [] }
     {
@@ -54,18 +53,18 @@ impl EventLog {
         }
     }
 
-    /// Makes room for `additional` more events; an error is want of memory for those that there is no room for yet.
-    /// Where memory runs out the events are as they were.
+    /// Reserves memory for `additional` more events. An error means out of memory and can happen only if the reserved
+    /// memory is too small. The events never change.
     pub fn reserve(&mut self, additional: usize) -> Result<(), AllocError>
         ensures events { self.new.events ≡ self.old.events }
         ensures room { OnOk result (additional ≤ self.new.room) }
         ensures kept { self.old.room ≤ self.new.room }
-        ensures lacking { OnErr result (self.old.room < additional) }
+        ensures exhausted { OnErr result (self.old.room < additional) }
     {
         if additional <= self.room() {
             return Ok(());
         }
-        // What can't be had at all is refused before any segment is made.
+        // An impossible request fails here, before any segment is allocated.
         self.segments.reserve(additional / SEGMENT)?;
         while self.room() < additional {
             self.add_segment()?;
@@ -73,7 +72,7 @@ impl EventLog {
         Ok(())
     }
 
-    // Makes one more segment. So many that their events couldn't be counted are refused too.
+    // Allocates one more segment. Fails as out of memory if the number of events could overflow.
     fn add_segment(&mut self) -> Result<(), AllocError>
         ensures events { self.new.events ≡ self.old.events }
         ensures room { self.new.room ≡ self.old.room + (if is_ok result then 1024 else 0) }
@@ -85,14 +84,14 @@ impl EventLog {
         Ok(())
     }
 
-    /// For how many more events there is room.
+    /// The number of events that can be pushed without allocating.
     pub fn room(&self) -> usize
         ensures { result ≡ self.now.room }
     {
         self.segments.len() * SEGMENT - self.len
     }
 
-    /// Appends an event, which can't fail where there is room for it.
+    /// Appends an event. It can't fail: the caller has reserved memory for it.
     pub fn push(&mut self, event: Event)
         requires room { 0 < self.old.room }
         requires later { last_timestamp self.old.events < event.timestamp }
@@ -104,7 +103,7 @@ impl EventLog {
         self.len += 1;
     }
 
-    /// The event at this place, from 0 on.
+    /// The event at this index, from 0. `None` past the end.
     pub fn get(&self, place: usize) -> Option<&Event>
         ensures { option_copied result ≡ slice_get self.now.events place }
     {
@@ -112,7 +111,7 @@ impl EventLog {
         segment.get(place % SEGMENT)
     }
 
-    // The event at this place, where there is one.
+    // The event at an index that is in range.
     fn event(&self, place: usize) -> &Event
         requires { place < length self.now.events }
         ensures { slice_get self.now.events place ≡ Some result.now }
@@ -120,7 +119,7 @@ impl EventLog {
         self.get(place).unwrap()
     }
 
-    /// The timestamp of the last event, or 0 where there is none.
+    /// The timestamp of the last event, or 0 if there is none.
     pub fn last_timestamp(&self) -> u64
         ensures last { result ≡ last_timestamp self.now.events }
         ensures rising { RiseFrom 0 self.now.events }
@@ -131,7 +130,8 @@ impl EventLog {
         }
     }
 
-    /// The first `limit` events with a timestamp above `timestamp`, in order; an error is want of memory for them.
+    /// The first `limit` events with a timestamp above `timestamp`, in order. An error means out of memory for the
+    /// list.
     pub fn read_after(
         &self,
         alloc: Global,
@@ -145,11 +145,13 @@ impl EventLog {
         self.copy(alloc, first, first + limit.min(self.len - first))
     }
 
-    // The place of the first event that is later than this moment: in the last segment that begins by then.
-    fn first_after(&self, timestamp: u64) -> usize
+    /// The index, from 0, of the first event with a timestamp above `timestamp`. It is the number of events that
+    /// aren't later, and the log's length if none is.
+    pub fn first_after(&self, timestamp: u64) -> usize
         ensures bound { result ≤ length self.now.events }
         ensures parts { drop result self.now.events ≡ events_after timestamp self.now.events }
     {
+        // It is in the last segment that begins by `timestamp`, or right after that segment.
         let begun = self
             .segments
             .partition_point(|segment| segment.begins_by(timestamp));
@@ -159,7 +161,7 @@ impl EventLog {
         }
     }
 
-    // The events from one place on up to another.
+    // The events with an index from `first` up to but excluding `end`.
     fn copy(&self, alloc: Global, first: usize, end: usize) -> Result<Vec<Event>, AllocError>
         requires order { first ≤ end }
         requires within { end ≤ length self.now.events }
@@ -172,14 +174,12 @@ impl EventLog {
         Ok(read)
     }
 
-    /// How many events there are.
     pub fn len(&self) -> usize
         ensures { result ≡ length self.now.events }
     {
         self.len
     }
 
-    /// Whether there is no event.
     pub fn is_empty(&self) -> bool
         ensures { result ≡ (length self.now.events == 0) }
     {
@@ -187,7 +187,6 @@ impl EventLog {
     }
 }
 
-// The segment at this place.
 fn nth(segments: &[Segment], place: usize) -> Option<&Segment>
     ensures { option_copied result ≡ slice_get segments.now place }
 {

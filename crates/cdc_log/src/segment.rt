@@ -1,4 +1,4 @@
-//! A part of the log.
+//! A segment: a part of the log with a fixed capacity.
 
 ghost use Rattle.std.specs.Prelude.{◌≡◌, ◌++◌, ◌∷◌, [], ◌<◌, ◌≤◌, drop, length, slice_get, IfOk};
 ghost use Rattle.std.specs.Option.{option_copied};
@@ -9,10 +9,10 @@ use cdc_types::Event;
 use std::alloc::{AllocError, Global};
 use std::marker::Model;
 
-/// How many events a segment has room for.
+/// The capacity of a segment, in events.
 pub(crate) const SEGMENT: usize = 1_024;
 
-/// Up to 1,024 events, the room for which is made with it. A clause sees the list of them.
+/// Up to 1,024 events. Creating a segment allocates memory for all of them. Contracts see the list of events.
 #[derive(Drop)]
 pub(crate) struct Segment {
     events: Vec<Event>,
@@ -31,7 +31,7 @@ impl Model for Segment {
 }
 
 impl Segment {
-    /// A segment with no event.
+    /// An empty segment. An error means out of memory.
     pub(crate) fn new(alloc: Global) -> Result<Segment, AllocError>
         ensures { IfOk result (λ segment. segment ≡ []) }
     {
@@ -40,7 +40,7 @@ impl Segment {
         })
     }
 
-    /// Appends an event. There is room for it.
+    /// Appends an event. The segment isn't full.
     pub(crate) fn push(&mut self, event: Event)
         requires { length self.old < 1024 }
         ensures { self.new ≡ self.old ++ event ∷ [] }
@@ -48,14 +48,14 @@ impl Segment {
         self.events.push_reserved(event);
     }
 
-    /// The event at this place of the segment.
+    /// The event at this index of the segment. `None` past the end.
     pub(crate) fn get(&self, place: usize) -> Option<&Event>
         ensures { option_copied result ≡ slice_get self.now place }
     {
         self.events.get(place)
     }
 
-    /// Whether its first event is no later than this moment.
+    /// Whether the first event is no later than this timestamp. False if the segment is empty.
     pub(crate) fn begins_by(&self, timestamp: u64) -> bool
         ensures { result ≡ begins_by timestamp self.now }
     {
@@ -65,7 +65,7 @@ impl Segment {
         }
     }
 
-    /// How many of its events are no later than this moment.
+    /// The number of events that are no later than this timestamp.
     pub(crate) fn up_to(&self, timestamp: u64) -> usize
         requires { RiseFrom 0 self.now }
         ensures bound { result ≤ length self.now }
@@ -75,7 +75,7 @@ impl Segment {
     }
 }
 
-// The place of the first event that is later than this moment, of events that are in the order of their timestamps.
+// The index of the first event that is later than this timestamp. The events are in timestamp order.
 fn first_after(events: &[Event], timestamp: u64) -> usize
     requires { RiseFrom 0 events.now }
     ensures bound { result ≤ length events.now }

@@ -1,4 +1,4 @@
--- Worked examples: what words say, and which headers a binding takes.
+-- Worked examples: the bindings that lists of words represent, and the headers that a binding takes.
 use Rattle.std.proofs.Common.{◌≡◌, List, [], ◌∷◌, codes, true, false, Ok, Err, refl}
 use Rattle.cdc_types.specs.declared.events.EventKind.TheVariants.{TwoPhasePosted}
 use Rattle.cdc_types.specs.declared.events.Headers.{Headers}
@@ -20,7 +20,7 @@ under_any pairs = record { mode = Any; pairs = pairs }
 
 -- ---- words
 
--- leading zeros are allowed, and a key may stand twice
+-- leading zeros are allowed, and a key may occur twice
 two_ledgers : arguments_of (codes "any" ∷ codes "ledger=0700" ∷ codes "ledger=1" ∷ [])
     ≡ Ok (under_any (Ledger 700 ∷ Ledger 1 ∷ []))
 two_ledgers = refl
@@ -33,7 +33,7 @@ no_words = refl
 two_equals_signs : arguments_of (codes "all" ∷ codes "ledger=1=2" ∷ []) ≡ Err BadValue
 two_equals_signs = refl
 
--- of two faults the first is told
+-- of two errors the first one is reported
 two_faults : arguments_of (codes "all" ∷ codes "code=1" ∷ codes "ledger=4294967296" ∷ []) ≡ Err UnknownKey
 two_faults = refl
 

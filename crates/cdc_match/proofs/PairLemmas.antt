@@ -71,7 +71,7 @@ pub pairs_fault : (words : List (List ℕ)) (i : ℕ) (found : List Pair) (error
 pairs_fault words i found error below few h is =
     rw (around words i below few, each_fault pair_of (take i words) found (get_or words i []) error _ h is)
 
--- where pairs were found, the words begin with one
+-- if pairs were found, the words begin with a pair
 pub pairs_begin : (words : List (List ℕ)) (i : ℕ) (found : List Pair) → i < length words
     → each pair_of (take (i + 1) words) ≡ Ok found → BeginsWithPair words
 pairs_begin [] i found below h = omega (arith, below)
@@ -82,7 +82,7 @@ pairs_begin (word ∷ words) i found below h =
 
 -- ---- reading a word takes no memory
 
--- this doesn't say that memory ran out
+-- the answer isn't out of memory
 abbrev SparesMemory : {A : Type 0} → Read A → Type 0
 SparesMemory answer = answer ≡ Err OutOfMemory → ⊥
 
@@ -98,7 +98,7 @@ spares-then : {A B : Type 0} (first : Read A) (then : A → Read B) → SparesMe
 spares-then (Ok value) then one two h = two value h
 spares-then (Err error) then one two h = one (cc)
 
--- a word that names no known header is told as that, not as want of memory
+-- a word that names no known header is reported as such, not as out of memory
 spares-key : {A : Type 0} (value : Option A) → SparesMemory (ok_or value UnknownKey)
 spares-key value = spares-ok_or value UnknownKey (λ h. absurd (cc))
 
@@ -106,7 +106,7 @@ spares-key value = spares-ok_or value UnknownKey (λ h. absurd (cc))
 spares-value : {A : Type 0} (value : Option A) → SparesMemory (ok_or value BadValue)
 spares-value value = spares-ok_or value BadValue (λ h. absurd (cc))
 
--- a word's fault is never want of memory
+-- a word's error is never out of memory
 pub spares-pair_of : (word : List ℕ) → SparesMemory (pair_of word)
 spares-pair_of word =
     spares-then (ok_or (parted 61 word) UnknownKey) _ (spares-key (parted 61 word))

@@ -1,4 +1,4 @@
--- What a step of the reader answers, beside what the definition reads. Cited by private contracts alone.
+-- The result of a step of the reader, compared with what the definition reads. Only private contracts cite it.
 use Rattle.std.specs.Prelude.{◌≡◌, ◌⊎◌, List, Result, Ok, Err, MatchResult}
 use Rattle.std.specs.declared.alloc.Global.{Global}
 use Rattle.std.specs.declared.vec.Vec.{Vec}

@@ -6,7 +6,7 @@ use Rattle.cdc_message.specs.Replays.{IsReplay}
 use Rattle.cdc_match.specs.Arguments.{Arguments}
 use Rattle.cdc_match.specs.Queue.{queue, feed}
 
--- where items come late, again or not at all, so do those of each queue, and nothing else goes wrong with a queue
+-- if items are received late, redelivered or lost, the same happens to those of each queue, and nothing worse
 abbrev pub QueuesReplay : Type 0
 QueuesReplay = (w f : List Item) (binding : Arguments) → IsReplay w f → IsReplay (queue w binding) (queue f binding)
 

@@ -33,7 +33,7 @@ abbrev pub mode_word : Mode → List ℕ
 mode_word All = codes "all"
 mode_word Any = codes "any"
 
--- the mode that a word stands for, if any
+-- the mode with this word, if any
 abbrev pub mode_named : List ℕ → Option Mode
 mode_named word = find (λ mode. bytes_eq (mode_word mode) word) (All ∷ Any ∷ [])
 
@@ -76,7 +76,7 @@ each read (word ∷ words) = do
   rest ← each read words
   Ok (first ∷ rest)
 
--- the pairs of the words after the mode; an eleventh word is one too many, whatever it says
+-- the pairs of the words after the mode; an eleventh word is too many, whatever it is
 abbrev pub pairs_of : List (List ℕ) → Read (List Pair)
 pairs_of words = do
   pairs ← each pair_of (take BINDING_PAIRS words)
@@ -88,7 +88,7 @@ with_mode mode words = do
   pairs ← pairs_of words
   Ok (record { mode = mode; pairs = pairs })
 
--- the binding that the words say, or the first fault from the left
+-- the binding that the words represent, or the first error from the left
 abbrev pub arguments_of : List (List ℕ) → Read Arguments
 arguments_of [] = Err BadMode
 arguments_of (word ∷ words) = do

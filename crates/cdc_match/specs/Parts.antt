@@ -2,6 +2,6 @@
 use Rattle.std.specs.Prelude.{ℕ, ◌+◌, ◌==◌, List, take, drop, Option, position}
 use Rattle.std.specs.Option.{option_map}
 
--- what stands before the first such byte, and what stands after it
+-- the bytes before and after the first such byte, if there is one
 abbrev pub parted : ℕ → List ℕ → Option (List ℕ × List ℕ)
 parted separator bytes = option_map (λ i. (take i bytes, drop (i + 1) bytes)) (position (λ b. b == separator) bytes)

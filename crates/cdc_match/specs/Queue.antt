@@ -11,7 +11,7 @@ use Rattle.cdc_match.specs.Matching.{matches}
 abbrev pub takes_event : Arguments → Event → Bool
 takes_event binding event = matches binding (headers_of_event event)
 
--- whether an item goes to the queue of a binding: an end mark goes to each queue
+-- the item goes to the queue of the binding; an end mark goes to every queue
 abbrev pub takes_item : Arguments → Item → Bool
 takes_item binding (OfEvent event) = takes_event binding event
 takes_item binding EndMark = true

@@ -1,4 +1,4 @@
-//! A binding.
+//! Bindings: parsing and matching.
 
 ghost use Rattle.std.specs.Prelude.{◌≡◌, ◌<◌, IfOk, OnErr, Err, length, map};
 ghost use Rattle.cdc_match.specs.Errors.{GivesUnlessMemory};
@@ -13,8 +13,8 @@ use cdc_types::{Headers, Limits};
 use std::alloc::{AllocError, Global};
 use std::marker::Model;
 
-/// Which messages go to a queue, by their headers (AMQP 0-9-1, the headers exchange). A clause sees the mode and the
-/// pairs.
+/// A binding: it decides by their headers which messages go to a queue (AMQP 0-9-1, the headers exchange). Contracts
+/// see the mode and the pairs.
 #[derive(Drop)]
 pub struct Binding {
     mode: Mode,
@@ -29,7 +29,7 @@ impl Model for Binding {
     ghost view = { λ binding. record { mode = binding.mode; pairs = binding.pairs.items } };
 }
 
-// The pairs that words say.
+// The pairs that the words represent.
 fn pairs_of(alloc: Global, words: &[&str]) -> Result<Vec<Pair>, BindError>
     ensures pairs { FindsPairsUnlessMemory result
         (spec.pairs_of (map (λ word. word.now) words.now)) }
@@ -48,12 +48,13 @@ fn pairs_of(alloc: Global, words: &[&str]) -> Result<Vec<Pair>, BindError>
 }
 
 impl Binding {
-    /// The binding that words say: `all` or `any`, and then up to ten words `key=value`, each parted at its first
-    /// equals sign. The keys are `event_type`, whose value is the text of a kind of event, `ledger`, whose value is a
-    /// decimal number up to 4294967295, and `transfer_code`, `debit_account_code` and `credit_account_code`, whose
-    /// values are decimal numbers up to 65535. Two pairs may have one key.
+    /// The binding that the words represent: `all` or `any`, followed by up to ten words `key=value`, each split at
+    /// its first equals sign. The value of the key `event_type` is the name of a kind of event. The value of `ledger`
+    /// is a decimal number up to 4294967295. The values of `transfer_code`, `debit_account_code` and
+    /// `credit_account_code` are decimal numbers up to 65535. Several pairs may have the same key.
     ///
-    /// The first fault from the left is answered; `OutOfMemory` where there was no memory for a pair before any fault.
+    /// Returns the first error from the left. It is `OutOfMemory` if memory for a pair runs out before any other
+    /// error.
     pub fn parse(alloc: Global, words: &[&str]) -> Result<Binding, BindError>
         ensures binding { GivesUnlessMemory result
             (spec.arguments_of (map (λ word. word.now) words.now)) }
@@ -68,8 +69,8 @@ impl Binding {
         })
     }
 
-    /// Whether messages with these headers go to the queue: under `Mode::All` where every pair equals the header's
-    /// value, under `Mode::Any` where some pair does. Without pairs all of them do under `Mode::All`, and none under
+    /// Whether messages with these headers go to the queue. Under `Mode::All` every pair has to equal the header's
+    /// value, under `Mode::Any` at least one. Without pairs, all messages match under `Mode::All`, and none under
     /// `Mode::Any`.
     pub fn matches(&self, headers: &Headers) -> bool
         ensures { result ≡ matching.matches self.now headers.now }
@@ -78,21 +79,21 @@ impl Binding {
         mode.pass(pairs, *headers)
     }
 
-    /// How many of the pairs have to be met.
+    /// Whether all pairs or any of them have to match.
     pub fn mode(&self) -> Mode
         ensures { result ≡ self.now.mode }
     {
         self.mode
     }
 
-    /// The pairs, in the order of their words.
+    /// The pairs, in the order in which they were given.
     pub fn pairs(&self) -> &[Pair]
         ensures { result.now ≡ self.now.pairs }
     {
         self.pairs.as_slice()
     }
 
-    /// An equal binding in memory of its own; one without pairs takes none.
+    /// An equal binding in memory of its own. A binding without pairs is copied without allocating.
     pub fn try_copy(&self, alloc: Global) -> Result<Binding, AllocError>
         ensures copy { IfOk result (λ copy. copy ≡ self.now) }
         ensures memory { OnErr result (0 < length self.now.pairs) }

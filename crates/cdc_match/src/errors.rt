@@ -1,4 +1,4 @@
-//! Why words are no binding.
+//! Errors of parsing a binding.
 
 ghost use Rattle.std.specs.Prelude.{◌≡◌};
 ghost use Rattle.cdc_match.specs.Errors.{error_number, error_name};
@@ -6,22 +6,21 @@ ghost use Rattle.cdc_match.specs.Errors.{error_number, error_name};
 use std::alloc::{AllocError, AllocFailed};
 use thiserror::Error;
 
-/// Why words are no binding. Of several faults the first from the left is told.
+/// Why words aren't a binding. Of several errors it is the first one from the left.
 #[derive(Clone, Copy, Debug, PartialEq, Eq, Error)]
 pub enum BindError {
     /// The first word is neither `all` nor `any`, or there is none.
     #[error("a binding begins with all or any")]
     BadMode,
-    /// A word has no equals sign, or what stands before its first one is no header's name.
+    /// A word has no equals sign, or the text before its first one isn't the name of a header.
     #[error("a word of a binding names no header")]
     UnknownKey,
-    /// What stands after the first equals sign is no value of that header.
+    /// The text after the first equals sign isn't a value of that header.
     #[error("a word of a binding gives a value that its header can't have")]
     BadValue,
-    /// There is an eleventh pair.
     #[error("a binding has more than ten pairs")]
     TooManyPairs,
-    /// There was no memory for the pairs.
+    /// Memory for the pairs ran out.
     #[error("out of memory")]
     OutOfMemory,
 }
@@ -62,7 +61,7 @@ impl BindError {
         }
     }
 
-    /// The error's name.
+    /// The name that is printed.
     pub fn name(self) -> &'static str
         ensures { result.now ≡ error_name self }
     {

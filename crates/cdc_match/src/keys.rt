@@ -1,4 +1,4 @@
-//! The words of a binding: `key=value`.
+//! The words `key=value` of a binding.
 
 ghost use Rattle.std.specs.Prelude.{◌≡◌, ◌≤◌, IfSome};
 ghost use Rattle.std.specs.Option.{option_map};
@@ -14,15 +14,11 @@ use cdc_message::{decimal_up_to, kind_named};
 /// A header that a binding may name.
 #[derive(Clone, Copy)]
 pub enum Key {
-    /// What the event did.
+    /// The kind of the event.
     EventType,
-    /// The ledger of the transfer.
     Ledger,
-    /// The client's kind of transfer.
     TransferCode,
-    /// The client's kind of the account that is debited.
     DebitAccountCode,
-    /// The client's kind of the account that is credited.
     CreditAccountCode,
 }
 
@@ -34,14 +30,14 @@ const KEYS: [Key; 5] = [
     Key::CreditAccountCode,
 ];
 
-// The number of a ledger.
+// A ledger's number from its decimal text.
 fn ledger(text: &str) -> Option<u32>
     ensures { result ≡ decimals.decimal_up_to max_32 text.now }
 {
     Some(decimal_up_to(text.as_bytes(), u128::from(u32::MAX))? as u32)
 }
 
-// The code of an account or a transfer.
+// An account's or a transfer's code from its decimal text.
 fn code(text: &str) -> Option<u16>
     ensures { result ≡ decimals.decimal_up_to max_16 text.now }
 {
@@ -80,14 +76,14 @@ impl Key {
     }
 }
 
-// What stands before the first equals sign, and what stands after it.
+// The text before and after the first equals sign.
 fn parted_at_equals(word: &str) -> Option<(&str, &str)>
     ensures { option_map (λ parts. (parts.0.now, parts.1.now)) result ≡ parted 61 word.now }
 {
     word.split_once('=')
 }
 
-/// The pair that a word says.
+/// The pair that a word represents. The error is `UnknownKey` or `BadValue`.
 pub fn pair_of(word: &str) -> Result<Pair, BindError>
     ensures { result ≡ spec.pair_of word.now }
 {

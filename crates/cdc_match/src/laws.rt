@@ -1,9 +1,9 @@
-//! What holds of the queues of bindings, whoever fills them.
+//! Laws of the queues of bindings, for any input.
 
 ghost use Rattle.cdc_match.specs.Laws.{QueuesReplay, QueuesHoldFeeds};
 
-/// Does nothing: each clause holds of every list of items and of every binding. Where a broker's input is a replay of
-/// what the ledger tells, what it hands to a queue is a replay of what the ledger tells to that queue.
+/// Does nothing: each postcondition holds for every list of items and every binding. If a broker's input is a replay
+/// of what the ledger publishes, what it puts into a queue is a replay of what the ledger publishes for that queue.
 pub fn queue_laws()
     ensures replays { QueuesReplay }
     ensures feeds { QueuesHoldFeeds }

@@ -1,4 +1,4 @@
-//! Bindings: which messages go to a queue, by their headers.
+//! Bindings, which decide by their headers which messages go to a queue.
 #![tactic(auto)]
 
 mod binding;

@@ -1,4 +1,4 @@
-//! What a binding asks of the headers: a mode, and pairs of a header and a value.
+//! The parts of a binding: a mode, and pairs of a header and a value.
 
 ghost use Rattle.std.specs.Prelude.{◌≡◌};
 ghost use Rattle.cdc_match.specs.Matching as spec;
@@ -6,27 +6,23 @@ ghost use Rattle.cdc_match.specs.Parsing.{mode_word, mode_named};
 
 use cdc_types::{EventKind, Headers};
 
-/// How many of a binding's pairs have to be met (AMQP 0-9-1, the headers exchange, `x-match`).
+/// How many of a binding's pairs have to match (AMQP 0-9-1, the headers exchange, `x-match`).
 #[derive(Clone, Copy, Debug, PartialEq, Eq)]
 pub enum Mode {
     /// Every pair.
     All,
-    /// Some pair.
+    /// At least one pair.
     Any,
 }
 
-/// A header, and the value that it has to have.
+/// A header and its required value.
 #[derive(Clone, Copy, Debug, PartialEq, Eq)]
 pub enum Pair {
-    /// What the event did.
+    /// The kind of the event.
     EventType(EventKind),
-    /// The ledger of the transfer.
     Ledger(u32),
-    /// The client's kind of transfer.
     TransferCode(u16),
-    /// The client's kind of the account that is debited.
     DebitAccountCode(u16),
-    /// The client's kind of the account that is credited.
     CreditAccountCode(u16),
 }
 
@@ -40,7 +36,7 @@ impl Mode {
         }
     }
 
-    /// The mode that a word stands for, if any.
+    /// The mode with this word. `None` if there is none.
     pub(crate) fn named(word: &str) -> Option<Mode>
         ensures { result ≡ mode_named word.now }
     {
@@ -50,7 +46,7 @@ impl Mode {
             .find(|mode| mode.word() == word)
     }
 
-    /// Whether every pair equals the header's value, or some pair does.
+    /// Whether all pairs, or any of them, equal the headers' values, as the mode requires.
     pub(crate) fn pass(self, pairs: &[Pair], headers: Headers) -> bool
         ensures { result ≡ spec.pass self (spec.equals_header headers) pairs.now }
     {
@@ -62,7 +58,7 @@ impl Mode {
 }
 
 impl Pair {
-    /// Whether the header has the value.
+    /// Whether the pair's header has the pair's value.
     pub(crate) fn equals_header(self, headers: Headers) -> bool
         ensures { result ≡ spec.equals_header headers self }
     {

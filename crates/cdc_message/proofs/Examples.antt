@@ -61,7 +61,7 @@ credited = record {
   timestamp = 1001;
 }
 
--- the event that tells of the transfer, with both accounts as they are after it
+-- the event of the transfer, with both accounts as they are right after it
 abbrev pub first_event : Event
 first_event = record {
   timestamp = 2000;
@@ -109,7 +109,7 @@ first_is_read : read first_body ≡ Ok first_event
 unfolding read serde_json_on_literals is_utf8 chars
 first_is_read = refl
 
--- a body whose members stand in another order is read as the same event
+-- a body with its members in another order is read as the same event
 order_is_free : read first_in_order ≡ Ok first_event
 unfolding read serde_json_on_literals is_utf8 chars
 order_is_free = refl

@@ -97,7 +97,7 @@ transfer_back transfer fits =
       number_of-decimal transfer.user_data_32 own,
     )
 
--- an event's value comes back where those of its accounts and its transfer do
+-- an event's value is read back if the values of its accounts and its transfer are
 back_by_parts : (event : Event) (credit debit transfer : Data) → event.ledger < 2 ^ 64
     → of_json (outline credit) ≡ Some credit → of_json (outline debit) ≡ Some debit
     → of_json (outline transfer) ≡ Some transfer

@@ -15,7 +15,7 @@ use Rattle.cdc_message.proofs.RisesLaws.{rises-is_newest, rises_after, Decides-i
 
 -- ---- timestamps that rise
 
--- where timestamps rise, each event that comes joins those that rise
+-- if timestamps rise, each next event is newer than all before it
 rising_from : (before es : List Event) → TimestampsRise (before ++ es) → rises before ≡ before
     → rises (before ++ es) ≡ before ++ es
 rising_from before [] rise so_far = rw (append-nil before) so_far
@@ -27,18 +27,18 @@ rising_from before (e ∷ es) rise so_far =
     let rising : TimestampsRise ((before ++ e ∷ []) ++ es) = rw whole rise in
     subst P whole (rising_from (before ++ e ∷ []) es rising (joins ∙ ap (λ es. es ++ e ∷ []) so_far))
 
--- where all rise none is left out
+-- if all timestamps rise, no event is left out
 pub rises-rising : (es : List Event) → TimestampsRise es → rises es ≡ es
 rises-rising es rise = rising_from [] es rise refl
 
 -- ---- the items of events
 
--- the events of a line told of some events are those events
+-- the events of a list of event items are the events that it was made from
 pub events_of-map : (es : List Event) → events_of (map OfEvent es) ≡ es
 events_of-map [] = refl
 events_of-map (e ∷ es) = ap (λ more. e ∷ more) (events_of-map es)
 
--- at each place of such a line stands an event's message
+-- each index of such a list has an event's message
 event_at : (es : List Event) (i : ℕ) (d : Item) → i < length es
     → (e : Event) × (get_or (map OfEvent es) i d ≡ OfEvent e)
 event_at [] i d below = absurd (omega arith)
@@ -63,7 +63,7 @@ not_the_end es k d below is =
     let apart : OfEvent found.0 ≡ EndMark = sym found.1 ∙ is in
     cc
 
--- nor where the end mark follows
+-- no two items are the same, even after the end mark is appended
 pub HasNoneTwice-line : (es : List Event) → TimestampsRise es → HasNoneTwice (map OfEvent es ++ EndMark ∷ [])
 HasNoneTwice-line es rise =
     all_pairs_push (λ (a b : Item). a ≢ b) (map OfEvent es) EndMark (HasNoneTwice-events es rise) (not_the_end es)

@@ -1,14 +1,14 @@
--- The text of an object, with what stands behind it, is that of its members one after another.
+-- The text of an object, followed by other bytes, is the text of its members one after another.
 use Rattle.std.proofs.Common.{◌≡◌, ℕ, List, [], ◌∷◌, ◌++◌, refl, ap, ◌∙◌, append_assoc}
 use Rattle.std.specs.List.{join_with_byte}
 use Rattle.cdc_message.specs.Bodies.{object_text}
 
--- members one after another, from the first one on, and what stands behind the object
+-- members one after another, from the first one on, and the bytes after the object
 abbrev pub members_then : List ℕ → List (List ℕ) → List ℕ → List ℕ
 members_then m [] rest = m ++ 125 ∷ rest
 members_then m (n ∷ ms) rest = m ++ 44 ∷ members_then n ms rest
 
--- joined members, the brace behind them, and the rest
+-- joined members, the closing brace, and the rest
 joined-append : (m : List ℕ) (ms : List (List ℕ)) (rest : List ℕ)
     → (join_with_byte 44 (m ∷ ms) ++ 125 ∷ []) ++ rest ≡ members_then m ms rest
 joined-append m [] rest = append_assoc m (125 ∷ []) rest

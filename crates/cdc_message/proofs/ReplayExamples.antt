@@ -1,4 +1,4 @@
--- Small lists of items that come again: what is first of each, and what rises.
+-- Small lists of items with redeliveries: the first occurrences of each item, and the events that rise.
 use Rattle.std.proofs.Common.{◌≡◌, ℕ, List, [], ◌∷◌, refl}
 use Rattle.cdc_types.specs.declared.events.Event.{Event}
 use Rattle.cdc_message.specs.declared.items.Item.{Item}
@@ -19,7 +19,7 @@ on t ledger = record first_event { timestamp = t; ledger = ledger }
 abbrev sent_again : List Item
 sent_again = OfEvent (at 5) ∷ OfEvent (at 8) ∷ OfEvent (at 5) ∷ OfEvent (at 8) ∷ OfEvent (at 9) ∷ EndMark ∷ EndMark ∷ []
 
--- without the repeats, each event stands once and so does the end mark
+-- without duplicates, each event occurs once and so does the end mark
 each_once : firsts same_item sent_again ≡ OfEvent (at 5) ∷ OfEvent (at 8) ∷ OfEvent (at 9) ∷ EndMark ∷ []
 each_once = refl
 
@@ -27,11 +27,11 @@ each_once = refl
 by_timestamps : rises (events_of sent_again) ≡ at 5 ∷ at 8 ∷ at 9 ∷ []
 by_timestamps = refl
 
--- other events of the same timestamp are no repeats, though they don't rise
+-- different events with the same timestamp are no duplicates, though they don't rise
 two_of_a_time : firsts same_item (OfEvent (on 5 1) ∷ OfEvent (on 5 2) ∷ []) ≡ OfEvent (on 5 1) ∷ OfEvent (on 5 2) ∷ []
 two_of_a_time = refl
 
--- by timestamps alone the second of them is taken for a repeat
+-- by timestamps alone the second of them counts as a duplicate
 one_rises : rises (on 5 1 ∷ on 5 2 ∷ []) ≡ on 5 1 ∷ []
 one_rises = refl
 

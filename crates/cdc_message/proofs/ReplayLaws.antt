@@ -40,7 +40,7 @@ push_forth xs ys x same y h =
       | inr is ↦ subst (Contains (ys ++ x ∷ [])) is (Contains-push ys x)
     ]
 
--- the same element at the end of both
+-- the same element appended to both
 pub HaveSame-push : {X : Type 0} (xs ys : List X) (x : X) → HaveSame xs ys → HaveSame (xs ++ x ∷ []) (ys ++ x ∷ [])
 HaveSame-push xs ys x same = record {
   forth = push_forth xs ys x same;
@@ -52,29 +52,29 @@ HaveSame-push xs ys x same = record {
 -- before anything has come, that is a replay of anything
 pub IsReplay-nil : {X : Type 0} (f : List X) → IsReplay [] f
 IsReplay-nil f = record {
-  beginnings = λ n. let none = take_all n (take 0 f) (omega arith) in (0, rw none (HaveSame-refl (take 0 f)));
+  prefixes = λ n. let none = take_all n (take 0 f) (omega arith) in (0, rw none (HaveSame-refl (take 0 f)));
 }
 
--- a replay of a replay is one: what a subscriber hears of its queue, and the queue of what the ledger tells
+-- a replay of a replay is a replay: what a subscriber receives is one of its queue, and the queue one of the ledger
 pub IsReplay-trans : {X : Type 0} (w v f : List X) → IsReplay w v → IsReplay v f → IsReplay w f
 IsReplay-trans w v f of_v of_f = record {
-  beginnings = λ n.
-      let m = of_v.beginnings n in
-      let k = of_f.beginnings m.0 in
+  prefixes = λ n.
+      let m = of_v.prefixes n in
+      let k = of_f.prefixes m.0 in
       (k.0, HaveSame-trans m.1 k.1);
 }
 
--- all of a replay has what some beginning has
+-- a whole replay has the same elements as some prefix
 pub IsReplay-all : {X : Type 0} (w f : List X) → IsReplay w f → (m : ℕ) × HaveSame w (take m f)
 IsReplay-all w f replay =
     let all : take (length w) w ≡ w = take_all (length w) w (omega arith) in
-    rw all at (replay.beginnings (length w))
+    rw all at (replay.prefixes (length w))
 
--- one more element, after which the list has what some beginning has
+-- one more element, after which the list has the same elements as some prefix
 pub IsReplay-push : {X : Type 0} (w f : List X) (x : X) (m : ℕ) → IsReplay w f → HaveSame (w ++ x ∷ []) (take m f)
     → IsReplay (w ++ x ∷ []) f
 IsReplay-push w f x m replay same = record {
-  beginnings = λ n.
+  prefixes = λ n.
       elim (cases_lt (length w) n) [
         | inl past ↦
             let all : take n (w ++ x ∷ []) ≡ w ++ x ∷ [] =
@@ -82,7 +82,7 @@ IsReplay-push w f x m replay same = record {
             (m, rw all same)
         | inr within ↦
             let front : take n (w ++ x ∷ []) ≡ take n w = take-append-le n w (x ∷ []) within in
-            rw front (replay.beginnings n)
+            rw front (replay.prefixes n)
       ];
 }
 
@@ -92,24 +92,24 @@ IsReplay-again w f x replay there =
     let all = IsReplay-all w f replay in
     IsReplay-push w f x all.0 replay (HaveSame-again w (take all.0 f) x all.1 there)
 
--- a beginning of a replay
+-- a prefix of a replay
 pub IsReplay-take : {X : Type 0} (k : ℕ) (w f : List X) → IsReplay w f → IsReplay (take k w) f
 IsReplay-take k w f replay = record {
-  beginnings = λ n.
+  prefixes = λ n.
       elim (cases_lt k n) [
         | inl past ↦
             let all : take n (take k w) ≡ take k w = take_all n (take k w) (omega (arith, length-take k w)) in
-            rw all (replay.beginnings k)
+            rw all (replay.prefixes k)
         | inr within ↦
-            let front : take n (take k w) ≡ take n w = take-take n k w within in rw front (replay.beginnings n)
+            let front : take n (take k w) ≡ take n w = take-take n k w within in rw front (replay.prefixes n)
       ];
 }
 
 -- f goes on
 pub IsReplay-longer : {X : Type 0} (w f g : List X) → IsReplay w f → IsReplay w (f ++ g)
 IsReplay-longer w f g replay = record {
-  beginnings = λ n.
-      let m = replay.beginnings n in
+  prefixes = λ n.
+      let m = replay.prefixes n in
       elim (cases_lt (length f) m.0) [
         | inl past ↦
             let all : take m.0 f ≡ f = take_all m.0 f (omega arith) in
@@ -120,9 +120,9 @@ IsReplay-longer w f g replay = record {
       ];
 }
 
--- ---- elements of a beginning
+-- ---- elements of a prefix
 
--- an element of a beginning stands at a place before its end
+-- an element of a prefix is at an index below the prefix's length
 Contains-take : {X : Type 0} (m : ℕ) (f : List X) (x : X) → Contains (take m f) x
     → (i : ℕ) × (i < m) × (i < length f) × (get_or f i x ≡ x)
 Contains-take m f x (i, below, is) =
@@ -130,7 +130,7 @@ Contains-take m f x (i, below, is) =
     let within : i < length f = omega (arith, length-take m f) in
     (i, low, within, sym (get_or-take m f i x low) ∙ is)
 
--- and what stands at such a place is in the beginning
+-- and the element at such an index is in the prefix
 Contains-from_take : {X : Type 0} (m i : ℕ) (f : List X) (x : X) → i < m → i < length f → get_or f i x ≡ x
     → Contains (take m f) x
 Contains-from_take m i f x low within is = (i, omega (arith, length-take m f), get_or-take m f i x low ∙ is)
@@ -150,7 +150,7 @@ pub firsts-push : {X : Type 0} (same : X → X → Bool) (w : List X) (x : X)
 firsts-push same w x = rw (fold-append (λ seen y. cond (has_same same y seen) seen (seen ++ y ∷ [])) [] w (x ∷ [])) refl
 
 module _ {X : Type 0} (same : X → X → Bool) (decides : (a b : X) → Decides (same a b) (a ≡ b)) where
-  -- the test whether an element came before is right where the test of sameness is
+  -- the test whether an element occurred before is correct if the test of sameness is
   pub Decides-has_same : (x : X) (seen : List X) → Decides (has_same same x seen) (Contains seen x)
   Decides-has_same x seen =
       Decides-contains seen x (has_same same x seen)
@@ -226,7 +226,7 @@ module _ {X : Type 0} (same : X → X → Bool) (decides : (a b : X) → Decides
         elements = rw more (HaveSame-push v (take b.count f) x b.elements);
       }
 
-  -- so after one more element, new or not, the first ones are still a beginning of f
+  -- so after one more element, new or not, the first occurrences are still a prefix of f
   HasBegun-push : (v f : List X) (x : X) → HasNoneTwice f → HasBegun same v f → (n : ℕ)
       → HaveSame (v ++ x ∷ []) (take n f)
       → HasBegun same (v ++ x ∷ []) f
@@ -238,7 +238,7 @@ module _ {X : Type 0} (same : X → X → Bool) (decides : (a b : X) → Decides
             HasBegun-next v f x b new next.0 next.1
       ]
 
-  -- before anything has come, it is the empty beginning
+  -- before anything was received, it is the empty prefix
   HasBegun-nil : (f : List X) → HasBegun same [] f
   HasBegun-nil f = record { count = 0; within = omega arith; firsts_are = refl; elements = HaveSame-refl [] }
 
@@ -251,7 +251,7 @@ module _ {X : Type 0} (same : X → X → Bool) (decides : (a b : X) → Decides
         | inl below ↦
             let next = take_next k w below in
             let more : take (suc k) w ≡ take k w ++ next.0 ∷ [] = rw add-one at next.1 in
-            let n = replay.beginnings (suc k) in
+            let n = replay.prefixes (suc k) in
             let after : HaveSame (take k w ++ next.0 ∷ []) (take n.0 f) = rw more at n.1 in
             rw more (HasBegun-push (take k w) f next.0 apart so_far n.0 after)
         | inr past ↦
@@ -259,7 +259,7 @@ module _ {X : Type 0} (same : X → X → Bool) (decides : (a b : X) → Decides
             rw all so_far
       ]
 
-  -- without its repeats a replay of a list without repeats is a beginning of it
+  -- if f has no duplicates, a replay of f without the replay's duplicates is a prefix of f
   pub IsPrefix-firsts : (w f : List X) → HasNoneTwice f → IsReplay w f → IsPrefix (firsts same w) f
   IsPrefix-firsts w f apart replay =
       let all : take (length w) w ≡ w = take_all (length w) w (omega arith) in
@@ -268,7 +268,7 @@ module _ {X : Type 0} (same : X → X → Bool) (decides : (a b : X) → Decides
 
 -- ---- elements by their places in f
 
--- an element of f that stands in what came, or comes next
+-- an element of f that was already received, or that is the next one
 pub HaveSame-place : {X : Type 0} (w f : List X) (x : X) (n i : ℕ) → HaveSame w (take n f) → i ≤ n → i < length f
     → get_or f i x ≡ x
     → HaveSame (w ++ x ∷ []) (take (max n (i + 1)) f)
@@ -293,18 +293,18 @@ pub IsReplay-place : {X : Type 0} (w f : List X) (x : X) (n i : ℕ) → IsRepla
 IsReplay-place w f x n i replay same near below here =
     IsReplay-push w f x (max n (i + 1)) replay (HaveSame-place w f x n i same near below here)
 
--- what stands in a beginning stands in the list
+-- an element of a prefix is in the list
 pub Contains-take_all : {X : Type 0} (n : ℕ) (xs : List X) (x : X) → Contains (take n xs) x → Contains xs x
 Contains-take_all n xs x there =
     subst (λ ys. Contains ys x) (take-append-drop n xs) (Contains-append_left (take n xs) (drop n xs) x there)
 
--- and in each longer beginning
+-- and in each longer prefix
 pub Contains-take_longer : {X : Type 0} (m n : ℕ) (xs : List X) (x : X) → m ≤ n → Contains (take m xs) x
     → Contains (take n xs) x
 Contains-take_longer m n xs x less there =
     Contains-take_all m (take n xs) x (subst (λ ys. Contains ys x) (sym (take-take m n xs less)) there)
 
--- an element may come once all that stands before it has come, and from then on again and again
+-- an element may be received once all elements before it have been received, and from then on any number of times
 pub IsReplay-in_turn : {X : Type 0} (w f : List X) (x : X) (n : ℕ) → IsReplay w f → slice_get f n ≡ Some x
     → ((y : X) → Contains (take n f) y → Contains w y) → IsReplay (w ++ x ∷ []) f
 IsReplay-in_turn w f x n replay found before =
@@ -319,7 +319,7 @@ IsReplay-in_turn w f x n replay found before =
           IsReplay-place w f x n n replay same (omega arith) within here
     ]
 
--- no two places of a list without repeats hold one element
+-- an element of a list without duplicates has a single index
 one_place : {X : Type 0} (f : List X) (x : X) (i j : ℕ) → HasNoneTwice f → i < length f → j < length f
     → get_or f i x ≡ x → get_or f j x ≡ x → i ≡ j
 one_place f x i j apart in_i in_j here there =
@@ -342,7 +342,7 @@ IsReplay-earlier w f x y i j replay apart before below at_i at_j there =
     let place : found.0 ≡ j = one_place f y found.0 j apart found.2 below found.3 at_j in
     all.1.back x (Contains-from_take all.0 i f x (omega (arith, place, found.1)) (omega arith) at_i)
 
--- ---- a replay that has come to the end
+-- ---- a replay that has reached the end
 
 -- a replay that has the last element has them all
 pub firsts-all : {X : Type 0} (same : X → X → Bool) (decides : (a b : X) → Decides (same a b) (a ≡ b))

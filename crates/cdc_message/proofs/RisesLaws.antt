@@ -37,7 +37,7 @@ newest_after-push before (x ∷ es) e =
     let rest : more ≡ some ++ end = rw append_assoc at (newest_after-push (before ++ x ∷ []) es e) in
     behind x some more end (is_newest before x) rest
 
--- an event comes last where it is the newest
+-- an appended event joins the events that rise if and only if it is the newest
 pub rises-is_newest : (es : List Event) (e : Event)
     → rises (es ++ e ∷ []) ≡ cond (is_newest es e) (rises es ++ e ∷ []) (rises es)
 rises-is_newest es e =
@@ -45,11 +45,11 @@ rises-is_newest es e =
     ∙ elim (is_newest es e) as (λ t. rises es ++ cond t (e ∷ []) [] ≡ cond t (rises es ++ e ∷ []) (rises es))
     [ true ↦ refl | false ↦ append-nil (rises es) ]
 
--- the greatest timestamp of these, or t where that is greater
+-- the greatest of these timestamps and t
 latest_from : ℕ → List Event → ℕ
 latest_from t es = fold (λ latest e. max latest e.timestamp) t es
 
--- what is later than two moments is later than the greater one
+-- a timestamp is later than two others if and only if it is later than the greater one
 lt_max : (t b n : ℕ) → nat_lt (max t b) n ≡ (nat_lt t n && nat_lt b n)
 lt_max t b n = grind (arith, nat_tests)
 
@@ -58,7 +58,7 @@ and_assoc : (a b c : Bool) → (a && (b && c)) ≡ ((a && b) && c)
 and_assoc true b c = refl
 and_assoc false b c = refl
 
--- an event is later than each of these where it is later than the latest
+-- an event is later than each of these if and only if it is later than the latest
 newest-latest_from : (t : ℕ) (es : List Event) (e : Event)
     → (nat_lt t e.timestamp && list_all (λ other. nat_lt other.timestamp e.timestamp) es)
     ≡ nat_lt (latest_from t es) e.timestamp
@@ -118,18 +118,18 @@ last-rises_from before (e ∷ es) so_far =
     let P : List Event → Type 0 = λ all. last_timestamp (rises all) ≡ latest_from 0 all in
     subst P whole further
 
--- an event comes last of those that rise where it is later than the last of them
+-- an event is the newest if and only if it is later than the last of the events that rise
 pub is_newest-last : (es : List Event) (e : Event) → is_newest es e ≡ nat_lt (last_timestamp (rises es)) e.timestamp
 unfolding latest_from
 is_newest-last es e =
     newest-latest_from 0 es e ∙ ap (λ t. nat_lt t e.timestamp) (sym (last-rises_from [] es refl))
 
--- so a subscriber that knows only the last event it applied can tell whether to apply one more
+-- so a subscriber needs only the last event that it applied to decide whether to apply one more
 pub rises-push : (es : List Event) (e : Event)
     → rises (es ++ e ∷ []) ≡ cond (nat_lt (last_timestamp (rises es)) e.timestamp) (rises es ++ e ∷ []) (rises es)
 rises-push es e = rw (is_newest-last es e) at (rises-is_newest es e)
 
--- the test says what the words say
+-- the test decides what its comment states
 pub Decides-is_newest : (es : List Event) (e : Event)
     → Decides (is_newest es e) ((0 < e.timestamp) × All (λ other. other.timestamp < e.timestamp) es)
 Decides-is_newest es e =
@@ -153,7 +153,7 @@ pub events_of-push_event : (items : List Item) (e : Event)
     → events_of (items ++ OfEvent e ∷ []) ≡ events_of items ++ e ∷ []
 events_of-push_event items e = events_of-push items (OfEvent e)
 
--- the end mark adds none
+-- the end mark adds no event
 pub events_of-push_end : (items : List Item) → events_of (items ++ EndMark ∷ []) ≡ events_of items
 events_of-push_end items = events_of-push items EndMark ∙ append-nil (events_of items)
 
@@ -161,20 +161,20 @@ events_of-push_end items = events_of-push items EndMark ∙ append-nil (events_o
 pub events_of-append : (items more : List Item) → events_of (items ++ more) ≡ events_of items ++ events_of more
 events_of-append items more = filter_map-append item_event items more
 
--- the first element of a list stands in it
+-- a list contains its first element
 Contains_here : {X : Type 0} (x : X) (xs : List X) → Contains (x ∷ xs) x
 Contains_here x xs = (0, omega arith, refl)
 
--- what stands in the rest of a list stands in the list
+-- a list contains what its tail contains
 Contains_there : {X : Type 0} (y : X) (xs : List X) (x : X) → Contains xs x → Contains (y ∷ xs) x
 Contains_there y xs x (i, below, is) = (suc i, omega arith, is)
 
--- what stands in a list is its first element or stands in the rest
+-- an element of a list is its first element or is in its tail
 Contains_cases : {X : Type 0} (y : X) (xs : List X) (x : X) → Contains (y ∷ xs) x → (y ≡ x) ⊎ Contains xs x
 Contains_cases y xs x (zero, below, is) = inl is
 Contains_cases y xs x (suc i, below, is) = inr (i, omega arith, is)
 
--- an event stands among the events of items where an item has it
+-- the events of a list of items contain the event of each item
 pub event_stands : (items : List Item) (e : Event) → Contains items (OfEvent e) → Contains (events_of items) e
 event_stands [] e h = absurd (omega (arith, h.1))
 event_stands (OfEvent a ∷ items) e h =
@@ -186,7 +186,7 @@ event_stands (OfEvent a ∷ items) e h =
 event_stands (EndMark ∷ items) e h =
     elim (Contains_cases EndMark items (OfEvent e) h) [ inl is ↦ cc | inr later ↦ event_stands items e later ]
 
--- and an event that stands among them has an item
+-- and each of these events is the event of an item
 pub item_stands : (items : List Item) (e : Event) → Contains (events_of items) e → Contains items (OfEvent e)
 item_stands [] e h = absurd (omega (arith, h.1))
 item_stands (OfEvent a ∷ items) e h =
@@ -289,7 +289,7 @@ module _ (f : List Item) (apart : HasNoneTwice f) (rise : TimestampsRise (events
         | inl below ↦
             let next = take_next k w below in
             let more : take (suc k) w ≡ take k w ++ next.0 ∷ [] = rw add-one at next.1 in
-            let n = replay.beginnings (suc k) in
+            let n = replay.prefixes (suc k) in
             let after : HaveSame (take k w ++ next.0 ∷ []) (take n.0 f) = rw more at n.1 in
             let b = HasBegun-replay same_item Decides-same_item w f apart replay k in
             rw more (rises-firsts_push (take k w) next.0 n.0 b after so_far)
@@ -298,7 +298,7 @@ module _ (f : List Item) (apart : HasNoneTwice f) (rise : TimestampsRise (events
             rw all so_far
       ]
 
-  -- the events of a replay without its repeats are those that rise
+  -- the events of a replay without its duplicates are those that rise
   pub rises-firsts : (w : List Item) → IsReplay w f → events_of (firsts same_item w) ≡ rises (events_of w)
   rises-firsts w replay =
       let all : take (length w) w ≡ w = take_all (length w) w (omega arith) in

@@ -78,7 +78,7 @@ transfer-true a b h =
       timestamp = eqb-true a.timestamp b.timestamp flags.1 i;
     }
 
--- so are whole events, and a repeat can be told by its fields
+-- so are whole events: a duplicate is recognized by its fields
 event-true : (a b : Event) → same_event a b ≡ true → a ≡ b
 event-true a b h =
     let timestamp = and_true _ _ h in
@@ -95,12 +95,12 @@ event-true a b h =
       credit_account = account-true a.credit_account b.credit_account debit.1 i;
     }
 
--- events agree in every field just where they are equal
+-- events agree in every field if and only if they are equal
 pub Decides-same_event : (a b : Event) → Decides (same_event a b) (a ≡ b)
 Decides-same_event a b =
     (event-true a b, λ e. let P : Event → Type 0 = λ x. same_event a x ≡ true in subst P e (event_laws.laws-law.refl a))
 
--- the same of items, so that the laws of replays hold of lists in which repeats are told by their fields
+-- the same for items, so that the laws of replays hold of lists in which duplicates are recognized by their fields
 pub Decides-same_item : (a b : Item) → Decides (same_item a b) (a ≡ b)
 Decides-same_item (OfEvent a) (OfEvent b) =
     (λ h. ap OfEvent (event-true a b h), λ e. let same : a ≡ b = cc in (Decides-same_event a b).1 same)

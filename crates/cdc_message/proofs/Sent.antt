@@ -17,7 +17,7 @@ pub body_text : (event : Event) (log : Log) (text : List ℕ) → SendsEvent eve
 body_text event log text sent written =
     text_of_value (event_value event) log text sent.1 written refl ∙ compact_text-event event sent.0
 
--- where an error gives way to another, what holds of a value stays
+-- replacing an error by another one preserves what holds of a value
 pub IfOk-or_err : {T D E : Type 0} (r : Result T E) (error : D) (P : T → Type 0) → IfOk r P
     → IfOk (result_or r (Err error)) P
 IfOk-or_err (Ok value) error P h = h

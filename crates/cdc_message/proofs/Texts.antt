@@ -24,11 +24,11 @@ use Rattle.cdc_message.specs.Widths.{AccountFits, TransferFits, EventFits}
 abbrev after_quote : List ℕ → List ℕ
 after_quote s = drop 1 (compact_text (string s))
 
--- this byte stands for itself
+-- this byte represents itself
 abbrev IsPlainByte : ℕ → Type 0
 IsPlainByte d = (ds : List ℕ) → after_quote (d ∷ ds) ≡ d ∷ after_quote ds
 
--- each of the ten digits stands for itself in a JSON string
+-- each of the ten digits represents itself in a JSON string
 plain_digit : (k : ℕ) → k < 10 → IsPlainByte (48 + k)
 unfolding serde_json_on_literals
 plain_digit zero h ds = refl
@@ -73,7 +73,7 @@ one_member : (k v rest : List ℕ) → compact_text (string k) ≡ in_quotes k
     → compact_text (string k) ++ 58 ∷ (v ++ rest) ≡ member_text k v ++ rest
 one_member k v rest h = ap (λ s. s ++ 58 ∷ (v ++ rest)) h ∙ simp append_assoc
 
--- so are the members that follow, each behind a comma
+-- so are the members that follow, each after a comma
 rest_text : (t : List ℕ) (ms : Members) → HasPlainKeys ms
     → t ++ members_text true ms ≡ join_with_byte 44 (t ∷ texts ms) ++ 125 ∷ []
 rest_text t no_members h = refl

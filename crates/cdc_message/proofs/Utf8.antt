@@ -44,7 +44,7 @@ closed = IsUtf8-from_is_utf8 _ refl
 quoted_text : (s : List ℕ) → IsUtf8 s → IsUtf8 (in_quotes s)
 quoted_text s h = IsUtf8-append _ _ (IsUtf8-append _ _ quote h) quote
 
--- a member is text where its value is
+-- a member is text if its value is
 member_is_text : (name value : List ℕ) → is_utf8 name ≡ true → IsUtf8 value → IsUtf8 (member_text name value)
 member_is_text name value h k =
     IsUtf8-append _ _ (IsUtf8-append _ _ (quoted_text name (IsUtf8-from_is_utf8 name h)) colon) k
@@ -72,7 +72,7 @@ joined_is_text [] h = IsUtf8-nil
 joined_is_text (t ∷ []) h = h.0
 joined_is_text (t ∷ u ∷ ts) h = IsUtf8-append t _ h.0 (IsUtf8-append (44 ∷ []) _ comma (joined_is_text (u ∷ ts) h.1))
 
--- so an object is text where its members are
+-- so an object is text if its members are
 object_is_text : (ts : List (List ℕ)) → AreTexts ts → IsUtf8 (object_text ts)
 object_is_text ts h = IsUtf8-append _ _ (IsUtf8-append _ _ opened (joined_is_text ts h)) closed
 

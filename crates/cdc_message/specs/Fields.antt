@@ -1,4 +1,4 @@
--- The names of the members of a body, and the fields that stand in its parts.
+-- The names of the members of a body, and the fields in its parts.
 use Rattle.std.specs.Prelude.{List, ℕ, codes}
 use Rattle.cdc_message.specs.declared.fields.FieldName.{FieldName}
 use Rattle.cdc_message.specs.declared.fields.FieldName.TheVariants.{Timestamp, Kind, Ledger, TransferPart, DebitAccount, CreditAccount, Id, Amount, PendingId, UserData128, UserData64, UserData32, Timeout, Code, Flags, DebitsPending, DebitsPosted, CreditsPending, CreditsPosted}

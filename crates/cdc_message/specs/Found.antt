@@ -1,4 +1,4 @@
--- What the steps of the reader answer, beside what the definitions read. Cited by private contracts alone.
+-- The results of the reader's steps, compared with what the definitions read. Only private contracts cite them.
 use Rattle.std.specs.Prelude.{◌≡◌, ℕ, ◌-◌, ◌^◌, Result, Ok, Err, MatchResult}
 use Rattle.std.specs.Borrow.{Bor}
 use Rattle.serde_json.specs.Data.{Data}
@@ -12,7 +12,7 @@ use Rattle.cdc_message.specs.Reading.{Read, ◌>>=◌, typed, whole_number, up_t
 abbrev pub Finds : Result (Bor Value) DecodeError → Read Data → Type 0
 Finds answer expected = MatchResult answer (λ found. expected ≡ Ok (view found.now)) (λ error. expected ≡ Err error)
 
--- the number of up to 128 bits that a value stands for
+-- the number of up to 128 bits that a value represents
 abbrev pub number_in : Field → Data → Read ℕ
 number_in at value = do
   n ← typed at (whole_number value)

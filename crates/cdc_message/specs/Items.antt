@@ -19,7 +19,7 @@ events_of items = filter_map item_event items
 abbrev pub same_event : Event → Event → Bool
 same_event a b = of_events.ghosts.eq a b
 
--- two end marks, or messages of events that agree in every field
+-- both are end marks, or both are messages of events that agree in every field
 abbrev pub same_item : Item → Item → Bool
 same_item (OfEvent a) (OfEvent b) = same_event a b
 same_item (OfEvent a) EndMark = false
@@ -30,7 +30,7 @@ same_item EndMark EndMark = true
 abbrev pub is_newest : List Event → Event → Bool
 is_newest before event = nat_lt 0 event.timestamp && list_all (λ other. nat_lt other.timestamp event.timestamp) before
 
--- the events that are the newest when they come, where some came before
+-- the events that are the newest when they are received, after some that were received before
 abbrev pub newest_after : List Event → List Event → List Event
 newest_after before [] = []
 newest_after before (event ∷ events) =

@@ -3,7 +3,7 @@ use Rattle.std.specs.Prelude.{ℕ, List, [], ◌∷◌, codes, Option, find, byt
 use Rattle.cdc_types.specs.declared.events.EventKind.{EventKind}
 use Rattle.cdc_types.specs.declared.events.EventKind.TheVariants.{SinglePhase, TwoPhasePending, TwoPhasePosted, TwoPhaseVoided, TwoPhaseExpired}
 
--- the text that stands for the kind
+-- the text of the kind
 abbrev pub kind_text : EventKind → List ℕ
 kind_text SinglePhase = codes "single_phase"
 kind_text TwoPhasePending = codes "two_phase_pending"
@@ -15,6 +15,6 @@ kind_text TwoPhaseExpired = codes "two_phase_expired"
 abbrev pub all_kinds : List EventKind
 all_kinds = SinglePhase ∷ TwoPhasePending ∷ TwoPhasePosted ∷ TwoPhaseVoided ∷ TwoPhaseExpired ∷ []
 
--- the kind that the text stands for, if any
+-- the kind of the text, if any
 abbrev pub kind_named : List ℕ → Option EventKind
 kind_named text = find (λ kind. bytes_eq (kind_text kind) text) all_kinds

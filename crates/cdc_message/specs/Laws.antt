@@ -13,15 +13,16 @@ use Rattle.cdc_message.specs.Widths.{EventFits}
 abbrev pub BodiesReadBack : Type 0
 BodiesReadBack = (event : Event) → EventFits event → read (body event) ≡ Ok event
 
--- items agree in every field exactly where they are equal
+-- items agree in every field if and only if they are equal
 abbrev pub SameItemsAreEqual : Type 0
 SameItemsAreEqual = (a b : Item) → Decides (same_item a b) (a ≡ b)
 
--- of a list without repeats, a replay without its repeats is a beginning: nothing is left out, and the order stays
+-- if a list has no duplicates, a replay of it is a prefix of it once the replay's duplicates are removed: nothing is
+-- left out, and the order is kept
 abbrev pub FirstsAreAPrefix : Type 0
 FirstsAreAPrefix = (w f : List Item) → HasNoneTwice f → IsReplay w f → IsPrefix (firsts same_item w) f
 
--- where timestamps rise besides, these are the events that an observer of timestamps alone takes for new
+-- if timestamps rise as well, the events of that prefix are those that are new by their timestamps alone
 abbrev pub FirstsRise : Type 0
 FirstsRise = (w f : List Item) → HasNoneTwice f → TimestampsRise (events_of f) → IsReplay w f
     → events_of (firsts same_item w) ≡ rises (events_of w)

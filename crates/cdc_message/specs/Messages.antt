@@ -6,9 +6,8 @@ use Rattle.cdc_types.specs.declared.events.EventTransfer.{EventTransfer}
 use Rattle.cdc_types.specs.declared.events.EventAccount.{EventAccount}
 use Rattle.cdc_types.specs.declared.events.Event.{Event}
 use Rattle.cdc_types.specs.declared.events.Headers.{Headers}
-use Rattle.cdc_types.specs.declared.events.Properties.{Properties}
 use Rattle.cdc_message.specs.Bodies.{body}
-use Rattle.cdc_message.specs.Headers.{headers_of_event, AreProperties}
+use Rattle.cdc_message.specs.Headers.{headers_of_event}
 use Rattle.cdc_message.specs.Reading.{read}
 
 -- a transfer of zeros
@@ -42,7 +41,7 @@ no_account = record {
   timestamp = 0;
 }
 
--- what stands where there is no event
+-- the value that is used if there is no event
 abbrev no_event : Event
 no_event = record {
   timestamp = 0;
@@ -57,9 +56,9 @@ no_event = record {
 unfoldable pub event_in : List ℕ → Event
 event_in text = result_unwrap_or (read text) no_event
 
--- headers, properties and text belong to one event
-pub record BelongTo (headers : Headers) (properties : Properties) (text : List ℕ) (event : Event) : Type 0 where
+-- headers, a timestamp and a text belong to one event
+pub record BelongTo (headers : Headers) (timestamp : ℕ) (text : List ℕ) (event : Event) : Type 0 where
   pub headers_are : headers ≡ headers_of_event event
-  pub properties_are : AreProperties properties event
+  pub timestamp_is : timestamp ≡ event.timestamp
   pub text_is : text ≡ body event
   pub reads_back : read text ≡ Ok event

@@ -37,7 +37,7 @@ unsigned_value (unsigned n) = Some n
 unsigned_value (negative z) = None
 unsigned_value (float x) = None
 
--- the whole number that a value stands for, as a decimal string or as a JSON number, if any
+-- the whole number that a value represents, as a decimal string or as a JSON number, if any
 abbrev pub whole_number : Data → Option ℕ
 whole_number null = None
 whole_number (boolean b) = None

@@ -2,16 +2,16 @@
 use Rattle.std.specs.Prelude.{◌≡◌, ◌≢◌, ℕ, Bool, List, [], ◌∷◌, ◌++◌, take, fold, AllPairs, Contains, if◌then◌else◌}
 use Rattle.std.specs.List.{list_any}
 
--- whatever stands in one of the two lists stands in the other one
+-- each of the two lists contains what the other one contains
 pub record HaveSame {X : Type 0} (xs ys : List X) : Type 0 where
   pub forth : (x : X) → Contains xs x → Contains ys x
   pub back : (x : X) → Contains ys x → Contains xs x
 
--- w is f with repeats: each beginning of w has just what some beginning of f has, in whatever order and number
+-- w is f with duplicates: each prefix of w has the same elements as some prefix of f, in any order and number
 pub record IsReplay {X : Type 0} (w f : List X) : Type 0 where
-  pub beginnings : (n : ℕ) → (m : ℕ) × HaveSame (take n w) (take m f)
+  pub prefixes : (n : ℕ) → (m : ℕ) × HaveSame (take n w) (take m f)
 
--- no element stands at two places
+-- no two elements are equal
 abbrev pub HasNoneTwice : {X : Type 0} → List X → Type 0
 HasNoneTwice f = AllPairs (λ a b. a ≢ b) f
 

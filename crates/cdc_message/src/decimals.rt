@@ -1,5 +1,5 @@
-//! Decimal numbers in text: those of bindings, scripts and words, and a body's strings. A body's bare numbers are read
-//! as JSON has them, and records of progress where they are kept.
+//! Decimal numbers in text: those of bindings, scripts and arguments, and those in a body's strings. A body's bare
+//! numbers are read as JSON, and progress records have a reader of their own.
 
 ghost use Rattle.std.specs.Prelude.{◌≡◌, true};
 ghost use Rattle.std.specs.Char.{is_ascii_digit};
@@ -20,7 +20,7 @@ pub fn is_decimal(text: &[u8]) -> bool
     !text.is_empty() && has_digits_alone(text)
 }
 
-// The number that digits write, if it has at most 128 bits.
+// The number that digits represent. `None` if it has more than 128 bits.
 pub(crate) fn value_of_text(digits: &str) -> Option<u128>
     requires { spec.is_decimal digits.now ≡ true }
     ensures { result ≡ spec.at_most u128.MAX (digits_value 10 digits.now) }
@@ -28,7 +28,7 @@ pub(crate) fn value_of_text(digits: &str) -> Option<u128>
     digits.parse().ok()
 }
 
-// The same of digits as bytes.
+// The same for digits that are given as bytes.
 fn value_of(digits: &[u8]) -> Option<u128>
     requires { spec.is_decimal digits.now ≡ true }
     ensures { result ≡ spec.at_most u128.MAX (digits_value 10 digits.now) }
@@ -39,9 +39,8 @@ fn value_of(digits: &[u8]) -> Option<u128>
     value_of_text(text)
 }
 
-/// The number that a text writes in decimal, leading zeros allowed; none where it isn't one or more digits, or where
-/// the number is above `greatest`. So of a text that is no number the first is `!is_decimal`, and the second what is
-/// left.
+/// The number that a text represents in decimal; leading zeros are allowed. `None` if the text isn't one or more
+/// digits (then `is_decimal` is false), or if the number exceeds `greatest` (then it is true).
 pub fn decimal_up_to(text: &[u8], greatest: u128) -> Option<u128>
     ensures { result ≡ spec.decimal_up_to greatest text.now }
 {
@@ -56,8 +55,8 @@ pub fn decimal_up_to(text: &[u8], greatest: u128) -> Option<u128>
     }
 }
 
-/// The number that the digits in front of a text write, 0 where there are none; any number at all where it has more
-/// than 128 bits. Who takes it has to see that it is the text's.
+/// The number that the leading digits of a text represent, 0 if there are none. A number of more than 128 bits wraps
+/// around: the caller has to compare the result with the text.
 pub(crate) fn leading_number(text: &[u8]) -> u128 {
     text.iter()
         .take_while(|byte| byte.is_ascii_digit())

@@ -1,4 +1,4 @@
-//! An event from its JSON text.
+//! Reads an event from its JSON text.
 
 ghost use Rattle.std.specs.Prelude.{◌≡◌, ◌<◌, ◌≤◌, ◌^◌, ◌-◌, length, Err, IfOk};
 ghost use Rattle.serde_json.specs.Data.{string};
@@ -26,7 +26,7 @@ fn member(object: &Value, field: Field) -> Result<&Value, DecodeError>
         .ok_or(DecodeError::Missing(field))
 }
 
-// The number that digits alone write, leading zeros allowed.
+// The number that a string of digits represents; leading zeros are allowed.
 fn decimal(text: &str, field: Field) -> Result<u128, DecodeError>
     ensures { result ≡ number_in field (string text.now) }
 {
@@ -36,7 +36,7 @@ fn decimal(text: &str, field: Field) -> Result<u128, DecodeError>
     value_of_text(text).ok_or(DecodeError::OutOfRange(field))
 }
 
-// The number that a decimal string or a JSON number gives.
+// The number that a decimal string or a JSON number represents.
 fn whole_number(value: &Value, field: Field) -> Result<u128, DecodeError>
     ensures { result ≡ number_in field (view value.now) }
 {
@@ -164,7 +164,8 @@ fn account_at(object: &Value, name: FieldName, part: Part) -> Result<EventAccoun
     account_of(part_at(object, name)?, part)
 }
 
-fn event_of(value: &Value) -> Result<Event, DecodeError>
+/// Reads an event from a JSON value, as `decode` reads it from a body's text.
+pub fn event_of(value: &Value) -> Result<Event, DecodeError>
     ensures { result ≡ spec.event_of (view value.now) }
 {
     if !value.is_object() {
@@ -180,7 +181,7 @@ fn event_of(value: &Value) -> Result<Event, DecodeError>
     })
 }
 
-// The event of a body, by the JSON value that it is.
+// The event of a body, read by way of a JSON value.
 fn decode_value(alloc: Global, bytes: &[u8]) -> Result<Event, DecodeError>
     ensures event { GivesUnlessMemory result (spec.read bytes.now) }
     ensures memory { result ≡ Err DecodeError.OutOfMemory → 0 < length bytes.now }
@@ -192,10 +193,9 @@ fn decode_value(alloc: Global, bytes: &[u8]) -> Result<Event, DecodeError>
     }
 }
 
-/// The event that the bytes of a body are. Members may come in any order, with white space between them and with
-/// further members; a number may be a decimal string or a JSON number (TigerBeetle, Change Data Capture). The first
-/// error is answered, in the order in which fields are checked, or want of memory; to see that an empty body is no JSON
-/// takes no memory.
+/// The event that a body represents. Members may be in any order, with white space between them, and with additional
+/// members; a number may be a decimal string or a JSON number (TigerBeetle, Change Data Capture). The error is the
+/// first one in the order in which fields are checked, or out of memory. An empty body is refused without allocating.
 pub fn decode(alloc: Global, bytes: &[u8]) -> Result<Event, DecodeError>
     ensures event { GivesUnlessMemory result (spec.read bytes.now) }
     ensures memory { result ≡ Err DecodeError.OutOfMemory → 0 < length bytes.now }

@@ -1,4 +1,4 @@
-//! The JSON text of an event.
+//! Writes the JSON text of an event.
 
 ghost use Rattle.std.specs.Prelude.{◌≡◌, ◌<◌, ◌^◌, IfOk, OnOk, string_bytes};
 ghost use Rattle.serde_json.specs.Events.{SendsValue};
@@ -16,7 +16,7 @@ use serde::{Described, Serialize, Serializer};
 use serde_json::to_string;
 use std::alloc::{AllocError, Global};
 
-// An event, to be written as its JSON value: the members of every object in the ascending order of their names.
+// An event that is to be written as a JSON value, with the members of every object in ascending order of their names.
 #[derive(Drop)]
 struct Body<'a> {
     event: &'a Event,
@@ -32,7 +32,7 @@ impl Serialize for Body<'_> {
     }
 }
 
-// A number of 128 bits, as a decimal string.
+// Writes a number of 128 bits as a decimal string.
 fn send_128<S: Serializer>(out: &mut S, name: &str, number: u128) -> Result<(), S::Error>
     ensures sends { OnOk result
         (SendsMember name.now (value.wide number) (S.written out.old) (S.written out.new)) }
@@ -42,7 +42,7 @@ fn send_128<S: Serializer>(out: &mut S, name: &str, number: u128) -> Result<(), 
     out.str(Buffer::new().format(number))
 }
 
-// A number of 64 bits, as a decimal string.
+// Writes a number of 64 bits as a decimal string.
 fn send_64<S: Serializer>(out: &mut S, name: &str, number: u64) -> Result<(), S::Error>
     ensures sends { OnOk result
         (SendsMember name.now (value.wide number) (S.written out.old) (S.written out.new)) }
@@ -52,7 +52,7 @@ fn send_64<S: Serializer>(out: &mut S, name: &str, number: u64) -> Result<(), S:
     out.str(Buffer::new().format(number))
 }
 
-// A number of 32 bits.
+// Writes a number of 32 bits as a JSON number.
 fn send_32<S: Serializer>(out: &mut S, name: &str, number: u32) -> Result<(), S::Error>
     ensures sends { OnOk result
         (SendsMember name.now (value.narrow number) (S.written out.old) (S.written out.new)) }
@@ -62,7 +62,7 @@ fn send_32<S: Serializer>(out: &mut S, name: &str, number: u32) -> Result<(), S:
     out.u64(u64::from(number))
 }
 
-// A number of 16 bits.
+// Writes a number of 16 bits as a JSON number.
 fn send_16<S: Serializer>(out: &mut S, name: &str, number: u16) -> Result<(), S::Error>
     ensures sends { OnOk result
         (SendsMember name.now (value.narrow number) (S.written out.old) (S.written out.new)) }
@@ -128,14 +128,15 @@ fn send_event<S: Serializer>(out: &mut S, event: &Event) -> Result<(), S::Error>
     out.end_map()
 }
 
-/// The JSON text of an event, without white space and with the members of every object in the ascending order of
-/// their names; numbers of 64 and 128 bits are decimal strings (TigerBeetle, Change Data Capture).
+/// The JSON text of an event, without white space, and with the members of every object in ascending order of their
+/// names. Numbers of 64 and 128 bits are decimal strings (TigerBeetle, Change Data Capture). The error is out of
+/// memory.
 pub fn encode(alloc: Global, event: &Event) -> Result<String, AllocError>
     ensures text { IfOk result (λ text. string_bytes text ≡ body event.now) }
     ensures reads_back { IfOk result (λ text. read (string_bytes text) ≡ Ok event.now) }
-    // Of every event, and not of this one alone.
+    // For every event, not only for this one.
     ensures law { BodiesReadBack }
 {
-    // Members that come in order leave the writer nothing to lack but memory.
+    // The members are written in order, so the only possible error is out of memory.
     to_string(alloc, &Body { event }).or(Err(AllocError))
 }

@@ -1,4 +1,4 @@
-//! Why bytes are no event.
+//! Errors of reading a body.
 
 ghost use Rattle.std.specs.Prelude.{◌≡◌};
 ghost use Rattle.cdc_message.specs.Errors.{error_number, error_name};
@@ -6,28 +6,26 @@ ghost use Rattle.cdc_message.specs.Errors.{error_number, error_name};
 use crate::fields::Field;
 use thiserror::Error;
 
-/// Why bytes are no event. Of several errors the first is told, in the order of the fields.
+/// Why bytes aren't an event. Of several errors it is the first one in the order of the fields.
 #[derive(Clone, Copy, Debug, PartialEq, Eq, Error)]
 pub enum DecodeError {
-    /// The bytes are no JSON text.
     #[error("the bytes are no JSON text")]
     NotJson,
-    /// The text is no JSON object.
     #[error("the text is no JSON object")]
     NotAnObject,
-    /// A field isn't there.
+    /// The body doesn't have this field.
     #[error("{0:?} is missing")]
     Missing(Field),
-    /// A field isn't of its type.
+    /// This field doesn't have its type.
     #[error("{0:?} has the wrong type")]
     WrongType(Field),
-    /// A field holds a number that is too large for it.
+    /// The number in this field is too large for the field's width.
     #[error("{0:?} is too large")]
     OutOfRange(Field),
-    /// The text of the kind names none.
+    /// The text of the field `type` is none of the five kinds.
     #[error("the kind of event is unknown")]
     UnknownKind,
-    /// There was no memory for the value.
+    /// Memory for the JSON value ran out.
     #[error("out of memory")]
     OutOfMemory,
 }
@@ -48,7 +46,7 @@ impl DecodeError {
         }
     }
 
-    /// The error's name.
+    /// The name that is printed.
     pub fn name(self) -> &'static str
         ensures { result.now ≡ error_name self }
     {

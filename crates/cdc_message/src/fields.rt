@@ -3,68 +3,51 @@
 ghost use Rattle.std.specs.Prelude.{◌≡◌};
 ghost use Rattle.cdc_message.specs.Fields.{key_of};
 
-/// A part of a body.
+/// A part of a body, which is a JSON object.
 #[derive(Clone, Copy, Debug, PartialEq, Eq)]
 pub enum Part {
     /// The event itself.
     Top,
-    /// Its transfer.
     Transfer,
-    /// The account that is debited.
     Debit,
-    /// The account that is credited.
     Credit,
 }
 
-/// The name of a field, whatever part it stands in.
+/// The name of a field in any part.
 #[derive(Clone, Copy, Debug, PartialEq, Eq)]
 pub enum FieldName {
-    /// When the event was, or when the transfer was accepted or the account made.
+    /// When the event happened, the transfer was accepted, or the account was created.
     Timestamp,
-    /// What the event did.
+    /// What happened to the transfer: the JSON member `type`.
     Kind,
-    /// The ledger of the transfer.
     Ledger,
-    /// The whole transfer.
+    /// The whole transfer, an object.
     TransferPart,
-    /// The whole account that is debited.
+    /// The whole debited account, an object.
     DebitAccount,
-    /// The whole account that is credited.
+    /// The whole credited account, an object.
     CreditAccount,
-    /// The number of the transfer or account.
     Id,
-    /// How much was moved, held back, posted or voided.
+    /// The amount that was moved, held back, posted or voided.
     Amount,
     /// The pending transfer that was posted or voided.
     PendingId,
-    /// The client's own, of 128 bits.
     UserData128,
-    /// The client's own, of 64 bits.
     UserData64,
-    /// The client's own, of 32 bits.
     UserData32,
-    /// How many seconds a pending transfer stands.
+    /// The seconds after which a pending transfer expires; 0 if it never does.
     Timeout,
-    /// The client's kind of transfer or account.
     Code,
-    /// The bits of the transfer's or the account's flags.
     Flags,
-    /// What unresolved pending transfers debit.
     DebitsPending,
-    /// What has been debited.
     DebitsPosted,
-    /// What unresolved pending transfers credit.
     CreditsPending,
-    /// What has been credited.
     CreditsPosted,
 }
 
-/// One field of a body.
 #[derive(Clone, Copy, Debug, PartialEq, Eq)]
 pub struct Field {
-    /// The part that it stands in.
     pub part: Part,
-    /// Its name there.
     pub name: FieldName,
 }
 

@@ -1,13 +1,14 @@
-//! What a message is routed by, and its basic properties.
+//! The headers and the basic properties of a message.
 
 ghost use Rattle.std.specs.Prelude.{◌≡◌};
 ghost use Rattle.cdc_message.specs.Headers.{headers_of_event, AreProperties};
+ghost use Rattle.cdc_types.specs.declared.events.Event.{Event as SomeEvent};
 
 use cdc_types::{Event, Headers, Properties};
 
 const NANOSECONDS: u64 = 1_000_000_000;
 
-/// The headers of an event's message (TigerBeetle, Change Data Capture, headers).
+/// The headers by which an event's message is routed (TigerBeetle, Change Data Capture, headers).
 pub fn headers_of(event: &Event) -> Headers
     ensures { result ≡ headers_of_event event.now }
 {
@@ -20,15 +21,22 @@ pub fn headers_of(event: &Event) -> Headers
     }
 }
 
-/// The properties of an event's message; its timestamp is in whole seconds, the rest of one dropped
-/// (TigerBeetle, Change Data Capture; AMQP 0-9-1, basic class).
+/// The properties of an event's message. Their timestamp is in whole seconds, rounded down (TigerBeetle, Change Data
+/// Capture; AMQP 0-9-1, basic class).
 pub fn properties_of(event: &Event) -> Properties
     ensures { AreProperties result event.now }
+{
+    properties_at(event.timestamp)
+}
+
+/// The properties of the message of any event with this timestamp, in nanoseconds.
+pub(crate) fn properties_at(timestamp: u64) -> Properties
+    ensures { (event : SomeEvent) → event.timestamp ≡ timestamp → AreProperties result event }
 {
     Properties {
         app_id: "tigerbeetle",
         content_type: "application/json",
         delivery_mode: 2,
-        timestamp: event.timestamp / NANOSECONDS,
+        timestamp: timestamp / NANOSECONDS,
     }
 }

@@ -1,4 +1,4 @@
-//! What goes to subscribers: an event's message or the mark that no more follow, and its place in a queue.
+//! Items, which the broker delivers to subscribers: the message of an event, or the end mark.
 
 ghost use Rattle.std.specs.Prelude.{◌≡◌, IfOk, IsSome, OnErr};
 ghost use Rattle.cdc_message.specs.Items.{item_event};
@@ -6,26 +6,24 @@ ghost use Rattle.cdc_message.specs.Items.{item_event};
 use crate::message::Message;
 use std::alloc::{AllocError, Global};
 
-/// What a publisher sends and a broker keeps. A clause sees the event of a message.
+/// What the connector publishes and the broker keeps. Contracts see the event of a message.
 #[derive(Drop)]
 pub enum Item {
-    /// The message of an event.
     Event(Message),
-    /// The ledger is closed, and every event of it came before.
+    /// The ledger is closed, and the messages of all its events came before.
     EndMark,
 }
 
-/// An item as a queue hands it out.
+/// An item as a queue delivers it.
 #[derive(Drop)]
 pub struct Delivery {
-    /// The item's place in its queue, counted from 1.
+    /// The item's position in its queue, counted from 1.
     pub position: u64,
-    /// The item.
     pub item: Item,
 }
 
 impl Item {
-    /// An equal item in memory of its own, which an end mark doesn't take.
+    /// An equal item in memory of its own. Only copying a message allocates, so an end mark can always be copied.
     pub fn try_copy(&self, alloc: Global) -> Result<Item, AllocError>
         ensures copy { IfOk result (λ copy. copy ≡ self.now) }
         ensures memory { OnErr result (IsSome (item_event self.now)) }
@@ -38,7 +36,8 @@ impl Item {
 }
 
 impl Delivery {
-    /// An equal delivery in memory of its own, which that of an end mark doesn't take.
+    /// An equal delivery in memory of its own. Only copying a message allocates, so the delivery of an end mark can
+    /// always be copied.
     pub fn try_copy(&self, alloc: Global) -> Result<Delivery, AllocError>
         ensures copy { IfOk result (λ copy. copy ≡ self.now) }
         ensures memory { OnErr result (IsSome (item_event self.now.item)) }

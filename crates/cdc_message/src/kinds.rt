@@ -1,4 +1,4 @@
-//! The texts of the kinds of event.
+//! The names of the kinds of event in messages.
 
 ghost use Rattle.std.specs.Prelude.{◌≡◌};
 ghost use Rattle.cdc_message.specs.Kinds as spec;
@@ -26,7 +26,7 @@ pub fn kind_text(kind: EventKind) -> &'static str
     }
 }
 
-/// The kind that a text stands for, if any.
+/// The kind with this text. `None` if there is none.
 pub fn kind_named(text: &str) -> Option<EventKind>
     ensures { result ≡ spec.kind_named text.now }
 {

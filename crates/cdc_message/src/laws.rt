@@ -1,9 +1,9 @@
-//! What holds of lists of items in which some come late or again, whoever sends and takes them.
+//! Laws of lists of items in which some are late or redelivered, for any sender and any receiver.
 
 ghost use Rattle.cdc_message.specs.Laws.{SameItemsAreEqual, FirstsAreAPrefix, FirstsRise, ReplaysCompose};
 
-/// Does nothing: each clause holds of every list of items. A path on which items are lost, repeated and sent anew
-/// hands on a replay of what the ledger tells; these laws say that its receiver has lost nothing by that.
+/// Does nothing: each postcondition holds for every list of items. A path that loses, duplicates and resends items
+/// delivers a replay of what the ledger publishes. These laws state that its receiver loses nothing by that.
 pub fn replay_laws()
     ensures same { SameItemsAreEqual }
     ensures prefix { FirstsAreAPrefix }

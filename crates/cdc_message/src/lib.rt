@@ -1,4 +1,5 @@
-//! Messages about the movements of the ledger: the JSON text of an event, what it is routed by, and the text read back.
+//! Messages about the movements of the ledger: the JSON text of an event, the headers that route it, and reading the
+//! text back.
 #![tactic(auto)]
 
 mod decimals;
@@ -15,7 +16,7 @@ mod own_bodies;
 mod packets;
 
 pub use decimals::{decimal_up_to, is_decimal};
-pub use decoding::decode;
+pub use decoding::{decode, event_of};
 pub use encoding::encode;
 pub use errors::DecodeError;
 pub use fields::{Field, FieldName, Part};
@@ -24,4 +25,5 @@ pub use items::{Delivery, Item};
 pub use kinds::{kind_named, kind_text};
 pub use laws::replay_laws;
 pub use message::Message;
+pub use own_bodies::own_event;
 pub use packets::{Answer, Confirm, Packet};

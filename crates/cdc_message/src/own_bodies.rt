@@ -1,4 +1,4 @@
-//! Bodies as `encode` writes them, read byte by byte without a JSON value.
+//! A fast reader of bodies exactly as `encode` writes them: it works byte by byte, without a JSON value.
 
 ghost use Rattle.std.specs.Prelude.{◌≡◌, ◌<◌, ◌^◌, ◌++◌, codes, decimal, Ok, IfSome, OnSome};
 ghost use Rattle.cdc_message.specs.Bodies.{account_text, body, in_quotes, transfer_text};
@@ -11,14 +11,14 @@ use crate::kinds::{kind_named, kind_text};
 use cdc_types::{Event, EventAccount, EventKind, EventTransfer};
 use itoa::Buffer;
 
-// What is left of a body.
+// The rest of a body that is still to be read.
 #[derive(Drop)]
 struct Cursor<'a> {
     rest: &'a [u8],
 }
 
 impl Cursor<'_> {
-    // Goes past this text, which has to come next.
+    // Skips this text. `None` if another text comes next.
     fn literal(&mut self, text: &[u8]) -> Option<()>
         ensures { OnSome result (self.old.rest.now ≡ text.now ++ self.new.rest.now) }
     {
@@ -26,7 +26,7 @@ impl Cursor<'_> {
         Some(())
     }
 
-    // Goes past a number of 128 bits, in quotes.
+    // Reads a number of 128 bits in quotes.
     fn number_128(&mut self) -> Option<u128>
         ensures fits { IfSome result (λ n. n < 2 ^ 128) }
         ensures text { IfSome result (λ n. self.old.rest.now ≡ in_quotes (decimal n) ++ self.new.rest.now) }
@@ -38,7 +38,7 @@ impl Cursor<'_> {
         Some(number)
     }
 
-    // Goes past a number of 64 bits, in quotes.
+    // Reads a number of 64 bits in quotes.
     fn number_64(&mut self) -> Option<u64>
         ensures fits { IfSome result (λ n. n < 2 ^ 64) }
         ensures text { IfSome result (λ n. self.old.rest.now ≡ in_quotes (decimal n) ++ self.new.rest.now) }
@@ -50,7 +50,7 @@ impl Cursor<'_> {
         Some(number)
     }
 
-    // Goes past a number of 32 bits.
+    // Reads a number of 32 bits.
     fn number_32(&mut self) -> Option<u32>
         ensures fits { IfSome result (λ n. n < 2 ^ 32) }
         ensures text { IfSome result (λ n. self.old.rest.now ≡ decimal n ++ self.new.rest.now) }
@@ -60,7 +60,7 @@ impl Cursor<'_> {
         Some(number)
     }
 
-    // Goes past a number of 16 bits.
+    // Reads a number of 16 bits.
     fn number_16(&mut self) -> Option<u16>
         ensures fits { IfSome result (λ n. n < 2 ^ 16) }
         ensures text { IfSome result (λ n. self.old.rest.now ≡ decimal n ++ self.new.rest.now) }
@@ -70,7 +70,7 @@ impl Cursor<'_> {
         Some(number)
     }
 
-    // Goes past an account.
+    // Reads an account with its members in the order of `encode`.
     fn account(&mut self) -> Option<EventAccount>
         ensures fits { IfSome result AccountFits }
         ensures text { IfSome result (λ account. self.old.rest.now ≡ account_text account ++ self.new.rest.now) }
@@ -113,7 +113,7 @@ impl Cursor<'_> {
         })
     }
 
-    // Goes past a transfer.
+    // Reads a transfer with its members in the order of `encode`.
     fn transfer(&mut self) -> Option<EventTransfer>
         ensures fits { IfSome result TransferFits }
         ensures text { IfSome result (λ transfer. self.old.rest.now ≡ transfer_text transfer ++ self.new.rest.now) }
@@ -153,7 +153,7 @@ impl Cursor<'_> {
         })
     }
 
-    // Goes past the text of a kind, in quotes, behind which the body ends.
+    // Reads the name of a kind in quotes. The body ends right after it.
     fn kind(&mut self) -> Option<EventKind>
         ensures { IfSome result (λ kind. self.old.rest.now ≡ in_quotes (text_of kind) ++ self.new.rest.now) }
     {
@@ -165,7 +165,7 @@ impl Cursor<'_> {
         Some(kind)
     }
 
-    // Goes past an event.
+    // Reads an event with its members in the order of `encode`.
     fn event(&mut self) -> Option<Event>
         ensures fits { IfSome result EventFits }
         ensures text { IfSome result (λ event. self.old.rest.now ≡ body event ++ self.new.rest.now) }
@@ -194,8 +194,8 @@ impl Cursor<'_> {
     }
 }
 
-/// The event that `encode` writes just these bytes for, if there is one.
-pub(crate) fn own_event(bytes: &[u8]) -> Option<Event>
+/// The event for which `encode` writes exactly these bytes. `None` if there is none.
+pub fn own_event(bytes: &[u8]) -> Option<Event>
     ensures { IfSome result (λ event. read bytes.now ≡ Ok event) }
 {
     let mut cursor = Cursor { rest: bytes };

@@ -32,7 +32,7 @@ first_call_is_done = refl
 second_call_fails : fails_next (called planned) ≡ true
 second_call_fails = refl
 
--- where that call is a save, it fails and the new record is held all the same
+-- if that call is a save, it fails and the new record is held all the same
 failing_save_keeps_the_new_record :
     (after_save (called planned) (saved 1 0)).held ≡ Some (saved 1 0)
 failing_save_keeps_the_new_record = refl

@@ -1,5 +1,5 @@
--- What was read of a file, piece by piece, and what its bytes say, where as many were read as a record can have, and
--- one more.
+-- What was read of a file, piece by piece, and the record in its bytes, if as many were read as a record can have,
+-- and one more.
 use Rattle.std.proofs.Common.{◌≡◌, ℕ, ◌+◌, ◌<◌, ◌≤◌, List, [], ◌∷◌, ◌++◌, Option, Some, None, length, take, drop, sym, ap, ◌∙◌, subst, inl, inr, le_refl, drop_at, length-take-le, arith, length-append}
 use Rattle.std.specs.Prelude.{IfSome, codes, decimal, Err}
 use Rattle.std.specs.Io.KnownBytes.{Consumes, IsAtEnd}
@@ -51,12 +51,12 @@ first_line_is_short saved fits =
           (omega (arith, fits.timestamp)),
     )
 
--- so whatever says a record is short
+-- so every text of a record is short
 text_is_short : (saved : Saved) (bytes : List ℕ) → Fits saved → IsTextOf saved bytes → length bytes ≤ 128
 text_is_short saved bytes fits (inl is) = omega (arith, ap length is, line_is_short saved fits)
 text_is_short saved bytes fits (inr (none, is)) = omega (arith, ap length is, first_line_is_short saved fits)
 
--- nothing behind it
+-- with nothing after it
 with_none_behind : (xs rest : List ℕ) → rest ≡ [] → xs ++ rest ≡ xs
 with_none_behind xs rest none = ap (λ ys. xs ++ ys) none ∙ append-nil xs
 

@@ -39,7 +39,7 @@ decimal_has_no_space n fits =
     (λ n digits _ before.
     All-append (λ b. (b == 32) ≡ false) digits _ before (one_is_no_space _ (digit_is_no_space (n % 10)))) n fits
 
--- what stands before the first space, and what stands after it
+-- a split at the first space: the text before it, and the split of the text after it
 split_at : (xs ys : List ℕ) → HasNoSpace xs
     → slice_split (λ b. b == 32) (xs ++ 32 ∷ ys) ≡ xs ∷ slice_split (λ b. b == 32) ys
 split_at xs ys free = slice_split_at (λ b. b == 32) xs 32 ys free refl
@@ -72,7 +72,7 @@ has_space xs ys before free =
     let long = ap length (first_same one) ∙ length-append xs (32 ∷ ys) in
     omega (arith, long)
 
--- the numbers of a text of two, where they fit
+-- equal texts of two numbers have equal numbers, if these fit
 pub same_numbers : (m n m' n' : ℕ) → m < 2 ^ 64 → n < 2 ^ 64 → m' < 2 ^ 64 → n' < 2 ^ 64
     → numbers_text m n ≡ numbers_text m' n' → (m ≡ m') × (n ≡ n')
 same_numbers m n m' n' m_fits n_fits m'_fits n'_fits same =
@@ -89,7 +89,7 @@ same_three m n k m' n' k' m_fits n_fits k_fits m'_fits n'_fits k'_fits same =
     let rest = same_numbers n k n' k' n_fits k_fits n'_fits k'_fits parts.1 in
     (decimal_same m m' m_fits m'_fits parts.0, rest.0, rest.1)
 
--- the middle of a record's text, where the head is taken off
+-- the middle of a record's text, after the head was taken off
 pub middle_of : (bytes text after : List ℕ) (r : Option (Bor (List ℕ))) → bytes ≡ text ++ after
     → MatchOption r ((front : List ℕ) → after ≢ front ++ codes "\n") (λ x. after ≡ x.now ++ codes "\n")
     → MatchOption r ((middle : List ℕ) → bytes ≢ text ++ (middle ++ codes "\n"))

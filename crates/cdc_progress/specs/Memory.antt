@@ -24,7 +24,7 @@ fails_next memory = (memory.calls + 1) == memory.fails_at
 abbrev pub failures_of : Memory → ℕ
 failures_of memory = if not (memory.fails_at == 0) && nat_le memory.fails_at memory.calls then 1 else 0
 
--- it never lacks memory, and a call of it can fail where its plan names one
+-- it never runs out of memory, and a call can fail if its plan names one
 abbrev pub risks_of : Memory → Risks
 risks_of memory = record { memory = false; faults = not (memory.fails_at == 0) }
 

@@ -3,7 +3,7 @@ use Rattle.std.specs.Prelude.{◌≡◌, ◌⊎◌, ℕ, ◌<◌, ◌≤◌, ◌
 use Rattle.cdc_types.specs.declared.bounds.TheConstants.Limits.{TIMESTAMP}
 
 -- the number of the last session; the timestamp up to which every event after the start is confirmed; and the start,
--- the moment after which the first session began: a publisher never tells what came up to it
+-- the timestamp after which the first session began: a connector never publishes events up to it
 pub record Saved : Type 0 where
   pub session : ℕ
   pub timestamp : ℕ
@@ -36,6 +36,6 @@ text_of saved =
 abbrev pub first_text_of : Saved → List ℕ
 first_text_of saved = codes "tb-cdc 1 " ++ (numbers_text saved.session saved.timestamp ++ codes "\n")
 
--- these bytes say the record: in its own line, or where its start is 0 in that of the first version
+-- these bytes are the record's text: its own line or, if its start is 0, the line of the first version
 abbrev pub IsTextOf : Saved → List ℕ → Type 0
 IsTextOf saved bytes = (bytes ≡ text_of saved) ⊎ ((saved.start ≡ 0) × (bytes ≡ first_text_of saved))

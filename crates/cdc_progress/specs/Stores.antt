@@ -34,16 +34,16 @@ IsRisked risks OutOfMemory = IsTrue risks.memory
 abbrev pub IsCounted : ℕ → ℕ → Type 0
 IsCounted before after = (before < after) ⊎ ((before ≡ max_64) × (after ≡ max_64))
 
--- a load may be refused like this, where the count of failures goes from one number to the other: only a read fault
--- counts
+-- a load may be refused with this error if the count of failures goes from `before` to `after`: only a read fault is
+-- counted
 abbrev pub MayRefuseLoad : ℕ → ℕ → StoreError → Type 0
 MayRefuseLoad before after ReadFault = IsCounted before after
 MayRefuseLoad before after WriteFault = ⊥
 MayRefuseLoad before after BadRecord = after ≡ before
 MayRefuseLoad before after OutOfMemory = after ≡ before
 
--- a save may be refused like this, where the count of failures goes from one number to the other: only a write fault
--- counts
+-- a save may be refused with this error if the count of failures goes from `before` to `after`: only a write fault is
+-- counted
 abbrev pub MayRefuseSave : ℕ → ℕ → StoreError → Type 0
 MayRefuseSave before after ReadFault = ⊥
 MayRefuseSave before after WriteFault = IsCounted before after
@@ -54,7 +54,7 @@ MayRefuseSave before after OutOfMemory = after ≡ before
 abbrev pub IsLoadFault : StoreError → Type 0
 IsLoadFault error = (error ≡ ReadFault) ⊎ (error ≡ BadRecord)
 
--- all bytes of a file are read as this: as the record that they are the text of, or as no record, where they are none
+-- the bytes of a whole file are read as this: as the record whose text they are, or as no record if they are none
 abbrev pub ReadsAs : List ℕ → Result Saved StoreError → Type 0
 ReadsAs bytes (Ok saved) = IsTextOf saved bytes
 ReadsAs bytes (Err BadRecord) = (saved : Saved) → Fits saved → IsTextOf saved bytes → ⊥

@@ -1,4 +1,4 @@
-//! What a store of progress can answer in place of doing its work.
+//! Errors of a progress store.
 
 ghost use Rattle.std.specs.Prelude.{◌≡◌};
 ghost use Rattle.cdc_progress.specs.Errors.{store_error_number, store_error_name};
@@ -6,19 +6,18 @@ ghost use Rattle.cdc_progress.specs.Errors.{store_error_number, store_error_name
 use std::alloc::AllocError;
 use thiserror::Error;
 
-/// Why a store didn't load or save.
+/// Why a store could not load or save.
 #[derive(Clone, Copy, Debug, PartialEq, Eq, Error)]
 pub enum StoreError {
-    /// What is stored can't be read.
+    /// The stored record can't be read.
     #[error("progress can't be read")]
     ReadFault,
-    /// The record can't be written.
+    /// The new record can't be written.
     #[error("progress can't be written")]
     WriteFault,
-    /// What is stored is no record.
-    #[error("what is stored is no record of progress")]
+    /// The stored bytes aren't a record.
+    #[error("what is stored is no progress record")]
     BadRecord,
-    /// There was no memory.
     #[error("out of memory")]
     OutOfMemory,
 }
@@ -36,7 +35,6 @@ impl StoreError {
         }
     }
 
-    /// The error's name.
     pub fn name(self) -> &'static str
         ensures { result.now ≡ store_error_name self }
     {

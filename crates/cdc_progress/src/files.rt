@@ -15,17 +15,17 @@ use std::fs::{File, Files, OpenFile, Permissions, TryLockError};
 use std::io::{ErrorKind, Read, Write};
 use std::{fs, io};
 
-/// A store in a file. A save makes a new file `PATH.new`, brings all of it to the disk and gives it PATH's name, so
-/// that a save that is broken off leaves the old record. Where PATH is a link, the file that it leads to is meant by
-/// both names, and the link stays. The file's mode is kept, its owner isn't.
+/// A store in a file. A save creates the file `PATH.new`, syncs it to the disk and renames it to PATH, so an
+/// interrupted save leaves the old record. If PATH is a link, both names refer to the link's target, and the link
+/// stays. The file's mode is kept, its owner isn't.
 ///
-/// Nothing is replaced but a record that may be replaced: a save is refused where `PATH.new` is there and can't be what
-/// a save has left that was broken off, where PATH is no record or a file that nobody may write, and where it holds
-/// another record than this store has last loaded or saved. From a load or a save that is done up to its next call
-/// a store keeps the file, where there is one, locked, so that another one which comes to it meanwhile is refused.
+/// A save replaces only a record that it may replace. It is refused if `PATH.new` exists and can't be the leftover of
+/// an interrupted save, if PATH is not a record or is a file that nobody may write, and if PATH holds another record
+/// than this store has last loaded or saved. After a successful load or save, and until its next call, a store keeps
+/// the file locked, if there is one; another store that uses the file in the meantime is refused.
 ///
-/// No clause can say what a file holds: `held` is what this store saved last, or loaded last, and that the file gives
-/// it back is a premise of whoever uses the store, which nothing here proves.
+/// No contract can state what a file holds. `held` is the record that this store has last saved or loaded. That the
+/// file returns it is an assumption of the store's user; nothing here proves it.
 #[derive(Drop)]
 pub struct FileStore<'a, R> {
     rt: &'a R,
@@ -33,13 +33,13 @@ pub struct FileStore<'a, R> {
     // Whether this store has loaded or saved, and so knows what the file holds.
     has_looked: bool,
     known: Option<Progress>,
-    // The file of the record, locked.
+    // The record's file, locked.
     file: Option<File>,
     failures: u64,
 }
 
 impl<'a, R: Files<File = File> + AllocGlobal> FileStore<'a, R> {
-    /// The store in the file of this path.
+    /// A store in the file at this path. It doesn't open the file yet.
     pub fn at(rt: &'a R, path: &'a str) -> FileStore<'a, R>
         ensures held { result.known ≡ None }
         ensures failures { result.failures ≡ 0 }
@@ -54,7 +54,7 @@ impl<'a, R: Files<File = File> + AllocGlobal> FileStore<'a, R> {
         }
     }
 
-    // One failure more; the count stays at its greatest.
+    // Adds 1 to the count of failures, which saturates.
     fn count_failure(&mut self)
         ensures counted { IsCounted self.old.failures self.new.failures }
         ensures more { self.old.failures ≤ self.new.failures }
@@ -63,7 +63,7 @@ impl<'a, R: Files<File = File> + AllocGlobal> FileStore<'a, R> {
         self.failures = self.failures.saturating_add(1);
     }
 
-    // What the file holds from now on, as far as this store knows, and the file.
+    // Sets what the file holds, as far as this store knows, and the locked file.
     fn note(&mut self, known: Option<Progress>, file: Option<File>)
         ensures known { self.new.known ≡ known }
         ensures failures { self.new.failures ≡ self.old.failures }
@@ -73,7 +73,7 @@ impl<'a, R: Files<File = File> + AllocGlobal> FileStore<'a, R> {
         self.file = file;
     }
 
-    // Leaves the file to others.
+    // Closes the file, which unlocks it.
     fn let_go(&mut self)
         ensures known { self.new.known ≡ self.old.known }
         ensures failures { self.new.failures ≡ self.old.failures }
@@ -81,7 +81,8 @@ impl<'a, R: Files<File = File> + AllocGlobal> FileStore<'a, R> {
         self.file = None;
     }
 
-    // What the file has to hold, if it is there, so that it may be replaced: anything, where this store hasn't looked.
+    // What the file must hold, if it exists, so that it may be replaced. `None`: anything, since this store hasn't
+    // looked.
     fn expected(&self) -> Option<Option<Progress>> {
         if self.has_looked {
             Some(self.known)
@@ -91,13 +92,13 @@ impl<'a, R: Files<File = File> + AllocGlobal> FileStore<'a, R> {
     }
 }
 
-// The greatest record, in bytes. A file that has one byte more is none.
+// The greatest length of a record, in bytes. A longer file is not a record.
 const RECORD_BYTES: usize = Limits::PROGRESS_BYTES;
 
-// What each record begins with, of whatever version.
+// The first bytes of each record, whatever its version.
 const MARK: &[u8] = b"tb-cdc ";
 
-// Fills the buffer from a file until one of them has come to its end, and says how many bytes there are.
+// Reads until the buffer is full or the file ends, and returns the number of bytes read.
 fn fill<F: Read>(file: &mut F, buffer: &mut [u8]) -> io::Result<usize>
     ensures count { IfOk result (λ filled. filled ≤ length buffer.new) }
     ensures size { length buffer.new ≡ length buffer.old }
@@ -117,7 +118,7 @@ fn fill<F: Read>(file: &mut F, buffer: &mut [u8]) -> io::Result<usize>
     Ok(filled)
 }
 
-// The record that all bytes of a file are the text of.
+// Reads a whole file as a record.
 fn record_in<F: Read>(file: &mut F) -> Result<Progress, StoreError>
     ensures record { IfSome (F.remaining file.old) (λ bytes. ReadsAs bytes result) }
     ensures err { IfErr result IsLoadFault }
@@ -132,15 +133,15 @@ fn record_in<F: Read>(file: &mut F) -> Result<Progress, StoreError>
     }
 }
 
-// A record that was found, and the file that holds it, locked.
+// A record, and the file that holds it, locked.
 #[derive(Drop)]
 struct Found {
     progress: Progress,
     file: File,
 }
 
-// Locks a file that isn't locked here, and says whether another one has it locked already. Where the system has no
-// locks nobody has.
+// Locks a file that isn't locked here, and returns whether another holder has it locked already. On a system without
+// locks it returns false.
 fn is_taken(file: &File) -> bool {
     match file.try_lock() {
         Err(TryLockError::WouldBlock) => true,
@@ -148,8 +149,8 @@ fn is_taken(file: &File) -> bool {
     }
 }
 
-// Opens a file, and locks it: none where there is no file. What is no plain file, as a folder or a pipe, isn't opened,
-// since that might wait.
+// Opens a file and locks it; `None` if there is no file. Anything but a plain file, such as a folder or a pipe, isn't
+// opened, since that might block.
 fn open_record<R: Files<File = File>>(rt: &R, path: &str) -> Result<Option<File>, StoreError>
     ensures { IfErr result IsLoadFault }
 {
@@ -167,7 +168,7 @@ fn open_record<R: Files<File = File>>(rt: &R, path: &str) -> Result<Option<File>
     Ok(Some(file))
 }
 
-// What a file holds: none where there is no file.
+// Reads the record of a file; `None` if there is no file.
 fn read_record<R: Files<File = File>>(rt: &R, path: &str) -> Result<Option<Found>, StoreError>
     ensures { IfErr result IsLoadFault }
 {
@@ -178,14 +179,13 @@ fn read_record<R: Files<File = File>>(rt: &R, path: &str) -> Result<Option<Found
     Ok(Some(Found { progress, file }))
 }
 
-// Writes a text, to its last byte.
 fn write_text<W: Write>(writer: &mut W, text: &str) -> io::Result<()>
     ensures { OnOk result (Appends (W.contents writer.old) (W.contents writer.new) text.now) }
 {
     writer.write_all(text.as_bytes())
 }
 
-// Writes a file whole, with this mode where one is given, and brings it to the disk.
+// Writes the whole text, sets this mode, if one is given, and syncs the file to the disk.
 fn write_whole(file: &mut File, mode: Option<Permissions>, text: &str) -> io::Result<()> {
     if let Some(mode) = mode {
         file.set_permissions(mode)?;
@@ -204,8 +204,8 @@ fn path_of_new(alloc: Global, path: &str) -> Result<String, AllocError>
     Ok(text)
 }
 
-// The path of the file that a path leads to, past links; where there is no file, the path itself, but a link that leads
-// nowhere isn't followed.
+// The path of the file that a path refers to, with links resolved. If there is no file, it is the path itself; a link
+// without a target is an error.
 fn target_of<R: Files<File = File> + AllocGlobal>(
     rt: &R,
     path: &str,
@@ -223,15 +223,15 @@ fn target_of<R: Files<File = File> + AllocGlobal>(
     }
 }
 
-// Whether a file of these bytes can be what a save has left that was broken off: it is no longer than a record, and
-// begins as one does, as far as it goes.
+// Whether a file with these bytes can be the leftover of an interrupted save: it is no longer than a record, and it
+// begins like one, as far as it goes.
 fn is_leftover(bytes: &[u8]) -> bool
     ensures { result ≡ may_be_left bytes.now }
 {
     bytes.len() <= RECORD_BYTES && (bytes.starts_with(MARK) || MARK.starts_with(bytes))
 }
 
-// Removes what a save has left that was broken off; what can't be that is left alone.
+// Removes the leftover of an interrupted save, and fails if the file can't be one.
 fn clear_leftover<R: Files<File = File>>(rt: &R, path: &str) -> io::Result<()> {
     let in_the_way = io::Error::from(ErrorKind::AlreadyExists);
     if !fs::symlink_metadata(rt, path)?.is_file() {
@@ -249,7 +249,7 @@ fn clear_leftover<R: Files<File = File>>(rt: &R, path: &str) -> io::Result<()> {
     fs::remove_file(rt, path)
 }
 
-// Makes a new file, which nobody else has, in the place of one that a broken save has left, if any.
+// Creates a new file and locks it, in place of the leftover of an interrupted save, if there is one.
 fn make_new<R: Files<File = File>>(rt: &R, path: &str) -> io::Result<File> {
     let file = match File::create_new(rt, path) {
         Err(error) if error.kind() == ErrorKind::AlreadyExists => {
@@ -264,7 +264,7 @@ fn make_new<R: Files<File = File>>(rt: &R, path: &str) -> io::Result<File> {
     Ok(file)
 }
 
-// The mode of the file that is replaced, if there is one; one that nobody may write isn't replaced.
+// The mode of the file that is replaced, if there is one. A file that nobody may write is an error.
 fn mode_to_keep(old: &Option<Found>) -> io::Result<Option<Permissions>> {
     let Some(found) = old else {
         return Ok(None);
@@ -276,7 +276,7 @@ fn mode_to_keep(old: &Option<Found>) -> io::Result<Option<Permissions>> {
     Ok(Some(mode))
 }
 
-// Writes a text beside the file of this path, and then gives it the file's name.
+// Writes a text to the file `new_path`, and then renames it to `path`.
 fn put<R: Files<File = File>>(
     rt: &R,
     path: &str,
@@ -297,7 +297,7 @@ fn put<R: Files<File = File>>(
     Ok(file)
 }
 
-// Puts a text in a file's place, where the file isn't there or holds what is expected. All memory is taken first.
+// Replaces a file's content, if the file doesn't exist or holds what is expected. All allocations come first.
 fn replace<R: Files<File = File> + AllocGlobal>(
     rt: &R,
     path: &str,
@@ -323,7 +323,7 @@ impl<'a, R: Files<File = File> + AllocGlobal> ProgressStore for FileStore<'a, R>
 
     ghost failed = { λ store. store.failures };
 
-    // What a read gives is the system's, so nothing that is known before it can promise it.
+    // The system decides what a read returns, so no contract can promise it in advance.
     ghost is_honest = { λ _. false };
 
     ghost risks = { λ _. record { memory = true; faults = true } };

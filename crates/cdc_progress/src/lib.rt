@@ -1,4 +1,4 @@
-//! How far a publisher has come: the record of it, its text, and the stores that hold it across restarts.
+//! The progress record of a connector, its text, and the stores that hold it across restarts.
 #![tactic(auto)]
 
 pub mod errors;

@@ -8,8 +8,8 @@ use crate::progress::Progress;
 use crate::stores::ProgressStore;
 use std::marker::Model;
 
-/// A store in memory, of which one call may fail. A clause sees what is held, how many calls there were and which of
-/// them fails.
+/// A store in memory, one call of which may be made to fail. Contracts see what it holds, how many calls there were
+/// and which of them fails.
 #[derive(Debug, Drop)]
 pub struct MemoryStore {
     held: Option<Progress>,
@@ -32,15 +32,16 @@ impl Model for MemoryStore {
 }
 
 impl MemoryStore {
-    /// A store that holds nothing and never fails.
+    /// Creates a store that holds nothing and never fails.
     pub fn new() -> MemoryStore
         ensures { result ≡ record { held = None; calls = 0; fails_at = 0; keeps_new = false } }
     {
         MemoryStore::with_faults(None, 0, false)
     }
 
-    /// A store that holds `start`. The call numbered `fails_at` fails, where loads and saves are counted together from
-    /// 1; 0 is none. A save that fails holds the new record where `keeps_new`, and the old one else.
+    /// A store that holds `start`. The call with the number `fails_at` fails; loads and saves are counted together
+    /// from 1, and 0 means that none fails. After a failed save the store holds the new record if `keeps_new`, and
+    /// otherwise the old one.
     pub fn with_faults(start: Option<Progress>, fails_at: u64, keeps_new: bool) -> MemoryStore
         requires { fails_at < 2 ^ 64 - 1 }
         ensures { result ≡ record {
@@ -58,7 +59,7 @@ impl MemoryStore {
         }
     }
 
-    // Counts a call, and says whether it is the one that fails.
+    // Counts a call, and returns whether it is the one that fails.
     fn next_fails(&mut self) -> bool
         ensures fails { result ≡ fails_next self.old }
         ensures counted { self.new ≡ called self.old }

@@ -1,13 +1,13 @@
-//! How far a publisher has come.
+//! The progress record of a connector.
 
 ghost use Rattle.std.specs.Prelude.{◌≡◌, ◌≤◌};
 
 use cdc_types::Limits;
 use std::marker::Model;
 
-/// How far a publisher has come: the number of its last session; the timestamp up to which every event after the start
-/// is confirmed (TigerBeetle, Change Data Capture, progress tracking); and the start, the moment after which its first
-/// session began, which is no later. A clause sees the three numbers.
+/// The progress record of a connector: the number of its last session; the timestamp up to which every event after
+/// the start is confirmed (TigerBeetle, Change Data Capture, progress tracking); and the start, the timestamp after
+/// which its first session began, which is no later. Contracts see the three numbers.
 #[derive(Clone, Copy, Debug, PartialEq, Eq)]
 pub struct Progress {
     session: u64,
@@ -41,8 +41,8 @@ impl Progress {
     /// The greatest timestamp, in nanoseconds: 2^63-1.
     pub const MAX_TIMESTAMP: u64 = Limits::TIMESTAMP;
 
-    /// The progress of a session: the first one began after the start, and all that came after that is confirmed up to
-    /// the timestamp, which is at most `MAX_TIMESTAMP` and not before the start; both in nanoseconds.
+    /// The progress of a session: the first session began after `start`, and every event after that is confirmed up
+    /// to `timestamp`, which is at most `MAX_TIMESTAMP` and not before `start`. Both are in nanoseconds.
     pub fn new(session: u64, timestamp: u64, start: u64) -> Progress
         requires order { start ≤ timestamp }
         requires fits { timestamp ≤ Limits.TIMESTAMP }
@@ -70,7 +70,7 @@ impl Progress {
         self.timestamp
     }
 
-    /// The moment after which the first session began, in nanoseconds: no event up to it is told.
+    /// The timestamp after which the first session began, in nanoseconds. No event up to it is published.
     pub fn start(self) -> u64
         ensures value { result ≡ self.start }
         ensures order { self.start ≤ self.timestamp }

@@ -1,4 +1,4 @@
-//! What a store of progress promises.
+//! The contract of a progress store.
 
 ghost use Rattle.std.specs.Prelude.{◌≡◌, ◌⊎◌, ℕ, Bool, Option, Some, Err, IfOk, IfErr, OnOk, OnErr, IsTrue};
 ghost use Rattle.cdc_progress.specs.Records.{Saved};
@@ -7,25 +7,24 @@ ghost use Rattle.cdc_progress.specs.Stores.{IsRisked, MayRefuseLoad, MayRefuseSa
 use crate::errors::StoreError;
 use crate::progress::Progress;
 
-/// A place that holds how far a publisher has come, across the publisher's restarts.
+/// Holds the progress record of a connector across the connector's restarts.
 pub trait ProgressStore {
-    // What is held: a record, or nothing.
+    // The record that is held, if there is one.
     ghost held: { Self → Option Saved };
 
-    // How often a read or a write has failed. No other answer than those two faults changes it.
+    // How often a read or a write has failed. Only those two faults change it.
     ghost failed: { Self → ℕ };
 
-    // A load gives what is held. No call changes it.
+    // Whether a load returns what is held. No call changes it.
     ghost is_honest: { Self → Bool };
 
-    // Why a load or a save may be refused at all. No call changes it.
+    // The reasons why a load or a save can be refused at all. No call changes them.
     ghost risks: { Self → Risks };
 
-    /// What is held, or none where nothing was saved yet.
+    /// Returns the record that is held, or `None` if nothing was saved yet.
     ///
-    /// A refused load changes nothing that is held. `ReadFault`: it can't be read, and `failures` counts it, as no
-    /// other answer does. `BadRecord`: it is no record; an honest store never says so. `OutOfMemory`: there was no
-    /// memory.
+    /// A refused load doesn't change what is held. `ReadFault`: it can't be read; only this error adds to `failures`.
+    /// `BadRecord`: it is not a record; an honest store never returns this. `OutOfMemory`: memory ran out.
     fn load(&mut self) -> Result<Option<Progress>, StoreError>
         ensures given { IfOk result (λ given. held self.new ≡ given) }
         ensures honest_load { IsTrue (is_honest self.old)
@@ -39,10 +38,10 @@ pub trait ProgressStore {
         ensures risked { IfErr result (IsRisked (risks self.old)) }
         ensures same_risks { risks self.new ≡ risks self.old };
 
-    /// Makes this what is held.
+    /// Replaces the record that is held.
     ///
-    /// `WriteFault`: it can't be written, and `failures` counts it, as no other answer does; what was held is held, or
-    /// the new record is. `OutOfMemory`: there was no memory, and what was held is held.
+    /// `WriteFault`: it can't be written; only this error adds to `failures`. The store then holds the old record or
+    /// the new one. `OutOfMemory`: memory ran out, and the store holds the old record.
     fn save(&mut self, progress: Progress) -> Result<(), StoreError>
         ensures saved { OnOk result (held self.new ≡ Some progress) }
         ensures refused { OnErr result
@@ -55,7 +54,7 @@ pub trait ProgressStore {
         ensures risked { IfErr result (IsRisked (risks self.old)) }
         ensures same_risks { risks self.new ≡ risks self.old };
 
-    /// How often a read or a write has failed, at most 2^64-1.
+    /// How often a read or a write has failed. The count saturates at 2^64-1.
     fn failures(&self) -> u64
         ensures { result ≡ failed self.now };
 }

@@ -1,4 +1,4 @@
-//! The text of a record of progress.
+//! The text of a progress record.
 
 ghost use Rattle.std.specs.Prelude.{◌≡◌, ◌==◌, ◌<◌, ◌^◌, ◌++◌, ◌∷◌, ℕ, List, All, IfOk, IfSome, MatchOption, codes, decimal, false, string_bytes};
 ghost use Rattle.cdc_progress.specs.Records.{Saved, Fits, IsTextOf, first_text_of, numbers_text, text_of};
@@ -7,10 +7,10 @@ use crate::progress::Progress;
 use itoa::Buffer;
 use std::alloc::{AllocError, Global};
 
-// What stands before the numbers: the name of the format and its version.
+// What precedes the numbers: the name of the format and its version.
 const HEAD: &[u8] = b"tb-cdc 2 ";
 
-// The same of the first version.
+// The same in the first version of the format.
 const FIRST_HEAD: &[u8] = b"tb-cdc 1 ";
 
 fn push_number(text: &mut String, number: u64) -> Result<(), AllocError>
@@ -34,7 +34,7 @@ pub fn print(alloc: Global, progress: Progress) -> Result<String, AllocError>
     Ok(text)
 }
 
-// The number that these digits are the text of.
+// Parses decimal digits without leading zeros; `None` if they aren't a number of 64 bits.
 fn number_in(digits: &[u8]) -> Option<u64>
     ensures { MatchOption result ((n : ℕ) → n < 2 ^ 64 → ¬ (digits.now ≡ decimal n))
         (λ n. (n < 2 ^ 64) × (digits.now ≡ decimal n)) }
@@ -52,7 +52,7 @@ fn number_in(digits: &[u8]) -> Option<u64>
     }
 }
 
-// What stands before the first space and after it.
+// The bytes before the first space and those after it.
 fn split_at_space(bytes: &[u8]) -> Option<(&[u8], &[u8])>
     ensures { MatchOption result (All (λ b. (b == 32) ≡ false) bytes.now)
         (λ parts. (bytes.now ≡ parts.0.now ++ 32 ∷ parts.1.now)
@@ -62,7 +62,7 @@ fn split_at_space(bytes: &[u8]) -> Option<(&[u8], &[u8])>
     Some((&bytes[..space], &bytes[space + 1..]))
 }
 
-// Two numbers with a space between them.
+// Parses two numbers with a space between them.
 fn numbers_in(bytes: &[u8]) -> Option<(u64, u64)>
     ensures { MatchOption result
         ((first second : ℕ) → first < 2 ^ 64 → second < 2 ^ 64
@@ -74,7 +74,7 @@ fn numbers_in(bytes: &[u8]) -> Option<(u64, u64)>
     Some((number_in(first)?, number_in(second)?))
 }
 
-// Three numbers with a space between each two.
+// Parses three numbers with a space between each two.
 fn three_in(bytes: &[u8]) -> Option<(u64, u64, u64)>
     ensures { MatchOption result
         ((first second third : ℕ) → first < 2 ^ 64 → second < 2 ^ 64 → third < 2 ^ 64
@@ -87,7 +87,7 @@ fn three_in(bytes: &[u8]) -> Option<(u64, u64, u64)>
     Some((number_in(first)?, second, third))
 }
 
-// What stands between this head and the line feed behind it.
+// The bytes between this head and the line feed that ends the text.
 fn inner<'a>(bytes: &'a [u8], head: &[u8]) -> Option<&'a [u8]>
     ensures { MatchOption result
         ((middle : List ℕ) → ¬ (bytes.now ≡ head.now ++ (middle ++ codes "\n")))
@@ -96,7 +96,7 @@ fn inner<'a>(bytes: &'a [u8], head: &[u8]) -> Option<&'a [u8]>
     bytes.strip_prefix(head)?.strip_suffix(b"\n")
 }
 
-// The record that these bytes are the line of.
+// Parses the line of a record in this version of the format.
 fn line_in(bytes: &[u8]) -> Option<Progress>
     ensures record { MatchOption result
         ((saved : Saved) → Fits saved → ¬ (bytes.now ≡ text_of saved))
@@ -113,7 +113,7 @@ fn line_in(bytes: &[u8]) -> Option<Progress>
     Some(Progress::new(session, timestamp, start))
 }
 
-// The record that these bytes are the line of in the first version: its start is 0.
+// Parses the line of a record in the first version, whose start is 0.
 fn first_line_in(bytes: &[u8]) -> Option<Progress>
     ensures record { MatchOption result
         ((saved : Saved) → Fits saved → saved.start ≡ 0 → ¬ (bytes.now ≡ first_text_of saved))
@@ -127,8 +127,8 @@ fn first_line_in(bytes: &[u8]) -> Option<Progress>
     Some(Progress::new(session, timestamp, 0))
 }
 
-/// The record that these bytes are the text of, to the last byte, be it of this version or of the first one, which has
-/// no start and is read as one of 0; any other bytes are none.
+/// Parses the text of a record, to the last byte; `None` for any other bytes. A record of the first version has no
+/// start; its start is read as 0.
 pub fn parse(bytes: &[u8]) -> Option<Progress>
     ensures record { MatchOption result
         ((saved : Saved) → Fits saved → ¬ (IsTextOf saved bytes.now))

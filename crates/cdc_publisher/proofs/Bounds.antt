@@ -14,39 +14,39 @@ use Rattle.cdc_publisher.specs.Turns.{tagged}
 use Rattle.cdc_publisher.proofs.Moves.{is_free}
 use Rattle.cdc_publisher.proofs.Rings.{length-without_tag}
 
--- the moment of the event in the last place
-pub last_is : (moment : ℕ) (events : List Event) (event : Event) → slice_get events (length events - 1) ≡ Some event
-    → last_timestamp_from moment events ≡ event.timestamp
-last_is moment [] event found = cc
-last_is moment (first ∷ events) event found = last_timestamp_from-slice_get (first ∷ events) event found
+-- the last timestamp of a list is that of the event in its last place
+pub last_is : (time : ℕ) (events : List Event) (event : Event) → slice_get events (length events - 1) ≡ Some event
+    → last_timestamp_from time events ≡ event.timestamp
+last_is time [] event found = cc
+last_is time (first ∷ events) event found = last_timestamp_from-slice_get (first ∷ events) event found
 
--- a list that rises from a moment has come further by as many nanoseconds as it has events
-rises_by : (moment : ℕ) (events : List Event) → RiseFrom moment events
-    → moment + length events ≤ last_timestamp_from moment events
-rises_by moment [] rising = omega arith
-rises_by moment (event ∷ events) rising =
+-- a list that rises from a timestamp advances by at least as many nanoseconds as it has events
+rises_by : (time : ℕ) (events : List Event) → RiseFrom time events
+    → time + length events ≤ last_timestamp_from time events
+rises_by time [] rising = omega arith
+rises_by time (event ∷ events) rising =
     let above = rising.0 in
     let rest = rises_by event.timestamp events rising.1 in
     omega arith
 
--- and its last moment is the first one or an event's
-last_fits : (start moment : ℕ) (events : List Event) → IsFrom start moment
-    → All (λ event. IsFrom start event.timestamp) events → IsFrom start (last_timestamp_from moment events)
-last_fits start moment [] fits all = fits
-last_fits start moment (event ∷ events) fits all =
+-- the last timestamp of a list is within the bounds if the first one and each event's are
+last_fits : (start time : ℕ) (events : List Event) → IsFrom start time
+    → All (λ event. IsFrom start event.timestamp) events → IsFrom start (last_timestamp_from time events)
+last_fits start time [] fits all = fits
+last_fits start time (event ∷ events) fits all =
     last_fits start event.timestamp events (all 0 event (omega arith)) (λ k d lt. all (suc k) d (omega arith))
 
--- events that rise from a moment after the start are after the start
-from_start : (start moment : ℕ) (events : List Event) → start ≤ moment → RiseFrom moment events
+-- events that rise from a timestamp at or after the start are within the bounds
+from_start : (start time : ℕ) (events : List Event) → start ≤ time → RiseFrom time events
     → All (λ event. event.timestamp ≤ TIMESTAMP) events → All (λ event. IsFrom start event.timestamp) events
-from_start start moment [] late rising fits k d lt = absurd (omega (arith, lt))
-from_start start moment (event ∷ events) late rising fits zero d lt =
+from_start start time [] late rising fits k d lt = absurd (omega (arith, lt))
+from_start start time (event ∷ events) late rising fits zero d lt =
     (omega (arith, late, rising.0), fits 0 event (omega arith))
-from_start start moment (event ∷ events) late rising fits (suc k) d lt =
+from_start start time (event ∷ events) late rising fits (suc k) d lt =
     from_start start event.timestamp events (omega (arith, late, rising.0)) rising.1
     (λ i x low. fits (suc i) x (omega (arith, low))) k d (omega (arith, lt))
 
--- where events are offered
+-- the bounds hold after events are offered
 pub offered_bounds : (kept : SessionState) (events : List Event) (complete : Bool) → HasBounds kept
     → IsOffered (poll_of kept) events
     → HasBounds (record kept {
@@ -76,7 +76,7 @@ offered_bounds kept events complete bounds offer =
       window = bounds.window;
     }
 
--- where a tag is taken out
+-- they hold after a tag is taken out
 pub confirmed_bounds : (kept : SessionState) (tag : ℕ) → HasBounds kept
     → HasBounds (record kept { unconfirmed = without_tag tag kept.unconfirmed })
 confirmed_bounds kept tag bounds =
@@ -95,7 +95,7 @@ confirmed_bounds kept tag bounds =
       window = bounds.window;
     }
 
--- where the oldest unsent event is sent
+-- they hold after the oldest unsent event is sent
 pub published_bounds : (kept : SessionState) (event : Event) (events : List Event) → HasBounds kept
     → kept.unsent ≡ event ∷ events
     → HasBounds (record (tagged kept) { unsent = events; last_sent = event.timestamp })
@@ -134,7 +134,7 @@ offered_fits kept events bounds offer =
     let count = free.reply.count in
     omega (arith, length-append kept.unsent events)
 
--- one more tag fits where an event is unsent
+-- one more tag fits if an event is unsent
 pub tag_fits : (kept : SessionState) (event : Event) (events : List Event) (entry : Unconfirmed) → HasBounds kept
     → kept.unsent ≡ event ∷ events → length (kept.unconfirmed ++ entry ∷ []) ≤ kept.window
 tag_fits kept event events entry bounds is =

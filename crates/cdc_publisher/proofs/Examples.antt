@@ -26,7 +26,7 @@ side id = record {
   timestamp = 1000;
 }
 
--- an event of that moment
+-- an event with that timestamp
 abbrev event : ℕ → Event
 event timestamp = record {
   timestamp = timestamp;
@@ -56,11 +56,11 @@ next_number = refl
 no_next_number : begun (Some (saved 18446744073709551615 2000)) None ≡ Err SessionsExhausted
 no_next_number = refl
 
--- where nothing is held the first session begins at the very start
+-- if nothing is held, the first session begins after 0
 first_number : begun None None ≡ Ok (saved 1 0)
 first_number = refl
 
--- or after the moment that is asked for, up to which all counts as confirmed
+-- or after the timestamp that is asked for, up to which everything counts as confirmed
 late_start : begun None (Some 2000) ≡ Ok (saved_from 2000 1 2000)
 late_start = refl
 
@@ -112,7 +112,7 @@ nothing_follows_yet = refl
 abbrev second_first : Course
 second_first = with_confirm 7 2 published
 
--- what may be saved stays where it was: the first event isn't confirmed
+-- the progress that may be saved doesn't advance: the first event isn't confirmed
 the_first_holds_it_back : confirmed_timestamp second_first ≡ 2000
 the_first_holds_it_back = refl
 
@@ -148,7 +148,7 @@ done_when_it_is_confirmed = refl
 abbrev late : Course
 late = new_course (saved_from 2000 1 2000) 3
 
--- as it stands before anything is confirmed, and once event 3000 is
+-- after event 3000 is confirmed, the record that is saved still has that start
 late_saves : progress_of (with_confirm 1 1 (sent_one (sent_one (with_offer (event 3000 ∷ []) false late))))
     ≡ saved_from 2000 1 3000
 late_saves = refl

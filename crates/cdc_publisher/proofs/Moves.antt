@@ -1,4 +1,4 @@
--- Each call takes a session from any course that it stands for to the one after the call.
+-- Each call takes a session that represents a course to one that represents the course after the call.
 use Rattle.std.proofs.Common.{◌≡◌, ℕ, zero, suc, ◌+◌, ◌-◌, ◌<◌, ◌≤◌, ◌==◌, Bool, true, false, ◌&&◌, ◌||◌, not, List, [], ◌∷◌, ◌++◌, refl, sym, ap, ap₂, ◌∙◌, subst, take, drop, take_all, map, get_or, length, length-append, Option, Some, None, cond, arith}
 use Rattle.std.specs.Prelude.{IsTrue, nat_le, nat_lt, if◌then◌else◌}
 use Rattle.std.specs.List.{list_all, list_any}
@@ -23,7 +23,7 @@ use Rattle.cdc_publisher.specs.Turns.{advanced, ends, publish_of, published, tag
 use Rattle.cdc_publisher.proofs.Standing.{first_left, holds_is, none_waits, packet_is, past_sent, takes_is}
 use Rattle.cdc_publisher.proofs.Tags.{entries_same, failing, numbers_from-suc, without_passed}
 
--- where the test says so nothing has been sent, and the connect comes next
+-- if this test holds, nothing has been sent, and the connect comes next
 sent_zero : (sent : ℕ) → (sent == 0) ≡ true → sent ≡ 0
 sent_zero sent is = grind (arith, nat_tests)
 
@@ -117,7 +117,7 @@ tag_stands kept course unsent last_sent ended stands connected left last count e
       end_waits = end_waits;
     }
 
--- one event more is behind the others
+-- the rest of a list after one more event
 next_left : (events : List Event) (i : ℕ) (event : Event) (rest : List Event) → drop i events ≡ event ∷ rest
     → rest ≡ drop (i + 1) events
 next_left [] i event rest left = let none = sym (drop-nil i) ∙ left in cc
@@ -127,16 +127,16 @@ next_left (x ∷ events) (suc i) event rest left =
     next_left events i event rest left ∙ ap (λ n. drop n (x ∷ events)) (sym further)
 
 -- its timestamp is the last of those up to it
-next_last : (moment : ℕ) (events : List Event) (i : ℕ) (event : Event) (rest : List Event)
-    → drop i events ≡ event ∷ rest → event.timestamp ≡ last_timestamp_from moment (take (i + 1) events)
-next_last moment events i event rest left =
+next_last : (time : ℕ) (events : List Event) (i : ℕ) (event : Event) (rest : List Event)
+    → drop i events ≡ event ∷ rest → event.timestamp ≡ last_timestamp_from time (take (i + 1) events)
+next_last time events i event rest left =
     let here = first_left events i event rest left in
     let within = slice_get_within events i event here in
-    sym (ap (last_timestamp_from moment) (take_more events i event within)
-    ∙ last_timestamp_from-push moment (take i events) (get_or events i event)
+    sym (ap (last_timestamp_from time) (take_more events i event within)
+    ∙ last_timestamp_from-push time (take i events) (get_or events i event)
     ∙ ap (λ (e : Event). e.timestamp) (get_or_from_slice_get events i event event here))
 
--- what the end mark takes
+-- what must hold for the end mark to be sent
 pub ends_means : (complete ended none : Bool) → (complete && (not ended && none)) ≡ true
     → (complete ≡ true) × (ended ≡ false) × (none ≡ true)
 ends_means true false none is = (refl, refl, is)
@@ -183,7 +183,7 @@ advance_by kept course stands false [] false at_first is_unsent is_ending =
     (with_sent (if b then Some (Publish kept.number kept.sent EndMark) else None) course))
     (sym is_ending) stands
 
--- a session that sends its next packet stands for the course that has sent it
+-- a session that sends its next packet represents the course that has sent it
 pub advanced_stands : (kept : SessionState) (course : Course) → StandsFor kept course
     → StandsFor (advanced kept) (with_sent (next_packet course) course)
 advanced_stands kept course stands =
@@ -203,7 +203,7 @@ passes_too course tag x =
     either_side : (a b : ℕ) → ((a == b) || false) ≡ (b == a)
     either_side a b = grind (arith, nat_tests)
 
--- a test that holds of all still does where more pass
+-- if all pass a test, all still do after one more number passes it
 all_still : (p q : ℕ → Bool) (tag : ℕ) → ((x : ℕ) → q x ≡ (p x || (x == tag))) → (xs : List ℕ)
     → IsTrue (list_all p xs) → IsTrue (list_all q xs)
 all_still p q tag more [] all = all
@@ -253,7 +253,7 @@ settle_stands kept course tag stands was_sent =
           (numbers_from 1 (length course.offered)) (stands.end_waits on);
     }
 
--- where a tag isn't there, none is taken out
+-- if no entry has the tag, none is taken out
 none_taken : (tag : ℕ) (entries : List Unconfirmed) → holds_tag tag entries ≡ false
     → without_tag tag entries ≡ entries
 none_taken tag [] none = refl
@@ -271,7 +271,7 @@ first_holds : (a b : Bool) → (a && b) ≡ true → a ≡ true
 first_holds true b is = refl
 first_holds false b is = cc
 
--- a confirm of this session's tag, where it counts and where it doesn't
+-- a confirm of this session's tag, whether it counts or not
 confirm_by : (kept : SessionState) (course : Course) (tag : ℕ) (b : Bool) → StandsFor kept course
     → holds_tag tag kept.unconfirmed ≡ b
     → StandsFor (record kept { unconfirmed = without_tag tag kept.unconfirmed })
@@ -300,13 +300,13 @@ confirm_stands kept course session tag stands is =
 
 -- ---- an offer
 
--- what is known where events may be offered
+-- what is known if events may be offered
 pub record IsFree (kept : SessionState) (events : List Event) : Type 0 where
   pub unsent : length kept.unsent ≡ 0
   pub complete : kept.complete ≡ false
   pub reply : IsReply (record { after = kept.last; limit = kept.window - length kept.unconfirmed }) events
 
--- an offer comes only while nothing is unsent and the end isn't known
+-- an offer comes only while nothing is unsent and the session isn't complete
 free_by : (kept : SessionState) (events : List Event) (none room complete : Bool)
     → is_nil kept.unsent ≡ none → kept.complete ≡ complete
     → IsOffered (if none && room && not complete
@@ -328,19 +328,19 @@ is_free kept events offer =
     free_by kept events (is_nil kept.unsent) (nat_lt (length kept.unconfirmed) kept.window) kept.complete refl refl
     offer
 
--- where the end isn't known, the end mark wasn't sent
+-- if the session isn't complete, the end mark wasn't sent
 unknown_end : (ended complete : Bool) → (ended ≡ true → complete ≡ true) → complete ≡ false → ended ≡ false
 unknown_end true complete known not_yet = let is = known refl in cc
 unknown_end false complete known not_yet = refl
 
 -- the last of two lists
-last_timestamp_from-append : (moment : ℕ) (first events : List Event)
-    → last_timestamp_from moment (first ++ events)
-    ≡ last_timestamp_from (last_timestamp_from moment first) events
-last_timestamp_from-append moment [] events = refl
-last_timestamp_from-append moment (event ∷ first) events = last_timestamp_from-append event.timestamp first events
+last_timestamp_from-append : (time : ℕ) (first events : List Event)
+    → last_timestamp_from time (first ++ events)
+    ≡ last_timestamp_from (last_timestamp_from time first) events
+last_timestamp_from-append time [] events = refl
+last_timestamp_from-append time (event ∷ first) events = last_timestamp_from-append event.timestamp first events
 
--- a session that is offered events stands for the course that was
+-- a session that is offered events represents the course that was offered them
 pub offered_stands : (kept : SessionState) (course : Course) (events : List Event) (complete : Bool)
     → StandsFor kept course
     → IsOffered (poll_of kept) events
@@ -363,7 +363,7 @@ offered_stands kept course events complete stands offer =
       window = stands.window;
       sent = stands.sent;
       complete = refl;
-      last = ap (λ moment. last_timestamp_from moment events) stands.last
+      last = ap (λ time. last_timestamp_from time events) stands.last
           ∙ sym (last_timestamp_from-append course.base course.offered events);
       last_sent = stands.last_sent ∙ ap (last_timestamp_from course.base)
           (sym (take-append-le (tags_sent course) course.offered events all));
@@ -371,7 +371,7 @@ offered_stands kept course events complete stands offer =
           ∙ sym (drop-append-le (tags_sent course) course.offered events all);
       unconfirmed = stands.unconfirmed ∙ entries_same (entry_of course.base course.offered)
           (entry_of course.base (course.offered ++ events)) (λ tag. not (is_confirmed course tag)) 1 (tags_sent course)
-          (λ tag from to. ap (λ moment. let entry : Unconfirmed = record { tag = tag; before = moment } in entry)
+          (λ tag from to. ap (λ time. let entry : Unconfirmed = record { tag = tag; before = time } in entry)
           (ap (last_timestamp_from course.base)
           (sym (take-append-le (tag - 1) course.offered events (omega arith)))));
       confirmed_sent = stands.confirmed_sent;

@@ -1,4 +1,4 @@
--- A ring whose entries are popped and pushed back in turn, but for those of one tag.
+-- A ring whose entries are popped and pushed back in turn, except those with one tag.
 use Rattle.std.proofs.Common.{◌≡◌, ℕ, suc, ◌+◌, ◌-◌, ◌<◌, ◌≤◌, ◌==◌, Bool, true, false, ◌||◌, not, List, [], ◌∷◌, ◌++◌, refl, sym, ap, ap₂, ◌∙◌, cond, Some, None, length, take, drop, get_or, take_all, drop-cons, append_assoc, append-nil, length-append, arith}
 use Rattle.std.specs.Prelude.{slice_get}
 use Rattle.std.proofs.lemmas.List.{take_more, drop_all, length-take, length-drop}
@@ -10,7 +10,7 @@ use Rattle.circular_buffer.specs.Buffer.{keep_last}
 use Rattle.cdc_publisher.specs.declared.session.Unconfirmed.{Unconfirmed}
 use Rattle.cdc_publisher.specs.SessionState.{confirmed_of, holds_tag, without_tag}
 
--- nothing is overwritten where all fits
+-- nothing is overwritten if everything fits
 pub keep_all : {X : Type 0} (n : ℕ) (xs : List X) → length xs ≤ n → keep_last n xs ≡ xs
 keep_all n xs fits = let none : length xs - n ≡ 0 = omega arith in ap (λ i. drop i xs) none
 
@@ -27,7 +27,7 @@ pub confirmed_first : (last_sent : ℕ) (entries : List Unconfirmed) (first : Un
 confirmed_first last_sent [] first is = cc
 confirmed_first last_sent (entry ∷ entries) first is = cc
 
--- and where there is none
+-- if no tag waits, all is confirmed up to the last event sent
 pub confirmed_none : (last_sent : ℕ) (entries : List Unconfirmed) → slice_get entries 0 ≡ None
     → confirmed_of last_sent entries ≡ last_sent
 confirmed_none last_sent [] is = refl
@@ -40,7 +40,7 @@ module _ (tag : ℕ) (old : List Unconfirmed) (i : ℕ) (items : List Unconfirme
   abbrev back : List Unconfirmed
   back = without_tag tag (take i old)
 
-  -- what comes next, and all behind it
+  -- the next entry, and everything after it
   in_turn : items ≡ get_or old i x ∷ drop (suc i) old ++ back
   in_turn = are ∙ ap (λ front. front ++ back) (drop-cons old i x inside)
 
@@ -48,7 +48,7 @@ module _ (tag : ℕ) (old : List Unconfirmed) (i : ℕ) (items : List Unconfirme
   pub popped : x ≡ get_or old i x
   popped = let same = sym first ∙ ap (λ entries. slice_get entries 0) in_turn in cc
 
-  -- and what is left is behind it
+  -- what is left once it is popped
   left_over : drop 1 items ≡ drop (i + 1) old ++ back
   left_over =
       let next : suc i ≡ i + 1 = omega arith in
@@ -83,13 +83,13 @@ module _ (tag : ℕ) (old : List Unconfirmed) (i : ℕ) (items : List Unconfirme
       ∙ list_any-append (λ entry. entry.tag == tag) (take i old) (get_or old i x ∷ [])
       ∙ ap (λ (y : Unconfirmed). holds_tag tag (take i old) || ((y.tag == tag) || false)) (sym popped)
 
-  -- it is, where this is its entry
+  -- it is, if this is its entry
   pub holds_taken : (x.tag == tag) ≡ true → true ≡ holds_tag tag (take (i + 1) old)
   holds_taken is =
       sym (holds_longer ∙ ap (λ b. holds_tag tag (take i old) || (b || false)) is
       ∙ or-true (holds_tag tag (take i old)))
 
-  -- else it is where it was before
+  -- otherwise it is exactly if it was before
   pub holds_back : (x.tag == tag) ≡ false → holds_tag tag (take i old) ≡ holds_tag tag (take (i + 1) old)
   holds_back is =
       sym (holds_longer ∙ ap (λ b. holds_tag tag (take i old) || (b || false)) is

@@ -1,4 +1,4 @@
--- What a session answers is what its course says, for any course that it stands for.
+-- A session's answers are those of its course, for any course that it represents.
 use Rattle.std.proofs.Common.{◌≡◌, ℕ, zero, suc, ◌+◌, ◌-◌, ◌<◌, ◌==◌, Bool, true, false, ◌&&◌, not, List, [], ◌∷◌, refl, sym, ap, ap₂, ◌∙◌, drop, length, Option, Some, None, Result, Ok, Err, add-zero, arith}
 use Rattle.std.specs.Prelude.{IsTrue, OnErr, nat_le, nat_lt, slice_get, if◌then◌else◌}
 use Rattle.std.specs.List.{list_all}
@@ -33,7 +33,7 @@ pub waiting_is : (kept : SessionState) (course : Course) → StandsFor kept cour
 waiting_is kept course stands =
     ap length stands.unconfirmed ∙ length-map (unconfirmed course) (entry_of course.base course.offered)
 
--- by the counts, the end mark was sent where more tags are than events
+-- by the counts, the end mark was sent exactly if there are more tags than events
 ended_by : (n tags u : ℕ) (ended : Bool) → tags + u ≡ n + flag_count ended → (IsTrue ended → u ≡ 0)
     → ended ≡ nat_lt n tags
 ended_by n tags u true count last = let none : u ≡ 0 = last refl in grind (arith, nat_tests)
@@ -43,7 +43,7 @@ pub ended_is : (kept : SessionState) (course : Course) → StandsFor kept course
 ended_is kept course stands =
     ended_by (length course.offered) (tags_sent course) (length kept.unsent) kept.ended stands.count stands.end_last
 
--- by the counts, no event is unsent where all are sent
+-- by the counts, no event is unsent exactly if all are sent
 sent_all : (n tags u : ℕ) (ended : Bool) → tags + u ≡ n + flag_count ended → (IsTrue ended → u ≡ 0)
     → (u == 0) ≡ nat_le n tags
 sent_all n tags u true count last = let none : u ≡ 0 = last refl in grind (arith, nat_tests)
@@ -66,7 +66,7 @@ poll_of_is kept course stands =
     (sent_all (length course.offered) (tags_sent course) (length kept.unsent) kept.ended stands.count stands.end_last)
     (waiting_is kept course stands) stands.window stands.complete
 
--- with no event unsent, the end mark comes next just where every event is confirmed and it wasn't sent yet
+-- with no event unsent, the end mark comes next exactly if every event is confirmed and it wasn't sent yet
 ends_by : (tags n : ℕ) (complete ended none all : Bool) → tags ≡ n + flag_count ended → (ended ≡ false → none ≡ all)
     → (complete && (not ended && none)) ≡ ((complete && all) && (tags == n))
 ends_by tags n complete true none all count same =
@@ -76,7 +76,7 @@ ends_by tags n complete false none all count same =
     let here : (tags == n) ≡ true = grind (arith, nat_tests) in
     ap (λ b. complete && b) (same refl) ∙ sym (ap (λ b. (complete && all) && b) here ∙ and-true (complete && all))
 
--- no tag waits just where all are confirmed
+-- no tag waits exactly if all are confirmed
 pub none_waits : (kept : SessionState) (course : Course) → StandsFor kept course
     → is_nil kept.unconfirmed ≡ list_all (is_confirmed course) (numbers_from 1 (tags_sent course))
 none_waits kept course stands =
@@ -97,20 +97,21 @@ ends_is kept course stands none =
     ∙ ap (λ b. (b && list_all (is_confirmed course) (numbers_from 1 (length course.offered)))
     && (tags_sent course == length course.offered)) stands.complete
 
--- what is left of a list from a place on begins with what stands there
+-- what is left of a list from a place on begins with the element at that place
 pub first_left : (events : List Event) (i : ℕ) (event : Event) (rest : List Event) → drop i events ≡ event ∷ rest
     → slice_get events i ≡ Some event
 first_left [] i event rest left = let none = sym (drop-nil i) ∙ left in cc
 first_left (x ∷ events) zero event rest left = cc
 first_left (x ∷ events) (suc i) event rest left = first_left events i event rest left
 
--- and where nothing is left nothing stands there
+-- and if nothing is left, there is no element at that place
 pub none_left : (events : List Event) (i : ℕ) → drop i events ≡ [] → slice_get events i ≡ None
 none_left [] i left = refl
 none_left (x ∷ events) zero left = cc
 none_left (x ∷ events) (suc i) left = none_left events i left
 
--- after the connect, session and course send the same: the oldest unsent event, else the end mark if it may go
+-- after the connect, session and course send the same: the oldest unsent event or, if there is none, the end mark, if
+-- it may be sent
 publish_is : (kept : SessionState) (course : Course) → StandsFor kept course → (unsent : List Event)
     → kept.unsent ≡ unsent
     → publish_of kept unsent ≡ publish_packet course (slice_get course.offered (tags_sent course))
@@ -137,7 +138,7 @@ packet_is kept course stands =
     packet_same kept.sent course.sent kept.number course.number _ _ stands.sent stands.number
     (publish_is kept course stands kept.unsent refl)
 
--- the end mark was sent and no tag waits just where its tag, the one after the events', is confirmed
+-- the end mark was sent and no tag waits exactly if its tag, the one after the events', is confirmed
 done_by : (course : Course) (u : ℕ) (complete ended none : Bool)
     → ((tag : ℕ) → tags_sent course < tag → is_confirmed course tag ≡ false)
     → none ≡ list_all (is_confirmed course) (numbers_from 1 (tags_sent course))
@@ -180,7 +181,7 @@ holds_is kept course tag stands =
     ∙ holds_among course.base course.offered tag (λ other. not (is_confirmed course other)) 1 (tags_sent course)
     ∙ ap (λ b. b && not (is_confirmed course tag)) (sent_among (tags_sent course) tag)
 
--- a confirm counts where it is for a tag that waits
+-- a confirm counts exactly if it is for this session and for a tag that waits
 pub takes_is : (kept : SessionState) (course : Course) (session tag : ℕ) → StandsFor kept course
     → ((session == kept.number) && holds_tag tag kept.unconfirmed) ≡ takes_confirm course session tag
 takes_is kept course session tag stands =
@@ -194,7 +195,7 @@ confirmed_is kept course stands =
     ∙ confirmed_by course kept.last_sent (tags_sent course)
     (past_sent course stands.confirmed_sent (1 + tags_sent course) (omega arith)) stands.last_sent
 
--- what holds, whatever is answered, holds where an error is
+-- what holds for every answer holds for an error
 pub whatever_answered : {A E P : Type 0} (answer : Result A E) → P → OnErr answer P
 whatever_answered (Ok given) p = tt
 whatever_answered (Err why) p = p

@@ -32,7 +32,7 @@ one_more : (b : Bool) (x : ℕ) (rest : Bool) (left : List ℕ) → rest ≡ (le
 one_more true x rest left same = same
 one_more false x rest left same = sym (never_nil (length left))
 
--- all pass a test just where none is left that fails it
+-- all pass a test exactly if none fails it
 pub none_fail : (p : ℕ → Bool) (tags : List ℕ) → list_all p tags ≡ (length (failing p tags) == 0)
 none_fail p [] = refl
 none_fail p (x ∷ tags) = one_more (p x) x (list_all p tags) (failing p tags) (none_fail p tags)
@@ -43,7 +43,7 @@ entries_more : (f g : ℕ → Unconfirmed) (b : Bool) (x : ℕ) (left : List ℕ
 entries_more f g true x left here rest = ap₂ (λ e (es : List Unconfirmed). e ∷ es) here rest
 entries_more f g false x left here rest = rest
 
--- what is kept of tags is the same where it is of each of the numbers
+-- two functions that agree on each of the numbers give the same entries
 pub entries_same : (f g : ℕ → Unconfirmed) (p : ℕ → Bool) (first n : ℕ)
     → ((tag : ℕ) → first ≤ tag → tag < first + n → f tag ≡ g tag)
     → map f (filter p (numbers_from first n)) ≡ map g (filter p (numbers_from first n))
@@ -53,7 +53,7 @@ entries_same f g p first (suc n) same =
     (entries_same f g p (first + 1) n (λ tag from to. same tag (omega arith) (omega arith)))
 
 module _ (base : ℕ) (offered : List Event) (tag : ℕ) where
-  -- one number more, of which one test says the same as the other, or is for the tag
+  -- one more number, on which the two tests agree, or which is the tag
   without_more : (b c : Bool) (x : ℕ) (left right : List ℕ) → (x == tag) ≡ c
       → map (entry_of base offered) left ≡ without_tag tag (map (entry_of base offered) right)
       → map (entry_of base offered) (cond (not (b || c)) (x ∷ left) left)
@@ -67,7 +67,7 @@ module _ (base : ℕ) (offered : List Event) (tag : ℕ) where
       ∙ sym (ap (λ b. cond (not b) (entry_of base offered x ∷ without_tag tag (map (entry_of base offered) right))
       (without_tag tag (map (entry_of base offered) right))) is)
 
-  -- where one tag more passes, it is taken out of those that fail
+  -- if one more tag passes, it is taken out of those that fail
   pub without_passed : (p q : ℕ → Bool) → ((x : ℕ) → q x ≡ (p x || (x == tag))) → (tags : List ℕ)
       → map (entry_of base offered) (failing q tags) ≡ without_tag tag (map (entry_of base offered) (failing p tags))
   without_passed p q one [] = refl
@@ -75,7 +75,7 @@ module _ (base : ℕ) (offered : List Event) (tag : ℕ) where
       ap (λ b. map (entry_of base offered) (cond (not b) (x ∷ failing q tags) (failing q tags))) (one x)
       ∙ without_more (p x) (x == tag) x (failing q tags) (failing p tags) refl (without_passed p q one tags)
 
-  -- a number is this one, or one of those behind it
+  -- a number is this one or a later one
   one_or_later : (e later b passes : Bool) → (e ≡ true → passes ≡ b)
       → cond b (e || (later && passes)) (later && passes) ≡ ((e || later) && passes)
   one_or_later true later true passes same = sym (same refl)
@@ -96,7 +96,7 @@ module _ (base : ℕ) (offered : List Event) (tag : ℕ) where
   none_here : (first : ℕ) (b : Bool) → false ≡ ((nat_le first tag && nat_lt tag (first + zero)) && b)
   none_here first b = grind (arith, nat_tests)
 
-  -- a number from a first one on is that one or one of those behind it
+  -- a number of a range is its first one or a later one
   here_or_behind : (first n : ℕ) → ((first == tag) || (nat_le (first + 1) tag && nat_lt tag (first + 1 + n)))
       ≡ (nat_le first tag && nat_lt tag (first + suc n))
   here_or_behind first n = grind (arith, nat_tests)
@@ -105,7 +105,7 @@ module _ (base : ℕ) (offered : List Event) (tag : ℕ) where
   same_test : (p : ℕ → Bool) (x : ℕ) → (x == tag) ≡ true → p tag ≡ p x
   same_test p x is = let same : x ≡ tag = grind (arith, nat_tests) in ap p (sym same)
 
-  -- a tag is among the entries just where it is one of the numbers and passes
+  -- a tag is among the entries exactly if it is one of the numbers and passes
   pub holds_among : (p : ℕ → Bool) (first n : ℕ)
       → holds_tag tag (map (entry_of base offered) (filter p (numbers_from first n)))
       ≡ ((nat_le first tag && nat_lt tag (first + n)) && p tag)
@@ -123,14 +123,14 @@ open_from p first zero = zero
 open_from p first (suc n) = cond (p first) (suc (open_from p (first + 1) n)) zero
 
 -- by the course all is confirmed up to the last event before the first tag that isn't
-from_course : (course : Course) (events : List Event) (moment tag n : ℕ) → is_confirmed course (tag + n) ≡ false
-    → confirmed_from course moment tag events
-    ≡ last_timestamp_from moment (take (open_from (is_confirmed course) tag n) events)
-from_course course [] moment tag n last = ap (last_timestamp_from moment) (sym (take-nil _))
-from_course course (event ∷ events) moment tag zero last =
+from_course : (course : Course) (events : List Event) (time tag n : ℕ) → is_confirmed course (tag + n) ≡ false
+    → confirmed_from course time tag events
+    ≡ last_timestamp_from time (take (open_from (is_confirmed course) tag n) events)
+from_course course [] time tag n last = ap (last_timestamp_from time) (sym (take-nil _))
+from_course course (event ∷ events) time tag zero last =
     let here : is_confirmed course tag ≡ false = ap (is_confirmed course) (sym (add-zero tag)) ∙ last in
-    ap (λ b. if b then confirmed_from course event.timestamp (tag + 1) events else moment) here
-from_course course (event ∷ events) moment tag (suc n) last =
+    ap (λ b. if b then confirmed_from course event.timestamp (tag + 1) events else time) here
+from_course course (event ∷ events) time tag (suc n) last =
     let later : tag + suc n ≡ tag + 1 + n = omega arith in
     by (is_confirmed course tag)
     (from_course course events event.timestamp (tag + 1) n (ap (is_confirmed course) (sym later) ∙ last))
@@ -138,8 +138,8 @@ from_course course (event ∷ events) moment tag (suc n) last =
     by : (b : Bool)
         → confirmed_from course event.timestamp (tag + 1) events
         ≡ last_timestamp_from event.timestamp (take (open_from (is_confirmed course) (tag + 1) n) events)
-        → (if b then confirmed_from course event.timestamp (tag + 1) events else moment)
-        ≡ last_timestamp_from moment (take (cond b (suc (open_from (is_confirmed course) (tag + 1) n)) zero)
+        → (if b then confirmed_from course event.timestamp (tag + 1) events else time)
+        ≡ last_timestamp_from time (take (cond b (suc (open_from (is_confirmed course) (tag + 1) n)) zero)
         (event ∷ events))
     by true rest = rest
     by false rest = refl
@@ -167,7 +167,7 @@ from_entries p base offered last_sent first (suc n) last =
         rest ∙ ap (timestamp_after base offered) further
     by false rest = let here : first - 1 ≡ first + zero - 1 = omega arith in ap (timestamp_after base offered) here
 
--- so what is kept tells how far all is confirmed
+-- so the state determines how far all is confirmed
 pub confirmed_by : (course : Course) (last_sent tags : ℕ) → is_confirmed course (1 + tags) ≡ false
     → last_sent ≡ timestamp_after course.base course.offered tags
     → confirmed_of last_sent

@@ -13,7 +13,7 @@ use Rattle.cdc_publisher.specs.declared.session.Poll.{Poll}
 use Rattle.cdc_publisher.proofs.Moves.{passes_too}
 use Rattle.cdc_publisher.proofs.Tags.{failing}
 
--- what holds where a session wants events
+-- what holds if a session wants events
 record Wants (course : Course) (poll : Poll) : Type 0 where
   sent : all_sent course ≡ true
   open_end : course.complete ≡ false
@@ -76,7 +76,7 @@ widened course next wanted is sent complete window last fewer =
     let room = wants.room in
     let limit = is.limit in
     let before : course.window - length (unconfirmed course) ≡ is.now.limit = ap (λ (p : Poll). p.limit) wants.is in
-    let moment : last_timestamp_from course.base course.offered ≡ is.now.after =
+    let time : last_timestamp_from course.base course.offered ≡ is.now.after =
     ap (λ (p : Poll). p.after) wants.is in
     record {
       now = record {
@@ -86,7 +86,7 @@ widened course next wanted is sent complete window last fewer =
       wants = next_poll_by next (all_sent next) (nat_lt (length (unconfirmed next)) next.window) next.complete
           (sent ∙ wants.sent) (below (length (unconfirmed next)) next.window (omega arith))
           (complete ∙ wants.open_end) _;
-      after = is.after ∙ sym moment ∙ sym last;
+      after = is.after ∙ sym time ∙ sym last;
       limit = omega arith;
     }
   where
@@ -112,7 +112,7 @@ confirms_widen course wanted session tag is = by (takes_confirm course session t
         (numbers_from 1 (tags_sent course)))
     by false = is
 
--- nothing is published where all are sent and the end isn't known
+-- nothing is published if all events are sent and the session isn't complete
 publishes_none : (course : Course) → all_sent course ≡ true → course.complete ≡ false
     → publish_packet course (slice_get course.offered (tags_sent course)) ≡ None
 publishes_none course sent end =
@@ -153,7 +153,7 @@ IsReply-wanted course wanted events is reply =
     subst (λ (o : Option Poll). IsOffered o events) (sym is.wants)
     (record {
       count = omega arith;
-      rising = subst (λ moment. RiseFrom moment events) is.after reply.rising;
+      rising = subst (λ time. RiseFrom time events) is.after reply.rising;
       fits = reply.fits;
     })
 

@@ -15,9 +15,9 @@ use Rattle.cdc_publisher.specs.declared.errors.StartError.{StartError}
 use Rattle.cdc_publisher.specs.declared.errors.StartError.TheVariants.{SessionsExhausted, StartNotAllowed}
 use Rattle.cdc_publisher.specs.declared.session.Poll.{Poll}
 
--- a session: its number; the start, the moment that the first session began after; the timestamp that this one begins
--- after; for how many events it waits at a time; the events that it was offered, in order; whether none follow them;
--- how many packets it has sent; and the tags that were confirmed to it
+-- a session's course: its number; the start, the timestamp after which the first session began; the timestamp after
+-- which this one begins; its window, how many events may wait for their confirms at a time; the events that it was
+-- offered, in order; whether none follow them; how many packets it has sent; and the tags that were confirmed to it
 pub record Course : Type 0 where
   pub number : ℕ
   pub start : ℕ
@@ -45,8 +45,8 @@ new_course saved window = record {
 abbrev pub last_session : ℕ
 last_session = SESSION
 
--- what is saved when the first session starts, after this moment, or after 0 where none is asked for: all up to there
--- counts as confirmed
+-- what is saved when the first session starts, after this timestamp or, if none is asked for, after 0: everything up
+-- to there counts as confirmed
 abbrev pub first_saved : Option ℕ → Saved
 first_saved at = saved_from (unwrap_or at 0) 1 (unwrap_or at 0)
 
@@ -57,11 +57,11 @@ next_saved held =
     if held.session == last_session then Err SessionsExhausted
     else Ok (record held { session = held.session + 1 })
 
--- what is saved when a session starts where this is held, and a moment to start after is asked for or not; or why none
--- starts: a moment may be asked for only where nothing is held
+-- what is saved when a session starts with this record held, or why none starts: a timestamp to start after may be
+-- asked for only if no record is held
 abbrev pub begun : Option Saved → Option ℕ → Result Saved StartError
 begun None at = Ok (first_saved at)
-begun (Some held) (Some moment) = Err StartNotAllowed
+begun (Some held) (Some time) = Err StartNotAllowed
 begun (Some held) None = next_saved held
 
 -- the tags that were sent: the first packet has none, and the others have those from 1 on
@@ -93,8 +93,8 @@ unsent course = drop (tags_sent course) course.offered
 abbrev pub all_sent : Course → Bool
 all_sent course = nat_le (length course.offered) (tags_sent course)
 
--- the events that are wanted: none while an event is unsent, as many as may wait are unconfirmed, or the end is known;
--- else those after the last one that was offered, up to the number that may wait besides
+-- the events that are wanted: none while an event is unsent, while as many as may wait are unconfirmed, or once the
+-- session is complete; otherwise those after the last event offered, up to the number that may wait in addition
 abbrev pub next_poll : Course → Option Poll
 next_poll course =
     if all_sent course && nat_lt (length (unconfirmed course)) course.window && not course.complete
@@ -113,19 +113,19 @@ abbrev pub may_end : Course → Bool
 may_end course =
     course.complete && list_all (is_confirmed course) (numbers_from 1 (length course.offered))
 
--- the mark of the end, under the tag after those of the events; it is sent once, when it may be
+-- the end mark, under the tag after those of the events; it is sent once, when it may be
 abbrev pub end_packet : Course → Option Packet
 end_packet course =
     if may_end course && (tags_sent course == length course.offered)
     then Some (Publish course.number course.sent EndMark)
     else None
 
--- the packet of an event under the tag that comes next, or else what the end asks for
+-- the packet of an event under the next tag or, without an event, the end mark, if it may be sent
 abbrev pub publish_packet : Course → Option Event → Option Packet
 publish_packet course (Some event) = Some (Publish course.number course.sent (OfEvent event))
 publish_packet course None = end_packet course
 
--- what is sent next: first the connect, then the oldest unsent event, and at the end its mark
+-- what is sent next: first the connect, then the oldest unsent event, and last the end mark
 abbrev pub next_packet : Course → Option Packet
 next_packet course =
     if course.sent == 0 then Some (Connect course.number)
@@ -143,11 +143,11 @@ abbrev pub with_sent : Option Packet → Course → Course
 with_sent None course = course
 with_sent (Some packet) course = record course { sent = course.sent + 1 }
 
--- the mark of the end was sent: more tags than there are events
+-- the end mark was sent: there are more tags than events
 abbrev pub has_ended : Course → Bool
 has_ended course = nat_lt (length course.offered) (tags_sent course)
 
--- a confirm of a session's tag counts where it is this session and the tag was sent and isn't confirmed
+-- a confirm counts if it is for this session and for a tag that was sent and isn't confirmed
 abbrev pub takes_confirm : Course → ℕ → ℕ → Bool
 takes_confirm course session tag =
     (session == course.number) && (is_sent course tag && not (is_confirmed course tag))
@@ -164,12 +164,12 @@ after_answer course session Connected = course
 after_answer course session Ignored = course
 after_answer course session Broken = course
 
--- the timestamp of the last event before the first unconfirmed one, where the events begin with this tag, after this
--- moment
+-- the timestamp of the last event before the first unconfirmed one, or the given timestamp if there is none; the
+-- events have tags from the given one on
 abbrev pub confirmed_from : Course → ℕ → ℕ → List Event → ℕ
-confirmed_from course moment tag [] = moment
-confirmed_from course moment tag (event ∷ events) =
-    if is_confirmed course tag then confirmed_from course event.timestamp (tag + 1) events else moment
+confirmed_from course time tag [] = time
+confirmed_from course time tag (event ∷ events) =
+    if is_confirmed course tag then confirmed_from course event.timestamp (tag + 1) events else time
 
 -- the timestamp of the last event such that it and each earlier one is confirmed, or the base
 abbrev pub confirmed_timestamp : Course → ℕ

@@ -12,7 +12,7 @@ pub record IsReply (poll : Poll) (events : List Event) : Type 0 where
   pub rising : RiseFrom poll.after events
   pub fits : All (λ event. event.timestamp ≤ TIMESTAMP) events
 
--- the same where it may want none, and then nothing may be offered
+-- the same for a session that may want none; then nothing may be offered
 abbrev pub IsOffered : Option Poll → List Event → Type 0
 IsOffered None events = ⊥
 IsOffered (Some poll) events = IsReply poll events

@@ -4,7 +4,7 @@ use Rattle.cdc_message.specs.declared.packets.Packet.{Packet}
 use Rattle.cdc_publisher.specs.Courses.{Course, next_packet, next_poll, with_confirm, with_sent}
 use Rattle.cdc_publisher.specs.declared.session.Poll.{Poll}
 
--- what was wanted still is: events after the same moment, and at least as many
+-- what was wanted still is: events after the same timestamp, and at least as many
 pub record IsWanted (course : Course) (wanted : Poll) : Type 0 where
   pub now : Poll
   pub wants : next_poll course ≡ Some now

@@ -1,4 +1,4 @@
--- How what a session keeps stands for its course.
+-- How a session's state represents its course.
 use Rattle.std.specs.Prelude.{◌≡◌, ℕ, ◌+◌, ◌-◌, ◌≤◌, Bool, IsTrue, Option, Some, None, List, All, take, drop, length, map, if◌then◌else◌}
 use Rattle.std.specs.List.{list_all}
 use Rattle.cdc_types.specs.declared.bounds.TheConstants.Limits.{TIMESTAMP}
@@ -20,9 +20,9 @@ timestamp_after base offered n = last_timestamp_from base (take n offered)
 abbrev pub entry_of : ℕ → List Event → ℕ → Unconfirmed
 entry_of base offered tag = record { tag = tag; before = timestamp_after base offered (tag - 1) }
 
--- what is kept stands for this course: the numbers are the course's, the unsent events are those of the course that
--- have no tag yet, and the tags that wait are those that it has sent and that aren't confirmed; only what was sent is
--- confirmed, and the end mark is sent once all events are
+-- the state represents this course: the numbers are the course's, the unsent events are those of the course without a
+-- tag, and the tags that wait are those that were sent and aren't confirmed; only what was sent is confirmed, and the
+-- end mark is sent once all events are confirmed
 pub record StandsFor (kept : SessionState) (course : Course) : Type 0 where
   pub number : kept.number ≡ course.number
   pub start : kept.start ≡ course.start
@@ -41,7 +41,7 @@ pub record StandsFor (kept : SessionState) (course : Course) : Type 0 where
   pub end_waits : IsTrue kept.ended
       → IsTrue (list_all (is_confirmed course) (numbers_from 1 (length course.offered)))
 
--- what is kept of a session stands for this course: both are there, or neither
+-- the state of a session represents this course: both are there, or neither
 abbrev pub SessionStands : Option SessionState → Option Course → Type 0
 SessionStands None None = Unit {0}
 SessionStands None (Some course) = ⊥
@@ -50,7 +50,7 @@ SessionStands (Some kept) (Some course) = StandsFor kept course
 
 -- a timestamp isn't before the start, nor past the greatest one
 abbrev pub IsFrom : ℕ → ℕ → Type 0
-IsFrom start moment = (start ≤ moment) × (moment ≤ TIMESTAMP)
+IsFrom start time = (start ≤ time) × (time ≤ TIMESTAMP)
 
 -- what bounds the numbers that are kept: timestamps by the start and the greatest one, packets by how far timestamps
 -- have risen, and what waits by the window

@@ -17,9 +17,9 @@ CountsOne store = IsCounted store.failed_before store.failed_after
 abbrev pub CountsNone : StoreChange → Type 0
 CountsNone store = store.failed_after ≡ store.failed_before
 
--- a session has started on a store, after this moment where one was asked for, and this is what that made of the store:
--- a record was loaded, the one after it was saved and is held now, no failure was counted, and the session stands for a
--- new course from there
+-- a session has started on a store, after this timestamp if one was asked for, with this effect on the store: a
+-- record was loaded, the next one was saved and is now held, no failure was counted, and the session represents a new
+-- course from there
 pub record HasStarted (store : StoreChange) (at : Option ℕ) (window : ℕ) (kept : SessionState) : Type 0 where
   pub loaded : Option Saved
   pub saved : Saved
@@ -52,8 +52,8 @@ MayRefuseStart store at StartNotAllowed =
     CountsNone store
     × ((begun store.after at ≡ Err StartNotAllowed) × (IsTrue store.honest → store.after ≡ store.before))
 
--- a start on a store of these risks may be refused like this: as its calls may be, for want of a further number, for
--- want of memory, which it takes of its own, or for a moment that it may not start after
+-- a start on a store with these risks may be refused with this error: as its calls may be, because there is no
+-- further session number, because its own allocation fails, or because of a timestamp that it may not start after
 abbrev pub IsStartRisked : Risks → StartError → Type 0
 IsStartRisked risks (Store why) = IsRisked risks why
 IsStartRisked risks SessionsExhausted = Unit {0}

@@ -6,7 +6,7 @@ use Rattle.cdc_message.specs.declared.packets.Packet.{Packet}
 use Rattle.cdc_message.specs.declared.packets.Packet.TheVariants.{Connect, Publish}
 use Rattle.cdc_publisher.specs.SessionState.{SessionState, is_nil}
 
--- the end mark comes next, where no event is unsent
+-- the end mark comes next if no event is unsent
 abbrev pub ends : SessionState → Bool
 ends kept = kept.complete && (not kept.ended && is_nil kept.unconfirmed)
 
@@ -26,7 +26,7 @@ tagged kept = record kept {
   unconfirmed = kept.unconfirmed ++ record { tag = kept.sent; before = kept.last_sent } ∷ [];
 }
 
--- what is kept after the oldest unsent event was sent, or else the end mark, if it may be
+-- the state after the oldest unsent event was sent or, if there is none, the end mark, if it may be sent
 abbrev pub published : SessionState → List Event → SessionState
 published kept (event ∷ events) = record (tagged kept) { unsent = events; last_sent = event.timestamp }
 published kept [] = if ends kept then record (tagged kept) { ended = true } else kept

@@ -1,4 +1,4 @@
-//! Why a session doesn't start.
+//! Errors of a session's start.
 
 ghost use Rattle.std.specs.Prelude.{◌≡◌};
 ghost use Rattle.cdc_publisher.specs.Errors.{start_error_number, start_error_name};
@@ -10,16 +10,16 @@ use thiserror::Error;
 /// Why a session doesn't start.
 #[derive(Clone, Copy, Debug, PartialEq, Eq, Error)]
 pub enum StartError {
-    /// The store didn't load or save, for this reason; never for want of memory.
+    /// The store couldn't load or save, for this reason. The reason is never that memory ran out.
     #[error("the store refused: {0}")]
     Store(StoreError),
     /// The greatest session number is used up.
     #[error("there is no further session number")]
     SessionsExhausted,
-    /// There was no memory, here or in the store.
+    /// Memory ran out, here or in the store.
     #[error("out of memory")]
     OutOfMemory,
-    /// A moment to start after was asked for, though progress is saved already.
+    /// A timestamp to start after was given, although progress is saved already.
     #[error("progress is saved, so no start may be asked for")]
     StartNotAllowed,
 }
@@ -62,7 +62,7 @@ impl StartError {
         }
     }
 
-    /// The error's name, whatever the reason of the store.
+    /// The error's name. It is the same for every reason of the store.
     pub fn name(self) -> &'static str
         ensures { result.now ≡ start_error_name self }
     {

@@ -1,5 +1,5 @@
-//! A publisher's session: the events that it is offered go out under rising tags, their confirms are counted, and how
-//! far it has come is saved.
+//! A connector's session. It sends the events that it is offered under rising tags, counts their confirms, and saves
+//! how far it has come.
 #![tactic(auto)]
 
 pub mod errors;

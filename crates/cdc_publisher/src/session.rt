@@ -15,17 +15,17 @@ ghost use Rattle.cdc_publisher.specs.Turns.{advanced, ends, packet_of};
 use crate::errors::StartError;
 use cdc_message::{Item, Message, Packet};
 use cdc_progress::{Progress, ProgressStore, StoreError};
-use cdc_types::{Event, Limits, Moment};
+use cdc_types::{Event, EventTimestamp, Limits};
 use circular_buffer::HeapCircularBuffer;
 use std::alloc::{AllocError, Global};
 use std::marker::Model;
 
-/// The events that a session wants: those after a moment, up to a number.
+/// The events that a session wants: those after a timestamp, up to a number.
 #[derive(Clone, Copy, Debug, PartialEq, Eq)]
 pub struct Poll {
-    /// The moment that they follow, in nanoseconds.
+    /// The timestamp that the events follow, in nanoseconds.
     pub after: u64,
-    /// How many there may be.
+    /// The greatest number of events.
     pub limit: usize,
 }
 
@@ -33,37 +33,41 @@ pub struct Poll {
 #[derive(Clone, Copy)]
 struct Unconfirmed {
     tag: u64,
-    /// What all is confirmed up to while no earlier tag waits: the timestamp under the tag before it, or for tag 1 the
-    /// base.
+    /// The timestamp up to which all is confirmed while no earlier tag waits: that under the tag before this one, or
+    /// the base for tag 1.
     before: u64,
 }
 
-/// A publisher's session. It sends a connect, then each event that it was offered under tags from 1 on, and the mark of
-/// the end once all are confirmed; it keeps how far all are confirmed, which is what it saves. Up to as many events as
-/// its window says wait for their confirms at a time.
+/// A connector's session. It sends a connect, then each event that it was offered under tags from 1 on, and the end
+/// mark once all are confirmed. It keeps the timestamp up to which all are confirmed, which is what it saves. At most
+/// as many events as its window allows wait for their confirms at a time.
 ///
-/// A session forgets what it has sent and what was confirmed, so a clause speaks of its course, of all that it was
-/// offered, sent and was confirmed: take any course that the session may stand for before a call, and the clause says
-/// which one it is then.
+/// A session forgets what it has sent and what was confirmed. So contracts refer to its course: everything that it
+/// was offered, has sent and was confirmed. For any course that the session may represent before a call, a
+/// postcondition states which course it represents after the call.
 pub struct Session {
     number: u64,
-    /// The moment that the first session began after.
+    /// The timestamp after which the first session began, in nanoseconds.
     start: u64,
+    /// The timestamp after which this session begins, in nanoseconds. All its events are later.
     base: u64,
-    /// The timestamp of the event that it was offered last, or the base.
+    /// The timestamp of the event that was offered last, or the base.
     last: u64,
-    /// The timestamp of the event that it sent last, or the base.
+    /// The timestamp of the event that was sent last, or the base.
     last_sent: u64,
+    /// How many packets were sent, including the connect. After the connect, this is also the next tag.
     sent: u64,
     /// The events that are still to be sent, in order.
     unsent: HeapCircularBuffer<Event>,
-    /// In rising order. The window is its capacity.
+    /// In rising order of tags. Its capacity is the window.
     unconfirmed: HeapCircularBuffer<Unconfirmed>,
+    /// Whether no event follows those that were offered, since the ledger is closed.
     complete: bool,
+    /// Whether the end mark was sent.
     ended: bool,
 }
 
-// By hand, so that whoever lets go of a session calls this, and doesn't take it apart anew.
+// Written by hand, so that code that drops a session calls this instead of dropping each field itself.
 impl Drop for Session {
     fn drop(self) {
         let Session {
@@ -93,7 +97,7 @@ impl Model for Session {
     ghost invariant = { IsBounded };
 }
 
-/// The timestamp of the last event, or the one before them all.
+/// The timestamp of the last event, or `before` if there is none.
 fn last_of(events: &[Event], before: u64) -> u64
     ensures { result ≡ last_timestamp_from before events.now }
 {
@@ -103,7 +107,7 @@ fn last_of(events: &[Event], before: u64) -> u64
     }
 }
 
-/// Takes a tag out of a ring wherever it stands, and says whether it was there. The others stay in order.
+/// Takes a tag out of a ring, wherever it is, and returns whether it was there. The others stay in order.
 fn take_out(unconfirmed: &mut HeapCircularBuffer<Unconfirmed>, tag: u64) -> bool
     ensures taken { result ≡ holds_tag tag unconfirmed.old.items }
     ensures others { unconfirmed.new
@@ -121,17 +125,18 @@ fn take_out(unconfirmed: &mut HeapCircularBuffer<Unconfirmed>, tag: u64) -> bool
     taken
 }
 
-/// What is saved as the first session begins, after this moment or, where none is asked for, after 0.
-fn first_progress(at: Option<Moment>) -> Progress
+/// What is saved when the first session begins, after this timestamp or, if none is asked for, after 0.
+fn first_progress(at: Option<EventTimestamp>) -> Progress
     ensures { result ≡ first_saved at }
 {
     match at {
-        Some(moment) => Progress::new(1, moment.nanoseconds(), moment.nanoseconds()),
+        Some(time) => Progress::new(1, time.nanoseconds(), time.nanoseconds()),
         None => Progress::new(1, 0, 0),
     }
 }
 
-/// What is saved as a later session begins: the next number, with the same timestamp and start.
+/// What is saved when a later session begins: the next number, with the same timestamp and start. Fails if there is
+/// no next number.
 fn next_progress(held: Progress) -> Result<Progress, StartError>
     ensures { result ≡ next_saved held }
 {
@@ -141,8 +146,9 @@ fn next_progress(held: Progress) -> Result<Progress, StartError>
     Ok(Progress::new(number, held.timestamp(), held.start()))
 }
 
-/// What is saved as a session begins where this is held. A moment to start after is lawful only where nothing is.
-fn begin(held: Option<Progress>, at: Option<Moment>) -> Result<Progress, StartError>
+/// What is saved when a session begins with this record held. A timestamp to start after is allowed only if none is
+/// held.
+fn begin(held: Option<Progress>, at: Option<EventTimestamp>) -> Result<Progress, StartError>
     ensures { result ≡ begun held at }
 {
     match held {
@@ -153,21 +159,20 @@ fn begin(held: Option<Progress>, at: Option<Moment>) -> Result<Progress, StartEr
 }
 
 impl Session {
-    /// The session after the one whose progress a store holds. It begins after the timestamp that is held, once the
-    /// store has saved its number; so no later session has the same one. `window` is for how many events it may wait at
-    /// a time; it makes room for these before it turns to the store.
+    /// Starts the session after the one whose progress the store holds. It begins after the timestamp that is held,
+    /// once the store has saved its number; so no later session has the same one. `window` is how many events may
+    /// wait for their confirms at a time. The room for them is allocated before the store is used.
     ///
-    /// Where nothing is held it begins after `at`, or after 0 where that is none, and the store keeps this as the
-    /// start.
-    /// Where progress is held, `at` has to be none: `StartNotAllowed`, found once the store has loaded, and before
-    /// `SessionsExhausted`; nothing is saved then. `Store`: the store didn't load, and holds what it held; or it didn't
-    /// save, and holds what it loaded or the new record. `OutOfMemory`: there was no memory, here or in the store, and
-    /// nothing is saved.
+    /// If the store holds nothing, the session begins after `at`, or after 0 if `at` is `None`, and the store keeps
+    /// this as the start. If the store holds progress, `at` must be `None`; otherwise the error is `StartNotAllowed`.
+    /// It is found after the load and before `SessionsExhausted`, and nothing is saved. `Store`: the load failed, and
+    /// the store holds what it held; or the save failed, and the store holds what it loaded or the new record.
+    /// `OutOfMemory`: memory ran out, here or in the store, and nothing is saved.
     pub fn start<S: ProgressStore>(
         alloc: Global,
         store: &mut S,
         window: usize,
-        at: Option<Moment>,
+        at: Option<EventTimestamp>,
     ) -> Result<Session, StartError>
         requires { IsWindow window }
         ensures ok { IfOk result (HasStarted (record {
@@ -206,7 +211,6 @@ impl Session {
         })
     }
 
-    /// The session's number.
     pub fn number(&self) -> u64
         ensures { (course : Course) → StandsFor self.now course → result ≡ course.number }
     {
@@ -220,8 +224,8 @@ impl Session {
         self.base
     }
 
-    /// The events that the session wants; none while an event is unsent, while as many as may wait are unconfirmed, and
-    /// once the end is known.
+    /// The events that the session wants. `None` while an event is unsent, while as many as may wait are unconfirmed,
+    /// and once the session is complete.
     pub fn wants(&self) -> Option<Poll>
         ensures kept { result ≡ poll_of self.now }
         ensures wanted { (course : Course) → StandsFor self.now course → result ≡ next_poll course }
@@ -235,7 +239,7 @@ impl Session {
         })
     }
 
-    /// Takes the events that it wants, and whether no other ones follow them, since the ledger is closed.
+    /// Takes events that it wants. `complete` means that no others follow them, since the ledger is closed.
     pub fn offer(&mut self, events: &[Event], complete: bool)
         requires { IsOffered (poll_of self.old) events.now }
         ensures { (course : Course) → StandsFor self.old course
@@ -254,9 +258,9 @@ impl Session {
         self.is_sending()
     }
 
-    /// What the session sends next: first the connect, then the oldest unsent event, and the end mark once every event
-    /// is confirmed and no other one follows. Nothing where nothing is to be sent. An event alone takes memory, and
-    /// where that runs out nothing changes.
+    /// Takes the packet to send next: first the connect, then the oldest unsent event, and the end mark once every
+    /// event is confirmed and no other one follows. `None` if nothing is to be sent. Only an event needs memory; if
+    /// memory runs out, nothing changes.
     pub fn next_packet(&mut self, alloc: Global) -> Result<Option<Packet>, AllocError>
         ensures packet { (course : Course) → StandsFor self.old course
             → IfOk result (λ packet. packet ≡ next_packet course) }
@@ -271,8 +275,8 @@ impl Session {
         Ok(packet)
     }
 
-    /// Takes a confirm of a session's tag, and says whether it counts: it is this session's, and the tag was sent and
-    /// isn't confirmed. Nothing changes where it doesn't.
+    /// Takes a confirm of a session's tag, and returns whether it counts: it is for this session, and the tag was
+    /// sent and isn't confirmed. If it doesn't count, nothing changes.
     pub fn confirm(&mut self, session: u64, tag: u64) -> bool
         ensures answer { (course : Course) → StandsFor self.old course
             → result ≡ takes_confirm course session tag }
@@ -295,8 +299,8 @@ impl Session {
         }
     }
 
-    /// Saves the session's number, how far its events are confirmed, and the start as it was. A refused save leaves the
-    /// session as it is, and the store holds what it held or the new record; after `OutOfMemory` what it held.
+    /// Saves the session's number, how far its events are confirmed, and the start as it was. A refused save leaves
+    /// the session as it is. The store then holds what it held or the new record; after `OutOfMemory`, what it held.
     pub fn save<S: ProgressStore>(&self, store: &mut S) -> Result<(), StoreError>
         ensures saved { (course : Course) → StandsFor self.now course
             → OnOk result (S.held store.new ≡ Some (progress_of course)) }
@@ -335,7 +339,7 @@ impl Session {
         self.ended
     }
 
-    /// The timestamp of the event that the session was offered last, or the base; in nanoseconds.
+    /// The timestamp of the event that was offered last, or the base; in nanoseconds.
     pub fn last_offered(&self) -> u64
         ensures { (course : Course) → StandsFor self.now course
             → result ≡ last_timestamp_from course.base course.offered }
@@ -343,14 +347,14 @@ impl Session {
         self.last
     }
 
-    /// How many events the session was offered and has not sent yet.
+    /// How many events were offered and aren't sent yet.
     pub fn unsent_len(&self) -> usize
         ensures { (course : Course) → StandsFor self.now course → result ≡ length (unsent course) }
     {
         self.unsent.len()
     }
 
-    /// The event that the session sends next of those that it was offered, if one is unsent.
+    /// The oldest event that was offered and isn't sent, if there is one.
     pub fn next_event(&self) -> Option<&Event>
         ensures { (course : Course) → StandsFor self.now course
             → option_copied result ≡ slice_get (unsent course) 0 }
@@ -375,7 +379,7 @@ impl Session {
         Some(first.tag)
     }
 
-    /// Whether as many tags wait for their confirms as may wait at a time.
+    /// Whether the window is full: as many tags wait for their confirms as may wait at a time.
     pub fn is_full(&self) -> bool
         ensures { (course : Course) → StandsFor self.now course
             → result ≡ (length (unconfirmed course) == course.window) }
@@ -383,21 +387,20 @@ impl Session {
         self.unconfirmed.is_full()
     }
 
-    /// Whether the end mark comes next, where no event is unsent.
+    /// Whether the end mark comes next if no event is unsent.
     fn ends(&self) -> bool
         ensures { result ≡ ends self.now }
     {
         self.complete && !self.ended && self.unconfirmed.is_empty()
     }
 
-    /// Whether anything is sent next.
     fn is_sending(&self) -> bool
         ensures { result ≡ is_some (packet_of self.now) }
     {
         self.sent == 0 || !self.unsent.is_empty() || self.ends()
     }
 
-    /// What is sent next.
+    /// The packet to send next, if there is one. The session doesn't change.
     fn packet(&self, alloc: Global) -> Result<Option<Packet>, AllocError>
         ensures packet { IfOk result (λ packet. packet ≡ packet_of self.now) }
         ensures memory { OnErr result (IsTrue (has_event (packet_of self.now))) }
@@ -420,7 +423,7 @@ impl Session {
         }))
     }
 
-    /// Goes on to what is sent after the next packet, if there is one.
+    /// Marks the next packet as sent, if there is one.
     fn advance(&mut self)
         ensures { self.new ≡ advanced self.old }
     {

@@ -1,12 +1,12 @@
-//! How steps are made by chance.
+//! The parameters of random steps.
 
-/// How steps are made by chance. The same chances, script and window make the same steps on every machine.
+/// The parameters of random steps. The same parameters, script and window give the same steps on every machine.
 #[derive(Clone, Copy)]
 pub struct Chances {
-    /// What the random numbers come from.
+    /// The seed of the random numbers.
     pub seed: u64,
-    /// How many steps are made at most.
+    /// The greatest number of steps.
     pub steps: u64,
-    /// How many faults are strewn among them, if there is room for so many.
+    /// How many faults are injected among the steps, if there is room for as many.
     pub faults: u64,
 }

@@ -1,4 +1,4 @@
-//! Steps of a simulation that are made by chance, so that a failure that they find is a file.
+//! Random steps of a simulation, in a step file, so a failure that they find is a file.
 #![tactic(auto)]
 
 mod chances;

@@ -1,14 +1,14 @@
-//! Making steps: a world is played beside, and what it takes is written down.
+//! Generates random steps: each drawn step is tried in a world, and written to the step file if the world takes it.
 
 ghost use Rattle.std.specs.Prelude.{◌<◌};
 ghost use Rattle.cdc_types.specs.Windows.{IsWindow};
 
 use crate::chances::Chances;
+use cdc_diagnostics::step_text;
 use cdc_match::Binding;
 use cdc_progress::MemoryStore;
 use cdc_script::{ClientBatch, Script, ScriptError, parse_script};
-use cdc_telling::step_words;
-use cdc_types::{Limits, Moment, Step};
+use cdc_types::{EventTimestamp, Limits, Step};
 use cdc_world::{StepError, World};
 use rand::RngExt;
 use rand_core::SeedableRng;
@@ -17,49 +17,50 @@ use std::alloc::{AllocError, Global};
 use std::fmt::Write;
 use std::vec::IntoIter;
 
-/// How often a step is drawn that the world doesn't take, before nothing more is made.
+/// How often in a row the world may refuse a drawn step before no more steps are generated.
 const TRIES: u64 = 256;
 
-/// What is tried next.
+/// A draw: what is tried next.
 #[derive(Drop)]
 enum Draw {
     /// The script's next batch.
     Batch,
-    /// A step.
+    /// This step.
     Step(Step),
-    /// The packet that would arrive next is left out; only a fault may bring it later.
+    /// The next packet to arrive is skipped; only an injected fault may bring it later.
     LosePacket,
-    /// The confirm that would come next is left out; only a fault may bring it later.
+    /// The next confirm to come is skipped; only an injected fault may bring it later.
     LoseConfirm,
 }
 
-/// The steps so far, and what they go by.
+/// The steps so far, and the state that the next draws depend on.
 #[derive(Drop)]
 struct Maker {
-    /// Where random numbers come from.
+    /// The generator of random numbers.
     rng: Xoshiro256PlusPlus,
-    /// The script's batches that are left.
+    /// The script's batches that are not submitted yet.
     batches: IntoIter<ClientBatch>,
-    /// Whether no further batch is handed in.
+    /// Whether no further batch is submitted.
     batches_done: bool,
-    /// The greatest number of a packet that has come to the broker or was left out.
+    /// The greatest number of a packet that has come to the broker or was skipped.
     arrived: u64,
-    /// The greatest number of a confirm that has come to a session or was left out.
+    /// The greatest number of a confirm that has come to a session or was skipped.
     answered: u64,
-    /// Of each subscriber the greatest number of an acknowledgement that has come to the broker.
+    /// For each subscriber, the greatest number of an acknowledgement that has come to the broker.
     acked: [u64; Limits::SUBSCRIBERS],
-    /// Whether something was lost, or passed over, that the session waits for.
+    /// Whether the session waits for something that was lost or skipped.
     is_waiting: bool,
     /// Whether a session runs.
     runs: bool,
     /// Whether a confirm came since the last save.
     has_news: bool,
-    /// The steps and what was left out, a line for each.
+    /// The step file: one line for each step, and one comment for each skipped packet or confirm.
     text: String,
 }
 
-/// A step file for a script: steps that its world takes, one after another, in most of which all goes on and among
-/// which faults are strewn. A session waits for so many events at a time. Of a bad script there are none.
+/// Generates a step file for a script: steps that its world takes, one after another. Most of them make progress;
+/// faults are injected among them. `window` is how many events of a session may wait for their confirms at a time. A
+/// bad script gives an empty step file.
 pub fn random_steps(
     alloc: Global,
     script: &[u8],
@@ -68,7 +69,11 @@ pub fn random_steps(
 ) -> Result<String, AllocError>
     requires { IsWindow window }
 {
-    let Script { bindings, batches } = match parse_script(alloc, script) {
+    let Script {
+        bindings,
+        batches,
+        lines: _,
+    } = match parse_script(alloc, script) {
         Ok(script) => script,
         Err(ScriptError::Fault(_)) => return Ok(String::new(alloc)),
         Err(ScriptError::OutOfMemory) => return Err(AllocError),
@@ -90,7 +95,8 @@ pub fn random_steps(
     Ok(text)
 }
 
-/// Makes steps in a new world with these bindings. It is owned here alone, and lent to all else, since it owns much.
+/// Generates steps in a new world with these bindings. The world is owned only here, and lent to all other functions,
+/// since it owns much.
 fn make_in_world(
     alloc: Global,
     bindings: Vec<Binding>,
@@ -105,8 +111,8 @@ fn make_in_world(
 }
 
 impl Maker {
-    /// Makes steps until there are enough, or neither one by which all goes on nor a fault is found that the world
-    /// takes. Where all is done a fault makes more to do.
+    /// Generates steps until there are enough, or until the world takes neither a step that makes progress nor a
+    /// fault. If all is done, a fault makes more to do.
     fn make(
         &mut self,
         alloc: Global,
@@ -132,7 +138,7 @@ impl Maker {
         Ok(())
     }
 
-    /// Makes one step, a fault or one by which all goes on; answers whether the world took any.
+    /// Generates one step, a fault or one that makes progress. Returns whether the world took any.
     fn make_one(
         &mut self,
         alloc: Global,
@@ -152,7 +158,7 @@ impl Maker {
         Ok(false)
     }
 
-    /// A number below this one.
+    /// A random number below this one.
     fn below(&mut self, count: u64) -> u64
         requires { 0 < count }
         ensures { result < count }
@@ -160,7 +166,7 @@ impl Maker {
         self.rng.random_range(0..count)
     }
 
-    /// The number, from 1, of one of the subscribers, and 0 where there is none.
+    /// The number, from 1, of a random subscriber, or 0 if there is none.
     fn subscriber(&mut self, world: &World<MemoryStore>) -> usize {
         match world.subscriber_count() {
             0 => 0,
@@ -168,7 +174,7 @@ impl Maker {
         }
     }
 
-    /// A step by which all goes on.
+    /// Draws a step that makes progress.
     fn draw_step(&mut self, world: &World<MemoryStore>) -> Draw {
         let i = self.subscriber(world);
         let number = i as u64;
@@ -187,21 +193,22 @@ impl Maker {
         }
     }
 
-    /// A session's start, or its end where it waits for what was lost. The first one may be told where to start.
+    /// A session's start, or a crash if it waits for what was lost. The first session may be given a timestamp to
+    /// start after.
     fn start(&mut self, world: &World<MemoryStore>) -> Step {
         if self.runs && self.is_waiting {
             return Step::Crash;
         }
         if world.packets() == 0 && self.below(4) == 0 {
             let last = world.ledger().last();
-            if let Some(moment) = Moment::new(self.below(last.saturating_add(1))) {
-                return Step::StartAt(moment);
+            if let Some(time) = EventTimestamp::new(self.below(last.saturating_add(1))) {
+                return Step::StartAt(time);
             }
         }
         Step::Start
     }
 
-    /// A save where a confirm came since the last one, or else the packet that comes next.
+    /// A save if a confirm came since the last one, or otherwise the next packet.
     fn draw_save(&self) -> Draw {
         if self.has_news {
             Draw::Step(Step::Save)
@@ -210,8 +217,8 @@ impl Maker {
         }
     }
 
-    /// The last of so many acknowledgements of a subscriber, where neither it nor a later one has come; else its next
-    /// delivery, since an acknowledgement that comes again says nothing new.
+    /// The last of `count` acknowledgements of a subscriber, if neither it nor a later one has come; otherwise its
+    /// next delivery, since a duplicate of an acknowledgement changes nothing.
     fn draw_ack(&self, number: u64, count: u64) -> Draw {
         match self.acked.get(number.wrapping_sub(1) as usize) {
             Some(acked) if *acked < count => Draw::Step(Step::Ack(number, count)),
@@ -219,7 +226,7 @@ impl Maker {
         }
     }
 
-    /// The ledger's close, once no batch is left to hand in.
+    /// The ledger's close, once no batch is left to submit.
     fn draw_ending(&mut self) -> Draw {
         if self.batches_done {
             Draw::Step(Step::CloseLedger)
@@ -228,7 +235,7 @@ impl Maker {
         }
     }
 
-    /// A fault.
+    /// Draws a fault.
     fn draw_fault(&mut self, world: &World<MemoryStore>) -> Draw {
         let i = self.subscriber(world);
         let number = i as u64;
@@ -245,7 +252,7 @@ impl Maker {
         }
     }
 
-    /// A number from 1 to this one; 0 where that is 0.
+    /// A random number from 1 to this one, or 0 if this is 0.
     fn one_of(&mut self, count: usize) -> u64 {
         match count as u64 {
             0 => 0,
@@ -253,7 +260,8 @@ impl Maker {
         }
     }
 
-    /// A subscriber's close, which is rarer than other faults: after it there is little to see of it.
+    /// A subscriber's close, or a rewind instead, so that closes are rarer than other faults: a closed subscriber
+    /// shows little.
     fn draw_close(&mut self, number: u64) -> Draw {
         if self.below(4) == 0 {
             Draw::Step(Step::Close(number))
@@ -262,7 +270,7 @@ impl Maker {
         }
     }
 
-    /// Takes what was drawn, where the world takes it, and writes it down. Answers whether it did.
+    /// Tries what was drawn, and writes it down if the world takes it. Returns whether it did.
     fn try_draw(
         &mut self,
         alloc: Global,
@@ -277,8 +285,8 @@ impl Maker {
         }
     }
 
-    /// Hands in the next batch, if one is left. After one that the ledger refuses no other is handed in: the play would
-    /// end there.
+    /// Submits the next batch, if one is left. After a batch that the ledger refuses no other is submitted, since the
+    /// play would stop there.
     fn try_batch(
         &mut self,
         alloc: Global,
@@ -296,7 +304,7 @@ impl Maker {
         Ok(is_done)
     }
 
-    /// Takes a step, where the world takes it, and writes it down. Answers whether it did.
+    /// Tries a step, and writes it down if the world takes it. Returns whether it did.
     fn try_step(
         &mut self,
         alloc: Global,
@@ -312,11 +320,11 @@ impl Maker {
             Err(_) => return Ok(false),
         }
         self.follow(step);
-        let words = step_words(step);
+        let words = step_text(step);
         done_if(writeln!(self.text, "{words}").is_ok())
     }
 
-    /// Keeps what a step that was done says of what comes next.
+    /// Updates what the next draws depend on after a step that was done.
     fn follow(&mut self, step: &Step) {
         match step {
             Step::Start | Step::StartAt(_) => {
@@ -343,7 +351,7 @@ impl Maker {
         }
     }
 
-    /// Leaves out the next packet of so many, if there is one.
+    /// Skips the next of `count` packets. Returns false if none is left.
     fn lose_packet(&mut self, count: u64) -> Result<bool, AllocError> {
         if self.arrived >= count {
             return Ok(false);
@@ -354,7 +362,7 @@ impl Maker {
         done_if(writeln!(self.text, "# packet {number} is left out").is_ok())
     }
 
-    /// Leaves out the next confirm of so many, if there is one.
+    /// Skips the next of `count` confirms. Returns false if none is left.
     fn lose_confirm(&mut self, count: u64) -> Result<bool, AllocError> {
         if self.answered >= count {
             return Ok(false);
@@ -366,7 +374,7 @@ impl Maker {
     }
 }
 
-/// That something was done, where its line was written, for which there was no memory else.
+/// Returns true if the line of what was done is written. Otherwise there was no memory for it.
 fn done_if(is_written: bool) -> Result<bool, AllocError> {
     if is_written {
         Ok(true)
@@ -375,7 +383,7 @@ fn done_if(is_written: bool) -> Result<bool, AllocError> {
     }
 }
 
-/// How many acknowledgements the subscriber of this number gave; 0 where there is none of this number.
+/// How many acknowledgements the subscriber with this number has sent; 0 if there is no such subscriber.
 fn acks_of(world: &World<MemoryStore>, i: usize) -> u64 {
     if i == 0 || i > world.subscriber_count() {
         return 0;

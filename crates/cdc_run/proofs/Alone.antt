@@ -1,11 +1,11 @@
--- The replies and the ledger of a run in which one client alone hands in batches.
+-- The replies and the ledger of a run in which only one client submits batches.
 use Rattle.std.proofs.Common.{◌≡◌, ◌==◌, ◌⊎◌, ℕ, zero, suc, ◌+◌, ◌-◌, ◌<◌, ◌≤◌, Bool, true, false, List, [], ◌∷◌, ◌++◌, refl, sym, ap, ◌∙◌, subst, map, length, eq-eqb, arith, inl, inr}
 use Rattle.std.specs.Prelude.{All, Result, cond, filter, if◌then◌else◌}
 use Rattle.std.proofs.lemmas.Bool.{cases_lt, eqb-false, eqb-true}
 use Rattle.std.proofs.lemmas.List.{length-append, map-append}
 use Rattle.std.proofs.lemmas.List.Elements.{All-cons, All-head, All-nil, All-tail}
 use Rattle.std.proofs.lemmas.Simd.{map-map}
-use Rattle.cdc_ends.specs.Orders.{batches_by, batches_in, past_of, reply_after, said_from, said_to}
+use Rattle.cdc_actors.specs.Orders.{batches_by, batches_in, past_of, reply_after, named_replies_from, named_replies_to}
 use Rattle.cdc_ledger.specs.declared.errors.BatchError.{BatchError}
 use Rattle.cdc_ledger.specs.History.{History, empty_history}
 use Rattle.cdc_ledger.specs.Submit.{after_batches, history_or, submit}
@@ -16,7 +16,6 @@ use Rattle.cdc_traffic.specs.declared.pasts.Past.{Past}
 use Rattle.cdc_traffic.specs.declared.requests.Reply.{Reply}
 use Rattle.cdc_types.specs.declared.batches.Batch.{Batch}
 use Rattle.cdc_types.specs.declared.batches.BatchResults.{BatchResults}
-use Rattle.cdc_types.specs.Features.{features}
 use Rattle.cdc_run.specs.Books.{AreReplied}
 use Rattle.cdc_run.specs.Determined.{HaveNone, LoneClientsAreServedAlone, answers_from}
 use Rattle.cdc_run.specs.Settling.{IsOfClients, IsReplied}
@@ -44,21 +43,21 @@ history_push : (before : List (ℕ × Batch)) (p : ℕ × Batch)
     → history_of (past_of (before ++ p ∷ []))
     ≡ history_or (history_of (past_of before)) (submit (history_of (past_of before)) p.1)
 history_push before p =
-    ap (after_batches features empty_history) (map-append (λ (q : ℕ × Batch). q.1) before (p ∷ []))
-    ∙ after_batches_push features empty_history (batches_in before) p.1
+    ap (after_batches empty_history) (map-append (λ (q : ℕ × Batch). q.1) before (p ∷ []))
+    ∙ after_batches_push empty_history (batches_in before) p.1
 
--- and it is said the ledger's answers to them, each after those before it
-said_in_turn : (client : ℕ) (before order : List (ℕ × Batch)) → AllOwn client order
-    → map (λ m. m.0.answer) (said_from client before order)
+-- and its replies have the ledger's answers to them, each after those before it
+dispatched_in_turn : (client : ℕ) (before order : List (ℕ × Batch)) → AllOwn client order
+    → map (λ m. m.0.answer) (named_replies_from client before order)
     ≡ answers_from (history_of (past_of before)) (batches_in order)
-said_in_turn client before [] own = refl
-said_in_turn client before (p ∷ order) own =
-    let said : List (Reply × Past) = said_from client (before ++ p ∷ []) order in
+dispatched_in_turn client before [] own = refl
+dispatched_in_turn client before (p ∷ order) own =
+    let dispatched : List (Reply × Past) = named_replies_from client (before ++ p ∷ []) order in
     let first : Result BatchResults BatchError = answer_shown (history_of (past_of before)) p.1 in
     ap (λ (b : Bool). map (λ (m : Reply × Past). m.0.answer)
-    ((if b then (reply_after client before p.1, past_of before) ∷ [] else []) ++ said)) (is_own client p order own)
+    ((if b then (reply_after client before p.1, past_of before) ∷ [] else []) ++ dispatched)) (is_own client p order own)
     ∙ ap (λ (answers : List (Result BatchResults BatchError)). first ∷ answers)
-    (said_in_turn client (before ++ p ∷ []) order (All-tail (λ (q : ℕ × Batch). q.0 ≡ client) p order own)
+    (dispatched_in_turn client (before ++ p ∷ []) order (All-tail (λ (q : ℕ × Batch). q.0 ≡ client) p order own)
     ∙ ap (λ (h : History). answers_from h (batches_in order)) (history_push before p))
 
 -- ---- whose batches there are
@@ -83,7 +82,7 @@ none_first p order none =
     subst (λ (x : Bool). map (λ (q : ℕ × Batch). q.1) (cond x (p ∷ kept) kept) ≡ []) (eq-eqb p.0 p.0 refl) none in
     cc
 
--- so the first batch is this client's, where no other has any
+-- so the first batch is this client's, if no other has any
 first_own : (client : ℕ) (p : ℕ × Batch) (order : List (ℕ × Batch)) (b : Bool) → (p.0 == client) ≡ b
     → ((p.0 ≡ client → ⊥) → batches_by p.0 (p ∷ order) ≡ []) → p.0 ≡ client
 first_own client p order true is none = eqb-true p.0 client is
@@ -165,14 +164,14 @@ lone_clients order ledger before replies after none_before none_after are =
     (λ k first last other.
     others order before after none_before none_after each.0 each.1.1 k first last other
     (cases_lt (length before) k)) in
-    let said : List (Reply × Past) = said_to client order in
+    let dispatched : List (Reply × Past) = named_replies_to client order in
     let batches : batches_in order ≡ map (λ (r : Reply). r.batch) replies =
     sym (own_batches client order own) ∙ replied.batches in
     record {
       ledger_is = are.ledger_is
           ∙ ap (λ (bs : List Batch). history_of (record { batches = bs; closed = true })) batches;
       answers = ap (map (λ (r : Reply). r.answer)) replied.answers
-          ∙ map-map (λ (r : Reply). r.answer) (λ (m : Reply × Past). m.0) said
-          ∙ said_in_turn client [] order own
+          ∙ map-map (λ (r : Reply). r.answer) (λ (m : Reply × Past). m.0) dispatched
+          ∙ dispatched_in_turn client [] order own
           ∙ ap (answers_from empty_history) batches;
     }

@@ -10,7 +10,7 @@ use Rattle.cdc_run.specs.Plans.{IsLeast, closes_of}
 abbrev pub counts : ℕ → ℕ × ℕ → Bool
 counts subscriber entry = (entry.0 == subscriber) && nat_le 1 entry.1
 
--- one entry more adds its number, where it counts
+-- one more entry adds its number, if it counts
 closes_push : (subscriber : ℕ) (closes : List (ℕ × ℕ)) (entry : ℕ × ℕ)
     → closes_of subscriber (closes ++ entry ∷ [])
     ≡ closes_of subscriber closes ++ map (λ c. c.1) (cond (counts subscriber entry) (entry ∷ []) [])
@@ -49,7 +49,7 @@ least_falls subscriber closes entry n least so low lower which is =
           (All-weaker (λ m. n ≤ m) (λ m. least ≤ m) (λ m h. omega arith) numbers is.1) lower,
     )
 
--- and where there was none
+-- and if there was none
 pub least_begins : (subscriber : ℕ) (closes : List (ℕ × ℕ)) (entry : ℕ × ℕ)
     → counts subscriber entry ≡ true → IsLeast (closes_of subscriber closes) None
     → IsLeast (closes_of subscriber (closes ++ entry ∷ [])) (Some entry.1)

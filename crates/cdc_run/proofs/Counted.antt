@@ -6,8 +6,8 @@ use Rattle.std.proofs.lemmas.Bool.Decides.{eqb_tells, nat_tests}
 use Rattle.std.proofs.lemmas.List.{length-map}
 use Rattle.std.proofs.lemmas.List.Elements.{All-from_recursion, All-head, All-tail}
 use Rattle.std.proofs.lemmas.List.Sums.{sum_by-cons}
-use Rattle.cdc_ends.specs.LedgerEnds.{batch_in, order_of}
-use Rattle.cdc_ends.specs.Orders.{batches_by}
+use Rattle.cdc_actors.specs.Ledger.{batch_in, order_of}
+use Rattle.cdc_actors.specs.Orders.{batches_by}
 use Rattle.cdc_links.specs.Links.{CanSend, FollowFrom, Outgoing, of_sender}
 use Rattle.cdc_links.proofs.Entries.{follow-prefix, of_sender-append}
 use Rattle.cdc_traffic.specs.Following.{FollowsToLedger, MaySendLedger}
@@ -22,7 +22,7 @@ module _ {M N : Type 0} (entries : List (ℕ × (M × N))) where
   abbrev below : ℕ → ℕ
   below number = length (filter (λ e. nat_lt e.0 number) entries)
 
--- a list with one more where a test holds
+-- a list with one more element if a test holds
 length_cond : {X : Type 0} (b : Bool) (x : X) (xs : List X) → length (cond b (x ∷ xs) xs) ≡ cond b 1 0 + length xs
 length_cond true x xs = omega arith
 length_cond false x xs = omega arith
@@ -71,7 +71,7 @@ below_all {M} {N} entries number (end ∷ ends) whole are =
     ap (below entries) place in
     omega arith
 
--- where all are kept each passes
+-- if all are kept, each passes
 passes_with : {X : Type 0} (x : X) (kept xs : List X) (b : Bool) → length kept ≤ length xs
     → cond b (x ∷ kept) kept ≡ x ∷ xs → (b ≡ true) × (kept ≡ xs)
 passes_with x kept xs true most is = (refl, cc)
@@ -119,23 +119,23 @@ none_asked_by before (m ∷ sent) chain =
     ap (λ (l : List Batch). l ++ asked (map (λ m. m.0) sent)) (none_asked (length before) m.0 chain.0.may)
     ∙ none_asked_by (before ++ m ∷ []) sent chain.1
 
--- where nobody has the number 0, each has a number above
+-- if nothing has the number 0, each has a number above it
 above : (order : List (ℕ × Batch)) → batches_by 0 order ≡ [] → AllByRecursion (λ p. 0 < p.0) order
 above [] none = tt
 above (p ∷ order) none =
     elim (eqb_tells p.0 0) [
-      | inl tells ↦
+      | inl decides ↦
           let own : List (ℕ × Batch) = filter (λ q. q.0 == 0) order in
           let batches : List (ℕ × Batch) → List Batch = map (λ q. q.1) in
           let there : p.1 ∷ batches own ≡ [] =
-          ap (λ (b : Bool). batches (cond b (p ∷ own) own)) (sym tells.0) ∙ none in
+          ap (λ (b : Bool). batches (cond b (p ∷ own) own)) (sym decides.0) ∙ none in
           absurd (let no : p.1 ∷ batches own ≡ [] = there in cc)
-      | inr tells ↦
+      | inr decides ↦
           let own : List (ℕ × Batch) = filter (λ q. q.0 == 0) order in
           let batches : List (ℕ × Batch) → List Batch = map (λ q. q.1) in
           let rest : batches own ≡ [] =
-          ap (λ (b : Bool). batches (cond b (p ∷ own) own)) (sym tells.0) ∙ none in
-          let apart : p.0 ≢ 0 = tells.1 in
+          ap (λ (b : Bool). batches (cond b (p ∷ own) own)) (sym decides.0) ∙ none in
+          let apart : p.0 ≢ 0 = decides.1 in
           (omega arith, above order rest)
     ]
 

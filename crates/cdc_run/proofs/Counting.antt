@@ -1,35 +1,42 @@
--- Which faults the ends of a run have met, by their places.
-use Rattle.std.proofs.Common.{◌≡◌, ◌⊎◌, ℕ, suc, ◌+◌, List, [], ◌∷◌, ◌++◌, Option, Some, None, Result, Ok, Err, refl, sym, ap, ◌∙◌, subst, arith, length, map, inl, inr}
-use Rattle.std.specs.Prelude.{Bool, IfSome}
+-- What the actors of a run came to, by their places.
+use Rattle.std.proofs.Common.{◌≡◌, ℕ, ◌+◌, List, [], ◌∷◌, ◌++◌, Option, Some, None, Result, Ok, Err, refl, sym, ap, ◌∙◌, subst, arith, length, map, inl, inr, true, false}
+use Rattle.std.specs.Prelude.{Bool, IfSome, if◌then◌else◌}
 use Rattle.std.specs.List.{AllByRecursion, AllZip}
-use Rattle.cdc_ends.specs.Clients.{Talk}
-use Rattle.cdc_ends.specs.ConnectorEnds.{Publishing}
-use Rattle.cdc_ends.specs.SubscriberEnds.{Intake}
-use Rattle.cdc_ends.specs.declared.faults.RunFault.{RunFault}
-use Rattle.cdc_ends.specs.ConnectorSoFar.{IsFaultOf as IsMetByConnector}
-use Rattle.cdc_ends.specs.declared.faults.RunFault.TheVariants.{PeerGone, OutOfMemory, Store, SessionsExhausted, NotOneSystem, StartNotAllowed}
-use Rattle.cdc_progress.specs.declared.errors.StoreError.TheVariants as store
-use Rattle.cdc_ends.specs.Ends.{EndState}
-use Rattle.cdc_ends.specs.Faults.{IsTurnFault}
-use Rattle.cdc_ends.specs.Seats.{ConnectorSeat, broker_seat, client_seat, connector_seat, ledger_seat, subscriber_seat}
+use Rattle.cdc_actors.specs.Broker.{BrokerCore}
+use Rattle.cdc_actors.specs.Client.{ClientCore}
+use Rattle.cdc_actors.specs.Connector.{ConnectorCore}
+use Rattle.cdc_actors.specs.Connector.SoFar.{IsFaultOf as IsMetByConnector}
+use Rattle.cdc_actors.specs.Ends.{ActorState}
+use Rattle.cdc_actors.specs.Faults.{IsTurnFault}
+use Rattle.cdc_actors.specs.Ledger.{LedgerCore}
+use Rattle.cdc_actors.specs.Seats.{ClientSeat, ConnectorSeat, SubscriberSeat, connector_seat}
+use Rattle.cdc_actors.specs.Stops.{StopState}
+use Rattle.cdc_actors.specs.Subscriber.{SubscriberCore}
+use Rattle.cdc_actors.specs.declared.faults.RunFault.{RunFault}
+use Rattle.cdc_actors.specs.declared.faults.RunFault.TheVariants.{PeerGone, OutOfMemory, Store, SessionsExhausted, NotOneSystem, StartNotAllowed}
+use Rattle.cdc_actors.specs.declared.met.Met.{Met}
+use Rattle.cdc_actors.specs.declared.met.Met.TheVariants.{Fault, Unstarted}
+use Rattle.cdc_actors.specs.declared.places.Place.{Place}
+use Rattle.cdc_actors.specs.declared.places.Place.TheVariants as place
 use Rattle.cdc_links.specs.Links.{LinkId}
 use Rattle.cdc_progress.specs.Records.{Saved}
 use Rattle.cdc_progress.specs.Stores.{Risks}
-use Rattle.cdc_run.specs.Accounts.{IsRefused}
+use Rattle.cdc_progress.specs.declared.errors.StoreError.TheVariants as store
+use Rattle.cdc_run.specs.SettledLinks.{IsRefused}
 use Rattle.cdc_run.specs.Jobs.{ComesTo}
 use Rattle.cdc_run.specs.Made.{AreMade, made_clients, made_subscribers}
-use Rattle.cdc_run.specs.Meeting.{IsConnectorFault, IsRunFault, MayHaveMet, MayMeet, clients_from, fault_in, places_in, subscribers_from}
-use Rattle.cdc_run.specs.Outcomes.{fault_among, fault_of, first_of}
-use Rattle.cdc_run.specs.Scripted.{ScriptedState}
-use Rattle.cdc_run.specs.Tasks.{Fails, IsMet, Leaves, numbered, places_of, tasks_at, with_scripts}
-use Rattle.cdc_run.specs.Worked.{IsFaultOf}
+use Rattle.cdc_run.specs.Meeting.{CameTo, IsConnectorFault, IsRunFailure, MayMeet, MayStop, clients_from, places_in, subscribers_from}
+use Rattle.cdc_run.specs.Outcomes.{first_of, first_stop, is_gone}
+use Rattle.cdc_run.specs.Tasks.{Leaves, Meets, Stops, places_of, tasks_at, with_scripts}
+use Rattle.cdc_run.specs.Worked.{HaveStopped}
+use Rattle.cdc_run.specs.declared.actors.Actor.{Actor}
+use Rattle.cdc_run.specs.declared.actors.Actor.TheVariants as actor
 use Rattle.cdc_run.specs.declared.configs.Config.{Config}
 use Rattle.cdc_run.specs.declared.ends.Ends.{Ends}
-use Rattle.cdc_run.specs.declared.placed.Left.{Left}
+use Rattle.cdc_run.specs.declared.failures.Failure.{Failure}
+use Rattle.cdc_run.specs.declared.failures.Failure.TheVariants as failure
 use Rattle.cdc_run.specs.declared.placed.Task.{Task}
 use Rattle.cdc_run.specs.declared.placed.Task.TheVariants as task
-use Rattle.cdc_run.specs.declared.places.Place.{Place}
-use Rattle.cdc_run.specs.declared.places.Place.TheVariants as place
 use Rattle.cdc_run.specs.declared.plans.Faults.{Faults}
 use Rattle.cdc_traffic.specs.declared.messages.ToBroker.{ToBroker}
 use Rattle.cdc_traffic.specs.declared.messages.ToLedger.{ToLedger}
@@ -37,19 +44,8 @@ use Rattle.cdc_traffic.specs.declared.messages.ToSubscriber.{ToSubscriber}
 use Rattle.cdc_traffic.specs.declared.requests.Reply.{Reply}
 use Rattle.cdc_types.specs.declared.batches.Batch.{Batch}
 
--- a fault of a kind that has the want of memory
-of_kind : (K : RunFault → Type 0) (fault : RunFault) → K OutOfMemory → K fault ⊎ (fault ≡ OutOfMemory) → K fault
-of_kind K fault memory (inl kind) = kind
-of_kind K fault memory (inr none) = subst K (sym none) memory
-
--- a fault that was met by some end
-met_kind : {W Seat : Type 0} (seat_of : W → Seat) (K : RunFault → Type 0) (old : EndState W) (fault : RunFault)
-    → IsMet seat_of (λ _. K) old fault ⊎ (fault ≡ OutOfMemory) → K fault ⊎ (fault ≡ OutOfMemory)
-met_kind seat_of K old fault (inl met) = inl met.2.1
-met_kind seat_of K old fault (inr none) = inr none
-
--- the connector's end meets such faults alone
-fault_kind : (c : Publishing) (fault : RunFault) → IsMetByConnector c fault → IsConnectorFault c.honest c.risks fault
+-- the connector meets such faults alone
+fault_kind : (c : ConnectorCore) (fault : RunFault) → IsMetByConnector c fault → IsConnectorFault c.honest c.risks fault
 fault_kind c PeerGone is = tt
 fault_kind c OutOfMemory is = tt
 fault_kind c (Store store.ReadFault) is = is
@@ -61,214 +57,255 @@ fault_kind c NotOneSystem is = absurd is
 fault_kind c StartNotAllowed is = tt
 
 -- over the store that it began with
-connector_kind : (old : EndState Publishing) (fault : RunFault)
-    → IsMet connector_seat IsMetByConnector old fault ⊎ (fault ≡ OutOfMemory)
-    → IsConnectorFault old.work.honest old.work.risks fault
-connector_kind old fault (inl met) =
-    let left : Publishing = met.0.work in
-    let honest : left.honest ≡ old.work.honest = ap (λ (seat : ConnectorSeat). seat.honest) met.1 in
-    let risks : left.risks ≡ old.work.risks = ap (λ (seat : ConnectorSeat). seat.risks) met.1 in
-    subst (λ (r : Risks). IsConnectorFault old.work.honest r fault) risks
-    (subst (λ (b : Bool). IsConnectorFault b left.risks fault) honest (fault_kind left fault met.2.1))
-connector_kind old fault (inr none) = subst (IsConnectorFault old.work.honest old.work.risks) (sym none) tt
+connector_kind : (old left : ConnectorCore) → connector_seat left ≡ connector_seat old → (fault : RunFault)
+    → IsMetByConnector left fault → IsConnectorFault old.honest old.risks fault
+connector_kind old left seat fault is =
+    let honest : left.honest ≡ old.honest = ap (λ (s : ConnectorSeat). s.honest) seat in
+    let risks : left.risks ≡ old.risks = ap (λ (s : ConnectorSeat). s.risks) seat in
+    subst (λ (r : Risks). IsConnectorFault old.honest r fault) risks
+    (subst (λ (b : Bool). IsConnectorFault b left.risks fault) honest (fault_kind left fault is))
 
--- ---- the fault that counts
+-- ---- the stop that counts
 
--- of two, it is of a kind of which both are
-first_kind : (K : RunFault → Type 0) (one later : Option RunFault) → IfSome one K → IfSome later K
+-- of two, the chosen one is of a kind of which both are
+chosen_kind : {A : Type 0} (K : A → Type 0) (b : Bool) (x y : Option A) → IfSome x K → IfSome y K
+    → IfSome (if b then x else y) K
+chosen_kind K true x y one other = one
+chosen_kind K false x y one other = other
+
+first_kind : (K : Place × Met → Type 0) (one later : Option (Place × Met)) → IfSome one K → IfSome later K
     → IfSome (first_of one later) K
 first_kind K None later is others = others
-first_kind K (Some PeerGone) None is others = is
-first_kind K (Some PeerGone) (Some other) is others = others
-first_kind K (Some OutOfMemory) later is others = is
-first_kind K (Some (Store why)) later is others = is
-first_kind K (Some SessionsExhausted) later is others = is
-first_kind K (Some NotOneSystem) later is others = is
-first_kind K (Some StartNotAllowed) later is others = is
+first_kind K (Some one) None is others = chosen_kind K (is_gone one.1) (Some one) (Some one) is is
+first_kind K (Some one) (Some later) is others =
+    chosen_kind K (is_gone one.1) (if is_gone later.1 then Some one else Some later) (Some one)
+    (chosen_kind K (is_gone later.1) (Some one) (Some later) is others) is
 
 module _ (honest : Bool) (risks : Risks) where
-  -- whoever meets a fault, a connector might have met it
-  turn_kind : (fault : RunFault) → IsTurnFault fault → IsConnectorFault honest risks fault
-  turn_kind fault (inl gone) = subst (IsConnectorFault honest risks) (sym gone) tt
-  turn_kind fault (inr none) = subst (IsConnectorFault honest risks) (sym none) tt
+  -- a place at which an actor may stop so
+  abbrev MayStopThere : Place × Met → Type 0
+  MayStopThere stop = MayStop honest risks stop.0 stop.1
 
-  place_kind : (at : Place) (fault : RunFault) → MayMeet honest risks at fault → IsConnectorFault honest risks fault
-  place_kind place.Ledger fault may = turn_kind fault may
-  place_kind (place.Client number) fault may = turn_kind fault may
-  place_kind place.Connector fault may = may
-  place_kind place.Broker fault may = turn_kind fault may
-  place_kind (place.Subscriber number) fault may = turn_kind fault may
+  -- whatever an actor met is of a kind that one of its place may meet
+  may_stop : {W : Type 0} (K : W → RunFault → Type 0) (left : ActorState W) (at : Place)
+      → ((fault : RunFault) → K left.work fault → MayMeet honest risks at fault) → (met : Met) → Meets K left met
+      → MayStop honest risks at met
+  may_stop K left at may (Fault fault) met = may fault met.1
+  may_stop K left at may Unstarted met = tt
 
-  some_kind : (at : Place) (met : Option RunFault) → MayHaveMet honest risks at met
-      → IfSome met (IsConnectorFault honest risks)
-  some_kind at None may = tt
-  some_kind at (Some fault) may = place_kind at fault may
-
-  -- so might it have met the one that counts
-  counted_kind : (places : List Place) (met : List (Option RunFault)) → AllZip (MayHaveMet honest risks) places met
-      → IfSome (fault_in met) (IsConnectorFault honest risks)
+module _ (S : Type 0) (system : ℕ) (honest : Bool) (risks : Risks) where
+  -- the stop that counts is one that may be
+  counted_kind : (places : List Place) (outcomes : List (Result (Actor S) StopState))
+      → AllZip (CameTo system honest risks) places outcomes
+      → IfSome (first_stop outcomes) (MayStopThere honest risks)
   counted_kind [] [] all = tt
-  counted_kind [] (one ∷ met) all = absurd all
+  counted_kind [] (outcome ∷ outcomes) all = absurd all
   counted_kind (at ∷ places) [] all = absurd all
-  counted_kind (at ∷ places) (one ∷ met) all =
-      first_kind (IsConnectorFault honest risks) one (fault_in met) (some_kind at one all.0)
-      (counted_kind places met all.1)
+  counted_kind (at ∷ places) (Ok one ∷ outcomes) all = counted_kind places outcomes all.1
+  counted_kind (at ∷ places) (Err stop ∷ outcomes) all =
+      first_kind (MayStopThere honest risks) (Some (stop.place, stop.met)) (first_stop outcomes)
+      (subst (λ (p : Place). MayStop honest risks p stop.met) (sym all.0.0) all.0.2)
+      (counted_kind places outcomes all.1)
 
--- ---- place by place
+  -- ---- place by place
 
-module _ (S : Type 0) (honest : Bool) (risks : Risks) where
-  -- where an end stands
-  abbrev place_of : Task S → Place
-  place_of (task.Ledger end) = place.Ledger
-  place_of (task.Client client) = place.Client client.end.work.number
-  place_of (task.Connector end) = place.Connector
-  place_of (task.Broker end) = place.Broker
-  place_of (task.Subscriber number end) = place.Subscriber number
+  -- an actor's place before it works
+  abbrev stands_at : Task S → Place
+  stands_at (task.Ledger end) = place.Ledger
+  stands_at (task.Client client) = place.Client client.end.work.number
+  stands_at (task.Connector end) = place.Connector
+  stands_at (task.Broker end) = place.Broker
+  stands_at (task.Subscriber end) = place.Subscriber end.work.number
 
-  -- a connector works over such a store
+  -- it is of this system, and a connector works over such a store
   abbrev IsOver : Task S → Type 0
-  IsOver (task.Ledger end) = Unit {0}
-  IsOver (task.Client client) = Unit {0}
-  IsOver (task.Connector end) = (end.work.honest ≡ honest) × (end.work.risks ≡ risks)
-  IsOver (task.Broker end) = Unit {0}
-  IsOver (task.Subscriber number end) = Unit {0}
+  IsOver (task.Ledger end) = end.system ≡ system
+  IsOver (task.Client client) = client.end.system ≡ system
+  IsOver (task.Connector end) = (end.system ≡ system) × (end.work.honest ≡ honest) × (end.work.risks ≡ risks)
+  IsOver (task.Broker end) = end.system ≡ system
+  IsOver (task.Subscriber end) = end.system ≡ system
 
-  -- so it does among all ends
-  over_subscribers : (number : ℕ) (subscribers : List (EndState Intake))
-      → AllByRecursion IsOver (numbered number subscribers)
-  over_subscribers number [] = tt
-  over_subscribers number (s ∷ subscribers) = (tt, over_subscribers (number + 1) subscribers)
+  -- one actor came to what it may come to
+  one_came : (t : Task S) (outcome : Result (Actor S) StopState) → IsOver t → ComesTo Leaves Stops t outcome
+      → CameTo system honest risks (stands_at t) outcome
+  one_came (task.Ledger old) (Ok (actor.Ledger new)) over come = (refl, come.end.system ∙ over, come.end.done)
+  one_came (task.Ledger old) (Ok other) over come = absurd come.end
+  one_came (task.Ledger old) (Err stop) over come = (
+    come.stop.place,
+    come.stop.system ∙ over,
+    may_stop honest risks (λ (d : LedgerCore). IsTurnFault) come.stop.left place.Ledger (λ fault is. is) stop.met
+        come.stop.met,
+  )
+  one_came (task.Client old) (Ok (actor.Client new)) over come = (
+    ap (λ (seat : ClientSeat). place.Client seat.number) come.end.left.seat,
+    come.end.left.system ∙ over,
+    come.end.left.done,
+  )
+  one_came (task.Client old) (Ok other) over come = absurd come.end
+  one_came (task.Client old) (Err stop) over come = (
+    come.stop.place ∙ ap (λ (seat : ClientSeat). place.Client seat.number) come.stop.seat,
+    come.stop.system ∙ over,
+    may_stop honest risks (λ (c : ClientCore). IsTurnFault) come.stop.left (place.Client old.end.work.number)
+        (λ fault is. is) stop.met come.stop.met,
+  )
+  one_came (task.Connector old) (Ok (actor.Connector new)) over come =
+      (refl, come.end.system ∙ over.0, come.end.done)
+  one_came (task.Connector old) (Ok other) over come = absurd come.end
+  one_came (task.Connector old) (Err stop) over come = (
+    come.stop.place,
+    come.stop.system ∙ over.0,
+    may_stop honest risks IsMetByConnector come.stop.left place.Connector (λ fault is.
+        subst (λ (r : Risks). IsConnectorFault honest r fault) over.2
+        (subst (λ (b : Bool). IsConnectorFault b old.work.risks fault) over.1
+        (connector_kind old.work come.stop.left.work come.stop.seat fault is))) stop.met come.stop.met,
+  )
+  one_came (task.Broker old) (Ok (actor.Broker new)) over come = (refl, come.end.system ∙ over, come.end.done)
+  one_came (task.Broker old) (Ok other) over come = absurd come.end
+  one_came (task.Broker old) (Err stop) over come = (
+    come.stop.place,
+    come.stop.system ∙ over,
+    may_stop honest risks (λ (d : BrokerCore). IsTurnFault) come.stop.left place.Broker (λ fault is. is) stop.met
+        come.stop.met,
+  )
+  one_came (task.Subscriber old) (Ok (actor.Subscriber new)) over come = (
+    ap (λ (seat : SubscriberSeat). place.Subscriber seat.number) come.end.seat,
+    come.end.system ∙ over,
+    come.end.done,
+  )
+  one_came (task.Subscriber old) (Ok other) over come = absurd come.end
+  one_came (task.Subscriber old) (Err stop) over come = (
+    come.stop.place ∙ ap (λ (seat : SubscriberSeat). place.Subscriber seat.number) come.stop.seat,
+    come.stop.system ∙ over,
+    may_stop honest risks (λ (c : SubscriberCore). IsTurnFault) come.stop.left (place.Subscriber old.work.number)
+        (λ fault is. is) stop.met come.stop.met,
+  )
 
-  over_clients : (clients : List ScriptedState) (rest : List (Task S)) → AllByRecursion IsOver rest
-      → AllByRecursion IsOver (map task.Client clients ++ rest)
-  over_clients [] rest over = over
-  over_clients (c ∷ clients) rest over = (tt, over_clients clients rest over)
+  -- so did each
+  all_came : (ts : List (Task S)) (outcomes : List (Result (Actor S) StopState)) → AllByRecursion IsOver ts
+      → AllZip (ComesTo Leaves Stops) ts outcomes
+      → AllZip (CameTo system honest risks) (map stands_at ts) outcomes
+  all_came [] [] over all = tt
+  all_came [] (outcome ∷ outcomes) over all = absurd all
+  all_came (t ∷ ts) [] over all = absurd all
+  all_came (t ∷ ts) (outcome ∷ outcomes) over all =
+      (one_came t outcome over.0 all.0, all_came ts outcomes over.1 all.1)
 
-  -- one end has met what it may meet
-  one_met : (t : Task S) (outcome : Result (Left S) RunFault) → IsOver t → ComesTo Leaves Fails t outcome
-      → MayHaveMet honest risks (place_of t) (fault_of outcome)
-  one_met t (Ok left) over come = tt
-  one_met (task.Ledger end) (Err fault) over come =
-      of_kind IsTurnFault fault (inr refl) (met_kind ledger_seat IsTurnFault end fault come.fault)
-  one_met (task.Client client) (Err fault) over come =
-      of_kind IsTurnFault fault (inr refl) (met_kind client_seat IsTurnFault client.end fault come.fault)
-  one_met (task.Connector end) (Err fault) over come =
-      subst (λ (r : Risks). IsConnectorFault honest r fault) over.1
-      (subst (λ (b : Bool). IsConnectorFault b end.work.risks fault) over.0 (connector_kind end fault come.fault))
-  one_met (task.Broker end) (Err fault) over come =
-      of_kind IsTurnFault fault (inr refl) (met_kind broker_seat IsTurnFault end fault come.fault)
-  one_met (task.Subscriber number end) (Err fault) over come =
-      of_kind IsTurnFault fault (inr refl) (met_kind subscriber_seat IsTurnFault end fault come.fault)
-
-  -- so has each
-  all_met : (ts : List (Task S)) (outcomes : List (Result (Left S) RunFault)) → AllByRecursion IsOver ts
-      → AllZip (ComesTo Leaves Fails) ts outcomes
-      → AllZip (MayHaveMet honest risks) (map place_of ts) (map fault_of outcomes)
-  all_met [] [] over all = tt
-  all_met [] (outcome ∷ outcomes) over all = absurd all
-  all_met (t ∷ ts) [] over all = absurd all
-  all_met (t ∷ ts) (outcome ∷ outcomes) over all =
-      (one_met t outcome over.0 all.0, all_met ts outcomes over.1 all.1)
-
-  -- the fault that counts among outcomes is the one that counts of their faults
-  counts_in : (outcomes : List (Result (Left S) RunFault)) → fault_among outcomes ≡ fault_in (map fault_of outcomes)
-  counts_in [] = refl
-  counts_in (outcome ∷ outcomes) = ap (first_of (fault_of outcome)) (counts_in outcomes)
-
-  -- where new clients stand, and what comes behind them
-  clients_stand : (system : ℕ) (requests : LinkId ToLedger) (number : ℕ) (links : List (LinkId Reply))
+  -- the places of new clients, and of what comes after them
+  clients_stand : (requests : LinkId ToLedger) (number : ℕ) (links : List (LinkId Reply))
       (scripts : List (List Batch)) (rest : List (Task S)) → length scripts ≡ length links
-      → map place_of (map task.Client (with_scripts (made_clients system requests number links) scripts) ++ rest)
-      ≡ clients_from number (length links) ++ map place_of rest
-  clients_stand system requests number [] scripts rest many = refl
-  clients_stand system requests number (link ∷ links) [] rest many = absurd (omega arith)
-  clients_stand system requests number (link ∷ links) (script ∷ scripts) rest many =
+      → map stands_at (map task.Client (with_scripts (made_clients system requests number links) scripts) ++ rest)
+      ≡ clients_from number (length links) ++ map stands_at rest
+  clients_stand requests number [] scripts rest many = refl
+  clients_stand requests number (link ∷ links) [] rest many = absurd (omega arith)
+  clients_stand requests number (link ∷ links) (script ∷ scripts) rest many =
       let fewer : length scripts ≡ length links = omega arith in
       ap (λ (l : List Place). place.Client number ∷ l)
-      (clients_stand system requests (number + 1) links scripts rest fewer)
+      (clients_stand requests (number + 1) links scripts rest fewer)
 
-  -- and where subscribers do
-  subscribers_stand : (number : ℕ) (subscribers : List (EndState Intake))
-      → map place_of (numbered number subscribers) ≡ subscribers_from number (length subscribers)
-  subscribers_stand number [] = refl
-  subscribers_stand number (s ∷ subscribers) =
-      ap (λ (l : List Place). place.Subscriber number ∷ l) (subscribers_stand (number + 1) subscribers)
+  -- and the places of new subscribers
+  subscribers_stand : (acks : LinkId ToBroker) (number : ℕ) (links : List (LinkId ToSubscriber))
+      (closes : List (Option ℕ)) → length closes ≡ length links
+      → map stands_at (map task.Subscriber (made_subscribers system acks number links closes))
+      ≡ subscribers_from number (length links)
+  subscribers_stand acks number [] closes many = refl
+  subscribers_stand acks number (link ∷ links) [] many = absurd (omega arith)
+  subscribers_stand acks number (link ∷ links) (close ∷ closes) many =
+      let fewer : length closes ≡ length links = omega arith in
+      ap (λ (l : List Place). place.Subscriber number ∷ l)
+      (subscribers_stand acks (number + 1) links closes fewer)
 
--- as many were made as there are links to them
-subscribers_count : (system : ℕ) (acks : LinkId ToBroker) (number : ℕ) (links : List (LinkId ToSubscriber))
-    (closes : List (Option ℕ)) → length closes ≡ length links
-    → length (made_subscribers system acks number links closes) ≡ length links
-subscribers_count system acks number [] closes many = refl
-subscribers_count system acks number (link ∷ links) [] many = absurd (omega arith)
-subscribers_count system acks number (link ∷ links) (close ∷ closes) many =
-    let fewer : length closes ≡ length links = omega arith in
-    ap (λ (n : ℕ). suc n) (subscribers_count system acks (number + 1) links closes fewer)
+  -- they are all of the system
+  clients_over : (requests : LinkId ToLedger) (number : ℕ) (links : List (LinkId Reply))
+      (scripts : List (List Batch)) (rest : List (Task S)) → AllByRecursion IsOver rest
+      → AllByRecursion IsOver
+      (map task.Client (with_scripts (made_clients system requests number links) scripts) ++ rest)
+  clients_over requests number [] scripts rest over = over
+  clients_over requests number (link ∷ links) [] rest over = over
+  clients_over requests number (link ∷ links) (script ∷ scripts) rest over =
+      (refl, clients_over requests (number + 1) links scripts rest over)
+
+  subscribers_over : (acks : LinkId ToBroker) (number : ℕ) (links : List (LinkId ToSubscriber))
+      (closes : List (Option ℕ))
+      → AllByRecursion IsOver (map task.Subscriber (made_subscribers system acks number links closes))
+  subscribers_over acks number [] closes = tt
+  subscribers_over acks number (link ∷ links) [] = tt
+  subscribers_over acks number (link ∷ links) (close ∷ closes) =
+      (refl, subscribers_over acks (number + 1) links closes)
 
 module _ {S : Type 0} (config : Config) (faults : Faults) (held : Option Saved) (honest : Bool) (risks : Risks)
     (ends : Ends S) (made : AreMade config faults held honest risks ends) (scripts : List (List Batch)) where
-  -- the connector among the ends of a run works over the store that this was given
-  all_over : AllByRecursion (IsOver S honest risks) (tasks_at (places_of ends) scripts)
-  all_over = (
-    tt,
-    over_clients S honest risks (with_scripts ends.clients.items scripts)
-        (task.Connector ends.connector ∷ task.Broker ends.broker ∷ numbered 1 ends.subscribers.items) (
-          (
-            ap (λ (e : EndState Publishing). e.work.honest) made.connector,
-            ap (λ (e : EndState Publishing). e.work.risks) made.connector,
-          ),
-          (tt, over_subscribers S honest risks 1 ends.subscribers.items),
-        ),
-  )
+  -- the actors of a run after its clients
+  abbrev others : List (ActorState SubscriberCore) → List (Task S)
+  others subscribers =
+      task.Connector ends.connector ∷ task.Broker ends.broker ∷ map task.Subscriber subscribers
 
-  -- where all ends of a run stand
+  -- all are of the system, and the connector works over the store that this was given
+  all_over : AllByRecursion (IsOver S config.system honest risks) (tasks_at (places_of ends) scripts)
+  all_over =
+      let Over : Task S → Type 0 = IsOver S config.system honest risks in
+      let subscribers : AllByRecursion Over (map task.Subscriber ends.subscribers.items) =
+      subst (λ (l : List (ActorState SubscriberCore)). AllByRecursion Over (map task.Subscriber l))
+      (sym made.subscribers)
+      (subscribers_over S config.system honest risks made.wiring.to_broker 1 made.wiring.to_subscribers made.closes) in
+      let rest : AllByRecursion Over (others ends.subscribers.items) = (
+        (
+          ap (λ (e : ActorState ConnectorCore). e.system) made.connector,
+          ap (λ (e : ActorState ConnectorCore). e.work.honest) made.connector,
+          ap (λ (e : ActorState ConnectorCore). e.work.risks) made.connector,
+        ),
+        (ap (λ (e : ActorState BrokerCore). e.system) made.broker, subscribers),
+      ) in (
+        ap (λ (e : ActorState LedgerCore). e.system) made.ledger,
+        subst (λ (l : List (ActorState ClientCore)).
+            AllByRecursion Over (map task.Client (with_scripts l scripts) ++ others ends.subscribers.items))
+            (sym made.clients)
+            (clients_over S config.system honest risks made.wiring.to_ledger 1 made.wiring.to_clients scripts
+            (others ends.subscribers.items) rest),
+      )
+
+  -- the places of all actors of a run
   all_stand : length scripts ≡ config.clients
-      → map (place_of S honest risks) (tasks_at (places_of ends) scripts)
+      → map (stands_at S config.system honest risks) (tasks_at (places_of ends) scripts)
       ≡ places_in config.clients (length config.bindings.items)
   all_stand many =
-      let links : List (LinkId Reply) = made.wiring.to_clients in
-      let rest : List (Task S) =
-      task.Connector ends.connector ∷ task.Broker ends.broker ∷ numbered 1 ends.subscribers.items in
-      let behind : List Place = place.Connector ∷ place.Broker ∷ [] in
-      let subscribers : map (place_of S honest risks) (numbered 1 ends.subscribers.items)
+      let at : Task S → Place = stands_at S config.system honest risks in
+      let rest : List (Task S) = others ends.subscribers.items in
+      let subscribers : map at (map task.Subscriber ends.subscribers.items)
       ≡ subscribers_from 1 (length config.bindings.items) =
-      subscribers_stand S honest risks 1 ends.subscribers.items
-      ∙ ap (subscribers_from 1)
-      (ap (λ (l : List (EndState Intake)). length l) made.subscribers
-      ∙ subscribers_count config.system made.wiring.to_broker 1 made.wiring.to_subscribers made.closes
+      ap (λ (l : List (ActorState SubscriberCore)). map at (map task.Subscriber l)) made.subscribers
+      ∙ subscribers_stand S config.system honest risks made.wiring.to_broker 1 made.wiring.to_subscribers made.closes
       (made.closes_count ∙ sym made.subscribers_count)
-      ∙ made.subscribers_count) in
+      ∙ ap (subscribers_from 1) made.subscribers_count in
       ap (λ (l : List Place). place.Ledger ∷ l)
-      (ap (λ (cs : List (EndState Talk)).
-      map (place_of S honest risks) (map task.Client (with_scripts cs scripts) ++ rest)) made.clients
-      ∙ clients_stand S honest risks config.system made.wiring.to_ledger 1 links scripts rest
+      (ap (λ (cs : List (ActorState ClientCore)). map at (map task.Client (with_scripts cs scripts) ++ rest))
+      made.clients
+      ∙ clients_stand S config.system honest risks made.wiring.to_ledger 1 made.wiring.to_clients scripts rest
       (many ∙ sym made.clients_count)
-      ∙ ap (λ (n : ℕ). clients_from 1 n ++ map (place_of S honest risks) rest) made.clients_count
+      ∙ ap (λ (n : ℕ). clients_from 1 n ++ map at rest) made.clients_count
       ∙ ap (λ (l : List Place). clients_from 1 config.clients ++ place.Connector ∷ place.Broker ∷ l) subscribers)
 
-  -- so the fault that counts is that of a run
+  -- so the stop that counts is that of a run
   pub has_failed : length scripts ≡ config.clients → (ts : List (Task S)) → ts ≡ tasks_at (places_of ends) scripts
-      → (fault : RunFault) → IsFaultOf Leaves Fails ts fault
-      → IsRunFault honest risks config.clients (length config.bindings.items) fault
-  has_failed many ts same fault (inl none) = inl none
-  has_failed many ts same fault (inr met) =
+      → (why : Failure S) → HaveStopped ts why
+      → IsRunFailure config.system honest risks config.clients (length config.bindings.items) why
+  has_failed many ts same failure.OutOfMemory have = tt
+  has_failed many ts same (failure.Stopped at met outcomes) have =
+      let Came : Place → Result (Actor S) StopState → Type 0 = CameTo config.system honest risks in
       let places : List Place = places_in config.clients (length config.bindings.items) in
-      let faults : List (Option RunFault) = map fault_of met.0 in
-      let over : AllByRecursion (IsOver S honest risks) ts =
-      subst (λ (l : List (Task S)). AllByRecursion (IsOver S honest risks) l) (sym same) all_over in
-      let may : AllZip (MayHaveMet honest risks) places faults =
-      subst (λ (ps : List Place). AllZip (MayHaveMet honest risks) ps faults)
-      (ap (map (place_of S honest risks)) same ∙ all_stand many) (all_met S honest risks ts met.0 over met.1) in
-      let counts : fault_in faults ≡ Some fault = sym (counts_in S honest risks met.0) ∙ met.2 in
-      inr (record {
-        met = faults;
-        may = may;
-        counts = counts;
-        kind = subst (λ (o : Option RunFault). IfSome o (IsConnectorFault honest risks)) counts
-            (counted_kind honest risks places faults may);
-      })
+      let over : AllByRecursion (IsOver S config.system honest risks) ts =
+      subst (λ (l : List (Task S)). AllByRecursion (IsOver S config.system honest risks) l) (sym same) all_over in
+      let come : AllZip Came places outcomes.items =
+      subst (λ (ps : List Place). AllZip Came ps outcomes.items)
+      (ap (map (stands_at S config.system honest risks)) same ∙ all_stand many)
+      (all_came S config.system honest risks ts outcomes.items over have.0) in
+      record {
+        come = come;
+        counts = have.1;
+        kind = subst (λ (o : Option (Place × Met)). IfSome o (MayStopThere honest risks)) have.1
+            (counted_kind S config.system honest risks places outcomes.items come);
+      }
 
--- ends that have all finished are put together, but for want of memory
-pub unsettled : (honest : Bool) (risks : Risks) (n m : ℕ) (AreFit : Type 0) → AreFit → (fault : RunFault)
-    → IsRefused AreFit fault → IsRunFault honest risks n m fault
-unsettled honest risks n m AreFit fit fault (inl none) = inl none
-unsettled honest risks n m AreFit fit fault (inr other) = absurd (other.1 fit)
+-- actors that have all finished are put together, unless memory runs out
+pub unsettled : (AreFit : Type 0) → AreFit → (fault : RunFault) → IsRefused AreFit fault → fault ≡ OutOfMemory
+unsettled AreFit fit fault (inl none) = none
+unsettled AreFit fit fault (inr other) = absurd (other.1 fit)

@@ -1,16 +1,16 @@
--- The ends of a run that have all left have finished, and are of one system.
+-- The actors of a run that have all left have finished, and are of one system.
 use Rattle.std.proofs.Common.{◌≡◌, ℕ, suc, ◌+◌, List, [], ◌∷◌, refl, sym, ap, ◌∙◌, subst, arith, length}
 use Rattle.std.specs.Prelude.{Bool, Option}
 use Rattle.std.specs.List.{AllZip}
 use Rattle.std.proofs.lemmas.List.{length-map}
-use Rattle.cdc_ends.specs.BrokerEnds.{BrokerDesk}
-use Rattle.cdc_ends.specs.Clients.{Talk}
-use Rattle.cdc_ends.specs.ConnectorEnds.{Publishing}
-use Rattle.cdc_ends.specs.Ends.{EndState}
-use Rattle.cdc_ends.specs.LedgerEnds.{LedgerDesk}
-use Rattle.cdc_ends.specs.Seats.{ClientSeat, SubscriberSeat}
-use Rattle.cdc_ends.specs.SubscriberEnds.{Intake}
-use Rattle.cdc_ends.specs.declared.consumers.Consumer.{Consumer}
+use Rattle.cdc_actors.specs.Broker.{BrokerCore}
+use Rattle.cdc_actors.specs.Client.{ClientCore}
+use Rattle.cdc_actors.specs.Connector.{ConnectorCore}
+use Rattle.cdc_actors.specs.Ends.{ActorState}
+use Rattle.cdc_actors.specs.Ledger.{LedgerCore}
+use Rattle.cdc_actors.specs.Seats.{ClientSeat, SubscriberSeat}
+use Rattle.cdc_actors.specs.Subscriber.{SubscriberCore}
+use Rattle.cdc_actors.specs.declared.broker.consumers.Consumer.{Consumer}
 use Rattle.cdc_links.specs.Links.{LinkId, Outgoing}
 use Rattle.cdc_progress.specs.Records.{Saved}
 use Rattle.cdc_progress.specs.Stores.{Risks}
@@ -35,7 +35,7 @@ use Rattle.cdc_run.proofs.Seated.{all_seated}
 module _ (system : ℕ) where
   -- new clients, once they have left, have finished, and there are as many as there were
   clients_finished : (requests : LinkId ToLedger) (number : ℕ) (links : List (LinkId Reply))
-      (scripts : List (List Batch)) (news : List (EndState Talk)) → length scripts ≡ length links
+      (scripts : List (List Batch)) (news : List (ActorState ClientCore)) → length scripts ≡ length links
       → AllZip ClientLeaves (with_scripts (made_clients system requests number links) scripts) news
       → AreClientsOf system number news × (length news ≡ length links)
   clients_finished requests number [] [] [] many all = (tt, refl)
@@ -53,7 +53,7 @@ module _ (system : ℕ) where
 
   -- so have new subscribers
   subscribers_finished : (acks : LinkId ToBroker) (number : ℕ) (links : List (LinkId ToSubscriber))
-      (closes : List (Option ℕ)) (news : List (EndState Intake)) → length closes ≡ length links
+      (closes : List (Option ℕ)) (news : List (ActorState SubscriberCore)) → length closes ≡ length links
       → AllZip SubscriberLeaves (made_subscribers system acks number links closes) news
       → AreSubscribersOf system number news × (length news ≡ length links)
   subscribers_finished acks number [] [] [] many all = (tt, refl)
@@ -69,7 +69,7 @@ module _ (system : ℕ) where
         ap (λ (n : ℕ). suc n) rest.1,
       )
 
--- all ends of a run
+-- all actors of a run
 pub all_finished : {S : Type 0} (config : Config) (faults : Faults) (held : Option Saved) (honest : Bool)
     (risks : Risks) (ends new : Ends S) (scripts : List (List Batch)) → AreMade config faults held honest risks ends
     → length scripts ≡ config.clients → AreLeft (places_of ends) scripts (places_of new) → AreFinished new
@@ -78,11 +78,11 @@ all_finished config faults held honest risks ends new scripts made many are =
     let seated : AreSeated (λ system. w) new =
     all_seated config faults held honest risks ends new scripts made are in
     let ledger : new.ledger.system ≡ config.system =
-    are.ledger.system ∙ ap (λ (e : EndState LedgerDesk). e.system) made.ledger in
+    are.ledger.system ∙ ap (λ (e : ActorState LedgerCore). e.system) made.ledger in
     let connector : new.connector.system ≡ config.system =
-    are.connector.system ∙ ap (λ (e : EndState Publishing). e.system) made.connector in
+    are.connector.system ∙ ap (λ (e : ActorState ConnectorCore). e.system) made.connector in
     let broker : new.broker.system ≡ config.system =
-    are.broker.system ∙ ap (λ (e : EndState BrokerDesk). e.system) made.broker in
+    are.broker.system ∙ ap (λ (e : ActorState BrokerCore). e.system) made.broker in
     let clients = clients_finished config.system w.to_ledger 1 w.to_clients scripts new.clients.items
     (many ∙ sym made.clients_count)
     (made_clients_left config faults held honest risks ends made new scripts are) in
@@ -92,7 +92,7 @@ all_finished config faults held honest risks ends new scripts made many are =
     let replied : length new.ledger.work.clients ≡ length w.to_clients =
     sym (length-map new.ledger.work.clients (λ (o : Outgoing Reply Past). o.link))
     ∙ ap (λ (l : List (LinkId Reply)). length l) seated.ledger.clients in
-    let handed : length new.broker.work.consumers ≡ length w.to_subscribers =
+    let delivered : length new.broker.work.consumers ≡ length w.to_subscribers =
     sym (length-map new.broker.work.consumers (λ (c : Consumer). c.link.link))
     ∙ ap (λ (l : List (LinkId ToSubscriber)). length l) seated.broker.subscribers in
     record {
@@ -103,6 +103,6 @@ all_finished config faults held honest risks ends new scripts made many are =
       connector_system = connector ∙ sym ledger;
       broker = are.broker.done;
       broker_system = broker ∙ sym ledger;
-      subscribers_count = subscribers.1 ∙ sym handed;
+      subscribers_count = subscribers.1 ∙ sym delivered;
       subscribers = subst (λ (n : ℕ). AreSubscribersOf n 1 new.subscribers.items) (sym ledger) subscribers.0;
     }

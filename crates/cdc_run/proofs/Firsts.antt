@@ -1,5 +1,5 @@
--- A list and the first ones of its elements: it is a replay of them, so that where the timestamps of the first ones
--- rise, they are the ones that rise among all.
+-- A list and the first occurrences of its elements: the list is a replay of them. So if the timestamps of the first
+-- occurrences rise, these are the elements that rise in the whole list.
 use Rattle.std.proofs.Common.{◌≡◌, ◌≢◌, Bool, List, [], ◌∷◌, ◌++◌, sym, subst, length, take, append-nil, append_assoc, inl, inr, arith}
 use Rattle.std.specs.Prelude.{Contains, fold, if◌then◌else◌}
 use Rattle.std.specs.Bool.{Decides}
@@ -68,7 +68,7 @@ module _ {X : Type 0} (same : X → X → Bool) (decides : (a b : X) → Decides
     apart = λ i j d before below eq. absurd (omega arith);
   })
 
--- where the first ones rise, a receiver that goes by timestamps alone takes just these
+-- if the first occurrences rise, a receiver that goes by timestamps alone takes exactly these
 pub rises-of_firsts : (w : List Item) → TimestampsRise (events_of (firsts same_item w))
     → events_of (firsts same_item w) ≡ rises (events_of w)
 rises-of_firsts w rise =

@@ -1,11 +1,11 @@
 -- What a subscriber keeps that has ended and was never closed.
 use Rattle.std.proofs.Common.{◌≡◌, ℕ, ◌+◌, Bool, true, false, List, [], ◌∷◌, Option, Some, None, refl, sym, ap, ap₂, ◌∙◌, subst}
 use Rattle.std.specs.Prelude.{fold, length, min}
-use Rattle.cdc_ends.specs.SubscriberEnds.{is_asked}
+use Rattle.cdc_actors.specs.Subscriber.{is_asked}
 use Rattle.cdc_laws.specs.Faithful.{IsFaithful}
-use Rattle.cdc_laws.specs.Line.{feed_after, line_after, told}
-use Rattle.cdc_laws.proofs.Faithful.{ends-told, hears-told}
-use Rattle.cdc_laws.proofs.Feeds.{events_told, queue-line_after}
+use Rattle.cdc_laws.specs.Line.{feed_after, line_after, emitted}
+use Rattle.cdc_laws.proofs.Faithful.{ends-emitted, receives-emitted}
+use Rattle.cdc_laws.proofs.Feeds.{events_emitted, queue-line_after}
 use Rattle.cdc_laws.proofs.ListElements.{none_there}
 use Rattle.cdc_ledger.specs.History.{History}
 use Rattle.cdc_match.specs.Arguments.{Arguments}
@@ -13,14 +13,14 @@ use Rattle.cdc_match.specs.Queue.{queue}
 use Rattle.cdc_message.specs.Items.{TimestampsRise, events_of, rises}
 use Rattle.cdc_message.proofs.LineLaws.{rises-rising}
 use Rattle.cdc_subscriber.specs.Book.{book_of}
-use Rattle.cdc_subscriber.specs.Heard.{Heard, applied_of, has_ended, kept_of, next, nothing}
+use Rattle.cdc_subscriber.specs.Reception.{Reception, applied_of, has_ended, kept_of, next, nothing}
 use Rattle.cdc_subscriber.specs.SubscriberState.{SubscriberState}
 use Rattle.cdc_types.specs.declared.events.Event.{Event}
 use Rattle.cdc_types.specs.Timestamps.{last_timestamp}
 use Rattle.cdc_types.specs.Widths.{max_64}
 use Rattle.cdc_run.specs.Determined.{AllKeepTheLine, UnaskedKeepTheLine, kept_of_line}
 use Rattle.cdc_run.specs.Plans.{IsLeastClose}
-use Rattle.cdc_run.proofs.Applied.{kept_told}
+use Rattle.cdc_run.proofs.Applied.{kept_emitted}
 use Rattle.cdc_run.proofs.Firsts.{rises-of_firsts}
 
 -- ---- a subscriber
@@ -36,34 +36,34 @@ kept es ended closed = record {
 }
 
 -- one that is faithful, has ended and isn't closed keeps what its whole feed makes, and so does one that takes the line
-keeps_line : (h : History) (start : ℕ) (binding : Arguments) (heard : Heard) → IsFaithful h start binding heard
-    → has_ended heard ≡ true → heard.closed ≡ false → kept_of heard ≡ kept_of_line h start binding
-keeps_line h start binding heard faithful ended open_yet =
+keeps_line : (h : History) (start : ℕ) (binding : Arguments) (reception : Reception) → IsFaithful h start binding reception
+    → has_ended reception ≡ true → reception.closed ≡ false → kept_of reception ≡ kept_of_line h start binding
+keeps_line h start binding reception faithful ended open_yet =
     let es : List Event = feed_after h start binding in
     let whole = faithful.whole ended in
     let rise : TimestampsRise es = subst TimestampsRise whole.1 faithful.rising in
-    let took : applied_of heard ≡ es = sym (rises-of_firsts heard.items faithful.rising) ∙ whole.1 in
-    let line_is : queue (line_after h start) binding ≡ told es true =
-    queue-line_after h start binding ∙ ap (told es) whole.0 in
-    let hears : fold next nothing (queue (line_after h start) binding) ≡
-    record { items = told es true; closed = false } =
-    ap (fold next nothing) line_is ∙ hears-told es in
-    let all : rises (events_of (told es true)) ≡ es = ap rises (events_told es rise true) ∙ rises-rising es rise in
-    ap (λ (l : List Event). kept l (has_ended heard) heard.closed) took
+    let took : applied_of reception ≡ es = sym (rises-of_firsts reception.items faithful.rising) ∙ whole.1 in
+    let line_is : queue (line_after h start) binding ≡ emitted es true =
+    queue-line_after h start binding ∙ ap (emitted es) whole.0 in
+    let receives : fold next nothing (queue (line_after h start) binding) ≡
+    record { items = emitted es true; closed = false } =
+    ap (fold next nothing) line_is ∙ receives-emitted es in
+    let all : rises (events_of (emitted es true)) ≡ es = ap rises (events_emitted es rise true) ∙ rises-rising es rise in
+    ap (λ (l : List Event). kept l (has_ended reception) reception.closed) took
     ∙ ap₂ (kept es) ended open_yet
-    ∙ sym (ap₂ (λ (l : List Event) (b : Bool). kept l b false) all (ends-told es))
-    ∙ sym (ap kept_of hears)
+    ∙ sym (ap₂ (λ (l : List Event) (b : Bool). kept l b false) all (ends-emitted es))
+    ∙ sym (ap kept_of receives)
 
 pub unasked_keep : UnaskedKeepTheLine
 unasked_keep h start binding close_after subscriber unasked is =
     let stays = is.come.unasked unasked in
     is.keeps
-    ∙ sym (kept_told is.heard is.come.faithful.rising)
-    ∙ keeps_line h start binding is.heard is.come.faithful stays.ended stays.not_closed
+    ∙ sym (kept_emitted is.reception is.come.faithful.rising)
+    ∙ keeps_line h start binding is.reception is.come.faithful stays.ended stays.not_closed
 
 -- ---- all subscribers
 
--- where nothing was given for any, none is asked
+-- if no number was given for it, a subscriber isn't asked to close
 none_asked : (number : ℕ) (close : Option ℕ) → IsLeastClose number [] close → is_asked close ≡ false
 none_asked number None least = refl
 none_asked number (Some n) least = absurd (none_there n least.0)

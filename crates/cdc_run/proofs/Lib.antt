@@ -5,12 +5,11 @@ mod SettledBooks
 mod ClientsParted
 mod Closes
 mod Counted
-mod EndsMade
+mod ActorsMade
 mod Finished
 mod Firsts
 mod Found
 mod Fresh
-mod Gathering
 mod Kept
 mod Leaving
 mod Counting
@@ -23,8 +22,10 @@ mod Replied
 mod Reported
 mod RunMade
 mod Seated
+mod Stopped
 mod Streamed
 mod Subscribed
+mod Totals
 mod SubscribersParted
 mod Worked
 mod Zips

@@ -1,4 +1,4 @@
--- A loop over the ends of a link's senders, and those of links of their own that they go with, place by place.
+-- A loop over the endpoints of a link's senders, paired with endpoints of links of their own, place by place.
 use Rattle.std.proofs.Common.{◌≡◌, ℕ, zero, suc, ◌+◌, ◌<◌, List, [], ◌∷◌, refl, sym, ap, ◌∙◌, subst, arith, map, length, get_or}
 use Rattle.std.specs.Iterator.{Yields}
 use Rattle.std.specs.Iterator.Adapters.{zip_first, zip_second}
@@ -13,10 +13,10 @@ use Rattle.std.proofs.lemmas.Iterator.Consumers.{YieldsList-end, YieldsList-turn
 use Rattle.std.proofs.lemmas.List.{map-id}
 use Rattle.std.proofs.lemmas.List.Elements.{All-get_or}
 use Rattle.std.proofs.lemmas.Slice.Zip.{get_or-zip, length-zip}
-use Rattle.cdc_links.specs.Links.{Incoming, LinkId, Outgoing, fresh_end}
+use Rattle.cdc_links.specs.Links.{Incoming, LinkId, Outgoing, fresh_endpoint}
 use Rattle.cdc_run.specs.Wires.{IsFresh, fresh_from}
 
--- so many ends
+-- so many endpoints
 from_length : {M : Type 0} (N : Type 0) (link : LinkId M) (number n : ℕ)
     → length (fresh_from {M = M} {N = N} link number n) ≡ n
 from_length N link number zero = refl
@@ -24,28 +24,28 @@ from_length N link number (suc n) = ap (λ (k : ℕ). suc k) (from_length N link
 
 -- the one at each place
 from_at : {M N : Type 0} (link : LinkId M) (number n k : ℕ) (d : Outgoing M N) → k < n
-    → get_or (fresh_from link number n) k d ≡ fresh_end link (number + k)
+    → get_or (fresh_from link number n) k d ≡ fresh_endpoint link (number + k)
 from_at link number zero k d below = absurd (omega arith)
 from_at {M} {N} link number (suc n) zero d below =
     let same : number ≡ number + 0 = omega arith in
-    ap (λ (j : ℕ). fresh_end {M = M} {N = N} link j) same
+    ap (λ (j : ℕ). fresh_endpoint {M = M} {N = N} link j) same
 from_at {M} {N} link number (suc n) (suc k) d below =
     let less : k < n = omega arith in
     let same : number + 1 + k ≡ number + suc k = omega arith in
-    from_at link (number + 1) n k d less ∙ ap (λ (j : ℕ). fresh_end {M = M} {N = N} link j) same
+    from_at link (number + 1) n k d less ∙ ap (λ (j : ℕ). fresh_endpoint {M = M} {N = N} link j) same
 
 -- the pair at a place of two lists
 pair_at : {M N O P : Type 0} (link : LinkId M) (outs : List (Outgoing M N)) (ins : List (Incoming O P)) (k : ℕ)
     (p : Outgoing M N × Incoming O P) → outs ≡ fresh_from link 1 (length ins) → All (IsFresh 1) ins
     → k < length (zip outs ins) → p ≡ get_or (zip outs ins) k p
-    → (p.0 ≡ fresh_end link (1 + k)) × IsFresh 1 p.1
+    → (p.0 ≡ fresh_endpoint link (1 + k)) × IsFresh 1 p.1
 pair_at {M} {N} {O} {P} link outs ins k p are fresh below is =
     let long : length outs ≡ length ins = ap (λ l. length l) are ∙ from_length N link 1 (length ins) in
     let both = length-zip outs ins in
     let inside : k < length ins = omega arith in
     let within : k < length outs = omega arith in
     let split : p ≡ (get_or outs k p.0, get_or ins k p.1) = is ∙ get_or-zip outs ins k p within inside in
-    let first : p.0 ≡ fresh_end link (1 + k) =
+    let first : p.0 ≡ fresh_endpoint link (1 + k) =
     ap (λ (q : Outgoing M N × Incoming O P). q.0) split
     ∙ ap (λ (l : List (Outgoing M N)). get_or l k p.0) are ∙ from_at link 1 (length ins) k p.0 inside in
     let second : p.1 ≡ get_or ins k p.1 = ap (λ (q : Outgoing M N × Incoming O P). q.1) split in
@@ -90,7 +90,7 @@ road xs ys s over =
     YieldsList-from_zip (YieldsList-from_vec xs over.first over.first_count)
     (YieldsList-from_vec ys over.second over.second_count)
 
--- it has yielded ps and stands at t; the next call gives r and leaves u
+-- it has yielded ps and is at t; the next call gives r and leaves u
 module _ {M N O P Z : Type 0} (outs : List (Outgoing M N)) (ins : List (Incoming O P))
     (s t u : Zip (IntoIter (Outgoing M N) Z) (IntoIter (Incoming O P) Z)) (ps : List (Outgoing M N × Incoming O P))
     (r : Option (Outgoing M N × Incoming O P)) (over : IsOver outs ins s)
@@ -99,12 +99,12 @@ module _ {M N O P Z : Type 0} (outs : List (Outgoing M N)) (ins : List (Incoming
   -- the pair that comes next
   pub next_pair : (link : LinkId M) (p : Outgoing M N × Incoming O P) → r ≡ Some p
       → outs ≡ fresh_from link 1 (length ins) → All (IsFresh 1) ins
-      → (p.0 ≡ fresh_end link (1 + length ps)) × IsFresh 1 p.1
+      → (p.0 ≡ fresh_endpoint link (1 + length ps)) × IsFresh 1 p.1
   next_pair link p some are fresh =
       let turn = YieldsList-turn (road outs ins s over) ps t so_far r u p some step in
       pair_at link outs ins (length ps) p are fresh turn.0 turn.1
 
-  -- at its end all have come
+  -- at the end of the loop all have come
   pub all_pairs : (link : LinkId M) → r ≡ None → outs ≡ fresh_from link 1 (length ins)
       → map (λ p. p.1.link) ps ≡ map (λ i. i.link) ins
   all_pairs link none are =

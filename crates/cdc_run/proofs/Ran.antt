@@ -1,23 +1,26 @@
--- What a run comes to, from what its ends were made as and what they have left.
+-- The result of a run, from how its actors were made and what they have left.
 use Rattle.std.proofs.Common.{◌≡◌, ℕ, ◌+◌, true, List, [], ◌∷◌, refl, sym, ap, ap₂, ◌∙◌, subst, arith, length, map, false}
 use Rattle.std.specs.Prelude.{All, Bool, None, Option, Some}
 use Rattle.std.specs.List.{AllZip}
 use Rattle.std.proofs.lemmas.List.Elements.{All-cons}
 use Rattle.cdc_broker.specs.Queues.{QueueState, empty_queue}
-use Rattle.cdc_ends.specs.Clients.{first_words, Talk}
-use Rattle.cdc_ends.specs.ConnectorEnds.{first_origin, Publishing}
-use Rattle.cdc_ends.specs.LedgerEnds.{order_of}
-use Rattle.cdc_ends.specs.SubscriberEnds.{Intake}
+use Rattle.cdc_actors.specs.Client.{ClientCore, first_client}
+use Rattle.cdc_actors.specs.Connector.{ConnectorCore, first_origin, packets_in}
+use Rattle.cdc_actors.specs.Ledger.{order_of}
+use Rattle.cdc_actors.specs.Subscriber.{SubscriberCore}
+use Rattle.cdc_actors.specs.declared.broker.plans.BrokerPlan.{BrokerPlan}
 use Rattle.cdc_laws.specs.Connectors.{held_start, held_timestamp}
-use Rattle.cdc_links.specs.Links.{LinkId, fresh_end}
+use Rattle.cdc_links.specs.Links.{LinkId, fresh_endpoint}
 use Rattle.cdc_match.specs.declared.binding.Binding.{Binding}
+use Rattle.cdc_message.specs.declared.packets.Packet.{Packet}
 use Rattle.cdc_progress.specs.Records.{Saved}
 use Rattle.cdc_progress.specs.Stores.{Risks}
-use Rattle.cdc_run.specs.Made.{AreMade, fresh_inbox, made_clients, made_subscribers}
+use Rattle.cdc_run.specs.Counts.{IsCountOf, MayCount}
+use Rattle.cdc_run.specs.Made.{AreMade, fresh_inbox, made_broker, made_clients, made_subscribers, plan_of}
 use Rattle.cdc_run.specs.Reports.{AreSubscribed, HasRun, IsReportOf}
-use Rattle.cdc_ends.specs.Seats.{BrokerSeat, ConnectorSeat, SubscriberSeat, at_start, broker_seat, connector_seat, origin_if}
-use Rattle.cdc_ends.specs.Ends.{EndState}
-use Rattle.cdc_ends.specs.BrokerEnds.{BrokerDesk}
+use Rattle.cdc_actors.specs.Seats.{BrokerSeat, ConnectorSeat, SubscriberSeat, at_start, broker_seat, connector_seat, origin_if}
+use Rattle.cdc_actors.specs.Ends.{ActorState}
+use Rattle.cdc_actors.specs.Broker.{BrokerCore}
 use Rattle.cdc_run.specs.Tasks.{AreLeft, ClientLeaves, SubscriberLeaves, places_of, with_scripts}
 use Rattle.cdc_run.specs.declared.configs.Config.{Config}
 use Rattle.cdc_run.specs.declared.ends.Ends.{Ends}
@@ -32,21 +35,21 @@ use Rattle.cdc_run.proofs.Leaving.{made_clients_left, made_subscribers_left}
 
 -- new clients haven't finished
 clients_talk : (system : ℕ) (requests : LinkId ToLedger) (number : ℕ) (links : List (LinkId Reply))
-    → All (λ (c : EndState Talk). c.work.finished ≡ false) (made_clients system requests number links)
+    → All (λ (c : ActorState ClientCore). c.work.finished ≡ false) (made_clients system requests number links)
 clients_talk system requests number [] = λ k d below. absurd (omega arith)
 clients_talk system requests number (link ∷ links) =
-    All-cons (λ (c : EndState Talk). c.work.finished ≡ false) (record {
+    All-cons (λ (c : ActorState ClientCore). c.work.finished ≡ false) (record {
       system = system;
-      work = first_words number (fresh_end requests number) (fresh_inbox link 1);
+      work = first_client number (fresh_endpoint requests number) (fresh_inbox link 1);
       fault = None;
     }) (made_clients system requests (number + 1) links) refl
     (clients_talk system requests (number + 1) links)
 
 -- new clients have submitted their scripts, once they have left
 scripts_submitted : (system : ℕ) (requests : LinkId ToLedger) (number : ℕ) (links : List (LinkId Reply))
-    (scripts : List (List Batch)) (news : List (EndState Talk)) → length scripts ≡ length links
+    (scripts : List (List Batch)) (news : List (ActorState ClientCore)) → length scripts ≡ length links
     → AllZip ClientLeaves (with_scripts (made_clients system requests number links) scripts) news
-    → map (map (λ (r : Reply). r.batch)) (map (λ (c : EndState Talk). c.work.replies) news) ≡ scripts
+    → map (map (λ (r : Reply). r.batch)) (map (λ (c : ActorState ClientCore). c.work.replies) news) ≡ scripts
 scripts_submitted system requests number [] [] [] many all = refl
 scripts_submitted system requests number [] [] (new ∷ news) many all = absurd all
 scripts_submitted system requests number [] (script ∷ scripts) news many all = absurd (omega arith)
@@ -59,9 +62,9 @@ scripts_submitted system requests number (link ∷ links) (script ∷ scripts) (
 
 -- subscribers close when they were to
 closes_stay : (system : ℕ) (acks : LinkId ToBroker) (number : ℕ) (links : List (LinkId ToSubscriber))
-    (closes : List (Option ℕ)) (news : List (EndState Intake)) → length closes ≡ length links
+    (closes : List (Option ℕ)) (news : List (ActorState SubscriberCore)) → length closes ≡ length links
     → AllZip SubscriberLeaves (made_subscribers system acks number links closes) news
-    → map (λ (s : EndState Intake). s.work.close_after) news ≡ closes
+    → map (λ (s : ActorState SubscriberCore). s.work.close_after) news ≡ closes
 closes_stay system acks number [] [] [] many all = refl
 closes_stay system acks number [] [] (new ∷ news) many all = absurd all
 closes_stay system acks number [] (close ∷ closes) news many all = absurd (omega arith)
@@ -88,9 +91,10 @@ bindings_of_empty (binding ∷ bindings) = ap (λ (l : List Binding). binding �
 module _ {S : Type 0} (config : Config) (faults : Faults) (held : Option Saved) (honest : Bool) (risks : Risks)
     (ends : Ends S) (made : AreMade config faults held honest risks ends) where
   -- no client has finished before the first turn
-  pub no_client_done : All (λ (c : EndState Talk). c.work.finished ≡ false) ends.clients.items
+  pub no_client_done : All (λ (c : ActorState ClientCore). c.work.finished ≡ false) ends.clients.items
   no_client_done =
-      subst (λ (l : List (EndState Talk)). All (λ (c : EndState Talk). c.work.finished ≡ false) l) (sym made.clients)
+      subst (λ (l : List (ActorState ClientCore)). All (λ (c : ActorState ClientCore). c.work.finished ≡ false) l)
+      (sym made.clients)
       (clients_talk config.system made.wiring.to_ledger 1 made.wiring.to_clients)
 
   module _ (new : Ends S) (scripts : List (List Batch)) (are : AreLeft (places_of ends) scripts (places_of new))
@@ -99,12 +103,29 @@ module _ {S : Type 0} (config : Config) (faults : Faults) (held : Option Saved) 
     pub has_run : length scripts ≡ config.clients → HasRun scripts report
     has_run many = record {
       order = order_of new.ledger.work.inbox.received;
+      reported = reported.order;
       books = reported.books;
       scripts_are =
           ap (map (map (λ (r : Reply). r.batch))) reported.replies
           ∙ scripts_submitted config.system made.wiring.to_ledger 1 made.wiring.to_clients scripts new.clients.items
           (many ∙ sym made.clients_count) (made_clients_left config faults held honest risks ends made new scripts are);
     }
+
+    -- what its plan of faults counts is that of some packets
+    pub has_counted : MayCount (plan_of faults) config.bindings.items report.counts
+    has_counted =
+        let seat : broker_seat new.broker.work ≡ broker_seat ends.broker.work = are.broker.seat in
+        let first : broker_seat new.broker.work ≡ broker_seat (made_broker config faults made.wiring).work =
+        seat ∙ ap (λ (e : ActorState BrokerCore). broker_seat e.work) made.broker in
+        let plan : new.broker.work.plan ≡ plan_of faults = ap (λ (s : BrokerSeat). s.plan) first in
+        let bindings : (broker_seat new.broker.work).bindings ≡ config.bindings.items =
+        ap (λ (s : BrokerSeat). s.bindings) first ∙ bindings_of_empty config.bindings.items in
+        let packets : List Packet = packets_in new.connector.work.packets.sent in (
+          packets,
+          subst (λ (l : List Binding). IsCountOf (plan_of faults) l packets report.counts) bindings
+              (subst (λ (p : BrokerPlan).
+              IsCountOf p (broker_seat new.broker.work).bindings packets report.counts) plan reported.counts),
+        )
 
     -- and its subscribers have come to what they may rely on
     pub have_subscribed : honest ≡ true → held_timestamp held ≡ held_start held
@@ -114,13 +135,13 @@ module _ {S : Type 0} (config : Config) (faults : Faults) (held : Option Saved) 
         let start : ℕ = (first_origin config.start held).start in
         let seat : (connector_seat new.connector.work).origin ≡ Some (at_start start) =
         ap (λ (seat : ConnectorSeat). seat.origin)
-        (are.connector.seat ∙ ap (λ (e : EndState Publishing). connector_seat e.work) made.connector)
+        (are.connector.seat ∙ ap (λ (e : ActorState ConnectorCore). connector_seat e.work) made.connector)
         ∙ ap₂ origin_if is_honest (begins_at_start config.start held same) in
         let bindings : (broker_seat new.broker.work).bindings ≡ config.bindings.items =
         ap (λ (seat : BrokerSeat). seat.bindings)
-        (are.broker.seat ∙ ap (λ (e : EndState BrokerDesk). broker_seat e.work) made.broker)
+        (are.broker.seat ∙ ap (λ (e : ActorState BrokerCore). broker_seat e.work) made.broker)
         ∙ bindings_of_empty config.bindings.items in
-        let closes : map (λ (s : EndState Intake). s.work.close_after) new.subscribers.items ≡ made.closes =
+        let closes : map (λ (s : ActorState SubscriberCore). s.work.close_after) new.subscribers.items ≡ made.closes =
         closes_stay config.system made.wiring.to_broker 1 made.wiring.to_subscribers made.closes new.subscribers.items
         (made.closes_count ∙ sym made.subscribers_count)
         (made_subscribers_left config faults held honest risks ends made new scripts are) in

@@ -1,16 +1,16 @@
--- When ends are refused that were to be put together.
+-- When actors are refused that were to be put together.
 use Rattle.std.proofs.Common.{◌≡◌, inl, inr, sym, subst}
 use Rattle.std.specs.Prelude.{IfErr, IsErrAnd, Result, Ok, Err}
-use Rattle.cdc_ends.specs.declared.faults.RunFault.{RunFault}
-use Rattle.cdc_run.specs.Accounts.{IsRefused}
+use Rattle.cdc_actors.specs.declared.faults.RunFault.{RunFault}
+use Rattle.cdc_run.specs.SettledLinks.{IsRefused}
 
--- so are ends of which more is asked
+-- refused actors are also refused if more is required of them
 pub asked_more : (A B : Type 0) (fault : RunFault) → (B → A) → IsRefused A fault → IsRefused B fault
 asked_more A B fault part (inl none) = inl none
 asked_more A B fault part (inr unfit) = inr (unfit.0, λ fit. unfit.1 (part fit))
 
--- and so says what hands that fault on
-pub handed_on : {A : Type 0} (AreFit : Type 0) (result : Result A RunFault) (fault : RunFault)
+-- and so is a result that passes that fault on
+pub passed_on : {A : Type 0} (AreFit : Type 0) (result : Result A RunFault) (fault : RunFault)
     → IsErrAnd result (λ e. e ≡ fault) → IsRefused AreFit fault → IfErr result (IsRefused AreFit)
-handed_on AreFit (Ok value) fault same refused = tt
-handed_on AreFit (Err e) fault same refused = subst (λ (f : RunFault). IsRefused AreFit f) (sym same) refused
+passed_on AreFit (Ok value) fault same refused = tt
+passed_on AreFit (Err e) fault same refused = subst (λ (f : RunFault). IsRefused AreFit f) (sym same) refused

@@ -1,4 +1,4 @@
--- What a client was replied, once it and the ledger's end have finished.
+-- The replies to a client, once it and the ledger actor have finished.
 use Rattle.std.proofs.Common.{◌≡◌, ◌≢◌, ◌==◌, ℕ, suc, ◌+◌, ◌≤◌, Bool, true, false, List, [], ◌∷◌, ◌++◌, refl, sym, ap, ◌∙◌, subst, length, map, append_assoc, append-nil, eq-eqb, ne_eqb, inl, inr, arith}
 use Rattle.std.specs.Prelude.{◌||◌, not, cond, filter, sum_by}
 use Rattle.std.proofs.lemmas.Bool.Decides.{eqb_tells}
@@ -7,9 +7,9 @@ use Rattle.std.proofs.lemmas.List.Elements.{All-head}
 use Rattle.std.proofs.lemmas.List.Filters.{length-filter_both}
 use Rattle.std.proofs.lemmas.List.Sums.{sum_by-cons}
 use Rattle.std.proofs.lemmas.Simd.{map-map}
-use Rattle.cdc_ends.specs.Clients.{done_if, requests_from}
-use Rattle.cdc_ends.specs.LedgerEnds.{batch_in, is_done, order_of}
-use Rattle.cdc_ends.specs.Orders.{RepliesHaveTheirBatches, batches_by, said_to}
+use Rattle.cdc_actors.specs.Client.{done_if, requests_from}
+use Rattle.cdc_actors.specs.Ledger.{batch_in, is_done, order_of}
+use Rattle.cdc_actors.specs.Orders.{RepliesHaveTheirBatches, batches_by, named_replies_to}
 use Rattle.cdc_links.specs.Links.{CanSend, IsAccount, Incoming, Outgoing, of_sender}
 use Rattle.cdc_links.proofs.Entries.{of_sender-append, of_sender-other, of_sender-own}
 use Rattle.cdc_traffic.specs.Following.{FollowsToLedger, ends_to_ledger, has_ended}
@@ -120,16 +120,16 @@ batches_asked number (e ∷ received) =
     let later = batches_asked number received in
     let messages : List (ToLedger × Unit {0}) → List ToLedger = map (λ m. m.0) in
     elim (eqb_tells e.0 number) [
-      | inl tells ↦
-          let same : e.0 ≡ number = tells.1 in
+      | inl decides ↦
+          let same : e.0 ≡ number = decides.1 in
           let own : of_sender number (e ∷ received) ≡ e.1 ∷ of_sender number received =
           subst (λ (j : ℕ). of_sender j (e ∷ received) ≡ e.1 ∷ of_sender j received) same (of_sender-own e received) in
           ap (λ (j : ℕ). batches_by number (batch_in j e.1.0 ++ order_of received)) same
           ∙ one_asked number e.1.0 (order_of received)
           ∙ ap (λ (l : List Batch). asked_in e.1.0 ++ l) later
           ∙ ap (λ (l : List (ToLedger × Unit {0})). asked (messages l)) (sym own)
-      | inr tells ↦
-          let apart : e.0 ≢ number = tells.1 in
+      | inr decides ↦
+          let apart : e.0 ≢ number = decides.1 in
           another_asked number e.0 e.1.0 (order_of received) apart
           ∙ later
           ∙ ap (λ (l : List (ToLedger × Unit {0})). asked (messages l)) (sym (of_sender-other number e received apart))
@@ -152,7 +152,7 @@ kept_most test xs =
     length-filter_both test (λ x. not (test x)) (λ x. refl) xs in
     omega arith
 
--- where as many are kept as there are, all are
+-- if as many are kept as there are, all are
 kept_with : {X : Type 0} (x : X) (kept xs : List X) (b : Bool) → (length xs ≤ length kept → kept ≡ xs)
     → length kept ≤ length xs → suc (length xs) ≤ length (cond b (x ∷ kept) kept) → cond b (x ∷ kept) kept ≡ x ∷ xs
 kept_with x kept xs true later most many = ap (λ l. x ∷ l) (later (omega arith))
@@ -179,7 +179,7 @@ alone_sent {M} {N} into out left account =
     let many : length entries ≤ length own = omega arith in
     ap (map (λ (e : ℕ × (M × N)). e.1)) (sym (all_kept (λ (e : ℕ × (M × N)). e.0 == out.number) entries many)) ∙ its
 
--- a beginning of a list that is as long as the list is the list
+-- a prefix of a list that is as long as the list is the list
 front_is_all : {X : Type 0} (xs ys zs : List X) → xs ++ ys ≡ zs → length xs ≡ length zs → xs ≡ zs
 front_is_all xs [] zs whole long = sym (append-nil xs) ∙ whole
 front_is_all xs (y ∷ ys) zs whole long =
@@ -193,7 +193,7 @@ pub clients_are_replied : EndsAreLast (FollowsToLedger {N = Unit {0}}) ends_to_l
 clients_are_replied ends have mail c settled =
     let number : ℕ = c.number in
     let order : List (ℕ × Batch) = order_of mail.received in
-    let said : List (Reply × Past) = said_to number order in
+    let dispatched : List (Reply × Past) = named_replies_to number order in
     let messages : List (ToLedger × Unit {0}) → List ToLedger = map (λ m. m.0) in
     let batches : List Reply → List Batch = map (λ r. r.batch) in
     let mine : of_sender number mail.received ≡ c.requests.sent =
@@ -201,25 +201,25 @@ clients_are_replied ends have mail c settled =
     let own : batches_by number order ≡ batches c.replies =
     batches_asked number mail.received
     ∙ ap (λ (l : List (ToLedger × Unit {0})). asked (messages l)) mine
-    ∙ ap asked settled.is.said
+    ∙ ap asked settled.is.dispatched
     ∙ asked_replies number 1 c.replies c.finished in
-    let whole : map (λ (e : ℕ × (Reply × Past)). e.1) (c.answers.received ++ settled.answers_left) ≡ said =
-    alone_sent c.answers settled.link settled.answers_left settled.account ∙ settled.told in
+    let whole : map (λ (e : ℕ × (Reply × Past)). e.1) (c.answers.received ++ settled.answers_left) ≡ dispatched =
+    alone_sent c.answers settled.link settled.answers_left settled.account ∙ settled.emitted in
     let received : List (Reply × Past) = map (λ (e : ℕ × (Reply × Past)). e.1) c.answers.received in
-    let parts : received ++ map (λ (e : ℕ × (Reply × Past)). e.1) settled.answers_left ≡ said =
+    let parts : received ++ map (λ (e : ℕ × (Reply × Past)). e.1) settled.answers_left ≡ dispatched =
     sym (map-append (λ (e : ℕ × (Reply × Past)). e.1) c.answers.received settled.answers_left) ∙ whole in
-    let heard : map (λ (m : Reply × Past). m.0) received ≡ c.replies =
-    map-map (λ (m : Reply × Past). m.0) (λ (e : ℕ × (Reply × Past)). e.1) c.answers.received ∙ settled.is.heard in
-    let as_many : length received ≡ length said =
+    let reception : map (λ (m : Reply × Past). m.0) received ≡ c.replies =
+    map-map (λ (m : Reply × Past). m.0) (λ (e : ℕ × (Reply × Past)). e.1) c.answers.received ∙ settled.is.reception in
+    let as_many : length received ≡ length dispatched =
     sym (length-map received (λ (m : Reply × Past). m.0))
-    ∙ ap (λ (l : List Reply). length l) heard
+    ∙ ap (λ (l : List Reply). length l) reception
     ∙ sym (length-map c.replies (λ (r : Reply). r.batch))
     ∙ ap (λ (l : List Batch). length l) (sym own ∙ sym (have number order))
-    ∙ length-map said (λ (m : Reply × Past). m.0.batch) in
+    ∙ length-map dispatched (λ (m : Reply × Past). m.0.batch) in
     record {
       answers =
-          sym heard
+          sym reception
           ∙ ap (map (λ (m : Reply × Past). m.0))
-          (front_is_all received (map (λ (e : ℕ × (Reply × Past)). e.1) settled.answers_left) said parts as_many);
+          (front_is_all received (map (λ (e : ℕ × (Reply × Past)). e.1) settled.answers_left) dispatched parts as_many);
       batches = own;
     }

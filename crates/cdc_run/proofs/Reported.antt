@@ -1,32 +1,32 @@
--- What is reported of ends that have finished.
+-- What is reported of actors that have finished.
 use Rattle.std.proofs.Common.{◌≡◌, ℕ, suc, ◌+◌, ◌-◌, Bool, true, false, List, [], ◌∷◌, refl, sym, ap, ◌∙◌, subst, length, map, arith}
 use Rattle.std.specs.Prelude.{Option, Some, is_none, slice_get, unwrap_or}
 use Rattle.std.proofs.lemmas.Bool.{and_parts}
 use Rattle.cdc_broker.specs.Broker.{nobody, queue_of}
 use Rattle.cdc_broker.specs.Queues.{QueueState, empty_queue}
-use Rattle.cdc_ends.specs.BrokerEnds.{BrokerDesk}
-use Rattle.cdc_ends.specs.ConnectorEnds.{IsAtStart, Origin, origin_of, Publishing}
-use Rattle.cdc_ends.specs.LedgerEnds.{LedgerDesk, IsLedgerDesk}
-use Rattle.cdc_ends.specs.SubscriberEnds.{Intake}
+use Rattle.cdc_actors.specs.Broker.{BrokerCore}
+use Rattle.cdc_actors.specs.Connector.{IsAtStart, Origin, origin_of, ConnectorCore}
+use Rattle.cdc_actors.specs.Ledger.{LedgerCore, IsLedgerActor}
+use Rattle.cdc_actors.specs.Subscriber.{SubscriberCore}
 use Rattle.cdc_run.specs.ClientMail.{HasFinishedWith as LedgerHasFinishedWith}
 use Rattle.cdc_run.specs.Parted.{works_of}
 use Rattle.cdc_run.specs.Reports.{AreFinished, AreSubscribed}
-use Rattle.cdc_ends.specs.Seats.{at_start, connector_seat, origin_if}
-use Rattle.cdc_ends.specs.Ends.{EndState, has_finished}
+use Rattle.cdc_actors.specs.Seats.{at_start, connector_seat, origin_if}
+use Rattle.cdc_actors.specs.Ends.{ActorState, has_finished}
 use Rattle.cdc_run.specs.Streams.{AllCome, AreLeftBy, Middle}
 use Rattle.cdc_run.specs.SubscriberMail.{HasFinishedWith as BrokerHasFinishedWith}
 use Rattle.cdc_run.specs.Subscribing.{HasCome}
 use Rattle.cdc_run.specs.declared.ends.Ends.{Ends}
-use Rattle.cdc_run.proofs.Applied.{kept_told}
+use Rattle.cdc_run.proofs.Applied.{kept_emitted}
 use Rattle.cdc_run.proofs.Seated.{AreBetween}
 
--- a store over which it is known where the run began is honest
+-- if it is known where a run over a store began, the store is honest
 began : (honest : Bool) (origin known : Origin) → origin_if honest origin ≡ Some known
     → (honest ≡ true) × (origin ≡ known)
 began true origin known same = (refl, cc)
 began false origin known same = cc
 
--- where a run began at its start
+-- if a run began at its start
 pub start_known : {S : Type 0} (ends : Ends S) (start : ℕ)
     → (connector_seat ends.connector.work).origin ≡ Some (at_start start)
     → (origin_of ends.connector.work).start ≡ start
@@ -34,16 +34,16 @@ start_known ends start known =
     let work = ends.connector.work in
     ap (λ (o : Origin). o.start) (began work.honest (origin_of work) (at_start start) known).1
 
--- the connector, with the ends of its links, where the run is known to have begun at its start
-pub left_by : {S : Type 0} (ends : Ends S) (m : Middle) → AreBetween ends m → IsLedgerDesk ends.ledger.work
-    → has_finished (λ (c : Publishing). c.finished) ends.connector ≡ true → (start : ℕ)
+-- the connector, with the endpoints of its links, if the run is known to have begun at its start
+pub left_by : {S : Type 0} (ends : Ends S) (m : Middle) → AreBetween ends m → IsLedgerActor ends.ledger.work
+    → has_finished (λ (c : ConnectorCore). c.finished) ends.connector ≡ true → (start : ℕ)
     → (connector_seat ends.connector.work).origin ≡ Some (at_start start)
     → AreLeftBy ends.ledger.work ends.connector.work m
-left_by ends m are desk over start seat =
+left_by ends m are core over start seat =
     let work = ends.connector.work in
     let known = began work.honest (origin_of work) (at_start start) seat in
     record {
-      desk = desk;
+      core = core;
       connector = are.connector;
       over = (and_parts (is_none ends.connector.fault) work.finished over).1;
       honest = known.0;
@@ -54,7 +54,8 @@ left_by ends m are desk over start seat =
     }
 
 -- subscribers that have come to what they may rely on, with the queue of each
-pub subscribed : (d : LedgerDesk) (start : ℕ) (b : BrokerDesk) (place : ℕ) (subscribers : List (EndState Intake))
+pub subscribed : (d : LedgerCore) (start : ℕ) (b : BrokerCore) (place : ℕ)
+    (subscribers : List (ActorState SubscriberCore))
     (queues : List QueueState) → AllCome d start b place (works_of subscribers) → length subscribers ≡ length queues
     → ((k : ℕ) (q : QueueState) → slice_get queues k ≡ Some q → queue_of b.broker (place + k + 1) ≡ q)
     → AreSubscribed d.ledger start (map (λ q. q.binding) queues) (map (λ s. s.work.close_after) subscribers)
@@ -68,10 +69,10 @@ subscribed d start b place (s ∷ subscribers) (q ∷ queues) come many there =
     subst (λ (n : ℕ). queue_of b.broker n ≡ q) here (there 0 q refl) in
     let rest : length subscribers ≡ length queues = omega arith in (
       record {
-        heard = come.0.heard;
-        come = subst (λ (x : QueueState). HasCome d.ledger start x.binding s.work.close_after come.0.heard)
+        reception = come.0.reception;
+        come = subst (λ (x : QueueState). HasCome d.ledger start x.binding s.work.close_after come.0.reception)
             its come.0.come;
-        keeps = come.0.keeps ∙ kept_told come.0.heard come.0.come.faithful.rising;
+        keeps = come.0.keeps ∙ kept_emitted come.0.reception come.0.come.faithful.rising;
       },
       subscribed d start b (place + 1) subscribers queues come.1 rest (λ k next found.
           let same : place + suc k + 1 ≡ place + 1 + k + 1 = omega arith in
@@ -79,7 +80,7 @@ subscribed d start b place (s ∷ subscribers) (q ∷ queues) come many there =
     )
 
 -- all of them
-pub all_subscribed : (d : LedgerDesk) (start : ℕ) (b : BrokerDesk) (subscribers : List (EndState Intake))
+pub all_subscribed : (d : LedgerCore) (start : ℕ) (b : BrokerCore) (subscribers : List (ActorState SubscriberCore))
     → AllCome d start b 0 (works_of subscribers) → length subscribers ≡ length b.broker.queues
     → AreSubscribed d.ledger start (map (λ q. q.binding) b.broker.queues) (map (λ s. s.work.close_after) subscribers)
     (map (λ s. s.subscriber) (works_of subscribers))
@@ -89,9 +90,10 @@ all_subscribed d start b subscribers come many =
     ap (λ (o : Option QueueState). unwrap_or o (empty_queue nobody))
     (subst (λ (n : ℕ). slice_get b.broker.queues n ≡ Some q) same found))
 
--- ends of a run that have finished
+-- actors of a run that have finished
 pub finished : {S : Type 0} (ends : Ends S) → LedgerHasFinishedWith ends.ledger ends.clients.items
-    → has_finished (λ (c : Publishing). c.finished) ends.connector ≡ true → ends.connector.system ≡ ends.ledger.system
+    → has_finished (λ (c : ConnectorCore). c.finished) ends.connector ≡ true → ends.connector.system
+    ≡ ends.ledger.system
     → BrokerHasFinishedWith ends.ledger.system ends.broker ends.subscribers.items → AreFinished ends
 finished ends books over same streams = record {
   ledger = books.over;
@@ -105,12 +107,12 @@ finished ends books over same streams = record {
   subscribers = streams.subscribers_are;
 }
 
--- the ledger's end and the clients are among them
+-- the ledger actor and the clients are among them
 pub books_of : {S : Type 0} (ends : Ends S) → AreFinished ends
     → LedgerHasFinishedWith ends.ledger ends.clients.items
 books_of ends are = record { over = are.ledger; count = are.clients_count; clients_are = are.clients }
 
--- and so are the broker's end and the subscribers
+-- and so are the broker actor and the subscribers
 pub streams_of : {S : Type 0} (ends : Ends S) → AreFinished ends
     → BrokerHasFinishedWith ends.ledger.system ends.broker ends.subscribers.items
 streams_of ends are = record {

@@ -1,16 +1,16 @@
--- The ends of a run over its wires.
+-- The actors of a run over its wires.
 use Rattle.std.proofs.Common.{◌≡◌, ℕ, ◌+◌, Bool, List, [], ◌∷◌, refl, sym, ap, ◌∙◌, subst, map, length}
 use Rattle.std.specs.Prelude.{Option, None, All}
 use Rattle.std.proofs.lemmas.List.{length-map}
 use Rattle.std.proofs.lemmas.List.Elements.{All-cons, All-nil}
 use Rattle.cdc_broker.specs.Broker.{empty_broker}
-use Rattle.cdc_ends.specs.BrokerEnds.{BrokerDesk}
-use Rattle.cdc_ends.specs.BrokerTurns.{first_desk as first_broker}
-use Rattle.cdc_ends.specs.ConnectorEnds.{first_work, Publishing}
-use Rattle.cdc_ends.specs.LedgerEnds.{first_desk as first_ledger, LedgerDesk}
-use Rattle.cdc_ends.specs.declared.broker_plans.BrokerPlan.{BrokerPlan}
-use Rattle.cdc_ends.specs.Ends.{EndState}
-use Rattle.cdc_links.specs.Links.{Incoming, LinkId, Outgoing, fresh_end}
+use Rattle.cdc_actors.specs.Broker.{BrokerCore}
+use Rattle.cdc_actors.specs.Broker.Turns.{first_broker}
+use Rattle.cdc_actors.specs.Connector.{first_connector, ConnectorCore}
+use Rattle.cdc_actors.specs.Ledger.{first_ledger, LedgerCore}
+use Rattle.cdc_actors.specs.declared.broker.plans.BrokerPlan.{BrokerPlan}
+use Rattle.cdc_actors.specs.Ends.{ActorState}
+use Rattle.cdc_links.specs.Links.{Incoming, LinkId, Outgoing, fresh_endpoint}
 use Rattle.cdc_match.specs.declared.binding.Binding.{Binding}
 use Rattle.cdc_progress.specs.Records.{Saved}
 use Rattle.cdc_progress.specs.Stores.{Risks}
@@ -27,22 +27,22 @@ use Rattle.cdc_run.specs.declared.configs.Config.{Config}
 use Rattle.cdc_run.specs.declared.ends.Ends.{Ends}
 use Rattle.cdc_run.specs.declared.plans.Faults.{Faults}
 use Rattle.cdc_run.specs.declared.wires.Wires.{Wires}
-use Rattle.cdc_run.proofs.EndsMade.{is_fresh}
+use Rattle.cdc_run.proofs.ActorsMade.{is_fresh}
 
 -- ---- links of one sender each
 
--- the senders' ends, from the links
+-- the senders' endpoints, from the links
 senders : {M N : Type 0} (ins : List (Incoming M N))
-    → map only_sender ins ≡ map (λ link. fresh_end {M = M} {N = N} link 0) (map (λ i. i.link) ins)
+    → map only_sender ins ≡ map (λ link. fresh_endpoint {M = M} {N = N} link 0) (map (λ i. i.link) ins)
 senders [] = refl
-senders {M} {N} (i ∷ ins) = ap (λ (l : List (Outgoing M N)). fresh_end i.link 0 ∷ l) (senders ins)
+senders {M} {N} (i ∷ ins) = ap (λ (l : List (Outgoing M N)). fresh_endpoint i.link 0 ∷ l) (senders ins)
 
 -- each has the number 0 and has sent nothing
 unused : {M N : Type 0} (ins : List (Incoming M N))
     → All (λ (o : Outgoing M N). (o.number ≡ 0) × (o.sent ≡ [])) (map only_sender ins)
 unused {M} {N} [] = All-nil (λ (o : Outgoing M N). (o.number ≡ 0) × (o.sent ≡ []))
 unused {M} {N} (i ∷ ins) =
-    All-cons (λ (o : Outgoing M N). (o.number ≡ 0) × (o.sent ≡ [])) (fresh_end i.link 0) (map only_sender ins)
+    All-cons (λ (o : Outgoing M N). (o.number ≡ 0) × (o.sent ≡ [])) (fresh_endpoint i.link 0) (map only_sender ins)
     (refl, refl) (unused ins)
 
 pub all_unused : {M N : Type 0} (outs : List (Outgoing M N)) (ins : List (Incoming M N)) → AreOwn outs ins
@@ -56,7 +56,7 @@ pub as_many : {M N : Type 0} (outs : List (Outgoing M N)) (ins : List (Incoming 
     → length outs ≡ length ins
 as_many outs ins own = ap (λ l. length l) own.sender ∙ length-map ins only_sender
 
--- ---- the ends
+-- ---- the actors
 
 abbrev wiring_of : Wires → Wiring
 wiring_of w = record {
@@ -68,7 +68,7 @@ wiring_of w = record {
 }
 
 abbrev ledger_of : ℕ → Incoming ToLedger (Unit {0}) → List (Outgoing Reply Past) → Outgoing ToConnector (Option Past)
-    → EndState LedgerDesk
+    → ActorState LedgerCore
 ledger_of system inbox clients connector =
     record { system = system; work = first_ledger inbox clients connector; fault = None }
 
@@ -82,12 +82,12 @@ ledger_made system n m w wired =
     ap (λ i. ledger_of system i w.replies.items w.poll_replies)
     (is_fresh (n + 1) w.to_ledger wired.to_ledger ∙ ap (λ k. fresh_inbox w.to_ledger.link k) count)
     ∙ ap (λ l. ledger_of system inbox l w.poll_replies) (wired.replies.sender ∙ senders w.answers.items)
-    ∙ ap (λ o. ledger_of system inbox (map (λ link. fresh_end link 0) links) o) wired.poll_replies
+    ∙ ap (λ o. ledger_of system inbox (map (λ link. fresh_endpoint link 0) links) o) wired.poll_replies
 
 abbrev connector_of : ℕ → Incoming ToConnector (Option Past) → Outgoing ToLedger (Unit {0})
-    → Outgoing ToBroker (Unit {0}) → Option Saved → Bool → Risks → Option ℕ → ℕ → List ℕ → EndState Publishing
+    → Outgoing ToBroker (Unit {0}) → Option Saved → Bool → Risks → Option ℕ → ℕ → List ℕ → ActorState ConnectorCore
 connector_of system inbox polls packets held honest risks start window restarts =
-    let work : Publishing = first_work inbox polls packets held honest risks start window restarts in
+    let work : ConnectorCore = first_connector inbox polls packets held honest risks start window restarts in
     record { system = system; work = work; fault = None }
 
 connector_made : (system n m : ℕ) (w : Wires) (held : Option Saved) (honest : Bool) (risks : Risks)
@@ -96,14 +96,14 @@ connector_made : (system n m : ℕ) (w : Wires) (held : Option Saved) (honest : 
     ≡ made_connector system (wiring_of w) held honest risks start window restarts
 connector_made system n m w held honest risks start window restarts wired =
     let inbox : Incoming ToConnector (Option Past) = fresh_inbox w.to_connector.link 2 in
-    let polls : Outgoing ToLedger (Unit {0}) = fresh_end w.to_ledger.link 0 in
+    let polls : Outgoing ToLedger (Unit {0}) = fresh_endpoint w.to_ledger.link 0 in
     ap (λ i. connector_of system i w.polls w.packets held honest risks start window restarts)
     (is_fresh 2 w.to_connector wired.to_connector)
     ∙ ap (λ o. connector_of system inbox o w.packets held honest risks start window restarts) wired.polls
     ∙ ap (λ o. connector_of system inbox polls o held honest risks start window restarts) wired.packets
 
 abbrev broker_of : ℕ → Incoming ToBroker (Unit {0}) → Outgoing ToConnector (Option Past)
-    → List (Outgoing ToSubscriber (Unit {0})) → List Binding → BrokerPlan → ℕ → EndState BrokerDesk
+    → List (Outgoing ToSubscriber (Unit {0})) → List Binding → BrokerPlan → ℕ → ActorState BrokerCore
 broker_of system inbox confirms links bindings plan prefetch = record {
   system = system;
   work = first_broker inbox confirms links (empty_broker bindings) plan prefetch;
@@ -124,10 +124,10 @@ broker_made config faults n m w wired =
     ap (λ i. broker_of config.system i w.confirms w.deliveries.items bindings plan config.prefetch)
     (is_fresh (m + 1) w.to_broker wired.to_broker ∙ ap (λ k. fresh_inbox w.to_broker.link k) count)
     ∙ ap (λ o. broker_of config.system inbox o w.deliveries.items bindings plan config.prefetch) wired.confirms
-    ∙ ap (λ l. broker_of config.system inbox (fresh_end w.to_connector.link 1) l bindings plan config.prefetch)
+    ∙ ap (λ l. broker_of config.system inbox (fresh_endpoint w.to_connector.link 1) l bindings plan config.prefetch)
     (wired.deliveries.sender ∙ senders w.inboxes.items)
 
--- all ends of a run
+-- all actors of a run
 pub are_made : {S : Type 0} (config : Config) (faults : Faults) (held : Option Saved) (honest : Bool) (risks : Risks)
     (ends : Ends S) (w : Wires) → AreWired config.clients (length config.bindings.items) w
     → ends.ledger ≡ ledger_of config.system w.to_ledger w.replies.items w.poll_replies

@@ -1,4 +1,5 @@
--- The ends of a run sit where its wiring has them, once they have worked; and ends that do are wired to one another.
+-- Once they have worked, the actors of a run are where its wiring has them; and actors that are there are wired to
+-- one another.
 use Rattle.std.proofs.Common.{◌≡◌, ℕ, suc, ◌+◌, ◌-◌, ◌≤◌, List, [], ◌∷◌, ◌++◌, refl, sym, ap, ◌∙◌, subst, length, map, arith}
 use Rattle.std.specs.Prelude.{All, Bool, Option, Some, slice_get}
 use Rattle.std.specs.List.{AllZip}
@@ -7,14 +8,14 @@ use Rattle.std.proofs.lemmas.List.{append_assoc, length-map, length_push}
 use Rattle.std.proofs.lemmas.List.Elements.{All-cons, All-head, All-nil, All-tail}
 use Rattle.std.proofs.lemmas.Option.{slice_get-map}
 use Rattle.std.proofs.lemmas.Simd.{map-map}
-use Rattle.cdc_ends.specs.BrokerTurns.{first_consumer}
-use Rattle.cdc_ends.specs.Clients.{Talk}
-use Rattle.cdc_ends.specs.ConnectorEnds.{IsConnectorEnd, Publishing}
-use Rattle.cdc_ends.specs.LedgerEnds.{links_of, LedgerDesk}
-use Rattle.cdc_ends.specs.SubscriberEnds.{Intake}
-use Rattle.cdc_ends.specs.declared.consumers.Consumer.{Consumer}
+use Rattle.cdc_actors.specs.Broker.Turns.{first_consumer}
+use Rattle.cdc_actors.specs.Client.{ClientCore}
+use Rattle.cdc_actors.specs.Connector.{IsConnectorActor, ConnectorCore}
+use Rattle.cdc_actors.specs.Ledger.{links_of, LedgerCore}
+use Rattle.cdc_actors.specs.Subscriber.{SubscriberCore}
+use Rattle.cdc_actors.specs.declared.broker.consumers.Consumer.{Consumer}
 use Rattle.cdc_laws.proofs.ListElements.{slice_get-behind}
-use Rattle.cdc_links.specs.Links.{Incoming, LinkId, Outgoing, fresh_end}
+use Rattle.cdc_links.specs.Links.{Incoming, LinkId, Outgoing, fresh_endpoint}
 use Rattle.cdc_progress.specs.Records.{Saved}
 use Rattle.cdc_progress.specs.Stores.{Risks}
 use Rattle.cdc_traffic.specs.declared.messages.ToBroker.{ToBroker}
@@ -24,13 +25,13 @@ use Rattle.cdc_traffic.specs.declared.messages.ToSubscriber.{ToSubscriber}
 use Rattle.cdc_traffic.specs.declared.pasts.Past.{Past}
 use Rattle.cdc_traffic.specs.declared.requests.Reply.{Reply}
 use Rattle.cdc_types.specs.declared.batches.Batch.{Batch}
-use Rattle.cdc_run.specs.Accounts.{IsOnlySender}
+use Rattle.cdc_run.specs.SettledLinks.{IsOnlySender}
 use Rattle.cdc_run.specs.ClientMail.{AreClientsOf, ArePollsTo, AreWiredTo}
 use Rattle.cdc_run.specs.Made.{AreMade, made_clients, made_subscribers}
 use Rattle.cdc_run.specs.Parted.{works_of}
-use Rattle.cdc_ends.specs.Seats.{broker_seat, client_seat, connector_seat, ledger_seat, subscriber_seat}
-use Rattle.cdc_ends.specs.Ends.{EndState}
-use Rattle.cdc_ends.specs.BrokerEnds.{BrokerDesk}
+use Rattle.cdc_actors.specs.Seats.{broker_seat, client_seat, connector_seat, ledger_seat, subscriber_seat}
+use Rattle.cdc_actors.specs.Ends.{ActorState}
+use Rattle.cdc_actors.specs.Broker.{BrokerCore}
 use Rattle.cdc_run.specs.Streams.{AreJoined, Middle}
 use Rattle.cdc_run.specs.SubscriberMail.{AreSubscribersOf}
 use Rattle.cdc_run.specs.Tasks.{AreLeft, ClientLeaves, SubscriberLeaves, places_of, with_scripts}
@@ -40,9 +41,9 @@ use Rattle.cdc_run.specs.declared.ends.Ends.{Ends}
 use Rattle.cdc_run.specs.declared.plans.Faults.{Faults}
 use Rattle.cdc_run.proofs.Leaving.{made_clients_left, made_subscribers_left}
 
--- ---- ends that were made, once they have worked
+-- ---- actors that were made, once they have worked
 
--- what comes after so many stands at the place of its number, which counts from 1
+-- an element is at the place of its number, which counts from 1
 at_place : {A : Type 0} (before : List A) (x : A) (rest all : List A) (number : ℕ) → before ++ x ∷ rest ≡ all
     → number ≡ length before + 1 → slice_get all (number - 1) ≡ Some x
 at_place {A} before x rest all number split count =
@@ -58,20 +59,20 @@ next_number before x number count =
     let long = length_push before x in
     omega arith
 
--- over which links new ends send
-links_made : (links : List (LinkId Reply)) → links_of (map (λ link. fresh_end link 0) links) ≡ links
+-- the links over which new actors send
+links_made : (links : List (LinkId Reply)) → links_of (map (λ link. fresh_endpoint link 0) links) ≡ links
 links_made [] = refl
 links_made (link ∷ links) = ap (λ (l : List (LinkId Reply)). link ∷ l) (links_made links)
 
 consumers_made : (links : List (LinkId ToSubscriber))
-    → map (λ c. c.link.link) (map first_consumer (map (λ link. fresh_end link 0) links)) ≡ links
+    → map (λ c. c.link.link) (map first_consumer (map (λ link. fresh_endpoint link 0) links)) ≡ links
 consumers_made [] = refl
 consumers_made (link ∷ links) = ap (λ (l : List (LinkId ToSubscriber)). link ∷ l) (consumers_made links)
 
 module _ (system : ℕ) (w : Wiring) where
-  -- each client, behind those of some links
+  -- each client, after those of some links
   clients_seated : (before links : List (LinkId Reply)) (number : ℕ) (scripts : List (List Batch))
-      (news : List (EndState Talk)) → before ++ links ≡ w.to_clients → number ≡ length before + 1
+      (news : List (ActorState ClientCore)) → before ++ links ≡ w.to_clients → number ≡ length before + 1
       → AllZip ClientLeaves (with_scripts (made_clients system w.to_ledger number links) scripts) news
       → All (λ c. ClientSits w (client_seat c.work)) news
   clients_seated before [] number scripts [] split count all = λ k d below. absurd (omega arith)
@@ -88,9 +89,9 @@ module _ (system : ℕ) (w : Wiring) where
       (clients_seated (before ++ link ∷ []) links (number + 1) scripts news
       (append_assoc before (link ∷ []) links ∙ split) (next_number before link number count) all.1)
 
-  -- each subscriber, behind those of some links
+  -- each subscriber, after those of some links
   subscribers_seated : (before links : List (LinkId ToSubscriber)) (number : ℕ) (closes : List (Option ℕ))
-      (news : List (EndState Intake)) → before ++ links ≡ w.to_subscribers → number ≡ length before + 1
+      (news : List (ActorState SubscriberCore)) → before ++ links ≡ w.to_subscribers → number ≡ length before + 1
       → AllZip SubscriberLeaves (made_subscribers system w.to_broker number links closes) news
       → All (λ s. SubscriberSits w (subscriber_seat s.work)) news
   subscribers_seated before [] number closes [] split count all = λ k d below. absurd (omega arith)
@@ -107,16 +108,16 @@ module _ (system : ℕ) (w : Wiring) where
       (subscribers_seated (before ++ link ∷ []) links (number + 1) closes news
       (append_assoc before (link ∷ []) links ∙ split) (next_number before link number count) all.1)
 
--- all ends, once they have worked
+-- all actors, once they have worked
 pub all_seated : {S : Type 0} (config : Config) (faults : Faults) (held : Option Saved) (honest : Bool)
     (risks : Risks) (ends new : Ends S) (scripts : List (List Batch))
     (made : AreMade config faults held honest risks ends)
     → AreLeft (places_of ends) scripts (places_of new) → AreSeated (λ system. made.wiring) new
 all_seated config faults held honest risks ends new scripts made are =
     let w : Wiring = made.wiring in
-    let ledger = ap (λ (e : EndState LedgerDesk). ledger_seat e.work) made.ledger in
-    let connector = ap (λ (e : EndState Publishing). connector_seat e.work) made.connector in
-    let broker = ap (λ (e : EndState BrokerDesk). broker_seat e.work) made.broker in
+    let ledger = ap (λ (e : ActorState LedgerCore). ledger_seat e.work) made.ledger in
+    let connector = ap (λ (e : ActorState ConnectorCore). connector_seat e.work) made.connector in
+    let broker = ap (λ (e : ActorState BrokerCore). broker_seat e.work) made.broker in
     record {
       ledger = subst (LedgerSits w) (sym (are.ledger.seat ∙ ledger))
           (record { inbox = refl; clients = links_made w.to_clients; connector = refl });
@@ -133,13 +134,13 @@ all_seated config faults held honest risks ends new scripts made are =
 -- ---- links by place
 
 module _ {M N : Type 0} where
-  -- receivers' ends, each of the link at its place, the first of them at this one, and each with one sender
+  -- receivers' endpoints, each of the link at its place, from this place on, and each with one sender
   abbrev AreAt : List (LinkId M) → ℕ → List (Incoming M N) → Type 0
   AreAt links place [] = Unit {0}
   AreAt links place (into ∷ ins) =
       (slice_get links place ≡ Some into.link) × (into.senders ≡ 1) × AreAt links (place + 1) ins
 
-  -- the senders' ends of these links, by place, are theirs
+  -- the senders' endpoints of these links, by place, are those of the receivers' links
   only_senders : (links : List (LinkId M)) (place : ℕ) (ins : List (Incoming M N)) (outs : List (Outgoing M N))
       → AreAt links place ins → length ins ≡ length outs
       → ((k : ℕ) (out : Outgoing M N) → slice_get outs k ≡ Some out → slice_get links (place + k) ≡ Some out.link)
@@ -159,7 +160,7 @@ module _ {M N : Type 0} where
             subst (λ (n : ℕ). slice_get links n ≡ Some next.link) same (there (suc k) next found)),
       )
 
-  -- where the links are just those of the senders' ends
+  -- if the links are exactly those of the senders' endpoints
   joined_at : (links : List (LinkId M)) (ins : List (Incoming M N)) (outs : List (Outgoing M N)) → AreAt links 0 ins
       → map (λ out. out.link) outs ≡ links → length ins ≡ length outs → AllZip IsOnlySender ins outs
   joined_at links ins outs at same many =
@@ -173,23 +174,23 @@ module _ {M N : Type 0} where
 -- ---- ledger and clients
 
 module _ (wiring : ℕ → Wiring) (system : ℕ) where
-  abbrev ClientIsSeated : EndState Talk → Type 0
+  abbrev ClientIsSeated : ActorState ClientCore → Type 0
   ClientIsSeated c = ClientSits (wiring c.system) (client_seat c.work)
 
   -- the clients of one system ask over its link
-  clients_ask : (link : LinkId ToLedger) (number : ℕ) (clients : List (EndState Talk))
+  clients_ask : (link : LinkId ToLedger) (number : ℕ) (clients : List (ActorState ClientCore))
       → (wiring system).to_ledger ≡ link
       → AreClientsOf system number clients → All ClientIsSeated clients
       → All (λ c. c.work.requests.link ≡ link) clients
-  clients_ask link number [] same are seated = All-nil (λ (c : EndState Talk). c.work.requests.link ≡ link)
+  clients_ask link number [] same are seated = All-nil (λ (c : ActorState ClientCore). c.work.requests.link ≡ link)
   clients_ask link number (c ∷ clients) same are seated =
       let sits : ClientSits (wiring c.system) (client_seat c.work) = All-head ClientIsSeated c clients seated in
-      All-cons (λ (s : EndState Talk). s.work.requests.link ≡ link) c clients
+      All-cons (λ (s : ActorState ClientCore). s.work.requests.link ≡ link) c clients
       (sits.requests ∙ ap (λ (n : ℕ). (wiring n).to_ledger) are.0 ∙ same)
       (clients_ask link (number + 1) clients same are.4 (All-tail ClientIsSeated c clients seated))
 
   -- and are answered each over the link at its place
-  clients_at : (place : ℕ) (clients : List (EndState Talk)) → AreClientsOf system (place + 1) clients
+  clients_at : (place : ℕ) (clients : List (ActorState ClientCore)) → AreClientsOf system (place + 1) clients
       → All ClientIsSeated clients → AreAt (wiring system).to_clients place (map (λ c. c.answers) (works_of clients))
   clients_at place [] are seated = tt
   clients_at place (c ∷ clients) are seated =
@@ -204,25 +205,26 @@ module _ (wiring : ℕ → Wiring) (system : ℕ) where
         clients_at (place + 1) clients are.4 (All-tail ClientIsSeated c clients seated),
       )
 
-  abbrev SubscriberIsSeated : EndState Intake → Type 0
+  abbrev SubscriberIsSeated : ActorState SubscriberCore → Type 0
   SubscriberIsSeated s = SubscriberSits (wiring s.system) (subscriber_seat s.work)
 
   -- the subscribers of one system acknowledge over its link
-  subscribers_acknowledge : (link : LinkId ToBroker) (number : ℕ) (subscribers : List (EndState Intake))
+  subscribers_acknowledge : (link : LinkId ToBroker) (number : ℕ) (subscribers : List (ActorState SubscriberCore))
       → (wiring system).to_broker ≡ link → AreSubscribersOf system number subscribers
       → All SubscriberIsSeated subscribers → All (λ s. s.work.acks.link ≡ link) subscribers
   subscribers_acknowledge link number [] same are seated =
-      All-nil (λ (s : EndState Intake). s.work.acks.link ≡ link)
+      All-nil (λ (s : ActorState SubscriberCore). s.work.acks.link ≡ link)
   subscribers_acknowledge link number (s ∷ subscribers) same are seated =
       let sits : SubscriberSits (wiring s.system) (subscriber_seat s.work) =
       All-head SubscriberIsSeated s subscribers seated in
-      All-cons (λ (t : EndState Intake). t.work.acks.link ≡ link) s subscribers
+      All-cons (λ (t : ActorState SubscriberCore). t.work.acks.link ≡ link) s subscribers
       (sits.acks ∙ ap (λ (n : ℕ). (wiring n).to_broker) are.0 ∙ same)
       (subscribers_acknowledge link (number + 1) subscribers same are.4
       (All-tail SubscriberIsSeated s subscribers seated))
 
-  -- and are handed out to each over the link at its place
-  subscribers_at : (place : ℕ) (subscribers : List (EndState Intake)) → AreSubscribersOf system (place + 1) subscribers
+  -- and each receives deliveries over the link at its place
+  subscribers_at : (place : ℕ) (subscribers : List (ActorState SubscriberCore)) → AreSubscribersOf system
+      (place + 1) subscribers
       → All SubscriberIsSeated subscribers
       → AreAt (wiring system).to_subscribers place (map (λ s. s.inbox) (works_of subscribers))
   subscribers_at place [] are seated = tt
@@ -239,10 +241,10 @@ module _ (wiring : ℕ → Wiring) (system : ℕ) where
         subscribers_at (place + 1) subscribers are.4 (All-tail SubscriberIsSeated s subscribers seated),
       )
 
--- the ends of the connector's links, where it is of the ledger's system
+-- the endpoints of the connector's links, if it is of the ledger's system
 pub record AreBetween {S : Type 0} (ends : Ends S) (m : Middle) : Type 0 where
   pub same : ends.connector.system ≡ ends.ledger.system
-  pub connector : IsConnectorEnd ends.connector.work
+  pub connector : IsConnectorActor ends.connector.work
   pub inbox : m.inbox ≡ ends.connector.work.inbox
   pub replies : m.replies ≡ ends.ledger.work.connector
   pub packets : m.packets ≡ ends.connector.work.packets
@@ -252,21 +254,21 @@ module _ {S : Type 0} (wiring : ℕ → Wiring) (ends : Ends S) (seated : AreSea
   pub wired : AreClientsOf ends.ledger.system 1 ends.clients.items → AreWiredTo ends.ledger ends.clients.items
   wired are =
       let system : ℕ = ends.ledger.system in
-      let clients : List (EndState Talk) = ends.clients.items in
+      let clients : List (ActorState ClientCore) = ends.clients.items in
       let outs : List (Outgoing Reply Past) = ends.ledger.work.clients in
       record {
         requests = clients_ask wiring system ends.ledger.work.inbox.link 1 clients (sym seated.ledger.inbox) are
             seated.clients;
         answers = λ many.
-            joined_at (wiring system).to_clients (map (λ (c : Talk). c.answers) (works_of clients)) outs
+            joined_at (wiring system).to_clients (map (λ (c : ClientCore). c.answers) (works_of clients)) outs
             (clients_at wiring system 0 clients are seated.clients) seated.ledger.clients
-            (length-map (works_of clients) (λ (c : Talk). c.answers)
-            ∙ length-map clients (λ (s : EndState Talk). s.work) ∙ many);
+            (length-map (works_of clients) (λ (c : ClientCore). c.answers)
+            ∙ length-map clients (λ (s : ActorState ClientCore). s.work) ∙ many);
       }
 
   -- so is the connector
   pub polls_to : (polls : Outgoing ToLedger (Unit {0})) → ends.connector.system ≡ ends.ledger.system
-      → IsConnectorEnd ends.connector.work → polls ≡ ends.connector.work.polls → ArePollsTo ends.ledger polls
+      → IsConnectorActor ends.connector.work → polls ≡ ends.connector.work.polls → ArePollsTo ends.ledger polls
   polls_to polls same is are = record {
     link =
         ap (λ (o : Outgoing ToLedger (Unit {0})). o.link) are ∙ seated.connector.polls
@@ -280,7 +282,7 @@ module _ {S : Type 0} (wiring : ℕ → Wiring) (ends : Ends S) (seated : AreSea
       → AreJoined m ends.broker.work ends.subscribers.items
   joined m are its subscribers_are =
       let system : ℕ = ends.ledger.system in
-      let subscribers : List (EndState Intake) = ends.subscribers.items in
+      let subscribers : List (ActorState SubscriberCore) = ends.subscribers.items in
       let consumers : List Consumer = ends.broker.work.consumers in
       let inbox : m.inbox.link ≡ (wiring system).to_connector =
       ap (λ (i : Incoming ToConnector (Option Past)). i.link) are.inbox ∙ seated.connector.inbox
@@ -299,12 +301,12 @@ module _ {S : Type 0} (wiring : ℕ → Wiring) (ends : Ends S) (seated : AreSea
         acks = subscribers_acknowledge wiring system ends.broker.work.inbox.link 1 subscribers (sym broker)
             subscribers_are seated.subscribers;
         inboxes = λ many.
-            joined_at (wiring system).to_subscribers (map (λ (s : Intake). s.inbox) (works_of subscribers))
+            joined_at (wiring system).to_subscribers (map (λ (s : SubscriberCore). s.inbox) (works_of subscribers))
             (map (λ (x : Consumer). x.link) consumers)
             (subscribers_at wiring system 0 subscribers subscribers_are seated.subscribers)
             (map-map (λ (o : Outgoing ToSubscriber (Unit {0})). o.link) (λ (x : Consumer). x.link) consumers
             ∙ seated.broker.subscribers ∙ ap (λ (n : ℕ). (wiring n).to_subscribers) its)
-            (length-map (works_of subscribers) (λ (s : Intake). s.inbox)
-            ∙ length-map subscribers (λ (s : EndState Intake). s.work) ∙ many
+            (length-map (works_of subscribers) (λ (s : SubscriberCore). s.inbox)
+            ∙ length-map subscribers (λ (s : ActorState SubscriberCore). s.work) ∙ many
             ∙ sym (length-map consumers (λ (x : Consumer). x.link)));
       }

@@ -4,45 +4,46 @@ use Rattle.std.specs.Prelude.{All}
 use Rattle.std.specs.List.{AllZip}
 use Rattle.std.proofs.lemmas.List.{length-map}
 use Rattle.std.proofs.lemmas.List.Elements.{All-head, All-tail}
-use Rattle.cdc_ends.specs.Clients.{Talk}
-use Rattle.cdc_ends.specs.LedgerEnds.{AreTold, FinishedDesksAreClosed, IsClosed, is_done, order_of}
-use Rattle.cdc_ends.specs.Orders.{said_to}
+use Rattle.cdc_actors.specs.Client.{ClientCore}
+use Rattle.cdc_actors.specs.Ledger.{ReceiveReplies, FinishedLedgersAreClosed, IsClosed, is_done, order_of}
+use Rattle.cdc_actors.specs.Orders.{named_replies_to}
 use Rattle.cdc_links.specs.Links.{CanSend, Outgoing, of_sender}
 use Rattle.cdc_traffic.specs.Following.{FollowsToLedger}
 use Rattle.cdc_traffic.specs.declared.messages.ToLedger.{ToLedger}
 use Rattle.cdc_traffic.specs.declared.pasts.Past.{Past}
 use Rattle.cdc_traffic.specs.declared.requests.Reply.{Reply}
 use Rattle.cdc_types.specs.declared.batches.Batch.{Batch}
-use Rattle.cdc_run.specs.Accounts.{IsAccounted}
+use Rattle.cdc_run.specs.SettledLinks.{IsAccounted}
 use Rattle.cdc_run.specs.Books.{AreReplied, BooksSettle, HaveFinished}
 use Rattle.cdc_run.specs.Settling.{AreNumbered, ClientsAreReplied, HasSettled, IsOfClients, IsReplied, LedgerMail, OrdersAreOfClients}
 
--- whose senders' ends have their clients' numbers
-numbered : (number : ℕ) (clients : List Talk) → HaveFinished number clients
+-- senders' endpoints with their clients' numbers
+numbered : (number : ℕ) (clients : List ClientCore) → HaveFinished number clients
     → AreNumbered number (map (λ c. c.requests) clients)
 numbered number [] have = tt
 numbered number (c ∷ clients) have = (have.1.own ∙ have.0, numbered (number + 1) clients have.3)
 
 module _ (law : ClientsAreReplied) (mail : LedgerMail) where
-  -- what holds of an end of the ledger's link
+  -- what holds of an endpoint of the ledger's link
   abbrev IsWhole : Outgoing ToLedger (Unit {0}) → Type 0
   IsWhole end = of_sender end.number (mail.received ++ mail.left) ≡ end.sent
 
   abbrev IsLawful : Outgoing ToLedger (Unit {0}) → Type 0
   IsLawful end = CanSend FollowsToLedger end.number end.sent
 
-  abbrev requests_of : List Talk → List (Outgoing ToLedger (Unit {0}))
+  abbrev requests_of : List ClientCore → List (Outgoing ToLedger (Unit {0}))
   requests_of clients = map (λ c. c.requests) clients
 
   -- one client and those after it
-  replied_from : (number : ℕ) (clients : List Talk) (outs : List (Outgoing Reply Past)) → HaveFinished number clients
-      → AreTold number (order_of mail.received) outs → AllZip IsAccounted (map (λ c. c.answers) clients) outs
+  replied_from : (number : ℕ) (clients : List ClientCore) (outs : List (Outgoing Reply Past))
+      → HaveFinished number clients
+      → ReceiveReplies number (order_of mail.received) outs → AllZip IsAccounted (map (λ c. c.answers) clients) outs
       → All IsWhole (requests_of clients) → All IsLawful (requests_of clients)
       → ((k : ℕ) → number ≤ k → k < number + length clients → is_done k mail.received ≡ true)
       → AreReplied number (order_of mail.received) (map (λ c. c.replies) clients)
-  replied_from number [] outs have told answers whole lawful done = tt
-  replied_from number (c ∷ clients) [] have told answers whole lawful done = absurd answers
-  replied_from number (c ∷ clients) (out ∷ outs) have told answers whole lawful done =
+  replied_from number [] outs have emitted answers whole lawful done = tt
+  replied_from number (c ∷ clients) [] have emitted answers whole lawful done = absurd answers
+  replied_from number (c ∷ clients) (out ∷ outs) have emitted answers whole lawful done =
       let own : c.requests.number ≡ c.number = have.1.own in
       let first : of_sender c.requests.number (mail.received ++ mail.left) ≡ c.requests.sent =
       All-head IsWhole c.requests (requests_of clients) whole in
@@ -55,13 +56,13 @@ module _ (law : ClientsAreReplied) (mail : LedgerMail) where
         sent = subst (λ (k : ℕ). of_sender k (mail.received ++ mail.left) ≡ c.requests.sent) own first;
         lawful = subst (λ (k : ℕ). CanSend FollowsToLedger k c.requests.sent) own chain;
         link = out;
-        number = told.0;
-        told = told.1 ∙ ap (λ (k : ℕ). said_to k (order_of mail.received)) (sym have.0);
+        number = emitted.0;
+        emitted = emitted.1 ∙ ap (λ (k : ℕ). named_replies_to k (order_of mail.received)) (sym have.0);
         answers_left = answers.0.left;
         account = answers.0.account;
       } in (
         subst (λ (k : ℕ). IsReplied (order_of mail.received) k c.replies) have.0 (law mail c settled),
-        replied_from (number + 1) clients outs have.3 told.2 answers.1
+        replied_from (number + 1) clients outs have.3 emitted.2 answers.1
             (All-tail IsWhole c.requests (requests_of clients) whole)
             (All-tail IsLawful c.requests (requests_of clients) lawful)
             (λ k above below. done k (omega arith) (omega arith)),
@@ -74,22 +75,22 @@ as_many R [] (y ∷ ys) all = absurd all
 as_many R (x ∷ xs) [] all = absurd all
 as_many R (x ∷ xs) (y ∷ ys) all = let rest = as_many R xs ys all.1 in omega arith
 
-pub books_settle : ClientsAreReplied → OrdersAreOfClients → FinishedDesksAreClosed → BooksSettle
+pub books_settle : ClientsAreReplied → OrdersAreOfClients → FinishedLedgersAreClosed → BooksSettle
 books_settle replied of_clients closed d polls clients are =
     let mail : LedgerMail = record { received = d.inbox.received; left = are.left } in
     let order : List (ℕ × Batch) = order_of d.inbox.received in
     let requests : List (Outgoing ToLedger (Unit {0})) = map (λ c. c.requests) clients in
-    let shut : IsClosed d = closed d are.desk are.over in
-    let count : length (map (λ (c : Talk). c.answers) clients) ≡ length d.clients =
-    as_many IsAccounted (map (λ (c : Talk). c.answers) clients) d.clients are.answers in
-    let answered : length (map (λ (c : Talk). c.answers) clients) ≡ length clients =
-    length-map clients (λ (c : Talk). c.answers) in
-    let asked : length requests ≡ length clients = length-map clients (λ (c : Talk). c.requests) in
-    let replies : length (map (λ (c : Talk). c.replies) clients) ≡ length clients =
-    length-map clients (λ (c : Talk). c.replies) in
+    let shut : IsClosed d = closed d are.core are.over in
+    let count : length (map (λ (c : ClientCore). c.answers) clients) ≡ length d.clients =
+    as_many IsAccounted (map (λ (c : ClientCore). c.answers) clients) d.clients are.answers in
+    let answered : length (map (λ (c : ClientCore). c.answers) clients) ≡ length clients =
+    length-map clients (λ (c : ClientCore). c.answers) in
+    let asked : length requests ≡ length clients = length-map clients (λ (c : ClientCore). c.requests) in
+    let replies : length (map (λ (c : ClientCore). c.replies) clients) ≡ length clients =
+    length-map clients (λ (c : ClientCore). c.replies) in
     record {
       ledger_is = shut.history;
-      each = replied_from replied mail 1 clients d.clients are.finished are.desk.booked.told are.answers
+      each = replied_from replied mail 1 clients d.clients are.finished are.core.booked.emitted are.answers
           (All-tail (λ (end : Outgoing ToLedger (Unit {0})).
           of_sender end.number (d.inbox.received ++ are.left) ≡ end.sent) polls requests are.account.0)
           (All-tail (λ (end : Outgoing ToLedger (Unit {0})). CanSend FollowsToLedger end.number end.sent) polls requests

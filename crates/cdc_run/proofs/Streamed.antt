@@ -4,43 +4,50 @@ use Rattle.std.specs.Prelude.{All, Option, Some, is_none, slice_get}
 use Rattle.std.proofs.lemmas.Bool.{and_parts}
 use Rattle.std.specs.List.{AllZip}
 use Rattle.std.proofs.lemmas.List.Elements.{All-head, All-tail}
-use Rattle.cdc_ends.specs.BrokerEnds.{BrokerDesk, IsBrokerEnd}
-use Rattle.cdc_ends.specs.ConnectorEnds.{Publishing, origin_of}
-use Rattle.cdc_ends.specs.LedgerEnds.{LedgerDesk}
-use Rattle.cdc_ends.specs.SubscriberEnds.{Intake}
-use Rattle.cdc_ends.specs.declared.consumers.Consumer.{Consumer}
-use Rattle.cdc_ends.specs.Ends.{EndState}
+use Rattle.cdc_actors.specs.Broker.{BrokerCore, IsBrokerActor}
+use Rattle.cdc_actors.specs.Connector.{ConnectorCore, origin_of}
+use Rattle.cdc_actors.specs.Ledger.{LedgerCore}
+use Rattle.cdc_actors.specs.Subscriber.{SubscriberCore}
+use Rattle.cdc_actors.specs.declared.broker.consumers.Consumer.{Consumer}
+use Rattle.cdc_actors.specs.Ends.{ActorState}
 use Rattle.cdc_links.specs.Links.{CanSend, Incoming, IsAccount, Outgoing, of_sender}
 use Rattle.cdc_traffic.specs.Following.{FollowsToConnector}
 use Rattle.cdc_traffic.specs.declared.messages.ToBroker.{ToBroker}
 use Rattle.cdc_traffic.specs.declared.messages.ToConnector.{ToConnector}
 use Rattle.cdc_traffic.specs.declared.pasts.Past.{Past}
-use Rattle.cdc_run.specs.Accounts.{IsAccounted}
+use Rattle.cdc_run.specs.SettledLinks.{IsAccounted}
 use Rattle.cdc_run.specs.Passing.{AreThrough, EndsCome}
 use Rattle.cdc_run.specs.Parted.{works_of}
 use Rattle.cdc_run.specs.Streams.{AllCome, AreLeftBy, Middle}
 use Rattle.cdc_run.specs.SubscriberMail.{AreSubscribersOf}
 
--- what an account says of an end whose number is known
+-- what an account states of an endpoint whose number is known
 its_own : {M N : Type 0} (entries : List (ℕ × (M × N))) (end : Outgoing M N) (number : ℕ) → end.number ≡ number
     → of_sender end.number entries ≡ end.sent → of_sender number entries ≡ end.sent
 its_own entries end number named whole = subst (λ (k : ℕ). of_sender k entries ≡ end.sent) named whole
 
+-- so of the connector's endpoint of the link to the broker
+pub packets_left : (inbox : Incoming ToBroker (Unit {0})) (packets : Outgoing ToBroker (Unit {0}))
+    (acks : List (Outgoing ToBroker (Unit {0}))) (left : List (ℕ × (ToBroker × Unit {0}))) → packets.number ≡ 0
+    → IsAccount inbox (packets ∷ acks) left → of_sender 0 (inbox.received ++ left) ≡ packets.sent
+packets_left inbox packets acks left own account =
+    let Q : Outgoing ToBroker (Unit {0}) → Type 0 =
+    λ end. of_sender end.number (inbox.received ++ left) ≡ end.sent in
+    its_own (inbox.received ++ left) packets 0 own (All-head Q packets acks account.0)
+
 -- with what was left in both links, ledger, connector and broker are through
-pub through : (d : LedgerDesk) (c : Publishing) (b : BrokerDesk) (m : Middle)
+pub through : (d : LedgerCore) (c : ConnectorCore) (b : BrokerCore) (m : Middle)
     (acks : List (Outgoing ToBroker (Unit {0})))
     (left : List (ℕ × (ToConnector × Option Past))) (left_of_packets : List (ℕ × (ToBroker × Unit {0})))
-    → AreLeftBy d c m → IsBrokerEnd b → b.finished ≡ true → IsAccount m.inbox (m.replies ∷ b.confirms ∷ []) left
+    → AreLeftBy d c m → IsBrokerActor b → b.finished ≡ true → IsAccount m.inbox (m.replies ∷ b.confirms ∷ []) left
     → All (λ end. CanSend FollowsToConnector end.number end.sent) (m.replies ∷ b.confirms ∷ [])
     → IsAccount b.inbox (m.packets ∷ acks) left_of_packets → AreThrough d c b
 through d c b m acks left left_of_packets are broker finished account lawful packets =
     let P : Outgoing ToConnector (Option Past) → Type 0 =
     λ end. of_sender end.number (m.inbox.received ++ left) ≡ end.sent in
-    let Q : Outgoing ToBroker (Unit {0}) → Type 0 =
-    λ end. of_sender end.number (b.inbox.received ++ left_of_packets) ≡ end.sent in
     let L : Outgoing ToConnector (Option Past) → Type 0 = λ end. CanSend FollowsToConnector end.number end.sent in
     let mine : m.replies.number ≡ 0 =
-    ap (λ (o : Outgoing ToConnector (Option Past)). o.number) (sym are.replies) ∙ are.desk.booked.own in
+    ap (λ (o : Outgoing ToConnector (Option Past)). o.number) (sym are.replies) ∙ are.core.booked.own in
     let its : m.packets.number ≡ 0 =
     ap (λ (o : Outgoing ToBroker (Unit {0})). o.number) (sym are.packets)
     ∙ are.connector.publishing.wired.packets in
@@ -54,7 +61,7 @@ through d c b m acks left left_of_packets are broker finished account lawful pac
     subst (λ (k : ℕ). CanSend FollowsToConnector k m.replies.sent) mine
     (All-head L m.replies (b.confirms ∷ []) lawful) in
     record {
-      desk = are.desk;
+      core = are.core;
       connector = are.connector;
       over = are.over;
       honest = are.honest;
@@ -70,17 +77,15 @@ through d c b m acks left left_of_packets are broker finished account lawful pac
           ∙ sym replied;
       confirms =
           ap (λ (l : List (ℕ × (ToConnector × Option Past))). of_sender 1 (l ++ left)) received
-          ∙ its_own (m.inbox.received ++ left) b.confirms 1 broker.desk.own
+          ∙ its_own (m.inbox.received ++ left) b.confirms 1 broker.core.own
           (All-head P b.confirms [] (All-tail P m.replies (b.confirms ∷ []) account.0));
       left_of_packets = left_of_packets;
-      packets =
-          its_own (b.inbox.received ++ left_of_packets) m.packets 0 its (All-head Q m.packets acks packets.0)
-          ∙ sym sent;
+      packets = packets_left b.inbox m.packets acks left_of_packets its packets ∙ sym sent;
     }
 
 -- so each subscriber has come
-pub all_come : EndsCome → (d : LedgerDesk) (c : Publishing) (b : BrokerDesk) → AreThrough d c b
-    → (place system number : ℕ) (subscribers : List (EndState Intake)) (consumers : List Consumer)
+pub all_come : EndsCome → (d : LedgerCore) (c : ConnectorCore) (b : BrokerCore) → AreThrough d c b
+    → (place system number : ℕ) (subscribers : List (ActorState SubscriberCore)) (consumers : List Consumer)
     → AreSubscribersOf system number subscribers
     → AllZip IsAccounted (map (λ s. s.inbox) (works_of subscribers)) (map (λ x. x.link) consumers)
     → ((k : ℕ) (x : Consumer) → slice_get consumers k ≡ Some x → slice_get b.consumers (place + k) ≡ Some x)

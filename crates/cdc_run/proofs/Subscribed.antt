@@ -1,4 +1,4 @@
--- What a subscriber of a run has heard, once all ends have finished.
+-- What a subscriber of a run has received, once all actors have finished.
 use Rattle.std.proofs.Common.{◌≡◌, ℕ, zero, suc, ◌+◌, ◌-◌, ◌<◌, ◌≤◌, Bool, true, false, List, [], ◌∷◌, ◌++◌, refl, sym, ap, ◌∙◌, subst, length, map, take, append-nil, inl, inr, cond, arith}
 use Rattle.std.specs.Prelude.{◌⊎◌, ◌||◌, Option, Some, None, Contains, filter, fold, slice_get}
 use Rattle.std.specs.List.{list_any}
@@ -9,20 +9,20 @@ use Rattle.std.proofs.lemmas.List.Elements.{Contains-append_right, Contains-push
 use Rattle.cdc_broker.specs.Broker.{BrokerState, HasAccepted}
 use Rattle.cdc_broker.specs.Packets.{is_taken, items_of}
 use Rattle.cdc_broker.specs.Queues.{QueueState}
-use Rattle.cdc_ends.specs.SubscriberEnds.{AskedClose, ClosesAfter, DeliveriesAreHeard, UnaskedStayOpen, heard_by}
+use Rattle.cdc_actors.specs.Subscriber.{AskedClose, ClosesAfter, DeliveriesAreReceived, UnaskedStayOpen, received_by}
 use Rattle.cdc_laws.specs.Arrivals.{taken_after, taken_of}
-use Rattle.cdc_laws.specs.Brokers.{HasHandedOut}
+use Rattle.cdc_laws.specs.Brokers.{HasDelivered}
 use Rattle.cdc_laws.specs.ConnectorRuns.{Shown}
 use Rattle.cdc_laws.specs.Connectors.{IsLive, KeepsTo, held_number, held_start, shown_of}
 use Rattle.cdc_laws.specs.Deliveries.{deliveries, items_in}
 use Rattle.cdc_laws.specs.Faithful.{IsFaithful, applied}
-use Rattle.cdc_laws.specs.Hearing.{HasTaken, HearsOf, IsTrafficOf, Traffic}
-use Rattle.cdc_laws.specs.Line.{feed_after, line_after, told}
+use Rattle.cdc_laws.specs.Receiving.{HasTaken, ReceivesFrom, IsTrafficOf, Traffic}
+use Rattle.cdc_laws.specs.Line.{feed_after, line_after, emitted}
 use Rattle.cdc_laws.specs.RunLaws.{SubscribersOfRunsAreFaithful}
 use Rattle.cdc_laws.specs.StepLaws.{ConnectorsMakeRuns}
 use Rattle.cdc_laws.proofs.Deliveries.{items_in-deliveries, length-deliveries}
-use Rattle.cdc_laws.proofs.Feeds.{queue-line_after, rises-told}
-use Rattle.cdc_laws.proofs.Hearing.{IsReplay-of_queue, IsReplay-of_run}
+use Rattle.cdc_laws.proofs.Feeds.{queue-line_after, rises-emitted}
+use Rattle.cdc_laws.proofs.Receiving.{IsReplay-of_queue, IsReplay-of_run}
 use Rattle.cdc_laws.proofs.ListElements.{Contains-cons_cases, none_there, slice_get-behind}
 use Rattle.cdc_laws.proofs.Replays.{Contains-map, Contains-unmap}
 use Rattle.cdc_laws.proofs.Rising.{feed_after_rises}
@@ -41,7 +41,7 @@ use Rattle.cdc_message.specs.declared.packets.Packet.TheVariants.{Publish}
 use Rattle.cdc_message.specs.Replays.{IsReplay}
 use Rattle.cdc_message.proofs.ReplayLaws.{IsReplay-trans}
 use Rattle.cdc_publisher.specs.Courses.{is_confirmed, tags_sent}
-use Rattle.cdc_subscriber.specs.Heard.{Heard, applied_of, has_ended, is_end}
+use Rattle.cdc_subscriber.specs.Reception.{Reception, applied_of, has_ended, is_end}
 use Rattle.cdc_traffic.specs.Following.{FollowsToConnector, last_named}
 use Rattle.cdc_traffic.specs.Laws.{PastsGoOn, PollRepliesAreReadings}
 use Rattle.cdc_traffic.specs.Pasts.{Continues, history_of}
@@ -52,7 +52,7 @@ use Rattle.cdc_run.specs.Subscribing.{ClosesWith, EndsOpen, HasCome, HasPassed, 
 
 -- ---- lists
 
--- whatever stands at a place of a beginning stands there
+-- an element at a place of a prefix is at that place of the list
 get_taken : {X : Type 0} (n : ℕ) (xs : List X) (i : ℕ) (x : X) → slice_get (take n xs) i ≡ Some x
     → slice_get xs i ≡ Some x
 get_taken zero xs i x is = let no : None ≡ Some x = is in cc
@@ -60,7 +60,7 @@ get_taken (suc n) [] i x is = let no : None ≡ Some x = is in cc
 get_taken (suc n) (y ∷ xs) zero x is = is
 get_taken (suc n) (y ∷ xs) (suc i) x is = get_taken n xs i x is
 
--- what passes a test and stands in a list stands among those that pass
+-- an element of a list that passes a test is among those that pass
 kept_there : {X : Type 0} (test : X → Bool) (xs : List X) (x : X) → test x ≡ true → Contains xs x
     → Contains (filter test xs) x
 kept_there test [] x passes there = absurd (none_there x there)
@@ -82,13 +82,13 @@ or_later : (b c : Bool) → c ≡ true → (b || c) ≡ true
 or_later true c is = refl
 or_later false c is = is
 
--- where the end mark is among items, the end was heard
-end_heard : (items : List Item) → Contains items EndMark → list_any is_end items ≡ true
-end_heard [] there = absurd (none_there EndMark there)
-end_heard (item ∷ items) there =
+-- if the end mark is among items, it was received
+end_received : (items : List Item) → Contains items EndMark → list_any is_end items ≡ true
+end_received [] there = absurd (none_there EndMark there)
+end_received (item ∷ items) there =
     elim (Contains-cons_cases item items EndMark there) [
       | inl is ↦ ap (λ (x : Item). list_any is_end (x ∷ items)) is
-      | inr later ↦ or_later (is_end item) (list_any is_end items) (end_heard items later)
+      | inr later ↦ or_later (is_end item) (list_any is_end items) (end_received items later)
     ]
 
 -- ---- the end mark
@@ -122,7 +122,7 @@ all_arrived : (arrived : List Packet) (packet : Packet) → Contains (taken_of a
 all_arrived arrived packet there =
     elim (taken_arrived [] arrived packet there) [ inl nowhere ↦ absurd (none_there packet nowhere) | inr is ↦ is ]
 
--- a session that is the latest of those that have sent something, and has sent its end mark, shows it behind its events
+-- a session that is the latest of those that have sent something, and has sent its end mark, has it after its events
 module _ (h : History) (p : Passage) (keeps : KeepsTo h p.connector)
     (live : IsLive h (held_start p.connector.held) p.connector.confirms keeps.sessions
     (held_number p.connector.held) p.course) where
@@ -148,10 +148,10 @@ module _ (h : History) (p : Passage) (keeps : KeepsTo h p.connector)
             keeps.each published.among among
             published.its in
             let items : List Item = map OfEvent p.course.offered in
-            let shown : slice_get (take (tags_sent p.course) (told p.course.offered true)) published.place ≡ Some item =
+            let shown : slice_get (take (tags_sent p.course) (emitted p.course.offered true)) published.place ≡ Some item =
             subst (λ (s : Shown). slice_get s.items published.place ≡ Some item) same published.here in
-            let there : slice_get (told p.course.offered true) published.place ≡ Some item =
-            get_taken (tags_sent p.course) (told p.course.offered true) published.place item shown in
+            let there : slice_get (emitted p.course.offered true) published.place ≡ Some item =
+            get_taken (tags_sent p.course) (emitted p.course.offered true) published.place item shown in
             let tagged : last_tag ≡ published.place + 1 = published.tagged in
             let long : length items ≡ length p.course.offered = length-map p.course.offered OfEvent in
             let past : length items ≤ published.place = omega arith in
@@ -171,52 +171,52 @@ its_items : (b : BrokerState) (items : List Item) (q : QueueState) → HasAccept
 its_items b items q holds (k, below, is) =
     subst (λ (x : QueueState). x.items ≡ queue items x.binding) is (holds k q below)
 
--- where a queue was handed out whole, whatever it holds was handed out
-handed_whole : (q : QueueState) (taken : List Delivery) → HasHandedOut q taken → q.handed ≡ length q.items
+-- if the whole queue was delivered, every item in it was
+delivered_whole : (q : QueueState) (taken : List Delivery) → HasDelivered q taken → q.delivered ≡ length q.items
     → (item : Item) → Contains q.items item → Contains (items_in taken) item
-handed_whole q taken handed whole item there =
+delivered_whole q taken delivered whole item there =
     let all : List Delivery = deliveries q.items in
     let found = Contains-unmap (λ (d : Delivery). d.item) all item
     (subst (λ (items : List Item). Contains items item) (sym (items_in-deliveries q.items)) there) in
-    let long : q.handed ≡ length all = whole ∙ sym (length-deliveries q.items) in
-    let front : take q.handed all ≡ all = ap (λ (n : ℕ). take n all) long ∙ take-length all in
+    let long : q.delivered ≡ length all = whole ∙ sym (length-deliveries q.items) in
+    let front : take q.delivered all ≡ all = ap (λ (n : ℕ). take n all) long ∙ take-length all in
     let out : Contains taken found.0 =
-    handed.all found.0 (subst (λ (ds : List Delivery). Contains ds found.0) (sym front) found.1) in
+    delivered.all found.0 (subst (λ (ds : List Delivery). Contains ds found.0) (sym front) found.1) in
     subst (Contains (items_in taken)) found.2 (Contains-map (λ (d : Delivery). d.item) taken found.0 out)
 
--- so one that took all of it has heard the end, unless it was closed
-module _ (heard : Heard) (taken : List Delivery) (has : HasTaken heard taken)
+-- so a subscriber that took all of it has received the end mark, unless it was closed
+module _ (reception : Reception) (taken : List Delivery) (has : HasTaken reception taken)
     (there : Contains (items_in taken) EndMark) where
-  heard_out : heard.closed ≡ false → has_ended heard ≡ true
-  heard_out not_closed =
-      elim (cases_Bool (has_ended heard)) [
+  received_all : reception.closed ≡ false → has_ended reception ≡ true
+  received_all not_closed =
+      elim (cases_Bool (has_ended reception)) [
         | inl is ↦ is
         | inr not_yet ↦
-            let all : heard.items ≡ items_in taken = has.all not_closed not_yet in
-            end_heard heard.items (subst (λ (items : List Item). Contains items EndMark) (sym all) there)
+            let all : reception.items ≡ items_in taken = has.all not_closed not_yet in
+            end_received reception.items (subst (λ (items : List Item). Contains items EndMark) (sym all) there)
       ]
 
--- the laws that this stands on
+-- the laws that this rests on
 pub record StandsOn : Type 0 where
   pub pasts : PastsGoOn
   pub readings : PollRepliesAreReadings
   pub runs : ConnectorsMakeRuns
   pub faithful : SubscribersOfRunsAreFaithful
-  pub heard : DeliveriesAreHeard
+  pub reception : DeliveriesAreReceived
   pub unasked : UnaskedStayOpen
   pub asked : AskedClose
 
 module _ (on : StandsOn) (p : Passage) (q : QueueState) (taken : List Delivery) (close_after : Option ℕ)
-    (is : HasPassed p) (among : Contains p.broker.queues q) (handed : HasHandedOut q taken)
-    (whole : q.handed ≡ length q.items) where
+    (is : HasPassed p) (among : Contains p.broker.queues q) (delivered : HasDelivered q taken)
+    (whole : q.delivered ≡ length q.items) where
   abbrev h : History
   h = history_of p.past
 
   abbrev start : ℕ
   start = held_start p.connector.held
 
-  abbrev heard : Heard
-  heard = heard_by close_after taken
+  abbrev reception : Reception
+  reception = received_by close_after taken
 
   abbrev traffic : Traffic
   traffic = record {
@@ -254,31 +254,31 @@ module _ (on : StandsOn) (p : Passage) (q : QueueState) (taken : List Delivery) 
     broker = is.arrives;
   }
 
-  hears : HearsOf q heard
-  hears = record {
+  receives : ReceivesFrom q reception
+  receives = record {
     out = taken;
-    handed = handed;
+    delivered = delivered;
     taken = taken;
     front = record { rest = []; whole = append-nil taken };
-    hears = on.heard close_after taken;
+    receives = on.reception close_after taken;
   }
 
-  is_faithful : IsFaithful h start q.binding heard
-  is_faithful = on.faithful h start p.broker traffic q heard sound is_traffic among hears
+  is_faithful : IsFaithful h start q.binding reception
+  is_faithful = on.faithful h start p.broker traffic q reception sound is_traffic among receives
 
-  -- what it has applied, told in the subscriber's own words
-  same_applied : applied heard ≡ applied_of heard
+  -- what it has applied, in the terms of the subscriber
+  same_applied : applied reception ≡ applied_of reception
   same_applied =
       let items : List Item = items_of (taken_of p.arrived) in
       let took : IsReplay items (line_after h start) = IsReplay-of_run h start p.broker traffic sound is_traffic in
-      let its : IsReplay heard.items (queue items q.binding) =
-      subst (IsReplay heard.items) (its_items p.broker items q is.arrives.queues among)
-      (IsReplay-of_queue q heard hears) in
-      let of_line : IsReplay heard.items (queue (line_after h start) q.binding) =
-      IsReplay-trans heard.items (queue items q.binding) (queue (line_after h start) q.binding) its
+      let its : IsReplay reception.items (queue items q.binding) =
+      subst (IsReplay reception.items) (its_items p.broker items q is.arrives.queues among)
+      (IsReplay-of_queue q reception receives) in
+      let of_line : IsReplay reception.items (queue (line_after h start) q.binding) =
+      IsReplay-trans reception.items (queue items q.binding) (queue (line_after h start) q.binding) its
       (IsReplay-filter (takes_item q.binding) items (line_after h start) took) in
-      rises-told (feed_after h start q.binding) (feed_after_rises h start q.binding sound) h.closed heard.items
-      (subst (IsReplay heard.items) (queue-line_after h start q.binding) of_line)
+      rises-emitted (feed_after h start q.binding) (feed_after_rises h start q.binding sound) h.closed reception.items
+      (subst (IsReplay reception.items) (queue-line_after h start q.binding) of_line)
 
   -- the end mark has come to its queue
   end_in_queue : Contains q.items EndMark
@@ -299,53 +299,53 @@ module _ (on : StandsOn) (p : Passage) (q : QueueState) (taken : List Delivery) 
       (sym (its_items p.broker (items_of (taken_of p.arrived)) q is.arrives.queues among))
       (kept_there (takes_item q.binding) (items_of (taken_of p.arrived)) EndMark refl item)
 
-  ends_open : heard.closed ≡ false → EndsOpen heard
+  ends_open : reception.closed ≡ false → EndsOpen reception
   ends_open not_closed = record {
-    ended = heard_out heard taken (on.heard close_after taken)
-        (handed_whole q taken handed whole EndMark end_in_queue) not_closed;
+    ended = received_all reception taken (on.reception close_after taken)
+        (delivered_whole q taken delivered whole EndMark end_in_queue) not_closed;
     not_closed = not_closed;
   }
 
   -- what was asked of it
   module _ (n : ℕ) (asked : close_after ≡ Some n) (some : 0 < n) where
-    closes : ClosesAfter n heard
-    closes = subst (λ (o : Option ℕ). ClosesAfter n (heard_by o taken)) (sym asked) (on.asked n taken some)
+    closes : ClosesAfter n reception
+    closes = subst (λ (o : Option ℕ). ClosesAfter n (received_by o taken)) (sym asked) (on.asked n taken some)
 
-    as_many : length (applied heard) ≡ length (applied_of heard)
+    as_many : length (applied reception) ≡ length (applied_of reception)
     as_many = ap (λ (l : List Event). length l) same_applied
 
-    comes_enough : n ≤ length (feed_after h start q.binding) → ClosesWith n heard
+    comes_enough : n ≤ length (feed_after h start q.binding) → ClosesWith n reception
     comes_enough many =
-        elim (cases_Bool heard.closed) [
+        elim (cases_Bool reception.closed) [
           | inl shut ↦
               let at = closes.shut shut in
               record { shut = shut; not_ended = at.1; count = as_many ∙ at.0 }
           | inr not_closed ↦
-              let told = is_faithful.whole (ends_open not_closed).ended in
-              let all : length (applied heard) ≡ length (feed_after h start q.binding) =
-              ap (λ (l : List Event). length l) told.1 in
+              let emitted = is_faithful.whole (ends_open not_closed).ended in
+              let all : length (applied reception) ≡ length (feed_after h start q.binding) =
+              ap (λ (l : List Event). length l) emitted.1 in
               let few = closes.open_yet not_closed in
               absurd (omega (arith, as_many))
         ]
 
-    comes_few : length (feed_after h start q.binding) < n → EndsOpen heard
+    comes_few : length (feed_after h start q.binding) < n → EndsOpen reception
     comes_few few =
-        elim (cases_Bool heard.closed) [
+        elim (cases_Bool reception.closed) [
           | inl shut ↦
               let at = closes.shut shut in
-              let front : applied heard ++ is_faithful.prefix.rest ≡ feed_after h start q.binding =
+              let front : applied reception ++ is_faithful.prefix.rest ≡ feed_after h start q.binding =
               is_faithful.prefix.whole in
-              let sum : length (applied heard ++ is_faithful.prefix.rest)
-              ≡ length (applied heard) + length is_faithful.prefix.rest =
-              length-append (applied heard) is_faithful.prefix.rest in
-              let same : length (applied heard ++ is_faithful.prefix.rest) ≡ length (feed_after h start q.binding) =
+              let sum : length (applied reception ++ is_faithful.prefix.rest)
+              ≡ length (applied reception) + length is_faithful.prefix.rest =
+              length-append (applied reception) is_faithful.prefix.rest in
+              let same : length (applied reception ++ is_faithful.prefix.rest) ≡ length (feed_after h start q.binding) =
               ap (λ (l : List Event). length l) front in
-              let count : length (applied_of heard) ≡ n = at.0 in
+              let count : length (applied_of reception) ≡ n = at.0 in
               absurd (omega (arith, as_many))
           | inr not_closed ↦ ends_open not_closed
         ]
 
-  comes : HasCome h start q.binding close_after heard
+  comes : HasCome h start q.binding close_after reception
   comes = record {
     faithful = is_faithful;
     unasked = λ none. ends_open (on.unasked close_after taken none);
@@ -354,5 +354,5 @@ module _ (on : StandsOn) (p : Passage) (q : QueueState) (taken : List Delivery) 
   }
 
 pub subscribers_come : StandsOn → SubscribersCome
-subscribers_come on p q taken close_after is among handed whole =
-    comes on p q taken close_after is among handed whole
+subscribers_come on p q taken close_after is among delivered whole =
+    comes on p q taken close_after is among delivered whole

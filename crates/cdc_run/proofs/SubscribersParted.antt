@@ -1,9 +1,9 @@
 -- What the subscribers of a run leave behind.
 use Rattle.std.proofs.Common.{◌≡◌, List, [], ◌∷◌, ◌++◌, sym, ap, ◌∙◌}
 use Rattle.std.proofs.lemmas.List.{map-append}
-use Rattle.cdc_ends.specs.Ends.{EndState}
-use Rattle.cdc_ends.specs.SubscriberEnds.{Intake, parts_of}
-use Rattle.cdc_ends.specs.declared.subscriber_parts.SubscriberParts.{SubscriberParts}
+use Rattle.cdc_actors.specs.Ends.{ActorState}
+use Rattle.cdc_actors.specs.Subscriber.{SubscriberCore, parts_of}
+use Rattle.cdc_actors.specs.declared.subscriber.parts.SubscriberParts.{SubscriberParts}
 use Rattle.cdc_run.specs.Parted.{AreLeftOf, works_of}
 use Rattle.cdc_run.specs.SubscriberMail.{HasAllOf, IsLeftBy, IsMoreLeft}
 use Rattle.cdc_run.specs.declared.subscribers.SubscriberMail.{SubscriberMail}
@@ -23,11 +23,11 @@ all_push before parts old new has more = record {
 }
 
 -- what was left is theirs
-pub mail_of : (subscribers : List (EndState Intake)) (parts : List SubscriberParts) (mail : SubscriberMail)
+pub mail_of : (subscribers : List (ActorState SubscriberCore)) (parts : List SubscriberParts) (mail : SubscriberMail)
     → AreLeftOf (λ c p. p ≡ parts_of c) (works_of subscribers) parts → HasAllOf parts mail → IsLeftBy subscribers mail
 mail_of subscribers parts mail left has =
-    let Leaves : Intake → SubscriberParts → Type 0 = λ c p. p ≡ parts_of c in
-    let works : List Intake = works_of subscribers in
+    let Leaves : SubscriberCore → SubscriberParts → Type 0 = λ c p. p ≡ parts_of c in
+    let works : List SubscriberCore = works_of subscribers in
     record {
       acks = has.acks ∙ left_of Leaves (λ p. p.acks) (λ c. c.acks)
           (λ c p are. ap (λ (q : SubscriberParts). q.acks) are) works parts left;

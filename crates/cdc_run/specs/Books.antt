@@ -1,9 +1,9 @@
--- The ledger and the replies of a run, once the ledger's end and the clients' have finished.
+-- The ledger and the replies of a run, once the ledger actor and the client actors have finished.
 use Rattle.std.specs.Prelude.{◌≡◌, ℕ, ◌+◌, true, List, [], ◌∷◌, All, length, map}
 use Rattle.std.specs.List.{AllZip}
-use Rattle.cdc_ends.specs.Clients.{IsClient, Talk}
-use Rattle.cdc_ends.specs.LedgerEnds.{LedgerDesk, IsLedgerDesk, is_over, order_of}
-use Rattle.cdc_ends.specs.Orders.{batches_in}
+use Rattle.cdc_actors.specs.Client.{IsClient, ClientCore}
+use Rattle.cdc_actors.specs.Ledger.{LedgerCore, IsLedgerActor, is_over, order_of}
+use Rattle.cdc_actors.specs.Orders.{batches_in}
 use Rattle.cdc_ledger.specs.History.{History}
 use Rattle.cdc_links.specs.Links.{CanSend, IsAccount, Outgoing}
 use Rattle.cdc_traffic.specs.Following.{FollowsToLedger}
@@ -11,19 +11,19 @@ use Rattle.cdc_traffic.specs.Pasts.{history_of}
 use Rattle.cdc_traffic.specs.declared.messages.ToLedger.{ToLedger}
 use Rattle.cdc_traffic.specs.declared.requests.Reply.{Reply}
 use Rattle.cdc_types.specs.declared.batches.Batch.{Batch}
-use Rattle.cdc_run.specs.Accounts.{IsAccounted}
+use Rattle.cdc_run.specs.SettledLinks.{IsAccounted}
 use Rattle.cdc_run.specs.Settling.{IsOfClients, IsReplied}
 
 -- clients that have finished, with these numbers one after another
-abbrev pub HaveFinished : ℕ → List Talk → Type 0
+abbrev pub HaveFinished : ℕ → List ClientCore → Type 0
 HaveFinished number [] = Unit {0}
 HaveFinished number (c ∷ clients) =
     (c.number ≡ number) × IsClient c × (c.finished ≡ true) × HaveFinished (number + 1) clients
 
--- a ledger's end and the clients that are wired to it, the connector's end of the ledger's link, and what was left in
--- that link; all have finished, and the ends of each link were put together
-pub record AreSettled (d : LedgerDesk) (polls : Outgoing ToLedger (Unit {0})) (clients : List Talk) : Type 0 where
-  pub desk : IsLedgerDesk d
+-- a ledger actor and the clients that are wired to it, the connector's endpoint of the ledger's link, and what was
+-- left in that link. All have finished, and the endpoints of each link were put together
+pub record AreSettled (d : LedgerCore) (polls : Outgoing ToLedger (Unit {0})) (clients : List ClientCore) : Type 0 where
+  pub core : IsLedgerActor d
   pub over : is_over d ≡ true
   pub finished : HaveFinished 1 clients
   pub connector : polls.number ≡ 0
@@ -45,5 +45,6 @@ pub record AreBooks (order : List (ℕ × Batch)) (ledger : History) (replies : 
   pub of_clients : IsOfClients (length replies) order
 
 abbrev pub BooksSettle : Type 0
-BooksSettle = (d : LedgerDesk) (polls : Outgoing ToLedger (Unit {0})) (clients : List Talk) → AreSettled d polls clients
+BooksSettle = (d : LedgerCore) (polls : Outgoing ToLedger (Unit {0})) (clients : List ClientCore)
+    → AreSettled d polls clients
     → AreBooks (order_of d.inbox.received) d.ledger (map (λ c. c.replies) clients)

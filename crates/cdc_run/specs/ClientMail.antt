@@ -1,22 +1,22 @@
 -- What the clients of a run leave behind, once they have finished.
-use Rattle.std.specs.Prelude.{◌≡◌, ℕ, ◌+◌, true, List, [], ◌∷◌, ◌++◌, All, length, map}
+use Rattle.std.specs.Prelude.{◌≡◌, ℕ, true, List, [], ◌∷◌, ◌++◌, All, length, map}
 use Rattle.std.specs.List.{AllZip}
-use Rattle.cdc_ends.specs.Clients.{IsClient, Talk}
-use Rattle.cdc_ends.specs.LedgerEnds.{LedgerDesk, is_over}
-use Rattle.cdc_ends.specs.declared.conversations.ClientParts.{ClientParts}
-use Rattle.cdc_ends.specs.Ends.{EndState, has_finished}
+use Rattle.cdc_actors.specs.Client.{IsClient, ClientCore}
+use Rattle.cdc_actors.specs.Ledger.{LedgerCore, is_over}
+use Rattle.cdc_actors.specs.declared.client.cores.ClientParts.{ClientParts}
+use Rattle.cdc_actors.specs.Ends.{ActorState, has_finished}
 use Rattle.cdc_links.specs.Links.{Outgoing}
 use Rattle.cdc_traffic.specs.declared.messages.ToLedger.{ToLedger}
-use Rattle.cdc_run.specs.Accounts.{IsOnlySender}
-use Rattle.cdc_run.specs.Parted.{AreEndsOf, works_of}
+use Rattle.cdc_run.specs.SettledLinks.{IsOnlySender}
+use Rattle.cdc_run.specs.Parted.{AreActorsOf, works_of}
 use Rattle.cdc_run.specs.declared.books.ClientMail.{ClientMail}
 
 -- clients of a system that have finished and have met no fault, with these numbers one after another
-abbrev pub AreClientsOf : ℕ → ℕ → List (EndState Talk) → Type 0
-AreClientsOf = AreEndsOf (λ (c : Talk). c.number) IsClient (λ c. c.finished)
+abbrev pub AreClientsOf : ℕ → ℕ → List (ActorState ClientCore) → Type 0
+AreClientsOf = AreActorsOf (λ (c : ClientCore). c.number) IsClient (λ c. c.finished)
 
 -- it is what these have left behind
-pub record IsMailOf (clients : List (EndState Talk)) (mail : ClientMail) : Type 0 where
+pub record IsMailOf (clients : List (ActorState ClientCore)) (mail : ClientMail) : Type 0 where
   pub requests : mail.requests.items ≡ map (λ c. c.requests) (works_of clients)
   pub answers : mail.answers.items ≡ map (λ c. c.answers) (works_of clients)
   pub replies : map (λ v. v.items) mail.replies.items ≡ map (λ c. c.replies) (works_of clients)
@@ -33,19 +33,19 @@ pub record IsMoreMail (old : ClientMail) (parts : ClientParts) (new : ClientMail
   pub answers : new.answers.items ≡ old.answers.items ++ parts.answers ∷ []
   pub replies : new.replies.items ≡ old.replies.items ++ parts.replies ∷ []
 
--- the connector's end of the ledger's link
-pub record ArePollsTo (ledger : EndState LedgerDesk) (polls : Outgoing ToLedger (Unit {0})) : Type 0 where
+-- the connector's endpoint of the ledger's link
+pub record ArePollsTo (ledger : ActorState LedgerCore) (polls : Outgoing ToLedger (Unit {0})) : Type 0 where
   pub link : polls.link ≡ ledger.work.inbox.link
   pub number : polls.number ≡ 0
 
--- clients that are wired to a ledger's end: what they send goes to it, and it replies to each over that one's link
-pub record AreWiredTo (ledger : EndState LedgerDesk) (clients : List (EndState Talk)) : Type 0 where
+-- clients that are wired to a ledger actor: they send to it, and it replies to each over that client's link
+pub record AreWiredTo (ledger : ActorState LedgerCore) (clients : List (ActorState ClientCore)) : Type 0 where
   pub requests : All (λ c. c.work.requests.link ≡ ledger.work.inbox.link) clients
   pub answers : length clients ≡ length ledger.work.clients
       → AllZip IsOnlySender (map (λ c. c.answers) (works_of clients)) ledger.work.clients
 
--- a ledger's end and all its clients, of one system, have finished and have met no fault
-pub record HasFinishedWith (ledger : EndState LedgerDesk) (clients : List (EndState Talk)) : Type 0 where
+-- a ledger actor and all its clients, of one system, have finished and have met no fault
+pub record HasFinishedWith (ledger : ActorState LedgerCore) (clients : List (ActorState ClientCore)) : Type 0 where
   pub over : has_finished is_over ledger ≡ true
   pub count : length clients ≡ length ledger.work.clients
   pub clients_are : AreClientsOf ledger.system 1 clients

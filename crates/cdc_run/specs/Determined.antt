@@ -1,13 +1,13 @@
 -- What of a run is the same in whatever order its threads came.
 use Rattle.std.specs.Prelude.{◌≡◌, ℕ, true, false, Option, Result, List, [], ◌∷◌, ◌++◌, All, fold, map}
-use Rattle.cdc_ends.specs.SubscriberEnds.{is_asked}
+use Rattle.cdc_actors.specs.Subscriber.{is_asked}
 use Rattle.cdc_laws.specs.Line.{line_after}
 use Rattle.cdc_ledger.specs.declared.errors.BatchError.{BatchError}
 use Rattle.cdc_ledger.specs.History.{History, empty_history}
 use Rattle.cdc_ledger.specs.Submit.{history_or, submit}
 use Rattle.cdc_match.specs.Arguments.{Arguments}
 use Rattle.cdc_match.specs.Queue.{queue}
-use Rattle.cdc_subscriber.specs.Heard.{kept_of, next, nothing}
+use Rattle.cdc_subscriber.specs.Reception.{kept_of, next, nothing}
 use Rattle.cdc_subscriber.specs.SubscriberState.{SubscriberState}
 use Rattle.cdc_traffic.specs.Answering.{answer_shown}
 use Rattle.cdc_traffic.specs.Pasts.{history_of}
@@ -29,8 +29,8 @@ pub record IsServedAlone (ledger : History) (replies : List Reply) : Type 0 wher
   pub ledger_is : ledger ≡ history_of (record { batches = map (λ r. r.batch) replies; closed = true })
   pub answers : map (λ r. r.answer) replies ≡ answers_from empty_history (map (λ r. r.batch) replies)
 
--- what a subscriber keeps that takes its queue of all that the ledger has to tell after this start, each item once and
--- in order
+-- what a subscriber keeps that takes its queue of everything the ledger has after this start, each item once and in
+-- order
 abbrev pub kept_of_line : History → ℕ → Arguments → SubscriberState
 kept_of_line h start binding = kept_of (fold next nothing (queue (line_after h start) binding))
 
@@ -40,7 +40,7 @@ HaveNone replies = All (λ own. own ≡ []) replies
 
 -- ---- laws
 
--- so it is where the clients before one and after it were replied nothing, whichever its number
+-- this holds of a client if those before and after it got no replies, whatever its number
 abbrev pub LoneClientsAreServedAlone : Type 0
 LoneClientsAreServedAlone = (order : List (ℕ × Batch)) (ledger : History) (before : List (List Reply))
     (replies : List Reply) (after : List (List Reply)) → HaveNone before → HaveNone after
@@ -53,7 +53,7 @@ UnaskedKeepTheLine = (h : History) (start : ℕ) (binding : Arguments) (close_af
     → is_asked close_after ≡ false → IsSubscribed h start binding close_after subscriber
     → subscriber ≡ kept_of_line h start binding
 
--- so do all subscribers from a number on, where none of them was asked to
+-- so do all subscribers from a number on, if none of them was asked to close
 abbrev pub AllKeepTheLine : Type 0
 AllKeepTheLine = (number : ℕ) (h : History) (start : ℕ) (bindings : List Arguments) (closes : List (Option ℕ))
     (subscribers : List SubscriberState) → AreCloses number [] closes

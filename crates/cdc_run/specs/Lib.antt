@@ -1,8 +1,9 @@
-pub mod Accounts
 pub mod Books
 pub mod ClientMail
 pub mod Configs
+pub mod Counts
 pub mod Determined
+pub mod Failures
 pub mod Jobs
 pub mod Made
 pub mod Meeting
@@ -12,6 +13,7 @@ pub mod Passing
 pub mod Plans
 pub mod Reports
 pub mod Scripted
+pub mod SettledLinks
 pub mod Settling
 pub mod Streams
 pub mod SubscriberMail

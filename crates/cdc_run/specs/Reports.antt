@@ -1,21 +1,23 @@
--- What is reported of a run once all its ends have finished.
+-- What is reported of a run once all its actors have finished.
 use Rattle.std.specs.Prelude.{◌≡◌, ℕ, Option, Some, List, [], ◌∷◌, length, map, true}
-use Rattle.cdc_ends.specs.LedgerEnds.{order_of, is_over}
-use Rattle.cdc_ends.specs.declared.faults.RunFault.{RunFault}
+use Rattle.cdc_actors.specs.Ledger.{order_of, is_over}
+use Rattle.cdc_actors.specs.declared.faults.RunFault.{RunFault}
+use Rattle.cdc_actors.specs.Orders.{clients_in}
 use Rattle.cdc_laws.specs.Faithful.{kept_from}
 use Rattle.cdc_ledger.specs.History.{History}
 use Rattle.cdc_match.specs.declared.binding.Binding.{Binding}
-use Rattle.cdc_subscriber.specs.Heard.{Heard}
+use Rattle.cdc_subscriber.specs.Reception.{Reception}
 use Rattle.cdc_subscriber.specs.SubscriberState.{SubscriberState}
 use Rattle.cdc_traffic.specs.declared.requests.Reply.{Reply}
 use Rattle.cdc_types.specs.declared.batches.Batch.{Batch}
-use Rattle.cdc_run.specs.Accounts.{IsRefused}
+use Rattle.cdc_run.specs.SettledLinks.{IsRefused}
 use Rattle.cdc_run.specs.Books.{AreBooks}
 use Rattle.cdc_run.specs.ClientMail.{AreClientsOf}
-use Rattle.cdc_ends.specs.Seats.{at_start, broker_seat, connector_seat}
-use Rattle.cdc_ends.specs.Ends.{has_finished}
-use Rattle.cdc_ends.specs.BrokerEnds.{BrokerDesk}
-use Rattle.cdc_ends.specs.ConnectorEnds.{Publishing}
+use Rattle.cdc_run.specs.Counts.{IsCountOf}
+use Rattle.cdc_actors.specs.Seats.{at_start, broker_seat, connector_seat}
+use Rattle.cdc_actors.specs.Ends.{has_finished}
+use Rattle.cdc_actors.specs.Broker.{BrokerCore}
+use Rattle.cdc_actors.specs.Connector.{ConnectorCore, packets_in}
 use Rattle.cdc_run.specs.SubscriberMail.{AreSubscribersOf}
 use Rattle.cdc_run.specs.Subscribing.{HasCome}
 use Rattle.cdc_run.specs.declared.ends.Ends.{Ends}
@@ -25,13 +27,13 @@ use Rattle.cdc_run.specs.declared.reports.Report.{Report}
 abbrev pub replies_of : Report → List (List Reply)
 replies_of report = map (λ v. v.items) report.replies.items
 
--- against this ledger a subscriber has come to what it may rely on after this start, and this is what it keeps, told by
--- what it has applied: its book is that of just these events
+-- against this ledger a subscriber has come to what it may rely on after this start. What it keeps is given by what
+-- it has applied: its book is that of exactly these events
 pub record IsSubscribed (h : History) (start : ℕ) (binding : Binding) (close_after : Option ℕ)
     (subscriber : SubscriberState) : Type 0 where
-  pub heard : Heard
-  pub come : HasCome h start binding close_after heard
-  pub keeps : subscriber ≡ kept_from heard
+  pub reception : Reception
+  pub come : HasCome h start binding close_after reception
+  pub keeps : subscriber ≡ kept_from reception
 
 -- so has each subscriber; there is one for each binding
 abbrev pub AreSubscribed : History → ℕ → List Binding → List (Option ℕ) → List SubscriberState → Type 0
@@ -43,36 +45,41 @@ AreSubscribed h start (binding ∷ bindings) (close ∷ closes) [] = ⊥
 AreSubscribed h start (binding ∷ bindings) (close ∷ closes) (subscriber ∷ subscribers) =
     IsSubscribed h start binding close subscriber × AreSubscribed h start bindings closes subscribers
 
--- ends of one system, all of its places, each of which has finished and has met no fault
+-- actors of one system, in all of its places, each of which has finished and has met no fault
 pub record AreFinished {S : Type 0} (ends : Ends S) : Type 0 where
   pub ledger : has_finished is_over ends.ledger ≡ true
   pub clients_count : length ends.clients.items ≡ length ends.ledger.work.clients
   pub clients : AreClientsOf ends.ledger.system 1 ends.clients.items
-  pub connector : has_finished (λ (c : Publishing). c.finished) ends.connector ≡ true
+  pub connector : has_finished (λ (c : ConnectorCore). c.finished) ends.connector ≡ true
   pub connector_system : ends.connector.system ≡ ends.ledger.system
-  pub broker : has_finished (λ (d : BrokerDesk). d.finished) ends.broker ≡ true
+  pub broker : has_finished (λ (d : BrokerCore). d.finished) ends.broker ≡ true
   pub broker_system : ends.broker.system ≡ ends.ledger.system
   pub subscribers_count : length ends.subscribers.items ≡ length ends.broker.work.consumers
   pub subscribers : AreSubscribersOf ends.ledger.system 1 ends.subscribers.items
 
--- what ends that have finished come to. All batches, in the order in which the ledger's end has received them, give the
--- ledger and the replies; and where the connector's store is honest, and the run began at this start, each
--- subscriber has come to what it may rely on after it
+-- what actors that have finished come to. All batches, in the order in which the ledger's actor has received them, give
+-- the ledger and the replies, and that is the order in the report. The counts are those of all packets that the connector
+-- has sent. If the connector's store is honest, and the run began at this start, each subscriber has come to what it may
+-- rely on after it
 pub record IsReportOf {S : Type 0} (ends : Ends S) (report : Report) : Type 0 where
   pub finished : AreFinished ends
+  pub order : report.order.items ≡ clients_in (order_of ends.ledger.work.inbox.received)
   pub replies : replies_of report ≡ map (λ c. c.work.replies) ends.clients.items
   pub books : AreBooks (order_of ends.ledger.work.inbox.received) report.ledger (replies_of report)
+  pub counts : IsCountOf ends.broker.work.plan (broker_seat ends.broker.work).bindings
+      (packets_in ends.connector.work.packets.sent) report.counts
   pub subscribers : (start : ℕ) → (connector_seat ends.connector.work).origin ≡ Some (at_start start)
       → AreSubscribed report.ledger start (broker_seat ends.broker.work).bindings
       (map (λ s. s.work.close_after) ends.subscribers.items) report.subscribers.items
 
--- nothing is reported: the ends aren't of one system that has finished, or there was no memory to put them together
+-- nothing is reported: the actors aren't of one system that has finished, or there was no memory to put them together
 abbrev pub IsUnreported : {S : Type 0} → Ends S → RunFault → Type 0
 IsUnreported ends fault = IsRefused (AreFinished ends) fault
 
--- what a run comes to that hands in these scripts, one for each client: one order of all their batches gives the ledger
--- and the replies, and each client has submitted its own script, in its order
+-- what a run comes to that submits these scripts, one for each client: the batches in the order in which the report has
+-- their clients give the ledger and the replies, and each client has submitted its own script, in its order
 pub record HasRun (scripts : List (List Batch)) (report : Report) : Type 0 where
   pub order : List (ℕ × Batch)
+  pub reported : report.order.items ≡ clients_in order
   pub books : AreBooks order report.ledger (replies_of report)
   pub scripts_are : map (map (λ r. r.batch)) (replies_of report) ≡ scripts

@@ -1,18 +1,18 @@
 -- What the subscribers of a run leave behind, once they have finished.
-use Rattle.std.specs.Prelude.{◌≡◌, ◌&&◌, ℕ, ◌+◌, true, List, [], ◌∷◌, ◌++◌, length, map}
-use Rattle.cdc_ends.specs.BrokerEnds.{BrokerDesk}
-use Rattle.cdc_ends.specs.SubscriberEnds.{Intake, IsSubscriberEnd}
-use Rattle.cdc_ends.specs.declared.subscriber_parts.SubscriberParts.{SubscriberParts}
-use Rattle.cdc_ends.specs.Ends.{EndState, has_finished}
-use Rattle.cdc_run.specs.Parted.{AreEndsOf, works_of}
+use Rattle.std.specs.Prelude.{◌≡◌, ℕ, true, List, [], ◌∷◌, ◌++◌, length, map}
+use Rattle.cdc_actors.specs.Broker.{BrokerCore}
+use Rattle.cdc_actors.specs.Subscriber.{SubscriberCore, IsSubscriberActor}
+use Rattle.cdc_actors.specs.declared.subscriber.parts.SubscriberParts.{SubscriberParts}
+use Rattle.cdc_actors.specs.Ends.{ActorState, has_finished}
+use Rattle.cdc_run.specs.Parted.{AreActorsOf, works_of}
 use Rattle.cdc_run.specs.declared.subscribers.SubscriberMail.{SubscriberMail}
 
 -- subscribers of a system that have finished and have met no fault, with these numbers one after another
-abbrev pub AreSubscribersOf : ℕ → ℕ → List (EndState Intake) → Type 0
-AreSubscribersOf = AreEndsOf (λ (c : Intake). c.number) IsSubscriberEnd (λ c. c.finished)
+abbrev pub AreSubscribersOf : ℕ → ℕ → List (ActorState SubscriberCore) → Type 0
+AreSubscribersOf = AreActorsOf (λ (c : SubscriberCore). c.number) IsSubscriberActor (λ c. c.finished)
 
 -- it is what these have left behind
-pub record IsLeftBy (subscribers : List (EndState Intake)) (mail : SubscriberMail) : Type 0 where
+pub record IsLeftBy (subscribers : List (ActorState SubscriberCore)) (mail : SubscriberMail) : Type 0 where
   pub acks : mail.acks.items ≡ map (λ s. s.acks) (works_of subscribers)
   pub inboxes : mail.inboxes.items ≡ map (λ s. s.inbox) (works_of subscribers)
   pub subscribers_are : mail.subscribers.items ≡ map (λ s. s.subscriber) (works_of subscribers)
@@ -29,10 +29,11 @@ pub record IsMoreLeft (old : SubscriberMail) (parts : SubscriberParts) (new : Su
   pub inboxes : new.inboxes.items ≡ old.inboxes.items ++ parts.inbox ∷ []
   pub subscribers_are : new.subscribers.items ≡ old.subscribers.items ++ parts.subscriber ∷ []
 
--- the broker's end of a system and all its subscribers have finished and have met no fault
-pub record HasFinishedWith (system : ℕ) (broker : EndState BrokerDesk) (subscribers : List (EndState Intake))
+-- the broker actor of a system and all its subscribers have finished and have met no fault
+pub record HasFinishedWith (system : ℕ) (broker : ActorState BrokerCore)
+    (subscribers : List (ActorState SubscriberCore))
     : Type 0 where
   pub same : broker.system ≡ system
-  pub over : has_finished (λ (d : BrokerDesk). d.finished) broker ≡ true
+  pub over : has_finished (λ (d : BrokerCore). d.finished) broker ≡ true
   pub count : length subscribers ≡ length broker.work.consumers
   pub subscribers_are : AreSubscribersOf system 1 subscribers

@@ -1,7 +1,7 @@
--- Which links each end of a run stands at.
+-- Which links each actor of a run is wired to.
 use Rattle.std.specs.Prelude.{◌≡◌, ℕ, ◌-◌, Some, List, All, slice_get}
 use Rattle.cdc_links.specs.Links.{LinkId}
-use Rattle.cdc_ends.specs.Seats.{BrokerSeat, ClientSeat, ConnectorSeat, LedgerSeat, SubscriberSeat, broker_seat, client_seat, connector_seat, ledger_seat, subscriber_seat}
+use Rattle.cdc_actors.specs.Seats.{BrokerSeat, ClientSeat, ConnectorSeat, LedgerSeat, SubscriberSeat, broker_seat, client_seat, connector_seat, ledger_seat, subscriber_seat}
 use Rattle.cdc_run.specs.declared.ends.Ends.{Ends}
 use Rattle.cdc_traffic.specs.declared.messages.ToBroker.{ToBroker}
 use Rattle.cdc_traffic.specs.declared.messages.ToConnector.{ToConnector}
@@ -35,19 +35,20 @@ pub record ConnectorSits (w : Wiring) (seat : ConnectorSeat) : Type 0 where
   pub polls : seat.polls ≡ w.to_ledger
   pub packets : seat.packets ≡ w.to_broker
 
--- the broker receives over its link, confirms to the connector and hands out to each subscriber over that one's
+-- the broker receives over its link, confirms to the connector, and delivers to each subscriber over that
+-- subscriber's link
 pub record BrokerSits (w : Wiring) (seat : BrokerSeat) : Type 0 where
   pub inbox : seat.inbox ≡ w.to_broker
   pub confirms : seat.confirms ≡ w.to_connector
   pub subscribers : seat.subscribers ≡ w.to_subscribers
 
--- a subscriber acknowledges to the broker, and is handed out to over the link of its number, which counts from 1
+-- a subscriber acknowledges to the broker, and receives deliveries over the link of its number, which counts from 1
 pub record SubscriberSits (w : Wiring) (seat : SubscriberSeat) : Type 0 where
   pub acks : seat.acks ≡ w.to_broker
   pub inbox : slice_get w.to_subscribers (seat.number - 1) ≡ Some seat.inbox
 
--- each end sits where the wiring of its own system has it; so ends of several systems may be among them, as long as
--- those have different numbers
+-- each actor is where the wiring of its own system has it. So actors of several systems may be among them, if those
+-- have different numbers
 pub record AreSeated {S : Type 0} (wiring : ℕ → Wiring) (ends : Ends S) : Type 0 where
   pub ledger : LedgerSits (wiring ends.ledger.system) (ledger_seat ends.ledger.work)
   pub clients : All (λ c. ClientSits (wiring c.system) (client_seat c.work)) ends.clients.items

@@ -1,13 +1,15 @@
--- What jobs come to that all have worked.
-use Rattle.std.specs.Prelude.{◌⊎◌, ◌≡◌, Some, Result, List}
+-- What the actors of a run come to of which not all have finished.
+use Rattle.std.specs.Prelude.{◌≡◌, Some, List}
 use Rattle.std.specs.List.{AllZip}
-use Rattle.cdc_ends.specs.declared.faults.RunFault.{RunFault}
-use Rattle.cdc_ends.specs.declared.faults.RunFault.TheVariants.{OutOfMemory}
 use Rattle.cdc_run.specs.Jobs.{ComesTo}
-use Rattle.cdc_run.specs.Outcomes.{fault_among}
+use Rattle.cdc_run.specs.Outcomes.{first_stop}
+use Rattle.cdc_run.specs.Tasks.{Leaves, Stops}
+use Rattle.cdc_run.specs.declared.failures.Failure.{Failure}
+use Rattle.cdc_run.specs.declared.failures.Failure.TheVariants.{OutOfMemory, Stopped}
+use Rattle.cdc_run.specs.declared.placed.Task.{Task}
 
--- it is the fault that counts among outcomes of these jobs, or there was no memory for the list of their ends
-abbrev pub IsFaultOf : {J End : Type 0} → (J → End → Type 0) → (J → RunFault → Type 0) → List J → RunFault → Type 0
-IsFaultOf {J} {End} ends_as fails_as jobs fault = (fault ≡ OutOfMemory)
-    ⊎ ((outcomes : List (Result End RunFault)) × AllZip (ComesTo ends_as fails_as) jobs outcomes
-    × (fault_among outcomes ≡ Some fault))
+-- these are their outcomes, and that is the stop that counts among them; or there was no memory for a list of them
+abbrev pub HaveStopped : {S : Type 0} → List (Task S) → Failure S → Type 0
+HaveStopped tasks OutOfMemory = Unit {0}
+HaveStopped tasks (Stopped place met outcomes) =
+    AllZip (ComesTo Leaves Stops) tasks outcomes.items × (first_stop outcomes.items ≡ Some (place, met))

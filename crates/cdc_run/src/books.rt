@@ -1,17 +1,18 @@
 //! The ledger and the clients of a run, put together once they have finished.
 
 ghost use Rattle.std.specs.Prelude.{◌≡◌, ◌++◌, ◌∷◌, [], All, IfErr, IfOk, OnOk, length, map};
-ghost use Rattle.cdc_ends.specs.LedgerEnds.{IsLedgerDesk, order_of};
-ghost use Rattle.cdc_run.specs.Accounts.{IsRefused};
+ghost use Rattle.cdc_actors.specs.Ledger.{IsLedgerActor, order_of};
+ghost use Rattle.cdc_actors.specs.Orders.{clients_in};
+ghost use Rattle.cdc_run.specs.SettledLinks.{IsRefused};
 ghost use Rattle.cdc_run.specs.Books.{AreBooks};
 ghost use Rattle.cdc_run.specs.ClientMail.{AreClientsOf, ArePollsTo, AreWiredTo, HasAllOf, HasFinishedWith, IsMailOf, IsMoreMail};
 
-use crate::accounts::{hand_back_all, settle_each};
-use crate::parting::part_ends;
+use crate::parting::part_actors;
+use crate::settled_links::{settle_each, settle_link};
 use crate::settling::settle_laws;
-use cdc_ends::{ClientEnd, ClientParts, LedgerEnd, RunFault};
+use cdc_actors::{ClientEnd, ClientParts, LedgerEnd, RunFault};
 use cdc_ledger::Ledger;
-use cdc_links::{LinkIn, LinkOut, settle};
+use cdc_links::{LinkIn, LinkOut};
 use cdc_traffic::{Reply, ToConnector, ToLedger};
 use std::alloc::{AllocError, Global};
 
@@ -24,7 +25,6 @@ pub(crate) struct ClientMail {
 }
 
 impl ClientMail {
-    // Nobody has left anything.
     fn new(alloc: Global) -> ClientMail
         ensures { HasAllOf [] result }
     {
@@ -35,7 +35,7 @@ impl ClientMail {
         }
     }
 
-    // One client more.
+    // If memory runs out, nothing is added.
     fn add(&mut self, parts: ClientParts) -> Result<(), AllocError>
         ensures { OnOk result (IsMoreMail self.old parts self.new) }
     {
@@ -53,7 +53,6 @@ impl ClientMail {
         Ok(())
     }
 
-    // All of them.
     fn of(alloc: Global, all: Vec<ClientParts>) -> Result<ClientMail, AllocError>
         ensures { IfOk result (HasAllOf all.items) }
     {
@@ -65,8 +64,8 @@ impl ClientMail {
     }
 }
 
-/// Takes the clients' ends of a system apart, all of which have to have finished. `NotOneSystem`: one is of another
-/// system, hasn't its place's number, isn't finished, or has met a fault.
+/// Takes the client actors of a system apart, all of which must have finished. `NotOneSystem`: one is of another
+/// system, doesn't have its place's number, isn't finished, or has met a fault.
 pub(crate) fn part_clients(
     alloc: Global,
     system: u64,
@@ -76,25 +75,27 @@ pub(crate) fn part_clients(
     ensures mail { IfOk result (λ mail. IsMailOf clients.items mail) }
     ensures refused { IfErr result (IsRefused (AreClientsOf system 1 clients.items)) }
 {
-    let parts = part_ends(alloc, system, clients)?;
+    let parts = part_actors(alloc, system, clients)?;
     let mail = ClientMail::of(alloc, parts)?;
     Ok(mail)
 }
 
-/// What the ledger's end and the clients come to.
+/// What the ledger actor and the clients come to.
 #[derive(Drop)]
 pub(crate) struct Books {
     /// The ledger, which is closed.
     pub(crate) ledger: Ledger,
+    /// The client of each batch, in the order in which the ledger took the batches.
+    pub(crate) order: Vec<u64>,
     /// The replies to each client, in its order.
     pub(crate) replies: Vec<Vec<Reply>>,
-    /// The ledger's end of the connector's link.
+    /// The ledger's endpoint of the connector's link.
     pub(crate) connector: LinkOut<ToConnector>,
 }
 
-/// Puts the ledger's end and the clients together, with the connector's end of the ledger's link. `NotOneSystem`: one
-/// is of another system, isn't finished, or has met a fault, or there are more or fewer clients than the ledger's end
-/// has, or in another order.
+/// Puts the ledger actor and the clients together, with the connector's endpoint of the ledger's link.
+/// `NotOneSystem`: one is of another system, isn't finished, or has met a fault, or there are more or fewer clients
+/// than the ledger actor has, or in another order.
 pub(crate) fn settle_books(
     alloc: Global,
     ledger: LedgerEnd,
@@ -107,10 +108,12 @@ pub(crate) fn settle_books(
         AreBooks (order_of ledger.work.inbox.received) books.ledger
         (map (λ v. v.items) books.replies.items)) }
     ensures ledger { IfOk result (λ books. books.ledger ≡ ledger.work.ledger) }
+    ensures order { IfOk result (λ books.
+        books.order.items ≡ clients_in (order_of ledger.work.inbox.received)) }
     ensures replies { IfOk result (λ books.
         map (λ v. v.items) books.replies.items ≡ map (λ c. c.work.replies) clients.items) }
     ensures connector { IfOk result (λ books. books.connector ≡ ledger.work.connector) }
-    ensures desk { IfOk result (λ _. IsLedgerDesk ledger.work) }
+    ensures core { IfOk result (λ _. IsLedgerActor ledger.work) }
     ensures finished { IfOk result (λ _. HasFinishedWith ledger clients.items) }
     ensures refused { IfErr result (IsRefused (HasFinishedWith ledger clients.items)) }
 {
@@ -123,11 +126,11 @@ pub(crate) fn settle_books(
     }
     let mail = part_clients(alloc, system, clients)?;
     settle_laws();
-    let handed = hand_back_all(alloc, polls, mail.requests)?;
-    let _tally = settle(parts.inbox, handed);
+    settle_link(alloc, parts.inbox, polls, mail.requests)?;
     settle_each(alloc, mail.answers, parts.clients)?;
     Ok(Books {
         ledger: parts.ledger,
+        order: parts.order,
         replies: mail.replies,
         connector: parts.connector,
     })

@@ -1,28 +1,28 @@
-//! What a run is asked for.
+//! The configuration of a run.
 
 ghost use Rattle.std.specs.Prelude.{◌↔◌, IsTrue};
 ghost use Rattle.cdc_run.specs.Configs.{Fits};
 
 use cdc_match::Binding;
-use cdc_types::{Limits, Moment};
+use cdc_types::{EventTimestamp, Limits};
 
-/// What a run is asked for.
+/// The configuration of a run.
 #[derive(Drop)]
 pub struct Config {
-    /// A number that tells one system of ends from another; whoever settles ends of two systems together gives them
-    /// different ones.
+    /// Distinguishes one system of actors from another. A caller that settles actors of two systems together gives
+    /// them different numbers.
     pub system: u64,
-    /// The bindings of the subscribers, in order.
+    /// The bindings of the subscribers, in order: 1 to 8.
     pub bindings: Vec<Binding>,
-    /// How many clients hand in batches.
+    /// How many clients submit batches: 1 to 4.
     pub clients: u64,
-    /// For how many events the connector's session may wait at a time.
+    /// For how many events the connector's session may wait at a time: 1 to 64.
     pub window: usize,
-    /// How many deliveries of a queue may be without an acknowledgement.
+    /// How many deliveries of a queue may be without an acknowledgement: 1 to 64.
     pub prefetch: u64,
-    /// The moment, in nanoseconds, that the connector's first session is told to start after, if it is. Where
-    /// progress is saved the run then fails with `StartNotAllowed`.
-    pub start: Option<Moment>,
+    /// The timestamp, in nanoseconds, that the connector's first session is to start after. If one is given and
+    /// progress is saved, the run fails with `StartNotAllowed`.
+    pub start: Option<EventTimestamp>,
 }
 
 impl Config {

@@ -1,25 +1,26 @@
-//! A run in threads: what it is asked for, the links between its ends, one thread for each end, and what all of them
-//! come to at the end.
+//! A run in threads: its configuration, the links between its actors, one thread for each actor, and what all of them
+//! come to.
 #![tactic(auto)]
 
-mod accounts;
+pub mod actors;
 mod books;
 pub mod configs;
+pub mod counts;
 pub mod determined;
 pub mod ends;
+pub mod failures;
 pub mod gates;
 mod jobs;
 mod outcomes;
 mod parting;
 mod placed;
-pub mod places;
 pub mod plans;
 pub mod reports;
-mod running;
 mod runs;
 mod scopes;
 mod scripted;
 mod scripts;
+mod settled_links;
 mod settling;
 mod streams;
 mod subscribers;
@@ -28,11 +29,14 @@ mod turning;
 mod wires;
 mod wiring;
 
+pub use actors::Actor;
+pub use cdc_actors::{Met, Place};
 pub use configs::Config;
+pub use counts::Counts;
 pub use determined::determined_laws;
 pub use ends::Ends;
+pub use failures::Failure;
 pub use gates::{Gate, OpenGate};
-pub use places::Place;
 pub use plans::Faults;
 pub use reports::{Report, settle};
 pub use runs::run;

@@ -1,71 +1,81 @@
-//! What several ends come to: all of them, or the fault that counts.
+//! What several actors came to: which stop counts, or all of them if none does.
 
-ghost use Rattle.std.specs.Prelude.{◌≡◌, ◌+◌, ◌<◌, ◌≤◌, Option, Result, [], ◌∷◌, ◌++◌, List, length, vec_capacity, vec_len};
-ghost use Rattle.cdc_ends.specs.declared.faults.RunFault.{RunFault};
-ghost use Rattle.cdc_run.specs.Outcomes.{AreGathered, first_of, is_peer_gone};
+ghost use Rattle.std.specs.Prelude.{◌≡◌, IfOk};
+ghost use Rattle.cdc_run.specs.Outcomes.{finished_in, first_of, first_stop, is_gone, stop_in};
 
-use cdc_ends::RunFault;
+use cdc_actors::{Met, Place, RunFault, Stop};
+use std::alloc::{AllocError, Global};
 
-/// The ends that came through, in order, and the fault that counts, if there was one.
-#[derive(Drop)]
-pub(crate) struct Gathered<T> {
-    pub(crate) ends: Vec<T>,
-    pub(crate) fault: Option<RunFault>,
-}
-
-// Whether it is that a peer is gone, as it is where that one met a fault of its own.
-fn is_gone(fault: RunFault) -> bool
-    ensures { result ≡ is_peer_gone fault }
+// Whether an actor stopped only because a peer was gone, which happens if the peer met a fault of its own.
+fn follows(met: Met) -> bool
+    ensures { result ≡ is_gone met }
 {
-    match fault {
-        RunFault::PeerGone => true,
-        RunFault::OutOfMemory => false,
-        RunFault::Store(_) => false,
-        RunFault::SessionsExhausted => false,
-        RunFault::NotOneSystem => false,
-        RunFault::StartNotAllowed => false,
+    match met {
+        Met::Fault(RunFault::PeerGone) => true,
+        Met::Fault(RunFault::OutOfMemory) => false,
+        Met::Fault(RunFault::Store(_)) => false,
+        Met::Fault(RunFault::SessionsExhausted) => false,
+        Met::Fault(RunFault::NotOneSystem) => false,
+        Met::Fault(RunFault::StartNotAllowed) => false,
+        Met::Unstarted => false,
     }
 }
 
-/// The fault that counts of one place and later ones: the first, but that a peer is gone counts only where there is no
-/// other.
-pub(crate) fn first_fault(one: Option<RunFault>, later: Option<RunFault>) -> Option<RunFault>
+// None if the actor has finished.
+fn stop_of<T>(outcome: &Result<T, Stop>) -> Option<(Place, Met)>
+    ensures { result ≡ stop_in outcome.now }
+{
+    match outcome {
+        Ok(_) => None,
+        Err(stop) => Some((stop.place(), stop.met())),
+    }
+}
+
+// The stop that counts of one place and of those after it. It is the first, but that a peer is gone counts only if
+// there is no other reason.
+fn earlier(one: Option<(Place, Met)>, later: Option<(Place, Met)>) -> Option<(Place, Met)>
     ensures { result ≡ first_of one later }
 {
-    match one {
-        None => later,
-        Some(fault) => {
-            if is_gone(fault) {
-                match later {
-                    None => Some(fault),
-                    Some(other) => Some(other),
-                }
+    let Some((place, met)) = one else {
+        return later;
+    };
+    if !follows(met) {
+        return Some((place, met));
+    }
+    match later {
+        None => Some((place, met)),
+        Some((other, why)) => {
+            if follows(why) {
+                Some((place, met))
             } else {
-                Some(fault)
+                Some((other, why))
             }
         }
     }
 }
 
-impl<T: Drop> Gathered<T> {
-    /// The ends so far, and what a later one has come to.
-    pub(crate) fn with(self, outcome: Result<T, RunFault>) -> Gathered<T>
-        requires { vec_len self.ends < vec_capacity self.ends }
-        ensures gathered { (outcomes : List (Result T RunFault)) → AreGathered outcomes self
-            → AreGathered (outcomes ++ outcome ∷ []) result }
-        ensures capacity { vec_capacity result.ends ≡ vec_capacity self.ends }
-        ensures more { vec_len result.ends ≤ vec_len self.ends + 1 }
-    {
-        let Gathered { mut ends, fault } = self;
-        match outcome {
-            Ok(end) => {
-                ends.push_reserved(end);
-                Gathered { ends, fault }
-            }
-            Err(later) => Gathered {
-                ends,
-                fault: first_fault(fault, Some(later)),
-            },
+/// The stop that counts among outcomes, which are in the order of their places. None if all have finished.
+pub(crate) fn earliest<T>(outcomes: &[Result<T, Stop>]) -> Option<(Place, Met)>
+    ensures { result ≡ first_stop outcomes.now }
+{
+    match outcomes.split_first() {
+        None => None,
+        Some((outcome, others)) => earlier(stop_of(outcome), earliest(others)),
+    }
+}
+
+/// The actors among outcomes that have finished.
+pub(crate) fn finished<T: Drop>(
+    alloc: Global,
+    outcomes: Vec<Result<T, Stop>>,
+) -> Result<Vec<T>, AllocError>
+    ensures { IfOk result (λ actors. actors.items ≡ finished_in outcomes.items) }
+{
+    let mut actors = Vec::with_capacity(alloc, outcomes.len())?;
+    for outcome in outcomes {
+        if let Ok(actor) = outcome {
+            actors.push(actor)?;
         }
     }
+    Ok(actors)
 }

@@ -1,26 +1,26 @@
-//! The ends of one kind of a run, taken apart once they have finished.
+//! The actors of one kind of a run, taken apart once they have finished.
 
 ghost use Rattle.std.specs.Prelude.{IfErr, IfOk};
-ghost use Rattle.cdc_run.specs.Accounts.{IsRefused};
-ghost use Rattle.cdc_run.specs.Parted.{AreEndsOf, AreLeftOf, works_of};
+ghost use Rattle.cdc_run.specs.SettledLinks.{IsRefused};
+ghost use Rattle.cdc_run.specs.Parted.{AreActorsOf, AreLeftOf, works_of};
 
-use cdc_ends::{End, Numbered, RunFault};
+use cdc_actors::{End, Numbered, RunFault};
 use std::alloc::Global;
 
-/// Takes ends of a system apart, all of which have to have finished. `NotOneSystem`: one is of another system, hasn't
-/// its place's number, isn't finished, or has met a fault. `OutOfMemory`: there was no memory for a list of what they
-/// leave.
-pub(crate) fn part_ends<W: Numbered + Drop>(
+/// Takes actors of a system apart, all of which must have finished. `NotOneSystem`: one is of another system, doesn't
+/// have its place's number, isn't finished, or has met a fault. `OutOfMemory`: there was no memory for a list of what
+/// they leave.
+pub(crate) fn part_actors<W: Numbered + Drop>(
     alloc: Global,
     system: u64,
     ends: Vec<End<W>>,
 ) -> Result<Vec<W::Parts>, RunFault>
 where
     W::Parts: Drop,
-    ensures are { IfOk result (λ _. AreEndsOf W.number W.keeps W.is_over system 1 ends.items) }
+    ensures are { IfOk result (λ _. AreActorsOf W.number W.keeps W.is_over system 1 ends.items) }
     ensures parts { IfOk result (λ parts. AreLeftOf W.leaves (works_of ends.items) parts.items) }
     ensures refused { IfErr result
-        (IsRefused (AreEndsOf W.number W.keeps W.is_over system 1 ends.items)) }
+        (IsRefused (AreActorsOf W.number W.keeps W.is_over system 1 ends.items)) }
 {
     let mut parted = Vec::with_capacity(alloc, ends.len())?;
     for end in ends {

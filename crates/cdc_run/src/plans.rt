@@ -5,24 +5,24 @@ ghost use Rattle.cdc_run.specs.Plans.{IsLeastClose, HasNoFaults};
 
 use std::alloc::Global;
 
-/// The faults that a run is to meet. What is counted begins at 1 and goes on through all sessions; an entry for
-/// which nothing is there changes nothing, and one that stands twice is met once.
+/// The faults that a run is to meet. Counts begin at 1 and go on through all sessions. An entry that names nothing
+/// has no effect, and one that is listed twice is met once.
 #[derive(Drop)]
 pub struct Faults {
-    /// Which confirms are lost, by the place of their publishes among those accepted.
+    /// The confirms that are lost, by the place of their publishes among those accepted.
     pub lose_confirm: Vec<u64>,
-    /// Which publishes are lost, by their place among those that come to the broker.
+    /// The publishes that are lost, by their place among those that come to the broker.
     pub lose_publish: Vec<u64>,
-    /// Behind which of its publishes the connector starts anew, by their place among those that it sent.
+    /// The publishes after which the connector restarts, by their place among those that it sent.
     pub restart_after: Vec<u64>,
-    /// The broker goes back in a queue after first handing out a position: the queue, and the position.
+    /// The deliveries after which the broker rewinds a queue: the queue, and the position. It does so after the first
+    /// delivery of the position.
     pub repeat: Vec<(u64, u64)>,
-    /// A subscriber closes after so many applied events: the subscriber, and how many.
+    /// The subscribers that close: the subscriber, and after how many applied events.
     pub close: Vec<(u64, u64)>,
 }
 
 impl Faults {
-    /// No fault.
     pub fn none(alloc: Global) -> Faults
         ensures { HasNoFaults result }
     {
@@ -35,8 +35,8 @@ impl Faults {
         }
     }
 
-    /// After how many applied events this subscriber is to close: the least number from 1 up that is given for it, if
-    /// one is.
+    /// After how many applied events this subscriber is to close: the least number from 1 up that is given for it.
+    /// None if no such number is.
     pub fn close_after(&self, subscriber: u64) -> Option<u64>
         ensures { IsLeastClose subscriber self.now.close.items result }
     {
@@ -48,7 +48,7 @@ impl Faults {
     }
 }
 
-// The least close number of a subscriber among those before an entry, and that one.
+// The least close number of a subscriber among those before an entry, and that entry's.
 fn lesser(least: Option<u64>, subscriber: u64, entry: (u64, u64)) -> Option<u64>
     ensures { (closes : List (ℕ × ℕ)) → IsLeastClose subscriber closes least
         → IsLeastClose subscriber (closes ++ entry ∷ []) result }

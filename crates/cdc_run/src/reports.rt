@@ -5,9 +5,10 @@ ghost use Rattle.cdc_run.specs.Reports.{IsReportOf, IsUnreported};
 ghost use Rattle.cdc_run.specs.Wirings.{AreSeated, Wiring};
 
 use crate::books::settle_books;
+use crate::counts::Counts;
 use crate::ends::Ends;
 use crate::streams::settle_streams;
-use cdc_ends::RunFault;
+use cdc_actors::RunFault;
 use cdc_ledger::Ledger;
 use cdc_progress::ProgressStore;
 use cdc_subscriber::Subscriber;
@@ -19,16 +20,20 @@ use std::alloc::Global;
 pub struct Report {
     /// The ledger, which is closed.
     pub ledger: Ledger,
+    /// The client of each batch, in the order in which the ledger took the batches.
+    pub order: Vec<u64>,
     /// The replies to each client, in its order.
     pub replies: Vec<Vec<Reply>>,
-    /// The subscribers, in order.
+    /// In the order of their numbers.
     pub subscribers: Vec<Subscriber>,
+    /// How far the run came in what its plan of faults counts.
+    pub counts: Counts,
 }
 
-/// Puts the ends of a run together, once all have finished. Ends of two systems among them are found by the systems'
-/// numbers, which have to be different. `NotOneSystem`: one is of another system, is missing, stands twice or in
-/// another one's place, isn't finished, or has met a fault. `OutOfMemory`: there was no memory to put them together.
-/// Refused ends are dropped.
+/// Puts the actors of a run together, once all have finished. Actors of two systems among them are found by the
+/// systems' numbers, which must be different. `NotOneSystem`: one is of another system, is missing, occurs twice or
+/// is in another one's place, isn't finished, or has met a fault. `OutOfMemory`: there was no memory to put them
+/// together. Refused actors are dropped.
 pub fn settle<S: ProgressStore + Drop>(alloc: Global, ends: Ends<S>) -> Result<Report, RunFault>
     requires { (wiring : ℕ → Wiring) × AreSeated wiring ends }
     ensures report { IfOk result (IsReportOf ends) }
@@ -45,6 +50,7 @@ pub fn settle<S: ProgressStore + Drop>(alloc: Global, ends: Ends<S>) -> Result<R
     if connector.system() != system {
         return Err(RunFault::NotOneSystem);
     }
+    let counts = Counts::of(alloc, &connector, &broker)?;
     let Some(parts) = connector.into_parts() else {
         return Err(RunFault::NotOneSystem);
     };
@@ -60,7 +66,9 @@ pub fn settle<S: ProgressStore + Drop>(alloc: Global, ends: Ends<S>) -> Result<R
     )?;
     Ok(Report {
         ledger: books.ledger,
+        order: books.order,
         replies: books.replies,
         subscribers,
+        counts,
     })
 }

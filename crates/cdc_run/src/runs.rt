@@ -1,31 +1,37 @@
-//! A run: every end on a thread of its own.
+//! A run: every actor on a thread of its own.
 
 ghost use Rattle.std.specs.Prelude.{◌≡◌, All, Option, IfErr, IfOk, List, ℕ, false, length, map, true, vec_len};
-ghost use Rattle.cdc_ends.specs.ConnectorEnds.{first_origin};
+ghost use Rattle.std.specs.List.{AllZip};
+ghost use Rattle.cdc_actors.specs.Connector.{first_origin};
 ghost use Rattle.cdc_laws.specs.Connectors.{held_start, held_timestamp};
 ghost use Rattle.cdc_run.specs.Configs.{Fits};
-ghost use Rattle.cdc_run.specs.Made.{AreCloses};
-ghost use Rattle.cdc_run.specs.Meeting.{IsRunFault};
+ghost use Rattle.cdc_run.specs.Counts.{MayCount};
+ghost use Rattle.cdc_run.specs.Made.{AreCloses, plan_of};
+ghost use Rattle.cdc_run.specs.Meeting.{IsRunFailure};
 ghost use Rattle.cdc_run.specs.Reports.{AreSubscribed, HasRun};
-ghost use Rattle.cdc_run.specs.Tasks.{Placed, left_at, places_of, tasks_at};
+ghost use Rattle.cdc_run.specs.Tasks.{Leaves, Placed, left_at, places_of, tasks_at};
+ghost use Rattle.cdc_run.specs.Worked.{HaveStopped};
 
+use crate::actors::Actor;
 use crate::configs::Config;
 use crate::ends::Ends;
+use crate::failures::Failure;
 use crate::gates::Gate;
-use crate::placed::{Left, Task};
+use crate::outcomes::{earliest, finished};
+use crate::placed::Task;
 use crate::plans::Faults;
 use crate::reports::{Report, settle};
-use crate::running::run_ends;
+use crate::scopes::run_jobs;
 use crate::scripted::Scripted;
 use crate::wiring::wire_up;
-use cdc_ends::RunFault;
+use cdc_actors::RunFault;
 use cdc_progress::ProgressStore;
 use cdc_types::Batch;
 use std::alloc::{AllocError, Global};
 use std::sync::Wait;
 use std::thread::Threads;
 
-// The ends as one list in the order of their places, each client with its script.
+// The actors as one list in the order of their places, each client with its script.
 fn tasks_of<S: ProgressStore + Drop>(
     alloc: Global,
     ends: Ends<S>,
@@ -49,18 +55,16 @@ fn tasks_of<S: ProgressStore + Drop>(
     }
     tasks.push(Task::Connector(connector))?;
     tasks.push(Task::Broker(broker))?;
-    let mut number: u64 = 0;
     for subscriber in subscribers {
-        number += 1;
-        tasks.push(Task::Subscriber(number, subscriber))?;
+        tasks.push(Task::Subscriber(subscriber))?;
     }
     Ok(tasks)
 }
 
-// The ends that were one list in the order of their places.
-fn ends_of<S: ProgressStore + Drop>(
+// The actors of a list in the order of their places.
+fn actors_of<S: ProgressStore + Drop>(
     alloc: Global,
-    left: Vec<Left<S>>,
+    left: Vec<Actor<S>>,
 ) -> Result<Ends<S>, AllocError>
     requires { (p : Placed) × (left.items ≡ left_at p) }
     ensures { IfOk result (λ ends. (p : Placed) → left.items ≡ left_at p → places_of ends ≡ p) }
@@ -72,13 +76,13 @@ fn ends_of<S: ProgressStore + Drop>(
     let mut subscribers = Vec::new(alloc);
     for end in left {
         match end {
-            Left::Ledger(end) => ledger = Some(end),
-            Left::Client(end) => {
+            Actor::Ledger(end) => ledger = Some(end),
+            Actor::Client(end) => {
                 clients.push(end)?;
             }
-            Left::Connector(end) => connector = Some(end),
-            Left::Broker(end) => broker = Some(end),
-            Left::Subscriber(end) => {
+            Actor::Connector(end) => connector = Some(end),
+            Actor::Broker(end) => broker = Some(end),
+            Actor::Subscriber(end) => {
                 subscribers.push(end)?;
             }
         }
@@ -92,11 +96,43 @@ fn ends_of<S: ProgressStore + Drop>(
     })
 }
 
+// Works all actors of a run, which are in the order of their places, each on a thread of its own: with each of them
+// where it stood and finished, in the same order, or with the stop that counts.
+fn run_actors<S: ProgressStore + Send + Drop, R: Threads + Wait + Sync, G: Gate + Sync>(
+    rt: &R,
+    alloc: Global,
+    gate: &G,
+    ends: Vec<Task<S>>,
+) -> Result<Vec<Actor<S>>, Failure<S>>
+    ensures left { IfOk result (λ left. AllZip Leaves ends.items left.items) }
+    ensures stopped { IfErr result (HaveStopped ends.items) }
+{
+    let outcomes = run_jobs(rt, alloc, gate, ends)?;
+    match earliest(outcomes.as_slice()) {
+        None => Ok(finished(alloc, outcomes)?),
+        Some((place, met)) => Err(Failure::Stopped {
+            place,
+            met,
+            outcomes,
+        }),
+    }
+}
+
+// Before the actors of a run work, and after all have finished, no other fault is met.
+fn out_of_memory<S: ProgressStore>(fault: RunFault) -> Failure<S>
+    requires { fault ≡ RunFault.OutOfMemory }
+    ensures { result ≡ Failure.OutOfMemory }
+{
+    let _ = fault;
+    Failure::OutOfMemory
+}
+
 /// Runs a ledger, its clients, a connector, a broker and its subscribers, each on a thread of its own, until all have
-/// finished, and reports what they come to. Each client submits its script, in its order. The gate is asked before each
-/// turn. Where the run is told to start after a moment, its first session is, and no later one. Of the faults that
-/// were met that of the first place is answered, and `PeerGone` only if nothing else was met. `OutOfMemory` is also
-/// that a thread can't be started.
+/// finished, and reports what they come to. Each client submits its script, in its order. The gate is called before
+/// each turn. A timestamp to start after applies to the first session only. If actors stop before they have finished,
+/// the result is the first of them in the order of the places that met another fault than `PeerGone`, or the first of
+/// all if none did, with the outcome of each actor. A thread that can't be started is `OutOfMemory` at its actor's
+/// place.
 pub fn run<S: ProgressStore + Send + Drop, R: Threads + Wait + Sync, G: Gate + Sync>(
     rt: &R,
     alloc: Global,
@@ -105,21 +141,28 @@ pub fn run<S: ProgressStore + Send + Drop, R: Threads + Wait + Sync, G: Gate + S
     faults: Faults,
     store: S,
     gate: &G,
-) -> Result<Report, RunFault>
+) -> Result<Report, Failure<S>>
     requires fits { Fits config }
     requires scripts { vec_len scripts ≡ config.clients }
     ensures report { IfOk result (HasRun (map (λ s. s.items) scripts.items)) }
-    ensures fault { IfErr result (IsRunFault (S.is_honest store) (S.risks store) config.clients
-        (length config.bindings.items)) }
+    ensures counts { IfOk result (λ report. MayCount (plan_of faults) config.bindings.items report.counts) }
+    ensures failure { IfErr result (IsRunFailure config.system (S.is_honest store) (S.risks store)
+        config.clients (length config.bindings.items)) }
     ensures subscribers { IfOk result (λ report. S.is_honest store ≡ true
         → held_timestamp (S.held store) ≡ held_start (S.held store)
         → (closes : List (Option ℕ)) × AreCloses 1 faults.close.items closes
         × AreSubscribed report.ledger (first_origin config.start (S.held store)).start config.bindings.items closes
         report.subscribers.items) }
 {
-    let ends = wire_up(alloc, config, faults, store)?;
+    let ends = match wire_up(alloc, config, faults, store) {
+        Ok(ends) => ends,
+        Err(fault) => return Err(out_of_memory(fault)),
+    };
     let tasks = tasks_of(alloc, ends, scripts)?;
-    let left = run_ends(rt, alloc, gate, tasks)?;
-    let finished = ends_of(alloc, left)?;
-    settle(alloc, finished)
+    let left = run_actors(rt, alloc, gate, tasks)?;
+    let finished = actors_of(alloc, left)?;
+    match settle(alloc, finished) {
+        Ok(report) => Ok(report),
+        Err(fault) => Err(out_of_memory(fault)),
+    }
 }

@@ -1,12 +1,12 @@
-//! A client's end with the script that it is to submit.
+//! A client actor with the script that it is to submit.
 
 ghost use Rattle.std.specs.Prelude.{◌≡◌, false};
 
-use cdc_ends::ClientEnd;
+use cdc_actors::ClientEnd;
 use cdc_types::Batch;
 use std::marker::Model;
 
-/// A client's end that hasn't finished, and the batches that it is to submit, in their order.
+/// A client actor that hasn't finished, and the batches that it is to submit, in their order.
 #[derive(Drop)]
 pub(crate) struct Scripted {
     end: ClientEnd,
@@ -25,7 +25,6 @@ impl Model for Scripted {
 }
 
 impl Scripted {
-    /// A client that is to submit this script.
     pub(crate) fn new(end: ClientEnd, script: Vec<Batch>) -> Scripted
         requires { end.work.finished ≡ false }
         ensures { result ≡ record { end = end; script = script.items } }
@@ -33,12 +32,6 @@ impl Scripted {
         Scripted { end, script }
     }
 
-    /// The client's number.
-    pub(crate) fn number(&self) -> u64 {
-        self.end.number()
-    }
-
-    /// The end and its script.
     pub(crate) fn into_parts(self) -> (ClientEnd, Vec<Batch>)
         ensures end { result.0 ≡ self.end }
         ensures script { result.1.items ≡ self.script }

@@ -1,37 +1,41 @@
-//! A client's script: its batches, one after another, and then that it is done.
+//! A client's script: its batches, one after another, and then the report that it is done.
 
 ghost use Rattle.std.specs.Prelude.{◌≡◌, IfErr, IfOk, false};
-ghost use Rattle.cdc_ends.specs.Faults.{IsTurnFault};
-ghost use Rattle.cdc_ends.specs.Seats.{client_seat};
-ghost use Rattle.cdc_run.specs.Tasks.{ClientLeaves, IsMet};
+ghost use Rattle.cdc_actors.specs.Faults.{IsTurnFault};
+ghost use Rattle.cdc_actors.specs.Seats.{client_seat};
+ghost use Rattle.cdc_run.specs.Tasks.{ClientLeaves, HasStopped, client_place};
 
 use crate::gates::Gate;
-use crate::places::Place;
-use cdc_ends::{ClientEnd, RunFault};
+use cdc_actors::{ClientEnd, Stop};
 use cdc_types::Batch;
 use std::alloc::Global;
 use std::sync::Wait;
 
-/// Submits the batches of a script in their order, and then says that the client is done. The gate is asked before each
-/// batch, counted from 1.
+/// Submits the batches of a script in their order, and then reports that the client is done. The gate is called
+/// before each batch, counted from 1.
 pub(crate) fn run_script<R: Wait, G: Gate>(
     mut end: ClientEnd,
     script: Vec<Batch>,
     rt: &R,
     alloc: Global,
     gate: &G,
-) -> Result<ClientEnd, RunFault>
+) -> Result<ClientEnd, Stop>
     requires { end.work.finished ≡ false }
     ensures left { IfOk result (ClientLeaves (record { end = end; script = script.items })) }
-    ensures met { IfErr result (IsMet client_seat (λ _. IsTurnFault) end) }
+    ensures stopped { IfErr result (HasStopped client_seat client_place (λ _. IsTurnFault) end) }
 {
-    let place = Place::Client(end.number());
+    let place = end.place();
     let mut turn: u64 = 0;
     for batch in script {
         turn = turn.saturating_add(1);
         gate.pass(place, turn);
-        let _reply = end.submit(rt, alloc, batch)?;
+        match end.submit(rt, alloc, batch) {
+            Ok(_reply) => {}
+            Err(_) => return Err(end.stop()),
+        }
     }
-    end.finish(rt)?;
-    Ok(end)
+    match end.finish(rt) {
+        Ok(()) => Ok(end),
+        Err(_) => Err(end.stop()),
+    }
 }

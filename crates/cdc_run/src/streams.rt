@@ -1,24 +1,24 @@
-//! The connector's, the broker's and the subscribers' ends of a run, put together once they have finished.
+//! The connector, the broker and the subscribers of a run, put together once they have finished.
 
 ghost use Rattle.std.specs.Prelude.{◌≡◌, IfErr, IfOk, map};
-ghost use Rattle.cdc_ends.specs.BrokerEnds.{IsBrokerEnd};
-ghost use Rattle.cdc_ends.specs.ConnectorEnds.{Publishing, origin_of};
-ghost use Rattle.cdc_ends.specs.LedgerEnds.{LedgerDesk};
-ghost use Rattle.cdc_run.specs.Accounts.{IsRefused};
+ghost use Rattle.cdc_actors.specs.Broker.{IsBrokerActor};
+ghost use Rattle.cdc_actors.specs.Connector.{ConnectorCore, origin_of};
+ghost use Rattle.cdc_actors.specs.Ledger.{LedgerCore};
+ghost use Rattle.cdc_run.specs.SettledLinks.{IsRefused};
 ghost use Rattle.cdc_run.specs.Parted.{works_of};
-ghost use Rattle.cdc_run.specs.Streams.{AllCome, AreJoined, AreLeftBy};
+ghost use Rattle.cdc_run.specs.Streams.{AllCome, AreJoined, AreLeftBy, ArePacketsTo};
 ghost use Rattle.cdc_run.specs.SubscriberMail.{AreSubscribersOf, HasFinishedWith};
 
-use crate::accounts::{settle_each, settle_link, settle_pair};
+use crate::settled_links::{settle_each, settle_link, settle_pair};
 use crate::settling::passing_laws;
 use crate::subscribers::part_subscribers;
-use cdc_ends::{BrokerEnd, Consumer, RunFault, SubscriberEnd};
+use cdc_actors::{BrokerEnd, Consumer, RunFault, SubscriberEnd};
 use cdc_links::{LinkIn, LinkOut};
 use cdc_subscriber::Subscriber;
 use cdc_traffic::{ToBroker, ToConnector, ToSubscriber};
 use std::alloc::{AllocError, Global};
 
-// The broker's ends of the links to its subscribers, by place.
+// The broker's endpoints of the links to its subscribers, by place.
 fn links_of(
     alloc: Global,
     consumers: Vec<Consumer>,
@@ -30,16 +30,17 @@ fn links_of(
         let Consumer {
             link,
             unacked: _,
-            handed: _,
+            delivered: _,
         } = consumer;
         links.push(link)?;
     }
     Ok(links)
 }
 
-/// Puts the ends of the links to the connector, to the broker and to the subscribers together: the connector's own, the
-/// ledger's end of the link to it, the broker's end and the subscribers'. `NotOneSystem`: one is of another system,
-/// isn't finished, or has met a fault, or there are more or fewer subscribers than the broker has, or in another order.
+/// Puts the endpoints of the links to the connector, to the broker and to the subscribers together: the connector's
+/// own, the ledger's endpoint of the link to it, the broker actor and the subscribers. `NotOneSystem`: one is of
+/// another system, isn't finished, or has met a fault, or there are more or fewer subscribers than the broker has, or
+/// in another order.
 pub(crate) fn settle_streams(
     alloc: Global,
     system: u64,
@@ -52,12 +53,13 @@ pub(crate) fn settle_streams(
     requires { broker.system ≡ system → AreSubscribersOf system 1 subscribers.items
         → AreJoined (record { inbox = inbox; replies = replies; packets = packets })
         broker.work subscribers.items }
-    ensures come { IfOk result (λ _. (d : LedgerDesk) (c : Publishing)
+    ensures come { IfOk result (λ _. (d : LedgerCore) (c : ConnectorCore)
         → AreLeftBy d c (record { inbox = inbox; replies = replies; packets = packets })
         → AllCome d (origin_of c).start broker.work 0 (works_of subscribers.items)) }
     ensures keeps { IfOk result (λ kept.
         kept.items ≡ map (λ s. s.subscriber) (works_of subscribers.items)) }
-    ensures desk { IfOk result (λ _. IsBrokerEnd broker.work) }
+    ensures packets { IfOk result (λ _. packets.number ≡ 0 → ArePacketsTo broker.work.inbox packets.sent) }
+    ensures core { IfOk result (λ _. IsBrokerActor broker.work) }
     ensures finished { IfOk result (λ _. HasFinishedWith system broker subscribers.items) }
     ensures refused { IfErr result (IsRefused (HasFinishedWith system broker subscribers.items)) }
 {

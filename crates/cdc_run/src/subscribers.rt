@@ -1,11 +1,11 @@
 //! The subscribers of a run, taken apart once they have finished.
 
 ghost use Rattle.std.specs.Prelude.{[], IfErr, IfOk, OnOk};
-ghost use Rattle.cdc_run.specs.Accounts.{IsRefused};
+ghost use Rattle.cdc_run.specs.SettledLinks.{IsRefused};
 ghost use Rattle.cdc_run.specs.SubscriberMail.{AreSubscribersOf, HasAllOf, IsLeftBy, IsMoreLeft};
 
-use crate::parting::part_ends;
-use cdc_ends::{RunFault, SubscriberEnd, SubscriberParts};
+use crate::parting::part_actors;
+use cdc_actors::{RunFault, SubscriberEnd, SubscriberParts};
 use cdc_links::{LinkIn, LinkOut};
 use cdc_subscriber::Subscriber;
 use cdc_traffic::{ToBroker, ToSubscriber};
@@ -20,7 +20,6 @@ pub(crate) struct SubscriberMail {
 }
 
 impl SubscriberMail {
-    // Nobody has left anything.
     fn new(alloc: Global) -> SubscriberMail
         ensures { HasAllOf [] result }
     {
@@ -31,7 +30,7 @@ impl SubscriberMail {
         }
     }
 
-    // One subscriber more.
+    // If memory runs out, nothing is added.
     fn add(&mut self, parts: SubscriberParts) -> Result<(), AllocError>
         ensures { OnOk result (IsMoreLeft self.old parts self.new) }
     {
@@ -50,7 +49,6 @@ impl SubscriberMail {
         Ok(())
     }
 
-    // All of them.
     fn of(alloc: Global, all: Vec<SubscriberParts>) -> Result<SubscriberMail, AllocError>
         ensures { IfOk result (HasAllOf all.items) }
     {
@@ -62,8 +60,8 @@ impl SubscriberMail {
     }
 }
 
-/// Takes the subscribers' ends of a system apart, all of which have to have finished. `NotOneSystem`: one is of another
-/// system, hasn't its place's number, isn't finished, or has met a fault.
+/// Takes the subscriber actors of a system apart, all of which must have finished. `NotOneSystem`: one is of another
+/// system, doesn't have its place's number, isn't finished, or has met a fault.
 pub(crate) fn part_subscribers(
     alloc: Global,
     system: u64,
@@ -73,7 +71,7 @@ pub(crate) fn part_subscribers(
     ensures mail { IfOk result (λ mail. IsLeftBy subscribers.items mail) }
     ensures refused { IfErr result (IsRefused (AreSubscribersOf system 1 subscribers.items)) }
 {
-    let parts = part_ends(alloc, system, subscribers)?;
+    let parts = part_actors(alloc, system, subscribers)?;
     let mail = SubscriberMail::of(alloc, parts)?;
     Ok(mail)
 }

@@ -1,7 +1,7 @@
 //! The links of a run.
 
 ghost use Rattle.std.specs.Prelude.{◌≡◌, ◌+◌, ◌^◌, ◌<◌, IfOk, vec_len};
-ghost use Rattle.cdc_links.specs.Links.{fresh_end};
+ghost use Rattle.cdc_links.specs.Links.{fresh_endpoint};
 ghost use Rattle.cdc_run.specs.Configs.{Fits};
 ghost use Rattle.cdc_run.specs.Wires.{AreOwn, AreWired, IsFresh, fresh_from};
 
@@ -10,38 +10,32 @@ use cdc_links::{LinkIn, LinkOut, Message, link};
 use cdc_traffic::{Reply, ToBroker, ToConnector, ToLedger, ToSubscriber};
 use std::alloc::{AllocError, Global};
 
-/// All ends of a run's links. A list has one for each client or for each subscriber, in the order of their numbers.
+/// All endpoints of a run's links. A list has one for each client or each subscriber, in the order of their numbers.
 #[derive(Drop)]
 pub(crate) struct Wires {
-    /// What the ledger receives.
     pub(crate) to_ledger: LinkIn<ToLedger>,
-    /// The connector's polls to the ledger.
     pub(crate) polls: LinkOut<ToLedger>,
-    /// Each client's requests to the ledger.
+    /// The clients send requests over these.
     pub(crate) requests: Vec<LinkOut<ToLedger>>,
-    /// The ledger's replies to each client.
+    /// The ledger sends to the clients over these.
     pub(crate) replies: Vec<LinkOut<Reply>>,
-    /// What each client receives.
+    /// The clients receive replies over these.
     pub(crate) answers: Vec<LinkIn<Reply>>,
-    /// What the connector receives.
     pub(crate) to_connector: LinkIn<ToConnector>,
-    /// The ledger's replies to the connector's polls.
+    /// The ledger answers the connector's polls over this one.
     pub(crate) poll_replies: LinkOut<ToConnector>,
-    /// The broker's confirms.
     pub(crate) confirms: LinkOut<ToConnector>,
-    /// What the broker receives.
     pub(crate) to_broker: LinkIn<ToBroker>,
-    /// The connector's packets.
     pub(crate) packets: LinkOut<ToBroker>,
-    /// Each subscriber's acknowledgements.
+    /// The subscribers send acknowledgements over these.
     pub(crate) acks: Vec<LinkOut<ToBroker>>,
-    /// The broker's deliveries to each subscriber.
+    /// The broker sends deliveries over these.
     pub(crate) deliveries: Vec<LinkOut<ToSubscriber>>,
-    /// What each subscriber receives.
+    /// The subscribers receive deliveries over these.
     pub(crate) inboxes: Vec<LinkIn<ToSubscriber>>,
 }
 
-// A link for so many messages on their way, with a first sender and so many others.
+// A link with room for `capacity` messages, with a first sender and so many others.
 fn shared<M: Message>(
     alloc: Global,
     capacity: usize,
@@ -49,7 +43,7 @@ fn shared<M: Message>(
 ) -> Result<(LinkOut<M>, Vec<LinkOut<M>>, LinkIn<M>), AllocError>
     requires capacity { 0 < capacity }
     requires others { others < 2 ^ 32 }
-    ensures first { IfOk result (λ ends. ends.0 ≡ fresh_end ends.2.link 0) }
+    ensures first { IfOk result (λ ends. ends.0 ≡ fresh_endpoint ends.2.link 0) }
     ensures others { IfOk result (λ ends. ends.1.items ≡ fresh_from ends.2.link 1 others) }
     ensures into { IfOk result (λ ends. IsFresh (others + 1) ends.2) }
 {
@@ -60,17 +54,17 @@ fn shared<M: Message>(
     Ok((first, outs, into))
 }
 
-// A link for so many messages on their way, with one sender.
+// A link with room for `capacity` messages, with one sender.
 fn single<M: Message>(alloc: Global, capacity: usize) -> Result<(LinkOut<M>, LinkIn<M>), AllocError>
     requires { 0 < capacity }
-    ensures out { IfOk result (λ ends. ends.0 ≡ fresh_end ends.1.link 0) }
+    ensures out { IfOk result (λ ends. ends.0 ≡ fresh_endpoint ends.1.link 0) }
     ensures into { IfOk result (λ ends. IsFresh 1 ends.1) }
 {
     let (out, _, into) = shared(alloc, capacity, 0)?;
     Ok((out, into))
 }
 
-// So many links, each for so many messages on their way and with one sender.
+// So many links, each with room for `capacity` messages and with one sender.
 fn own<M: Message>(
     alloc: Global,
     capacity: usize,
@@ -90,11 +84,11 @@ fn own<M: Message>(
     Ok((outs, ins))
 }
 
-/// The links of a run, each with room for all that its senders can have on their way at once, so that none waits for
-/// room. To the ledger: a message of each client, two polls and the connector's last message. To the connector:
-/// `window` + 1 confirms and the replies to two polls. To the broker: `window` + 1 packets, the connector's last
-/// message and `prefetch` acknowledgements of each subscriber. To a client: one reply. To a subscriber: `prefetch`
-/// deliveries and the last message.
+/// The links of a run, each with room for all messages that its senders can have under way at once, so that none
+/// waits for room. To the ledger: a message of each client, two polls and the connector's last message. To the
+/// connector: `window` + 1 confirms and the replies to two polls. To the broker: `window` + 1 packets, the
+/// connector's last message and `prefetch` acknowledgements of each subscriber. To a client: one reply. To a
+/// subscriber: `prefetch` deliveries and the last message.
 pub(crate) fn make_wires(alloc: Global, config: &Config) -> Result<Wires, AllocError>
     requires { Fits config.now }
     ensures { IfOk result (λ all. AreWired config.now.clients (vec_len config.now.bindings) all) }
@@ -125,14 +119,14 @@ pub(crate) fn make_wires(alloc: Global, config: &Config) -> Result<Wires, AllocE
     })
 }
 
-// A link for so many messages on their way, with two senders.
+// A link with room for `capacity` messages, with two senders.
 fn pair<M: Message>(
     alloc: Global,
     capacity: usize,
 ) -> Result<(LinkOut<M>, LinkOut<M>, LinkIn<M>), AllocError>
     requires { 0 < capacity }
-    ensures first { IfOk result (λ ends. ends.0 ≡ fresh_end ends.2.link 0) }
-    ensures second { IfOk result (λ ends. ends.1 ≡ fresh_end ends.2.link 1) }
+    ensures first { IfOk result (λ ends. ends.0 ≡ fresh_endpoint ends.2.link 0) }
+    ensures second { IfOk result (λ ends. ends.1 ≡ fresh_endpoint ends.2.link 1) }
     ensures into { IfOk result (λ ends. IsFresh 2 ends.2) }
 {
     let (first, mut others, into) = shared(alloc, capacity, 1)?;

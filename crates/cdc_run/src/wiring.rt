@@ -1,7 +1,7 @@
-//! The ends of a run, wired together before the first turn of any.
+//! The actors of a run, wired together before their first turns.
 
 ghost use Rattle.std.specs.Prelude.{◌≡◌, IfErr, IfOk, All, length, map};
-ghost use Rattle.cdc_ends.specs.declared.faults.RunFault.TheVariants.{OutOfMemory};
+ghost use Rattle.cdc_actors.specs.declared.faults.RunFault.TheVariants.{OutOfMemory};
 ghost use Rattle.cdc_links.specs.Links.{LinkId};
 ghost use Rattle.cdc_run.specs.Configs.{Fits};
 ghost use Rattle.cdc_run.specs.Made.{AreFreshSubscribers, AreMade, made_clients};
@@ -13,7 +13,7 @@ use crate::configs::Config;
 use crate::ends::Ends;
 use crate::plans::Faults;
 use crate::wires::{Wires, make_wires};
-use cdc_ends::{
+use cdc_actors::{
     BrokerEnd, BrokerPlan, ClientEnd, ConnectorEnd, LedgerEnd, RunFault, SubscriberEnd,
 };
 use cdc_links::{LinkIn, LinkOut};
@@ -21,7 +21,7 @@ use cdc_progress::ProgressStore;
 use cdc_traffic::{Reply, ToBroker, ToLedger, ToSubscriber};
 use std::alloc::{AllocError, Global};
 
-// The clients' ends, which have said nothing. Each has its end of the ledger's link, and a link of its own.
+// The client actors, which have sent nothing. Each has its endpoint of the ledger's link, and a link of its own.
 fn make_clients(
     alloc: Global,
     system: u64,
@@ -43,8 +43,8 @@ fn make_clients(
     Ok(clients)
 }
 
-// The subscribers' ends, to which nothing has come, with what they are to close after. Each has its end of the broker's
-// link, and a link of its own.
+// The subscriber actors, to which nothing has come, with what they are to close after. Each has its endpoint of the
+// broker's link, and a link of its own.
 fn make_subscribers(
     alloc: Global,
     system: u64,
@@ -68,8 +68,8 @@ fn make_subscribers(
     Ok(subscribers)
 }
 
-/// Makes the ends of a run and the links between them, over a store. The ledger is empty, and no end has done anything.
-/// The only refusal is `OutOfMemory`.
+/// Makes the actors of a run and the links between them, over a store. The ledger is empty, and no actor has done
+/// anything. The only fault is `OutOfMemory`.
 pub fn wire_up<S: ProgressStore + Drop>(
     alloc: Global,
     config: Config,

@@ -1,177 +1,181 @@
 -- What holds of every script: it has a subscriber, and no more of them and no other clients than there may be.
 use Rattle.std.proofs.Common.{◌≡◌, ℕ, ◌+◌, ◌<◌, ◌≤◌, zero, suc, Bool, true, false, List, [], ◌∷◌, Some, None, Ok, Err, refl, ap, subst, length, arith}
-use Rattle.std.specs.Prelude.{◌==◌, ◌||◌, codes, Option, Result, if◌then◌else◌, nat_le, nat_lt, slice_get, unwrap_or}
-use Rattle.std.specs.List.{cons_option, list_all, take_while}
+use Rattle.std.specs.Prelude.{◌==◌, ◌||◌, codes, find, not, Option, Result, if◌then◌else◌, nat_le, nat_lt, slice_get, unwrap_or}
+use Rattle.std.specs.List.{cons_option, take_while}
 use Rattle.std.specs.Str.{bytes_eq}
-use Rattle.std.specs.Str.Lines.{lines}
 use Rattle.std.proofs.lemmas.Bool.Decides.{nat_tests}
-use Rattle.cdc_match.specs.Parsing.{arguments_of}
 use Rattle.cdc_types.specs.Lines.{first_line}
 use Rattle.cdc_types.specs.declared.bounds.TheConstants.Limits.{CLIENTS, SUBSCRIBERS}
-use Rattle.cdc_script.specs.Faults.{◌>>=◌}
+use Rattle.cdc_script.specs.Faults.{◌>>=◌, bad_text, in_line, wrong}
 use Rattle.cdc_script.specs.Fields.{account_of, fields_of}
-use Rattle.cdc_script.specs.Scripts.{after_line, at_top, batches_of, bindings_of, in_line, max_bytes, script_of, script_of_lines, script_said, script_with, statements_from}
-use Rattle.cdc_script.specs.Statements.{account_line, after, binding_line, broken_off, client_line, ended, line_says, lone_number, meaning, number_word, readable, subscriber_line, transfer_line, words_say}
-use Rattle.cdc_script.specs.Words.{is_printable, spoken}
-use Rattle.cdc_script.specs.declared.faults.FaultKind.{FaultKind}
+use Rattle.cdc_script.specs.Scripts.{Numbered, after_line, at_top, batches_of, bindings_of, lines_of, max_bytes, numbered, script_of, script_of_lines, script_stated, script_with, statements, statements_from}
+use Rattle.cdc_script.specs.Statements.{account_line, after, bad_client, binding_line, binding_of, client_line, ended, line_states, lone_number, meaning, no_batch, number_word, subscriber_line, subscriber_stated, transfer_line, words_state}
+use Rattle.cdc_script.specs.Words.{Placed, is_clear, is_printable, lines, spoken}
 use Rattle.cdc_script.specs.declared.faults.FaultKind.TheVariants as kind
+use Rattle.cdc_script.specs.declared.faults.LineFault.{LineFault}
 use Rattle.cdc_script.specs.declared.fields.ItemKind.{ItemKind}
 use Rattle.cdc_script.specs.declared.fields.ItemKind.TheVariants as item
 use Rattle.cdc_script.specs.declared.scripts.ClientBatch.{ClientBatch}
 use Rattle.cdc_script.specs.declared.scripts.Script.{Script}
+use Rattle.cdc_script.specs.declared.scripts.ScriptLines.{ScriptLines}
 use Rattle.cdc_script.specs.declared.statements.Context.{Context}
 use Rattle.cdc_script.specs.declared.statements.Statement.{Statement}
-use Rattle.cdc_script.specs.declared.statements.Statement.TheVariants as says
+use Rattle.cdc_script.specs.declared.statements.Statement.TheVariants as states
 use Rattle.cdc_run_command.specs.Runnable.{IsClient, IsRunnable}
 
--- a statement names no client but those that there may be, and no subscriber where there are as many as there may be
-abbrev IsLawful : Context → Statement → Type 0
-IsLawful context (says.Client n) = IsClient n
-IsLawful context (says.Subscriber binding) = context.subscribers < SUBSCRIBERS
-IsLawful context (says.Accounts now) = Unit {0}
-IsLawful context (says.Transfers now) = Unit {0}
-IsLawful context (says.Account a) = Unit {0}
-IsLawful context (says.Transfer t) = Unit {0}
-IsLawful context (says.Pulse now) = Unit {0}
+-- a statement names only clients that may exist, and is a subscriber's only if there are fewer above it than there
+-- may be
+abbrev IsLawful : ℕ → Statement → Type 0
+IsLawful above (states.Client n) = IsClient n
+IsLawful above (states.Subscriber binding) = above < SUBSCRIBERS
+IsLawful above (states.Accounts now) = Unit {0}
+IsLawful above (states.Transfers now) = Unit {0}
+IsLawful above (states.Account a) = Unit {0}
+IsLawful above (states.Transfer t) = Unit {0}
+IsLawful above (states.Pulse now) = Unit {0}
 
 -- whatever is read is such a statement
-abbrev Reads : Context → Result Statement FaultKind → Type 0
-Reads context r = (s : Statement) → r ≡ Ok s → IsLawful context s
+abbrev Reads : Context → Result Statement LineFault → Type 0
+Reads context r = (s : Statement) → r ≡ Ok s → IsLawful context.subscribers s
 
-reads_fault : (context : Context) (fault : FaultKind) → Reads context (Err fault)
+reads_fault : (context : Context) (fault : LineFault) → Reads context (Err fault)
 reads_fault context fault s is = cc
 
-reads : (context : Context) (said : Statement) → IsLawful context said → Reads context (Ok said)
-reads context said law s is = let same : said ≡ s = cc in subst (IsLawful context) same law
+reads : (context : Context) (stated : Statement) → IsLawful context.subscribers stated → Reads context (Ok stated)
+reads context stated law s is = let same : stated ≡ s = cc in subst (IsLawful context.subscribers) same law
 
-reads_if : (context : Context) (b : Bool) (r r' : Result Statement FaultKind) → (b ≡ true → Reads context r)
+reads_if : (context : Context) (b : Bool) (r r' : Result Statement LineFault) → (b ≡ true → Reads context r)
     → (b ≡ false → Reads context r') → Reads context (if b then r else r')
 reads_if context true r r' where_so where_not = where_so refl
 reads_if context false r r' where_so where_not = where_not refl
 
-reads_then : {A : Type 0} (context : Context) (r : Result A FaultKind) (next : A → Result Statement FaultKind)
+reads_then : {A : Type 0} (context : Context) (r : Result A LineFault) (next : A → Result Statement LineFault)
     → ((x : A) → Reads context (next x)) → Reads context (r >>= next)
 reads_then context (Ok x) next each = each x
 reads_then context (Err fault) next each = reads_fault context fault
 
 -- ---- lines
 
-reads_broken : (context : Context) (rest : List (List ℕ)) → Reads context (broken_off rest)
-reads_broken context [] = reads_fault context kind.BadText
-reads_broken context (word ∷ rest) =
-    reads_then context (readable (arguments_of (word ∷ rest))) (λ binding. Err kind.BadText)
-    (λ binding. reads_fault context kind.BadText)
-
 one_more_subscriber : (n : ℕ) → nat_le SUBSCRIBERS n ≡ false → n < SUBSCRIBERS
 one_more_subscriber n tested = grind (arith, nat_tests)
 
-reads_subscriber : (context : Context) (rest : List (List ℕ))
-    → Reads context (subscriber_line context.subscribers rest)
-reads_subscriber context rest =
-    reads_if context (nat_le SUBSCRIBERS context.subscribers) (Err kind.TooManySubscribers) (binding_line rest)
-    (λ _. reads_fault context kind.TooManySubscribers)
-    (λ tested. reads_if context (list_all is_printable rest)
-    (readable (arguments_of rest) >>= λ binding. Ok (says.Subscriber binding))
-    (broken_off (take_while is_printable rest))
-    (λ _. reads_then context (readable (arguments_of rest)) (λ binding. Ok (says.Subscriber binding))
-    (λ binding. reads context (says.Subscriber binding) (one_more_subscriber context.subscribers tested)))
-    (λ _. reads_broken context (take_while is_printable rest)))
+reads_stated : (context : Context) (leading : List Placed) (bad : Option Placed) → context.subscribers < SUBSCRIBERS
+    → Reads context (subscriber_stated leading bad)
+reads_stated context leading None fewer =
+    reads_then context (binding_of leading) (λ binding. Ok (states.Subscriber binding))
+    (λ binding. reads context (states.Subscriber binding) fewer)
+reads_stated context [] (Some bad) fewer = reads_fault context (bad_text bad)
+reads_stated context (word ∷ rest) (Some bad) fewer =
+    reads_then context (binding_of (word ∷ rest)) (λ binding. Err (bad_text bad))
+    (λ binding. reads_fault context (bad_text bad))
 
-reads_ended : (context : Context) (n : ℕ) (rest : List (List ℕ)) → IsClient n
-    → Reads context (ended kind.WrongCount n rest >>= λ m. Ok (says.Client m))
-reads_ended context n [] is = reads context (says.Client n) is
-reads_ended context n (word ∷ rest) is = at_fault (is_printable word)
+reads_subscriber : (context : Context) (first : Placed) (rest : List Placed)
+    → Reads context (subscriber_line context.subscribers first rest)
+reads_subscriber context first rest =
+    reads_if context (nat_le SUBSCRIBERS context.subscribers) (Err (wrong kind.TooManySubscribers first))
+    (binding_line rest) (λ _. reads_fault context (wrong kind.TooManySubscribers first))
+    (λ tested. reads_stated context (take_while is_clear rest) (find (λ word. not (is_clear word)) rest)
+    (one_more_subscriber context.subscribers tested))
+
+reads_ended : (context : Context) (n : ℕ) (rest : List Placed) → IsClient n
+    → Reads context (ended kind.WrongCount n rest >>= λ m. Ok (states.Client m))
+reads_ended context n [] is = reads context (states.Client n) is
+reads_ended context n (word ∷ rest) is = at_fault (is_printable word.bytes)
   where
     at_fault : (b : Bool)
-        → Reads context ((if b then Err kind.WrongCount else Err kind.BadText) >>= λ m. Ok (says.Client m))
-    at_fault true = reads_fault context kind.WrongCount
-    at_fault false = reads_fault context kind.BadText
+        → Reads context ((if b then Err (wrong kind.WrongCount word) else Err (bad_text word))
+        >>= λ m. Ok (states.Client m))
+    at_fault true = reads_fault context (wrong kind.WrongCount word)
+    at_fault false = reads_fault context (bad_text word)
 
 client_tested : (n : ℕ) → ((n == 0) || nat_lt CLIENTS n) ≡ false → IsClient n
 client_tested n tested = record { least = grind (arith, nat_tests); greatest = grind (arith, nat_tests) }
 
-reads_client : (context : Context) (rest : List (List ℕ)) → Reads context (client_line rest)
+reads_client : (context : Context) (rest : List Placed) → Reads context (client_line rest)
 reads_client context rest =
     reads_then context (number_word rest) _ (λ number.
-    reads_if context ((number.0 == 0) || nat_lt CLIENTS number.0) (Err kind.BadClient)
-    (ended kind.WrongCount number.0 number.1 >>= λ n. Ok (says.Client n)) (λ _. reads_fault context kind.BadClient)
+    reads_if context ((number.0 == 0) || nat_lt CLIENTS number.0) (Err (bad_client rest))
+    (ended kind.WrongCount number.0 number.1 >>= λ n. Ok (states.Client n)) (λ _. reads_fault context (bad_client rest))
     (λ tested. reads_ended context number.0 number.1 (client_tested number.0 tested)))
 
-reads_account : (context : Context) (open_batch : Option ItemKind) (rest : List (List ℕ))
-    → Reads context (account_line open_batch rest)
-reads_account context None rest = reads_fault context kind.NoOpenBatch
-reads_account context (Some item.Account) rest =
-    reads_then context (fields_of item.Account rest) (λ fields. Ok (says.Account (account_of fields)))
-    (λ fields. reads context (says.Account (account_of fields)) tt)
-reads_account context (Some item.Transfer) rest = reads_fault context kind.NoOpenBatch
+reads_account : (context : Context) (open_batch : Option ItemKind) (fault : LineFault) (rest : List Placed)
+    → Reads context (account_line open_batch fault rest)
+reads_account context None fault rest = reads_fault context fault
+reads_account context (Some item.Account) fault rest =
+    reads_then context (fields_of item.Account rest) (λ fields. Ok (states.Account (account_of fields)))
+    (λ fields. reads context (states.Account (account_of fields)) tt)
+reads_account context (Some item.Transfer) fault rest = reads_fault context fault
 
-reads_transfer : (context : Context) (open_batch : Option ItemKind) (rest : List (List ℕ))
-    → Reads context (transfer_line open_batch rest)
-reads_transfer context None rest = reads_fault context kind.NoOpenBatch
-reads_transfer context (Some item.Account) rest = reads_fault context kind.NoOpenBatch
-reads_transfer context (Some item.Transfer) rest =
-    reads_then context (fields_of item.Transfer rest) (λ fields. Ok (says.Transfer fields))
-    (λ fields. reads context (says.Transfer fields) tt)
+reads_transfer : (context : Context) (open_batch : Option ItemKind) (fault : LineFault) (rest : List Placed)
+    → Reads context (transfer_line open_batch fault rest)
+reads_transfer context None fault rest = reads_fault context fault
+reads_transfer context (Some item.Account) fault rest = reads_fault context fault
+reads_transfer context (Some item.Transfer) fault rest =
+    reads_then context (fields_of item.Transfer rest) (λ fields. Ok (states.Transfer fields))
+    (λ fields. reads context (states.Transfer fields) tt)
 
 -- ---- all lines
 
 -- each row of a table reads such statements
-abbrev AllRead : Context → List (Bool × Result Statement FaultKind) → Type 0
+abbrev AllRead : Context → List (Bool × Result Statement LineFault) → Type 0
 AllRead context [] = Unit {0}
 AllRead context (row ∷ rows) = Reads context row.1 × AllRead context rows
 
 -- so does its first row that applies
-reads_table : (context : Context) (rows : List (Bool × Result Statement FaultKind)) → AllRead context rows
-    → Reads context (unwrap_or (first_line rows) (Err kind.UnknownWord))
-reads_table context [] all = reads_fault context kind.UnknownWord
-reads_table context (row ∷ rows) all = decided row.0 (reads_table context rows all.1)
+reads_table : (context : Context) (rows : List (Bool × Result Statement LineFault)) (fault : LineFault)
+    → AllRead context rows → Reads context (unwrap_or (first_line rows) (Err fault))
+reads_table context [] fault all = reads_fault context fault
+reads_table context (row ∷ rows) fault all = decided row.0 (reads_table context rows fault all.1)
   where
-    decided : (b : Bool) → Reads context (unwrap_or (first_line rows) (Err kind.UnknownWord))
-        → Reads context (unwrap_or (if b then Some row.1 else first_line rows) (Err kind.UnknownWord))
+    decided : (b : Bool) → Reads context (unwrap_or (first_line rows) (Err fault))
+        → Reads context (unwrap_or (if b then Some row.1 else first_line rows) (Err fault))
     decided true rest = all.0
     decided false rest = rest
 
 -- the table of the first words of lines
-abbrev table : Context → List ℕ → List (List ℕ) → List (Bool × Result Statement FaultKind)
+abbrev table : Context → Placed → List Placed → List (Bool × Result Statement LineFault)
 table context first rest =
-    (bytes_eq first (codes "subscriber"), subscriber_line context.subscribers rest) ∷
-    (bytes_eq first (codes "client"), client_line rest) ∷
-    (bytes_eq first (codes "accounts"), (lone_number rest >>= λ now. Ok (says.Accounts now))) ∷
-    (bytes_eq first (codes "transfers"), (lone_number rest >>= λ now. Ok (says.Transfers now))) ∷
-    (bytes_eq first (codes "pulse"), (lone_number rest >>= λ now. Ok (says.Pulse now))) ∷
-    (bytes_eq first (codes "account"), account_line context.open_batch rest) ∷
-    (bytes_eq first (codes "transfer"), transfer_line context.open_batch rest) ∷
+    (bytes_eq first.bytes (codes "subscriber"), subscriber_line context.subscribers first rest) ∷
+    (bytes_eq first.bytes (codes "client"), client_line rest) ∷
+    (bytes_eq first.bytes (codes "accounts"), (lone_number rest >>= λ now. Ok (states.Accounts now))) ∷
+    (bytes_eq first.bytes (codes "transfers"), (lone_number rest >>= λ now. Ok (states.Transfers now))) ∷
+    (bytes_eq first.bytes (codes "pulse"), (lone_number rest >>= λ now. Ok (states.Pulse now))) ∷
+    (bytes_eq first.bytes (codes "account"), account_line context.open_batch (no_batch context first) rest) ∷
+    (bytes_eq first.bytes (codes "transfer"), transfer_line context.open_batch (no_batch context first) rest) ∷
     []
 
-reads_rows : (context : Context) (first : List ℕ) (rest : List (List ℕ))
-    → AllRead context (table context first rest)
+reads_rows : (context : Context) (first : Placed) (rest : List Placed) → AllRead context (table context first rest)
 reads_rows context first rest = (
-  reads_subscriber context rest,
+  reads_subscriber context first rest,
   (
     reads_client context rest,
     (
-      reads_then context (lone_number rest) (λ now. Ok (says.Accounts now))
-          (λ now. reads context (says.Accounts now) tt),
+      reads_then context (lone_number rest) (λ now. Ok (states.Accounts now))
+          (λ now. reads context (states.Accounts now) tt),
       (
-        reads_then context (lone_number rest) (λ now. Ok (says.Transfers now))
-            (λ now. reads context (says.Transfers now) tt),
+        reads_then context (lone_number rest) (λ now. Ok (states.Transfers now))
+            (λ now. reads context (states.Transfers now) tt),
         (
-          reads_then context (lone_number rest) (λ now. Ok (says.Pulse now))
-              (λ now. reads context (says.Pulse now) tt),
-          (reads_account context context.open_batch rest, (reads_transfer context context.open_batch rest, tt)),
+          reads_then context (lone_number rest) (λ now. Ok (states.Pulse now))
+              (λ now. reads context (states.Pulse now) tt),
+          (
+            reads_account context context.open_batch (no_batch context first) rest,
+            (reads_transfer context context.open_batch (no_batch context first) rest, tt),
+          ),
         ),
       ),
     ),
   ),
 )
 
-reads_meaning : (context : Context) (first : List ℕ) (rest : List (List ℕ))
-    → Reads context (meaning context first rest)
+reads_meaning : (context : Context) (first : Placed) (rest : List Placed) → Reads context (meaning context first rest)
 reads_meaning context first rest =
-    reads_if context (is_printable first) (unwrap_or (first_line (table context first rest)) (Err kind.UnknownWord))
-    (Err kind.BadText)
-    (λ _. reads_table context (table context first rest) (reads_rows context first rest))
-    (λ _. reads_fault context kind.BadText)
+    reads_if context (is_printable first.bytes)
+    (unwrap_or (first_line (table context first rest)) (Err (wrong kind.UnknownWord first)))
+    (Err (bad_text first))
+    (λ _. reads_table context (table context first rest) (wrong kind.UnknownWord first)
+    (reads_rows context first rest))
+    (λ _. reads_fault context (bad_text first))
 
 -- what was read of several things one after another, if there was no fault
 read_first : {A B E : Type 0} (r : Result A E) (next : A → Result B E) (y : B) → (r >>= next) ≡ Ok y
@@ -179,41 +183,77 @@ read_first : {A B E : Type 0} (r : Result A E) (next : A → Result B E) (y : B)
 read_first (Ok x) next y is = (x, (refl, is))
 read_first (Err e) next y is = cc
 
--- statements each of which is such where it stands
-abbrev AreLawful : Context → List Statement → Type 0
-AreLawful context [] = Unit {0}
-AreLawful context (s ∷ rest) = IsLawful context s × AreLawful (after context s) rest
+-- how many subscribers there are after a statement
+abbrev counted : ℕ → Statement → ℕ
+counted above (states.Subscriber binding) = above + 1
+counted above _ = above
 
--- what a line says joins those below it
-abbrev Joins : Context → List Statement → Option Statement → Type 0
-Joins context more said = AreLawful (after_line context said) more → AreLawful context (cons_option said more)
+-- how many there are after a line
+abbrev counted_line : ℕ → Option Statement → ℕ
+counted_line above None = above
+counted_line above (Some stated) = counted above stated
 
-lawful_line : (context : Context) (text : List (List ℕ)) (said : Option Statement) (more : List Statement)
-    → words_say context text ≡ Ok said → Joins context more said
-lawful_line context [] said more is =
-    let same : None ≡ said = cc in subst (Joins context more) same (λ below. below)
-lawful_line context (first ∷ words) said more is =
-    let found = read_first (meaning context first words) (λ s. Ok (Some s)) said is in
-    let same : Some found.0 ≡ said = cc (found.1.1) in
-    subst (Joins context more) same (λ below. (reads_meaning context first words found.0 found.1.0, below))
+-- statements each of which is lawful at its place
+abbrev AreLawful : ℕ → List Statement → Type 0
+AreLawful above [] = Unit {0}
+AreLawful above (s ∷ rest) = IsLawful above s × AreLawful (counted above s) rest
 
-unplaced : {A : Type 0} (n : ℕ) (r : Result A FaultKind) (x : A) → in_line n r ≡ Ok x → r ≡ Ok x
-unplaced n (Ok y) x is = let same : y ≡ x = cc in ap Ok same
-unplaced n (Err fault) x is = cc
+-- the statement of a line joins those below it
+abbrev Joins : ℕ → List Statement → Option Statement → Type 0
+Joins above more stated = AreLawful (counted_line above stated) more → AreLawful above (cons_option stated more)
 
-lawful_lines : (n : ℕ) (context : Context) (all : List (List ℕ)) (out : List Statement)
-    → statements_from n context all ≡ Ok out → AreLawful context out
-lawful_lines n context [] out is = let same : [] ≡ out = cc in subst (AreLawful context) same tt
+lawful_line : (context : Context) (text : List Placed) (stated : Option Statement) (more : List Statement)
+    → words_state context text ≡ Ok stated → Joins context.subscribers more stated
+lawful_line context [] stated more is =
+    let same : None ≡ stated = cc in subst (Joins context.subscribers more) same (λ below. below)
+lawful_line context (first ∷ words) stated more is =
+    let found = read_first (meaning context first words) (λ s. Ok (Some s)) stated is in
+    let same : Some found.0 ≡ stated = cc (found.1.1) in
+    subst (Joins context.subscribers more) same (λ below. (reads_meaning context first words found.0 found.1.0, below))
+
+unplaced : {A : Type 0} (n : ℕ) (line : Placed) (r : Result A LineFault) (x : A) → in_line n line r ≡ Ok x → r ≡ Ok x
+unplaced n line (Ok y) x is = let same : y ≡ x = cc in ap Ok same
+unplaced n line (Err fault) x is = cc
+
+-- a line leaves so many subscribers
+after_counts : (n : ℕ) (context : Context) (stated : Statement)
+    → (after n context stated).subscribers ≡ counted context.subscribers stated
+after_counts n context (states.Subscriber binding) = refl
+after_counts n context (states.Client client) = refl
+after_counts n context (states.Accounts now) = refl
+after_counts n context (states.Transfers now) = refl
+after_counts n context (states.Account a) = refl
+after_counts n context (states.Transfer t) = refl
+after_counts n context (states.Pulse now) = refl
+
+after_line_counts : (n : ℕ) (context : Context) (stated : Option Statement)
+    → (after_line n context stated).subscribers ≡ counted_line context.subscribers stated
+after_line_counts n context None = refl
+after_line_counts n context (Some stated) = after_counts n context stated
+
+-- the statement of a line comes before those of the other lines
+statements_joined : (n : ℕ) (stated : Option Statement) (more : List Numbered)
+    → cons_option stated (statements more) ≡ statements (cons_option (numbered n stated) more)
+statements_joined n None more = refl
+statements_joined n (Some stated) more = refl
+
+lawful_lines : (n : ℕ) (context : Context) (all : List Placed) (out : List Numbered)
+    → statements_from n context all ≡ Ok out → AreLawful context.subscribers (statements out)
+lawful_lines n context [] out is =
+    let same : [] ≡ out = cc in subst (λ (o : List Numbered). AreLawful context.subscribers (statements o)) same tt
 lawful_lines n context (line ∷ rest) out is =
-    let said = read_first (in_line n (line_says context line))
-    (λ (s : Option Statement). statements_from (n + 1) (after_line context s) rest
-    >>= λ (ss : List Statement). Ok (cons_option s ss)) out is in
-    let more = read_first (statements_from (n + 1) (after_line context said.0) rest)
-    (λ (ss : List Statement). Ok (cons_option said.0 ss)) out said.1.1 in
-    let same : cons_option said.0 more.0 ≡ out = cc (more.1.1) in
-    subst (AreLawful context) same
-    (lawful_line context (spoken line) said.0 more.0 (unplaced n (line_says context line) said.0 said.1.0)
-    (lawful_lines (n + 1) (after_line context said.0) rest more.0 more.1.0))
+    let stated = read_first (in_line n line (line_states context line))
+    (λ (s : Option Statement). statements_from (n + 1) (after_line n context s) rest
+    >>= λ (ss : List Numbered). Ok (cons_option (numbered n s) ss)) out is in
+    let more = read_first (statements_from (n + 1) (after_line n context stated.0) rest)
+    (λ (ss : List Numbered). Ok (cons_option (numbered n stated.0) ss)) out stated.1.1 in
+    let same : cons_option (numbered n stated.0) more.0 ≡ out = cc (more.1.1) in
+    let below = lawful_lines (n + 1) (after_line n context stated.0) rest more.0 more.1.0 in
+    let counts = subst (λ (above : ℕ). AreLawful above (statements more.0)) (after_line_counts n context stated.0) below in
+    subst (λ (o : List Numbered). AreLawful context.subscribers (statements o)) same
+    (subst (AreLawful context.subscribers) (statements_joined n stated.0 more.0)
+    (lawful_line context (spoken line) stated.0 (statements more.0)
+    (unplaced n line (line_states context line) stated.0 stated.1.0) counts))
 
 -- ---- the batches of scripts
 
@@ -227,48 +267,43 @@ one_more b batches is rest zero b' found =
     let same : b ≡ b' = cc in subst (λ (x : ClientBatch). IsClient x.client) same is
 one_more b batches is rest (suc k) b' found = rest k b' found
 
-lawful_batches : (context : Context) (client : ℕ) (statements : List Statement) → IsClient client
-    → AreLawful context statements → AreOfClients (batches_of client statements)
-lawful_batches context client [] is law = λ k b found. cc
-lawful_batches context client (says.Subscriber binding ∷ rest) is law =
-    lawful_batches (after context (says.Subscriber binding)) client rest is law.1
-lawful_batches context client (says.Client n ∷ rest) is law =
-    lawful_batches (after context (says.Client n)) n rest law.0 law.1
-lawful_batches context client (says.Accounts now ∷ rest) is law =
-    one_more _ (batches_of client rest) is (lawful_batches (after context (says.Accounts now)) client rest is law.1)
-lawful_batches context client (says.Transfers now ∷ rest) is law =
-    one_more _ (batches_of client rest) is (lawful_batches (after context (says.Transfers now)) client rest is law.1)
-lawful_batches context client (says.Account a ∷ rest) is law =
-    lawful_batches (after context (says.Account a)) client rest is law.1
-lawful_batches context client (says.Transfer t ∷ rest) is law =
-    lawful_batches (after context (says.Transfer t)) client rest is law.1
-lawful_batches context client (says.Pulse now ∷ rest) is law =
-    one_more _ (batches_of client rest) is (lawful_batches (after context (says.Pulse now)) client rest is law.1)
+lawful_batches : (above : ℕ) (client : ℕ) (stated : List Statement) → IsClient client → AreLawful above stated
+    → AreOfClients (batches_of client stated)
+lawful_batches above client [] is law = λ k b found. cc
+lawful_batches above client (states.Subscriber binding ∷ rest) is law = lawful_batches (above + 1) client rest is law.1
+lawful_batches above client (states.Client n ∷ rest) is law = lawful_batches above n rest law.0 law.1
+lawful_batches above client (states.Accounts now ∷ rest) is law =
+    one_more _ (batches_of client rest) is (lawful_batches above client rest is law.1)
+lawful_batches above client (states.Transfers now ∷ rest) is law =
+    one_more _ (batches_of client rest) is (lawful_batches above client rest is law.1)
+lawful_batches above client (states.Account a ∷ rest) is law = lawful_batches above client rest is law.1
+lawful_batches above client (states.Transfer t ∷ rest) is law = lawful_batches above client rest is law.1
+lawful_batches above client (states.Pulse now ∷ rest) is law =
+    one_more _ (batches_of client rest) is (lawful_batches above client rest is law.1)
 
 -- ---- the bindings of scripts
 
 -- with those above them there are no more than there may be
-few_bindings : (context : Context) (statements : List Statement) → context.subscribers ≤ SUBSCRIBERS
-    → AreLawful context statements → context.subscribers + length (bindings_of statements) ≤ SUBSCRIBERS
-few_bindings context [] few law = omega (arith, few)
-few_bindings context (says.Subscriber binding ∷ rest) few law =
-    let more = few_bindings (after context (says.Subscriber binding)) rest (omega (arith, law.0)) law.1 in
+few_bindings : (above : ℕ) (stated : List Statement) → above ≤ SUBSCRIBERS → AreLawful above stated
+    → above + length (bindings_of stated) ≤ SUBSCRIBERS
+few_bindings above [] few law = omega (arith, few)
+few_bindings above (states.Subscriber binding ∷ rest) few law =
+    let more = few_bindings (above + 1) rest (omega (arith, law.0)) law.1 in
     omega (arith, more)
-few_bindings context (says.Client n ∷ rest) few law = few_bindings (after context (says.Client n)) rest few law.1
-few_bindings context (says.Accounts now ∷ rest) few law =
-    few_bindings (after context (says.Accounts now)) rest few law.1
-few_bindings context (says.Transfers now ∷ rest) few law =
-    few_bindings (after context (says.Transfers now)) rest few law.1
-few_bindings context (says.Account a ∷ rest) few law = few_bindings (after context (says.Account a)) rest few law.1
-few_bindings context (says.Transfer t ∷ rest) few law = few_bindings (after context (says.Transfer t)) rest few law.1
-few_bindings context (says.Pulse now ∷ rest) few law = few_bindings (after context (says.Pulse now)) rest few law.1
+few_bindings above (states.Client n ∷ rest) few law = few_bindings above rest few law.1
+few_bindings above (states.Accounts now ∷ rest) few law = few_bindings above rest few law.1
+few_bindings above (states.Transfers now ∷ rest) few law = few_bindings above rest few law.1
+few_bindings above (states.Account a ∷ rest) few law = few_bindings above rest few law.1
+few_bindings above (states.Transfer t ∷ rest) few law = few_bindings above rest few law.1
+few_bindings above (states.Pulse now ∷ rest) few law = few_bindings above rest few law.1
 
--- a script has a binding, and the bindings and the batches that were said
-runnable_with : (bindings : List _) (batches : List ClientBatch) (script : Script) → length bindings ≤ SUBSCRIBERS
-    → AreOfClients batches → script_with bindings batches ≡ Ok script → IsRunnable script
-runnable_with [] batches script few of is = cc
-runnable_with (binding ∷ rest) batches script few of is =
-    let made : Script = record { bindings = binding ∷ rest; batches = batches } in
+-- a script has a binding, and the bindings and the batches of its statements
+runnable_with : (bindings : List _) (batches : List ClientBatch) (at : ScriptLines) (script : Script)
+    → length bindings ≤ SUBSCRIBERS → AreOfClients batches → script_with bindings batches at ≡ Ok script
+    → IsRunnable script
+runnable_with [] batches at script few of is = cc
+runnable_with (binding ∷ rest) batches at script few of is =
+    let made : Script = record { bindings = binding ∷ rest; batches = batches; lines = at } in
     let same : made ≡ script = cc in
     subst IsRunnable same (record { some = omega arith; few = few; clients = of })
 
@@ -280,8 +315,9 @@ unless false e r x is = is
 pub runnable : (bytes : List ℕ) (script : Script) → script_of bytes ≡ Ok script → IsRunnable script
 runnable bytes script is =
     let short : script_of_lines (lines bytes) ≡ Ok script = unless (nat_lt max_bytes (length bytes)) _ _ script is in
-    let said = read_first (statements_from 1 at_top (lines bytes)) script_said script short in
-    let lawful = lawful_lines 1 at_top (lines bytes) said.0 said.1.0 in
-    let few = few_bindings at_top said.0 (omega arith) lawful in
-    runnable_with (bindings_of said.0) (batches_of 1 said.0) script (omega (arith, few))
-    (lawful_batches at_top 1 said.0 (record { least = omega arith; greatest = omega arith }) lawful) said.1.1
+    let stated = read_first (statements_from 1 at_top (lines bytes)) script_stated script short in
+    let lawful = lawful_lines 1 at_top (lines bytes) stated.0 stated.1.0 in
+    let few = few_bindings 0 (statements stated.0) (omega arith) lawful in
+    runnable_with (bindings_of (statements stated.0)) (batches_of 1 (statements stated.0)) (lines_of stated.0) script
+    (omega (arith, few))
+    (lawful_batches 0 1 (statements stated.0) (record { least = omega arith; greatest = omega arith }) lawful) stated.1.1

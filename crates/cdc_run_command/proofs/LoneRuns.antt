@@ -1,10 +1,10 @@
--- Runs in which one client hands in all batches.
+-- Runs in which one client submits all batches.
 use Rattle.std.proofs.Common.{◌≡◌, ◌==◌, ℕ, zero, suc, ◌+◌, ◌-◌, ◌<◌, Bool, true, List, [], ◌∷◌, ◌++◌, refl, sym, ap, ap₂, ◌∙◌, subst, map, length, eq-eqb, arith}
 use Rattle.std.specs.Prelude.{All, None, Option, Result, Some, cond, filter, fold, max}
 use Rattle.std.proofs.lemmas.Bool.{ne_eqb}
 use Rattle.std.proofs.lemmas.List.Elements.{All-cons, All-head, All-nil, All-tail}
 use Rattle.std.proofs.lemmas.Simd.{map-map}
-use Rattle.cdc_ends.specs.ConnectorEnds.{first_origin}
+use Rattle.cdc_actors.specs.Connector.{first_origin}
 use Rattle.cdc_laws.specs.Connectors.{held_start}
 use Rattle.cdc_laws.specs.Line.{line_after}
 use Rattle.cdc_laws.proofs.Lines.{line_after-zero}
@@ -27,7 +27,6 @@ use Rattle.cdc_subscriber.specs.Lines.{subscriber_text}
 use Rattle.cdc_traffic.specs.declared.requests.Reply.{Reply}
 use Rattle.cdc_types.specs.declared.batches.Batch.{Batch}
 use Rattle.cdc_types.specs.declared.batches.BatchResults.{BatchResults}
-use Rattle.cdc_types.specs.Features.{features}
 use Rattle.cdc_commands.specs.Feeds.{subscribers_text}
 use Rattle.cdc_run_command.specs.LoneRuns.{LoneRunsPrintBooks}
 use Rattle.cdc_commands.specs.Printed.{answer, answers_to, printed_books}
@@ -103,7 +102,7 @@ greatest client before (b ∷ batches) is own =
     greatest client (max before b.client) batches same
     (All-tail (λ (n : ℕ). n ≡ client) b.client (owners_of batches) own)
 
--- the clients of a script are those up to the one that hands in its batches; up to the first, where there are none
+-- the clients of a script are those up to the one that submits its batches, or up to the first if it has no batches
 up_to_one : (batches : List ClientBatch) (client : ℕ) → 0 < client → AllAre client (owners_of batches)
     → (before : ℕ) × ((client_count batches ≡ suc before) × AllAre (suc before) (owners_of batches))
 up_to_one [] client first own = (0, (refl, All-nil (λ (n : ℕ). n ≡ 1)))
@@ -120,7 +119,7 @@ up_to_one (b ∷ batches) client first own =
       ),
     )
 
--- so that one hands in all, and those before it nothing
+-- so that one submits all, and those before it none
 one_script : (script : Script) (before : ℕ) → client_count script.batches ≡ suc before
     → AllAre (suc before) (owners_of script.batches)
     → scripts_of script ≡ nones before ++ map (λ (b : ClientBatch). b.batch) script.batches ∷ []
@@ -132,7 +131,7 @@ one_script script before count all =
     (subst (AllAre (suc before)) (sym (map-map (λ (e : ℕ × Batch). e.0) entry_of script.batches)) all)
     ∙ ap (λ (bs : List Batch). nones before ++ bs ∷ []) (map-map (λ (e : ℕ × Batch). e.1) entry_of script.batches)
 
--- who was replied to no batch was replied nothing
+-- a client that got a reply to no batch got no reply
 no_replies : (replies : List Reply) → map (λ (r : Reply). r.batch) replies ≡ [] → replies ≡ []
 no_replies [] none = refl
 no_replies (r ∷ replies) none = cc
@@ -208,11 +207,11 @@ text_of-kept n h start (b ∷ bindings) =
 -- the ledger of a script, which no event of 0 is in
 abbrev ledger_of : Script → History
 ledger_of script =
-    record (after_batches features empty_history (map (λ (b : ClientBatch). b.batch) script.batches)) { closed = true }
+    record (after_batches empty_history (map (λ (b : ClientBatch). b.batch) script.batches)) { closed = true }
 
 sound_ledger : (script : Script) → IsSound (ledger_of script)
 sound_ledger script =
-    IsSound-closed (after_batches features empty_history (map (λ (b : ClientBatch). b.batch) script.batches))
+    IsSound-closed (after_batches empty_history (map (λ (b : ClientBatch). b.batch) script.batches))
     (IsSound-after_batches empty_history (map (λ (b : ClientBatch). b.batch) script.batches) IsSound-empty)
 
 -- replies that have the answers to a script's batches, and subscribers that keep the line of its history
@@ -222,21 +221,21 @@ text_of-books : (script : Script) (ledger : History) (share : List Reply) (entri
     → map (λ (e : ℕ × Reply). e.1) entries ≡ share
     → subscribers ≡ map (kept_of_line ledger 0) script.bindings
     → reply_lines 1 entries ++ kept_text 1 subscribers ≡ printed_books script
-text_of-books script ledger share entries subscribers served handed merged keeps =
+text_of-books script ledger share entries subscribers served delivered merged keeps =
     ap₂ (λ (a b : List ℕ). a ++ b)
     (lines_of-replies 1 entries
     ∙ ap (λ (rs : List Reply). lines 1 (map (λ (r : Reply). r.answer) rs)) merged
-    ∙ ap (lines 1) (served.answers ∙ ap (answers_from empty_history) handed)
+    ∙ ap (lines 1) (served.answers ∙ ap (answers_from empty_history) delivered)
     ∙ lines_of-batches 1 empty_history script.batches)
     (ap (kept_text 1) keeps
     ∙ text_of-kept 1 ledger 0 script.bindings
     ∙ ap (λ (h : History). subscribers_text 1 (line_after h 0) script.bindings)
     (served.ledger_is
-    ∙ ap (λ (bs : List Batch). record (after_batches features empty_history bs) { closed = true }) handed)
+    ∙ ap (λ (bs : List Batch). record (after_batches empty_history bs) { closed = true }) delivered)
     ∙ ap (λ items. subscribers_text 1 items script.bindings)
     (line_after-zero (ledger_of script) (sound_ledger script)))
 
--- where no session is told where to start, the start is the one that is held
+-- if no session is given a start, the start is the one that is held
 start_of_held : (held : Option Saved) → (first_origin None held).start ≡ held_start held
 start_of_held None = refl
 start_of_held (Some saved) = refl

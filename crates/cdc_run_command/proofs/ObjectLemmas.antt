@@ -1,15 +1,15 @@
--- Replies that are told as JSON lines, one after another.
+-- Replies that are printed as JSON lines, one after another.
 use Rattle.std.proofs.Common.{◌≡◌, ℕ, ◌+◌, ◌≤◌, List, [], ◌∷◌, ◌++◌, Some, refl, sym, ap, ◌∙◌, map, drop, length, append_assoc, append-nil}
 use Rattle.std.specs.List.{slice_get}
 use Rattle.std.proofs.lemmas.List.{drop_all}
 use Rattle.serde_json.specs.Data.{Data}
 use Rattle.cdc_commands.proofs.FoundElements.{drop_found}
 use Rattle.cdc_json.specs.Lines.{batch_value, json_line, json_lines}
-use Rattle.cdc_run_command.specs.Private.Telling.{numbered_values}
+use Rattle.cdc_run_command.specs.Private.Diagnostics.{numbered_values}
 use Rattle.cdc_run_command.specs.RunObjects.{reply_values}
 use Rattle.cdc_traffic.specs.declared.requests.Reply.{Reply}
 
--- one reply more is told
+-- one more reply is printed
 pub reply_more : (all : List Reply) (place : ℕ) (reply : Reply) (now next whole : List ℕ)
     → slice_get all place ≡ Some reply → next ≡ now ++ json_line (batch_value (place + 1) reply.answer)
     → now ++ json_lines (numbered_values (place + 1) (drop place all)) ≡ whole

@@ -14,19 +14,19 @@ use Rattle.cdc_run_command.proofs.ShareLemmas.{other_number, own_of-other, own_o
 
 -- ---- elements of lists
 
--- what is found in a list of views stands within the list
+-- what is found in a list of views is within the list
 pub found_inside : {X Y : Type 0} (f : X → Y) (xs : List X) (i : ℕ) (y : Y) → slice_get (map f xs) i ≡ Some y
     → i < length xs
 found_inside f xs i y found = subst (λ n. i < n) (length-map xs f) (slice_get_within (map f xs) i y found)
 
--- and is the view of what stands there
+-- and is the view of the element there
 pub found_as : {X Y : Type 0} (f : X → Y) (xs : List X) (i : ℕ) (x : X) (y : Y) → slice_get (map f xs) i ≡ Some y
     → slice_get xs i ≡ Some x → f x ≡ y
 found_as f xs i x y mapped found =
     let same : Some (f x) ≡ Some y = sym (slice_get-map f xs i ∙ ap (option_map f) found) ∙ mapped in cc
 
--- a client's own, where the next one of it is looked up: they are views of what was read at its place, and so many are
--- taken as were read there; so there is one more
+-- a client's share, when its next element is looked up: the elements are views of what was read at its place, and as
+-- many are taken as were read there; so there is one more
 pub stands_within : {X Y : Type 0} (f : X → List Y) (xs : List X) (taken : List ℕ) (client : ℕ) (own : X) (count : ℕ)
     → HasNext (map f xs) taken client → own ≡ slice_index_or xs (client - 1) own
     → count ≡ slice_index_or taken (client - 1) count
@@ -58,9 +58,9 @@ all_found : (P : ℕ → Type 0) (xs : List ℕ) (i x : ℕ) → All P xs → sl
 all_found P xs i x all found =
     subst P (get_or_from_slice_get xs i x x found) (all i x (slice_get_within xs i x found))
 
--- ---- how often a client stands in an order
+-- ---- how often a client occurs in an order
 
--- once more where it comes next
+-- once more if it comes next
 times_in-same : (client : ℕ) (order : List ℕ) (x : ℕ) → x ≡ client
     → times_in client (order ++ x ∷ []) ≡ times_in client order + 1
 times_in-same client [] x same =
@@ -74,7 +74,7 @@ times_in-same client (c ∷ order) x same = more (c == client) (times_in-same cl
     more true rest = omega (arith, rest)
     more false rest = rest
 
--- as often as before where another one comes next
+-- as often as before if another one comes next
 times_in-other : (client : ℕ) (order : List ℕ) (x : ℕ) → x ≢ client
     → times_in client (order ++ x ∷ []) ≡ times_in client order
 times_in-other client [] x other =
@@ -88,7 +88,7 @@ times_in-other client (c ∷ order) x other = more (c == client) (times_in-other
     more true rest = ap suc rest
     more false rest = rest
 
--- a client stands less often before one of its places than in the whole order
+-- a client occurs less often before one of its places than in the whole order
 times_before : (order : List ℕ) (i client : ℕ) → slice_get order i ≡ Some client
     → times_in client (take i order) + 1 ≤ times_in client order
 times_before [] i client found = cc
@@ -196,7 +196,7 @@ module _ {X : Type 0} where
           (sym (ap (λ (xs : List X). slice_get xs takes.count) same) ∙ takes.next_is))
           ∙ sym (ap (λ m. take m share) count)
 
-  -- at the end all are in their places
+  -- in the end all are in their places
   pub merged_whole : (order : List ℕ) (shares : List (List X)) (i : ℕ) (taken : List ℕ) (entries : List (ℕ × X))
       → IsOrderOf order shares → IsMerging order shares i taken entries → length order ≤ i
       → AreMerged order shares entries

@@ -1,12 +1,16 @@
 -- A run of a script, and what is printed of it.
-use Rattle.std.proofs.Common.{◌≡◌, ◌∙◌, ℕ, ◌+◌, ◌≤◌, zero, suc, List, [], ◌∷◌, Some, None, Ok, Err, refl, sym, ap, subst, map, length, arith}
-use Rattle.std.specs.Prelude.{IfOk, IfSome, Option, Result, fold, max, slice_get, slice_index_or}
+use Rattle.std.proofs.Common.{◌≡◌, ◌∙◌, ℕ, ◌+◌, ◌≤◌, zero, suc, List, [], ◌∷◌, Some, None, Ok, Err, refl, sym, ap, subst, map, length, arith, inl, inr}
+use Rattle.std.specs.Prelude.{IfOk, IfSome, IsSomeAnd, Option, Result, fold, max, slice_get, slice_index_or}
 use Rattle.std.specs.Option.{option_map}
 use Rattle.std.proofs.lemmas.List.{length-map}
 use Rattle.std.proofs.lemmas.Option.{get_or_from_slice_get, slice_get-map}
+use Rattle.cdc_actors.specs.declared.broker.plans.BrokerPlan.{BrokerPlan}
 use Rattle.cdc_ledger.specs.History.{History}
-use Rattle.cdc_match.specs.declared.binding.Binding.{Binding}
+use Rattle.cdc_match.specs.Arguments.{Arguments}
+use Rattle.cdc_run.specs.Counts.{MayCount}
 use Rattle.cdc_run.specs.Reports.{AreSubscribed}
+use Rattle.cdc_run.specs.declared.counts.Counts.{Counts}
+use Rattle.cdc_run.specs.declared.reports.Report.{Report}
 use Rattle.cdc_script.specs.Scripts.{script_of}
 use Rattle.cdc_script.specs.declared.scripts.ClientBatch.{ClientBatch}
 use Rattle.cdc_script.specs.declared.scripts.Script.{Script}
@@ -17,11 +21,14 @@ use Rattle.cdc_types.specs.declared.bounds.TheConstants.Limits.{CLIENTS}
 use Rattle.cdc_commands.specs.declared.endings.Ending.{Ending}
 use Rattle.cdc_commands.specs.declared.endings.Ending.TheVariants.{Done, Failed, Refused, BadScript, BadSteps, BadWords}
 use Rattle.cdc_commands.specs.declared.faults.ProgramFault.{ProgramFault}
-use Rattle.cdc_commands.specs.declared.output.Output.{Output}
+use Rattle.cdc_commands.specs.Outcomes.{IsPrinted, IsWriteFault, Outcome, PrintsFailure, Writes}
 use Rattle.cdc_run_command.specs.ClientOrders.{IsOrderOf, times_in}
 use Rattle.cdc_run_command.specs.Runnable.{IsClient, IsRunnable}
 use Rattle.cdc_run_command.specs.RunPrinted.{RunCommandPrints}
-use Rattle.cdc_run_command.specs.Runs.{Setting, client_count, entries_of, own_of, owners_of, shares_from}
+use Rattle.cdc_run_command.specs.declared.failures.RunFailed.{RunFailed}
+use Rattle.cdc_run_command.specs.declared.reports.Ran.{Ran}
+use Rattle.cdc_run_command.specs.declared.run.RunOutput.{RunOutput}
+use Rattle.cdc_run_command.specs.Runs.{HasRunOf, IsRunOf, Setting, client_count, entries_of, own_of, owners_of, shares_from}
 use Rattle.cdc_commands.proofs.FoundElements.{found_at}
 use Rattle.cdc_run_command.proofs.ShareLemmas.{length-own_of, length-shares_from, slice_get-shares_from}
 
@@ -63,7 +70,7 @@ clients_fit script is = (
   count_within 1 script.batches CLIENTS (omega arith) (λ k b found. (is.clients k b found).greatest),
 )
 
--- ---- replies to what clients have handed in
+-- ---- replies to what clients have submitted
 
 -- entries have the owners of their batches
 owners_are : (batches : List ClientBatch) → map (λ (e : ℕ × Batch). e.0) (entries_of batches) ≡ owners_of batches
@@ -90,11 +97,11 @@ order_of_shares batches replies lawful same = record {
       let counted : there.0.client ≤ client_count batches = client_counted 1 batches k there.0 there.1 in
       (omega (arith, is, least), omega (arith, is, so_many, counted));
   each = λ k share found.
-      let handed : List Batch = map (λ (r : Reply). r.batch) share in
-      let mapped : slice_get (map (map (λ (r : Reply). r.batch)) replies) k ≡ Some handed =
+      let delivered : List Batch = map (λ (r : Reply). r.batch) share in
+      let mapped : slice_get (map (map (λ (r : Reply). r.batch)) replies) k ≡ Some delivered =
       slice_get-map (map (λ (r : Reply). r.batch)) replies k ∙ ap (option_map (map (λ (r : Reply). r.batch))) found in
-      let own : handed ≡ own_of (1 + k) (entries_of batches) =
-      slice_get-shares_from 1 (client_count batches) k (entries_of batches) handed
+      let own : delivered ≡ own_of (1 + k) (entries_of batches) =
+      slice_get-shares_from 1 (client_count batches) k (entries_of batches) delivered
       (sym (ap (λ (xs : List (List Batch)). slice_get xs k) same) ∙ mapped) in
       sym (length-map share (λ (r : Reply). r.batch)) ∙ ap length own ∙ length-own_of (1 + k) (entries_of batches)
       ∙ ap (times_in (1 + k)) (owners_are batches)
@@ -103,33 +110,103 @@ order_of_shares batches replies lawful same = record {
 
 -- subscribers of some bindings are those of equal ones
 pub subscribed_same : (h : History) (start : ℕ) (closes : List (Option ℕ)) (subscribers : List SubscriberState)
-    (these those : List Binding) → these ≡ those
+    (these those : List Arguments) → these ≡ those
     → AreSubscribed h start these closes subscribers → AreSubscribed h start those closes subscribers
 subscribed_same h start closes subscribers these those same are =
-    subst (λ (bindings : List Binding). AreSubscribed h start bindings closes subscribers) same are
+    subst (λ (bindings : List Arguments). AreSubscribed h start bindings closes subscribers) same are
+
+-- so is what is counted of them
+pub counted_same : (plan : BrokerPlan) (counts : Counts) (these those : List Arguments) → these ≡ those
+    → MayCount plan these counts → MayCount plan those counts
+counted_same plan counts these those same may =
+    subst (λ (bindings : List Arguments). MayCount plan bindings counts) same may
 
 -- ---- what is printed
 
--- what is printed for a text of a script is printed for all its bytes
-all_bytes : (setting : Setting) (text : List ℕ) (bytes : Option (List ℕ)) (ending : Ending) (printed : List ℕ)
-    → IfSome bytes (λ all. script_of text ≡ script_of all) → RunCommandPrints setting (Some text) ending printed
-    → RunCommandPrints setting bytes ending printed
-all_bytes setting text None Done printed same prints = tt
-all_bytes setting text (Some all) Done printed same prints =
-    record { script = prints.script; said = sym same ∙ prints.said; runs = prints.runs }
-all_bytes setting text None (BadScript at) printed same prints = (prints.0, tt)
-all_bytes setting text (Some all) (BadScript at) printed same prints = (prints.0, sym same ∙ prints.1)
-all_bytes setting text bytes (Failed why) printed same prints = prints
-all_bytes setting text bytes (Refused why) printed same prints = absurd prints
-all_bytes setting text bytes (BadSteps at) printed same prints = absurd prints
-all_bytes setting text bytes BadWords printed same prints = absurd prints
+-- a script's text has the same meaning as all its bytes, so what is printed of it is printed of them
+all_bytes : (Prints : List ℕ → Report → List ℕ → Type 0) (PrintsFault : Ending → List ℕ → Type 0) (setting : Setting)
+    (text : List ℕ) (bytes : Option (List ℕ)) (ending : Ending) (printed : List ℕ)
+    → IfSome bytes (λ all. script_of text ≡ script_of all)
+    → RunCommandPrints Prints PrintsFault setting (Some text) ending printed
+    → RunCommandPrints Prints PrintsFault setting bytes ending printed
+all_bytes Prints PrintsFault setting text None Done printed same prints = tt
+all_bytes Prints PrintsFault setting text (Some all) Done printed same prints =
+    record { script = prints.script; stated = sym same ∙ prints.stated; runs = prints.runs }
+all_bytes Prints PrintsFault setting text None (BadScript at) printed same prints = (prints.0, tt)
+all_bytes Prints PrintsFault setting text (Some all) (BadScript at) printed same prints = (prints.0, sym same ∙ prints.1)
+all_bytes Prints PrintsFault setting text bytes (Failed why) printed same prints = prints
+all_bytes Prints PrintsFault setting text bytes (Refused why) printed same prints = absurd prints
+all_bytes Prints PrintsFault setting text bytes (BadSteps at) printed same prints = absurd prints
+all_bytes Prints PrintsFault setting text bytes BadWords printed same prints = absurd prints
 
 -- the same of what a command made of the text of a script
-pub run_of_script : (setting : Setting) (text script : List ℕ) (bytes : Option (List ℕ))
-    (made : Result Output ProgramFault) → text ≡ script → IfSome bytes (λ all. script_of script ≡ script_of all)
-    → IfOk made (λ output. RunCommandPrints setting (Some text) output.ending output.text.items)
-    → IfOk made (λ output. RunCommandPrints setting bytes output.ending output.text.items)
-run_of_script setting text script bytes (Err why) is same prints = tt
-run_of_script setting text script bytes (Ok output) is same prints =
-    all_bytes setting script bytes output.ending output.text.items same
-    (subst (λ (xs : List ℕ). RunCommandPrints setting (Some xs) output.ending output.text.items) is prints)
+pub run_of_script : (Prints : List ℕ → Report → List ℕ → Type 0) (PrintsFault : Ending → List ℕ → Type 0)
+    (setting : Setting) (text script : List ℕ) (bytes : Option (List ℕ)) (made : Result RunOutput RunFailed)
+    → text ≡ script → IfSome bytes (λ all. script_of script ≡ script_of all)
+    → IfOk made (λ m. RunCommandPrints Prints PrintsFault setting (Some text) m.output.ending m.output.text.items)
+    → IfOk made (λ m. RunCommandPrints Prints PrintsFault setting bytes m.output.ending m.output.text.items)
+run_of_script Prints PrintsFault setting text script bytes (Err why) is same prints = tt
+run_of_script Prints PrintsFault setting text script bytes (Ok m) is same prints =
+    all_bytes Prints PrintsFault setting script bytes m.output.ending m.output.text.items same
+    (subst (λ (xs : List ℕ). RunCommandPrints Prints PrintsFault setting (Some xs) m.output.ending m.output.text.items)
+    is prints)
+
+-- a run of the script that a text writes is one of the script of all its bytes
+same_run : (setting : Setting) (text script : List ℕ) (bytes : Option (List ℕ)) (ending : Ending) (ran : Option Ran)
+    → text ≡ script → IfSome bytes (λ all. script_of script ≡ script_of all)
+    → HasRunOf setting (Some text) ending ran → HasRunOf setting bytes ending ran
+same_run setting text script bytes ending None is same none = none
+same_run setting text script None ending (Some ran) is same has = tt
+same_run setting text script (Some all) ending (Some ran) is same has =
+    (has.0, (sym same ∙ ap script_of (sym is) ∙ has.1.0, has.1.1))
+
+pub ran_of_bytes : (setting : Setting) (text script : List ℕ) (bytes : Option (List ℕ))
+    (made : Result RunOutput RunFailed) → text ≡ script → IfSome bytes (λ all. script_of script ≡ script_of all)
+    → IfOk made (λ m. HasRunOf setting (Some text) m.output.ending m.ran)
+    → IfOk made (λ m. HasRunOf setting bytes m.output.ending m.ran)
+ran_of_bytes setting text script bytes (Ok m) is same has =
+    same_run setting text script bytes m.output.ending m.ran is same has
+ran_of_bytes setting text script bytes (Err why) is same has = tt
+
+-- so it is once the output is printed
+pub ran_printed : (setting : Setting) (bytes old new : Option (List ℕ)) (wished : Outcome) (ending : Ending)
+    (ran : Option Ran) → IsPrinted old new wished ending → HasRunOf setting bytes wished.ending ran
+    → HasRunOf setting bytes ending ran
+ran_printed setting bytes old new wished ending (Some ran) printed has = has
+ran_printed setting bytes old new wished ending None (inl failed) none = λ done. subst IsWriteFault done failed
+ran_printed setting bytes old new wished ending None (inr written) none = λ done. none (sym written.0 ∙ done)
+
+-- a command that failed has come to no report
+pub none_ran : (setting : Setting) (bytes old new : Option (List ℕ)) (PrintsFault : Ending → List ℕ → Type 0)
+    (why : ProgramFault) (ending : Ending) → PrintsFailure PrintsFault old new why ending
+    → HasRunOf setting bytes ending None
+none_ran setting bytes old new PrintsFault why ending printed =
+    ran_printed setting bytes old new (record { text = printed.0; ending = Failed why }) ending None printed.1.1
+    (λ done. let no : Failed why ≡ Done = done in cc)
+
+-- a run of a script that was read is one of the script of its text
+pub ran_of_script : (setting : Setting) (bytes : List ℕ) (script : Script) (made : Result RunOutput RunFailed)
+    → script_of bytes ≡ Ok script → IfOk made (λ m. IsSomeAnd m.ran (IsRunOf setting script))
+    → IfOk made (λ m. HasRunOf setting (Some bytes) m.output.ending m.ran)
+ran_of_script setting bytes script (Ok m) reads has = go m.ran has
+  where
+    go : (ran : Option Ran) → IsSomeAnd ran (IsRunOf setting script)
+        → HasRunOf setting (Some bytes) m.output.ending ran
+    go None is = absurd is
+    go (Some ran) is = (script, (reads, is))
+ran_of_script setting bytes script (Err why) reads has = tt
+
+-- what a command prints is what it writes, unless a write failed
+pub writes_text : (prints : Ending → List ℕ → Type 0) (old new : Option (List ℕ)) (text : List ℕ)
+    (wished ending : Ending) → IsPrinted old new (record { text = text; ending = wished }) ending → prints wished text
+    → Writes prints old new ending
+writes_text prints old new text wished ending (inl failed) is = inl failed
+writes_text prints old new text wished ending (inr written) is =
+    inr (text, (written.1, subst (λ (e : Ending). prints e text) (sym written.0) is))
+
+-- so is the line of a command that failed
+pub writes_failure : (prints PrintsFault : Ending → List ℕ → Type 0) (old new : Option (List ℕ)) (why : ProgramFault)
+    (ending : Ending) → PrintsFailure PrintsFault old new why ending
+    → ((line : List ℕ) → PrintsFault (Failed why) line → prints (Failed why) line) → Writes prints old new ending
+writes_failure prints PrintsFault old new why ending (line, (stated, printed)) fails =
+    writes_text prints old new line (Failed why) ending printed (fails line stated)

@@ -36,7 +36,7 @@ module _ {X : Type 0} where
       ∙ map-append (λ (e' : ℕ × X). e'.1) (filter (λ (e' : ℕ × X). e'.0 == client) entries)
       (if e.0 == client then e ∷ [] else [])
 
-  -- one of the client's own comes behind the others
+  -- an element of the client comes after its others
   pub own_of-same : (client : ℕ) (entries : List (ℕ × X)) (e : ℕ × X) → e.0 ≡ client
       → own_of client (entries ++ e ∷ []) ≡ own_of client entries ++ e.1 ∷ []
   own_of-same client entries e same =
@@ -51,7 +51,7 @@ module _ {X : Type 0} where
       ∙ ap (λ (b : Bool). own_of client entries ++ added b e) (other_number e.0 client other)
       ∙ append-nil (own_of client entries)
 
-  -- what is a client's own stays where another client's is taken out
+  -- a client's share stays if another client's is taken out
   pub own_of-others : (client other : ℕ) (entries : List (ℕ × X)) → client ≢ other
       → own_of client (filter (λ (e : ℕ × X). not (e.0 == other)) entries) ≡ own_of client entries
   own_of-others client other [] differ = refl
@@ -120,7 +120,7 @@ module _ {X : Type 0} where
       subst (λ c. own_of c entries ≡ s) (let e : client + suc k ≡ client + 1 + k = omega arith in e)
       (each (suc k) s found)))
 
-  -- a client has as many of its own as it stands among the entries
+  -- a client's share has as many elements as it occurs among the entries
   pub length-own_of : (client : ℕ) (entries : List (ℕ × X))
       → length (own_of client entries) ≡ times_in client (map (λ (e : ℕ × X). e.0) entries)
   length-own_of client [] = refl

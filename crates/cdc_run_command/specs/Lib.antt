@@ -1,4 +1,5 @@
 pub mod ClientOrders
+pub mod Failed
 pub mod LoneRuns
 pub mod Plans
 pub mod Private

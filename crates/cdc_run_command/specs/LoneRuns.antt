@@ -1,17 +1,17 @@
--- What a run prints where one client hands in all batches.
+-- What a run prints if one client submits all batches.
 use Rattle.std.specs.Prelude.{◌≡◌, ◌<◌, ℕ, true, List, [], All, None}
 use Rattle.cdc_laws.specs.Connectors.{held_start, held_timestamp}
 use Rattle.cdc_script.specs.declared.scripts.Script.{Script}
 use Rattle.cdc_commands.specs.Printed.{printed_books}
-use Rattle.cdc_run_command.specs.Runs.{RunsTo, Setting, owners_of}
+use Rattle.cdc_run_command.specs.Runs.{PrintsReport, RunsTo, Setting, owners_of}
 
--- one client, whichever its number, hands in each batch of a script; it may have none
+-- one client, whatever its number, submits each batch of a script; the script may have no batch
 pub record HasOneClient (script : Script) : Type 0 where
   pub client : ℕ
   pub first : 0 < client
   pub all : All (λ owner. owner ≡ client) (owners_of script.batches)
 
--- no subscriber is asked to close, no session is told where to start, and the store is honest and holds nothing, or the
+-- no subscriber is asked to close, no session is given a start, and the store is honest and holds nothing, or the
 -- timestamp 0 and the start 0
 pub record IsPlain (setting : Setting) : Type 0 where
   pub closes : setting.closes ≡ []
@@ -25,4 +25,4 @@ pub record IsPlain (setting : Setting) : Type 0 where
 -- whatever a run of such a script may print then is what `books` prints of it
 abbrev pub LoneRunsPrintBooks : Type 0
 LoneRunsPrintBooks = (setting : Setting) (script : Script) (printed : List ℕ) → HasOneClient script → IsPlain setting
-    → RunsTo setting script printed → printed ≡ printed_books script
+    → RunsTo PrintsReport setting script printed → printed ≡ printed_books script

@@ -1,11 +1,14 @@
--- What a script comes to that is run on threads: each client hands in its own batches, whatever the others do.
-use Rattle.std.specs.Prelude.{◌≡◌, ◌==◌, ℕ, ◌+◌, zero, suc, true, Bool, List, [], ◌∷◌, ◌++◌, Option, filter, fold, length, map, max}
-use Rattle.cdc_ends.specs.ConnectorEnds.{first_origin}
+-- What a script comes to that is run on threads: each client submits its own batches, whatever the others do.
+use Rattle.std.specs.Prelude.{◌≡◌, ◌==◌, ℕ, ◌+◌, zero, suc, true, Bool, List, [], ◌∷◌, ◌++◌, Option, Some, None, IfSome, Ok, filter, fold, length, map, max}
+use Rattle.cdc_actors.specs.Connector.{first_origin}
+use Rattle.cdc_actors.specs.declared.broker.plans.BrokerPlan.{BrokerPlan}
 use Rattle.cdc_laws.specs.Connectors.{held_start, held_timestamp}
 use Rattle.cdc_progress.specs.Records.{Saved}
-use Rattle.cdc_run.specs.Made.{AreCloses}
+use Rattle.cdc_run.specs.Counts.{MayCount}
+use Rattle.cdc_run.specs.Made.{AreCloses, plan_of}
 use Rattle.cdc_run.specs.Reports.{AreSubscribed, HasRun, replies_of}
 use Rattle.cdc_run.specs.declared.reports.Report.{Report}
+use Rattle.cdc_script.specs.Scripts.{script_of}
 use Rattle.cdc_script.specs.declared.scripts.ClientBatch.{ClientBatch}
 use Rattle.cdc_script.specs.declared.scripts.Script.{Script}
 use Rattle.cdc_subscriber.specs.SubscriberState.{SubscriberState}
@@ -13,12 +16,16 @@ use Rattle.cdc_subscriber.specs.Lines.{subscriber_text}
 use Rattle.cdc_traffic.specs.declared.requests.Reply.{Reply}
 use Rattle.cdc_types.specs.declared.batches.Batch.{Batch}
 use Rattle.cdc_commands.specs.Report.{batch_line}
+use Rattle.cdc_commands.specs.declared.endings.Ending.{Ending}
+use Rattle.cdc_commands.specs.declared.endings.Ending.TheVariants.{Done}
+use Rattle.cdc_run_command.specs.declared.plans.RunPlan.{RunPlan}
+use Rattle.cdc_run_command.specs.declared.reports.Ran.{Ran}
 
 -- how many clients a run of these batches has: the greatest of their numbers, or 1
 abbrev pub client_count : List ClientBatch → ℕ
 client_count batches = fold (λ n b. max n b.client) 1 batches
 
--- who hands in each batch
+-- the client that submits each batch
 abbrev pub owners_of : List ClientBatch → List ℕ
 owners_of batches = map (λ b. b.client) batches
 
@@ -35,7 +42,7 @@ abbrev pub shares_from : {X : Type 0} → ℕ → ℕ → List (ℕ × X) → Li
 shares_from client zero entries = []
 shares_from client (suc n) entries = own_of client entries ∷ shares_from (client + 1) n entries
 
--- what each client of a script hands in, in its order
+-- what each client of a script submits, in its order
 abbrev pub scripts_of : Script → List (List Batch)
 scripts_of script = shares_from 1 (client_count script.batches) (entries_of script.batches)
 
@@ -54,34 +61,64 @@ abbrev pub kept_text : ℕ → List SubscriberState → List ℕ
 kept_text n [] = []
 kept_text n (kept ∷ rest) = subscriber_text n kept ++ kept_text (n + 1) rest
 
--- this is printed of a report: the replies to all batches, each client's in its own order and the clients' as they
--- stand here, and then what each subscriber holds
+-- this is printed of a report: the replies to all batches, each client's in its own order and the clients in this
+-- order, and then what each subscriber holds
 pub record PrintsReport (order : List ℕ) (report : Report) (printed : List ℕ) : Type 0 where
   pub replies : List (ℕ × Reply)
   pub merged : AreMerged order (replies_of report) replies
   pub prints : printed ≡ reply_lines 1 replies ++ kept_text 1 report.subscribers.items
 
--- what a run is given beside its script: when subscribers are to close, the moment that its first session is told to
--- start after, if it is, what its store holds, and whether that is honest
+-- if a run came to a report, this is printed of it, if reports are printed so
+abbrev pub IsPrintedOf : (List ℕ → Report → List ℕ → Type 0) → Option Ran → List ℕ → Type 0
+IsPrintedOf Prints None printed = Unit {0}
+IsPrintedOf Prints (Some ran) printed = Prints ran.owners.items ran.report printed
+
+-- what a run is given besides its script: what goes wrong at its broker, when subscribers are to close, the timestamp
+-- that its first session is to start after, if there is one, what its store holds, and whether that is honest
 pub record Setting : Type 0 where
+  pub plan : BrokerPlan
   pub closes : List (ℕ × ℕ)
   pub start : Option ℕ
   pub held : Option Saved
   pub honest : Bool
 
--- a run of this script may come to this report: one order of all batches, each client's in its own order, gives the
--- ledger and the replies; and over an honest store that holds nothing, or a timestamp that is its start, each
--- subscriber has come to what it may rely on after the start: the one that is held, or else the moment that was told,
--- or 0
+-- what a run of this plan is given over a store that holds this, and is honest or not
+abbrev pub setting_of : RunPlan → Option Saved → Bool → Setting
+setting_of plan held honest = record {
+  plan = plan_of plan.faults;
+  closes = plan.faults.close.items;
+  start = plan.start;
+  held = held;
+  honest = honest;
+}
+
+-- a run of this script may come to this report. One order of all batches, each client's in its own order, gives the
+-- ledger and the replies. The counts are those of a run with this plan. Over an honest store that holds nothing, or a timestamp that is its start, each subscriber
+-- has come to what it may rely on after the start: the one that is held, or else the timestamp that was given, or 0
 pub record MayComeTo (setting : Setting) (script : Script) (report : Report) : Type 0 where
   pub run : HasRun (scripts_of script) report
+  pub counts : MayCount setting.plan script.bindings report.counts
   pub subscribers : setting.honest ≡ true → held_timestamp setting.held ≡ held_start setting.held
       → (closes : List (Option ℕ)) × (AreCloses 1 setting.closes closes
       × AreSubscribed report.ledger (first_origin setting.start setting.held).start script.bindings closes
       report.subscribers.items)
 
--- a run of this script prints this, of some report that it may come to
-pub record RunsTo (setting : Setting) (script : Script) (printed : List ℕ) : Type 0 where
+-- a run of this script came to this: the client of each of its batches, its lines, and a report that it may come to
+pub record IsRunOf (setting : Setting) (script : Script) (ran : Ran) : Type 0 where
+  pub owners : ran.owners.items ≡ owners_of script.batches
+  pub lines : ran.lines ≡ script.lines
+  pub comes : MayComeTo setting script ran.report
+
+-- a run of the script that a text writes, whose bytes are known or not, came to this; there is none if the command
+-- ends otherwise than well
+abbrev pub HasRunOf : Setting → Option (List ℕ) → Ending → Option Ran → Type 0
+HasRunOf setting bytes ending None = ending ≡ Done → ⊥
+HasRunOf setting bytes ending (Some ran) =
+    IfSome bytes (λ all. (script : Script) × ((script_of all ≡ Ok script) × IsRunOf setting script ran))
+
+-- a run of this script prints this, for some report that it may come to, if reports are printed so
+pub record RunsTo (Prints : List ℕ → Report → List ℕ → Type 0) (setting : Setting) (script : Script)
+    (printed : List ℕ) : Type 0 where
   pub report : Report
   pub comes : MayComeTo setting script report
-  pub prints : PrintsReport (owners_of script.batches) report printed
+  pub prints : Prints (owners_of script.batches) report printed

@@ -1,12 +1,12 @@
-//! The fault of the program that stands for that of a run.
+//! The fault of the program that corresponds to that of a run.
 
 ghost use Rattle.std.specs.Prelude.{◌≡◌};
 ghost use Rattle.cdc_run_command.specs.Private.Faults.{run_fault};
 
+use cdc_actors::RunFault;
 use cdc_commands::ProgramFault;
-use cdc_ends::RunFault;
 
-/// Why a run gave up, as the fault of the program.
+/// Why a run failed, as the fault of the program.
 pub fn fault_of_run(fault: RunFault) -> ProgramFault
     ensures { result ≡ run_fault fault }
 {

@@ -1,17 +1,21 @@
-//! The command `run`, as text and with `--json`: a script's batches, handed in by clients on threads, and the books of
-//! its subscribers.
+//! The command `run`, as text and with `--json`: a script's batches, submitted by clients on threads, and the books
+//! of its subscribers.
 #![tactic(auto)]
 
+pub mod failures;
 mod faults;
 mod lone_runs;
 pub mod plans;
-mod reports;
-mod run;
-mod run_json;
+pub mod reports;
+pub mod run;
+pub mod run_forms;
+mod run_objects;
 mod run_report;
 mod shares;
 
+pub use failures::RunFailed;
 pub use lone_runs::lone_run_laws;
 pub use plans::RunPlan;
-pub use run::{run_command, run_of};
-pub use run_json::{JsonRun, run_json_command};
+pub use reports::Ran;
+pub use run::{RunEnded, RunOutput, run_command, run_of};
+pub use run_forms::RunForm;

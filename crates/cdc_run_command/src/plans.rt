@@ -1,17 +1,18 @@
 //! How a script is run on threads.
 
 use cdc_run::Faults;
-use cdc_types::Moment;
+use cdc_types::EventTimestamp;
 
 /// How a script is run on threads.
 #[derive(Drop)]
 pub struct RunPlan {
-    /// For how many events the connector's session waits at a time.
+    /// For how many events the connector's session waits at a time: 1 to 64.
     pub window: usize,
-    /// How many deliveries of a queue may be without an acknowledgement.
+    /// How many deliveries of a queue may be without an acknowledgement: 1 to 64.
     pub prefetch: u64,
-    /// What goes wrong in the run.
+    /// The planned faults.
     pub faults: Faults,
-    /// The moment, in nanoseconds, that the connector's first session is told to start after, if it is.
-    pub start: Option<Moment>,
+    /// The timestamp, in nanoseconds, that the connector's first session is to start after. With None it starts after
+    /// what the store holds, or with the first event.
+    pub start: Option<EventTimestamp>,
 }

@@ -3,18 +3,17 @@
 ghost use Rattle.std.specs.Prelude.{◌≡◌, IfErr, IfOk};
 ghost use Rattle.cdc_run.specs.Reports.{replies_of};
 ghost use Rattle.cdc_run_command.specs.ClientOrders.{IsOrderOf};
+ghost use Rattle.cdc_run_command.specs.Failed.{MayFail};
 ghost use Rattle.cdc_run_command.specs.Plans.{IsPlan};
 ghost use Rattle.cdc_run_command.specs.Runnable.{IsRunnable};
-ghost use Rattle.cdc_run_command.specs.RunPrinted.{MayFailRun};
-ghost use Rattle.cdc_run_command.specs.Runs.{MayComeTo, owners_of};
+ghost use Rattle.cdc_run_command.specs.Runs.{MayComeTo, owners_of, setting_of};
 
-use crate::faults::fault_of_run;
+use crate::failures::RunFailed;
 use crate::plans::RunPlan;
 use crate::shares::{Parted, part_batches};
-use cdc_commands::ProgramFault;
 use cdc_progress::ProgressStore;
 use cdc_run::{Config, Gate, Report, run};
-use cdc_script::Script;
+use cdc_script::{Script, ScriptLines};
 use std::alloc::Global;
 use std::sync::Wait;
 use std::thread::Threads;
@@ -24,14 +23,15 @@ const SYSTEM: u64 = 1;
 
 /// What a run of a script came to.
 #[derive(Drop)]
-pub(crate) struct Ran {
-    /// The client that has handed in each batch, in the order of the script.
-    pub order: Vec<u64>,
-    /// What the run reports.
+pub struct Ran {
+    /// The client that submitted each batch, in the order of the script.
+    pub owners: Vec<u64>,
+    /// Where batches and requests stand in the script.
+    pub lines: ScriptLines,
     pub report: Report,
 }
 
-/// What a run of a script comes to, for whoever prints it. There is nothing where the run met a fault.
+/// What a run of a script comes to, for the forms that print it. Fails if the run met a fault.
 pub(crate) fn report_of_run<
     T: Threads + Wait + Sync,
     S: ProgressStore + Send + Drop,
@@ -43,20 +43,21 @@ pub(crate) fn report_of_run<
     plan: RunPlan,
     store: S,
     gate: &G,
-) -> Result<Ran, ProgramFault>
+) -> Result<Ran, RunFailed>
     requires plan { IsPlan plan }
     requires script { IsRunnable script }
-    ensures comes { IfOk result (λ ran. MayComeTo (record {
-      closes = plan.faults.close.items;
-      start = plan.start;
-      held = S.held store;
-      honest = S.is_honest store;
-    }) script ran.report) }
-    ensures order { IfOk result (λ ran. ran.order.items ≡ owners_of script.batches) }
-    ensures replies { IfOk result (λ ran. IsOrderOf ran.order.items (replies_of ran.report)) }
-    ensures fault { IfErr result MayFailRun }
+    ensures comes { IfOk result (λ ran. MayComeTo
+        (setting_of plan (S.held store) (S.is_honest store)) script ran.report) }
+    ensures owners { IfOk result (λ ran. ran.owners.items ≡ owners_of script.batches) }
+    ensures lines { IfOk result (λ ran. ran.lines ≡ script.lines) }
+    ensures replies { IfOk result (λ ran. IsOrderOf ran.owners.items (replies_of ran.report)) }
+    ensures failed { IfErr result (MayFail (S.is_honest store) (S.risks store)) }
 {
-    let Script { bindings, batches } = script;
+    let Script {
+        bindings,
+        batches,
+        lines,
+    } = script;
     let bindings = bindings.into_vec();
     let batches = batches.into_vec();
     let Parted {
@@ -79,7 +80,11 @@ pub(crate) fn report_of_run<
         start,
     };
     match run(rt, alloc, config, scripts, faults, store, gate) {
-        Ok(report) => Ok(Ran { order, report }),
-        Err(fault) => Err(fault_of_run(fault)),
+        Ok(report) => Ok(Ran {
+            owners: order,
+            lines,
+            report,
+        }),
+        Err(failure) => Err(RunFailed::of(&failure)),
     }
 }

@@ -1,117 +1,142 @@
-//! The command `run`: a script's batches, handed in by clients on threads, and the books of its subscribers, to which
+//! The command `run`: a script's batches, submitted by clients on threads, and the books of its subscribers, to which
 //! the events come over a connector and a broker on threads of their own.
 
-ghost use Rattle.std.specs.Prelude.{◌≡◌, ◌+◌, ℕ, List, IfErr, IfOk, Ok, Some};
+ghost use Rattle.std.specs.Prelude.{◌≡◌, ◌+◌, ℕ, List, IfErr, IfOk, IfSome, IsSomeAnd, Ok, Some};
+ghost use Rattle.cdc_run.specs.Meeting.{MayStop};
 ghost use Rattle.cdc_script.specs.Reading.{ConsumesAtMost};
 ghost use Rattle.cdc_script.specs.Scripts.{max_bytes, script_of};
+ghost use Rattle.cdc_run_command.specs.Failed.{MayFail};
 ghost use Rattle.cdc_run_command.specs.LoneRuns.{LoneRunsPrintBooks};
 ghost use Rattle.cdc_run_command.specs.Plans.{IsPlan};
 ghost use Rattle.cdc_commands.specs.Outcomes.{Writes};
 ghost use Rattle.cdc_run_command.specs.Runnable.{IsRunnable};
-ghost use Rattle.cdc_run_command.specs.RunPrinted.{MayFailRun, RunCommandPrints};
-ghost use Rattle.cdc_run_command.specs.Runs.{RunsTo};
+ghost use Rattle.cdc_run_command.specs.RunPrinted.{RunCommandPrints};
+ghost use Rattle.cdc_run_command.specs.Runs.{HasRunOf, IsPrintedOf, IsRunOf, setting_of};
 
+use crate::failures::RunFailed;
 use crate::lone_runs::lone_run_laws;
 use crate::plans::RunPlan;
-use crate::reports::report_of_run;
-use crate::run_report::print_run;
-use cdc_commands::{Ending, Output, ProgramFault, file_fault, print_output};
+use crate::reports::{Ran, report_of_run};
+use crate::run_forms::RunForm;
+use cdc_commands::{Ended, Ending, Notes, Output, Tally, print_output};
 use cdc_progress::ProgressStore;
-use cdc_run::Gate;
+use cdc_run::{Gate, Met, Place, Report};
 use cdc_script::{Script, ScriptError, parse_script, read_text};
-use std::alloc::Global;
+use std::alloc::{AllocError, Global};
 use std::io::{Read, Write};
 use std::sync::Wait;
 use std::thread::Threads;
 
+/// What `run` prints for a script, and the run that it reports.
+#[derive(Drop)]
+pub struct RunOutput {
+    /// What it prints, and how it ends.
+    pub output: Output,
+    /// What the run came to. None if the script has an error.
+    pub ran: Option<Ran>,
+}
+
+/// How the command `run` ended, and what its run came to.
+#[derive(Drop)]
+pub struct RunEnded {
+    pub ended: Ended,
+    /// What the run came to. None if the script has an error or the run failed.
+    pub ran: Option<Ran>,
+    /// If the run failed because an actor stopped, its place and why it did.
+    pub stop: Option<(Place, Met)>,
+}
+
 /// What `run` prints for the bytes of a script, and how it ends: what the ledger answered to each batch, in the order
-/// of the script, and what each subscriber holds at the end of the run; of a bad script its fault. There is none where
-/// the run met a fault.
-pub fn run_of<T: Threads + Wait + Sync, S: ProgressStore + Send + Drop, G: Gate + Sync>(
+/// of the script, and what each subscriber holds when the run ends. For a script with an error it is the error.
+/// Fails if the run does.
+pub fn run_of<F: RunForm, T: Threads + Wait + Sync, S: ProgressStore + Send + Drop, G: Gate + Sync>(
+    form: &F,
     rt: &T,
     alloc: Global,
     bytes: &[u8],
     plan: RunPlan,
     store: S,
     gate: &G,
-) -> Result<Output, ProgramFault>
+) -> Result<RunOutput, RunFailed>
     requires { IsPlan plan }
-    ensures output { IfOk result (λ output. RunCommandPrints (record {
-      closes = plan.faults.close.items;
-      start = plan.start;
-      held = S.held store;
-      honest = S.is_honest store;
-    }) (Some bytes.now) output.ending output.text.items) }
-    ensures fault { IfErr result MayFailRun }
+    ensures output { IfOk result (λ made. RunCommandPrints F.prints_run F.prints_fault
+        (setting_of plan (S.held store) (S.is_honest store)) (Some bytes.now)
+        made.output.ending made.output.text.items) }
+    ensures ran { IfOk result (λ made. IsPrintedOf F.prints_run made.ran made.output.text.items) }
+    ensures report { IfOk result (λ made. HasRunOf
+        (setting_of plan (S.held store) (S.is_honest store)) (Some bytes.now)
+        made.output.ending made.ran) }
+    ensures failed { IfErr result (MayFail (S.is_honest store) (S.risks store)) }
 {
     match parse_script(alloc, bytes) {
-        Ok(script) => run_script(rt, alloc, script, plan, store, gate),
-        Err(ScriptError::Fault(fault)) => Ok(file_fault(alloc, Ending::BadScript(fault))?),
-        Err(ScriptError::OutOfMemory) => Err(ProgramFault::OutOfMemory),
+        Ok(script) => run_script(form, rt, alloc, script, plan, store, gate),
+        Err(ScriptError::Fault(fault)) => Ok(RunOutput {
+            output: Output::of_bad_script(form, alloc, bytes, fault)?,
+            ran: None,
+        }),
+        Err(ScriptError::OutOfMemory) => Err(RunFailed::from(AllocError)),
     }
 }
 
-/// What `run` prints for a script.
-fn run_script<T: Threads + Wait + Sync, S: ProgressStore + Send + Drop, G: Gate + Sync>(
+fn run_script<F: RunForm, T: Threads + Wait + Sync, S: ProgressStore + Send + Drop, G: Gate + Sync>(
+    form: &F,
     rt: &T,
     alloc: Global,
     script: Script,
     plan: RunPlan,
     store: S,
     gate: &G,
-) -> Result<Output, ProgramFault>
+) -> Result<RunOutput, RunFailed>
     requires plan { IsPlan plan }
     requires script { IsRunnable script }
     ensures output { (bytes : List ℕ) → script_of bytes ≡ Ok script
-        → IfOk result (λ output. RunCommandPrints (record {
-          closes = plan.faults.close.items;
-          start = plan.start;
-          held = S.held store;
-          honest = S.is_honest store;
-        }) (Some bytes) output.ending output.text.items) }
-    ensures fault { IfErr result MayFailRun }
+        → IfOk result (λ made. RunCommandPrints F.prints_run F.prints_fault
+        (setting_of plan (S.held store) (S.is_honest store)) (Some bytes)
+        made.output.ending made.output.text.items) }
+    ensures ran { IfOk result (λ made. IsPrintedOf F.prints_run made.ran made.output.text.items) }
+    ensures report { IfOk result (λ made.
+        IsSomeAnd made.ran (IsRunOf (setting_of plan (S.held store) (S.is_honest store)) script)) }
+    ensures failed { IfErr result (MayFail (S.is_honest store) (S.risks store)) }
 {
-    Ok(Output {
-        text: run_clients(rt, alloc, script, plan, store, gate)?,
-        ending: Ending::Done,
+    let notes = Notes::of(alloc, &script);
+    let ran = report_of_run(rt, alloc, script, plan, store, gate)?;
+    let text = form.run(alloc, &ran)?;
+    let tally = tally_of(&ran.report);
+    Ok(RunOutput {
+        output: Output {
+            text,
+            ending: Ending::Done,
+            tally,
+            notes,
+        },
+        ran: Some(ran),
     })
 }
 
-/// What is printed of a run of a script.
-fn run_clients<T: Threads + Wait + Sync, S: ProgressStore + Send + Drop, G: Gate + Sync>(
-    rt: &T,
-    alloc: Global,
-    script: Script,
-    plan: RunPlan,
-    store: S,
-    gate: &G,
-) -> Result<Vec<u8>, ProgramFault>
-    requires plan { IsPlan plan }
-    requires script { IsRunnable script }
-    ensures text { IfOk result (λ text. RunsTo (record {
-      closes = plan.faults.close.items;
-      start = plan.start;
-      held = S.held store;
-      honest = S.is_honest store;
-    }) script text.items) }
-    ensures fault { IfErr result MayFailRun }
-{
-    let ran = report_of_run(rt, alloc, script, plan, store, gate)?;
-    Ok(print_run(alloc, &ran)?)
+/// Counts what wasn't accepted in a run.
+fn tally_of(report: &Report) -> Tally {
+    let mut tally = Tally::NONE;
+    for replies in report.replies.as_slice() {
+        for reply in replies.as_slice() {
+            tally.add(&reply.answer);
+        }
+    }
+    tally
 }
 
-/// Reads a script, runs it on threads, and prints what `run_of` says of its bytes. A command that gives up prints why,
-/// and nothing else; nothing is written after a write that failed. Where one client hands in all batches of a script,
-/// whichever its number, no subscriber is asked to close, no session is told where to start, and the store is honest
-/// and holds nothing, or the timestamp 0 and the start 0, the law `alone` says that what is printed of a run is what
-/// `books` prints.
+/// Reads a script, runs it on threads, and prints what `run_of` makes of its bytes. A command that fails prints why,
+/// and nothing else. Nothing is written after a write that failed. The law `alone`: if one client submits all batches
+/// of a script, whatever its number, no subscriber is asked to close, no session is given a start, and the store is
+/// honest and holds nothing, or the timestamp 0 and the start 0, then a run prints as text what `books` prints.
 pub fn run_command<
+    F: RunForm,
     T: Threads + Wait + Sync,
     R: Read,
     W: Write,
     S: ProgressStore + Send + Drop,
     G: Gate + Sync,
 >(
+    form: &F,
     rt: &T,
     alloc: Global,
     reader: &mut R,
@@ -119,42 +144,61 @@ pub fn run_command<
     store: S,
     gate: &G,
     writer: &mut W,
-) -> Ending
+) -> RunEnded
     requires { IsPlan plan }
-    ensures writes { Writes (RunCommandPrints (record {
-      closes = plan.faults.close.items;
-      start = plan.start;
-      held = S.held store;
-      honest = S.is_honest store;
-    }) (R.remaining reader.old)) (W.contents writer.old) (W.contents writer.new) result }
+    ensures writes { Writes (RunCommandPrints F.prints_run F.prints_fault
+        (setting_of plan (S.held store) (S.is_honest store)) (R.remaining reader.old))
+        (W.contents writer.old) (W.contents writer.new) result.ended.ending }
+    ensures report { HasRunOf (setting_of plan (S.held store) (S.is_honest store))
+        (R.remaining reader.old) result.ended.ending result.ran }
+    ensures stop { IfSome result.stop (λ s. MayStop (S.is_honest store) (S.risks store) s.0 s.1) }
     ensures alone { LoneRunsPrintBooks }
     ensures bounded { ConsumesAtMost (max_bytes + 1)
         (R.remaining reader.old) (R.remaining reader.new) }
 {
     lone_run_laws();
-    print_output(writer, read_run(rt, alloc, reader, plan, store, gate))
+    match read_run(form, rt, alloc, reader, plan, store, gate) {
+        Ok(RunOutput { output, ran }) => RunEnded {
+            ended: print_output(form, writer, Ok(output)),
+            ran,
+            stop: None,
+        },
+        Err(RunFailed { fault, stop }) => RunEnded {
+            ended: print_output(form, writer, Err(fault)),
+            ran: None,
+            stop,
+        },
+    }
 }
 
-/// What `run` prints for the script of a reader.
-fn read_run<T: Threads + Wait + Sync, R: Read, S: ProgressStore + Send + Drop, G: Gate + Sync>(
+/// What `run` prints for the script of a reader. At most one byte more than a script may have is read.
+fn read_run<
+    F: RunForm,
+    T: Threads + Wait + Sync,
+    R: Read,
+    S: ProgressStore + Send + Drop,
+    G: Gate + Sync,
+>(
+    form: &F,
     rt: &T,
     alloc: Global,
     reader: &mut R,
     plan: RunPlan,
     store: S,
     gate: &G,
-) -> Result<Output, ProgramFault>
+) -> Result<RunOutput, RunFailed>
     requires { IsPlan plan }
-    ensures output { IfOk result (λ output. RunCommandPrints (record {
-      closes = plan.faults.close.items;
-      start = plan.start;
-      held = S.held store;
-      honest = S.is_honest store;
-    }) (R.remaining reader.old) output.ending output.text.items) }
-    ensures fault { IfErr result MayFailRun }
+    ensures output { IfOk result (λ made. RunCommandPrints F.prints_run F.prints_fault
+        (setting_of plan (S.held store) (S.is_honest store)) (R.remaining reader.old)
+        made.output.ending made.output.text.items) }
+    ensures ran { IfOk result (λ made. IsPrintedOf F.prints_run made.ran made.output.text.items) }
+    ensures report { IfOk result (λ made. HasRunOf
+        (setting_of plan (S.held store) (S.is_honest store)) (R.remaining reader.old)
+        made.output.ending made.ran) }
+    ensures failed { IfErr result (MayFail (S.is_honest store) (S.risks store)) }
     ensures bounded { ConsumesAtMost (max_bytes + 1)
         (R.remaining reader.old) (R.remaining reader.new) }
 {
     let bytes = read_text(alloc, reader)?;
-    run_of(rt, alloc, &bytes, plan, store, gate)
+    run_of(form, rt, alloc, &bytes, plan, store, gate)
 }

@@ -13,12 +13,12 @@ use cdc_subscriber::Subscriber;
 use cdc_traffic::Reply;
 use std::alloc::{AllocError, Global};
 
-/// What is printed of a run.
+/// What `run` prints as text. Fails if it is out of memory.
 pub(crate) fn print_run(alloc: Global, ran: &Ran) -> Result<Vec<u8>, AllocError>
-    requires { IsOrderOf ran.now.order.items (replies_of ran.now.report) }
-    ensures { IfOk result (λ text. PrintsReport ran.now.order.items ran.now.report text.items) }
+    requires { IsOrderOf ran.now.owners.items (replies_of ran.now.report) }
+    ensures { IfOk result (λ text. PrintsReport ran.now.owners.items ran.now.report text.items) }
 {
-    let (order, replies) = (ran.order.as_slice(), ran.report.replies.as_slice());
+    let (order, replies) = (ran.owners.as_slice(), ran.report.replies.as_slice());
     let replies = replies_in_order(alloc, order, replies)?;
     let mut text = reply_text(alloc, replies.as_slice())?.into_bytes();
     push_kept(&mut text, ran.report.subscribers.as_slice())?;
@@ -56,7 +56,7 @@ pub(crate) fn replies_in_order<'a>(
     Ok(found)
 }
 
-/// The next reply to a client, of which so many of each client are taken.
+/// The next reply to a client. `taken` counts the replies taken so far of each client.
 fn take_next<'a>(replies: &'a [Vec<Reply>], taken: &mut Vec<usize>, client: u64) -> &'a Reply
     requires { HasNext (map (λ v. v.items) replies.now) taken.old.items client }
     ensures { TakesNext (map (λ v. v.items) replies.now) taken.old.items client result.now
@@ -69,7 +69,7 @@ fn take_next<'a>(replies: &'a [Vec<Reply>], taken: &mut Vec<usize>, client: u64)
     reply
 }
 
-/// Of so many clients none is taken.
+/// A count of 0 for each client.
 fn none_taken(alloc: Global, clients: usize) -> Result<Vec<usize>, AllocError>
     ensures { IfOk result (λ taken. (length taken.items ≡ clients)
         × All (λ count. count ≡ 0) taken.items) }
@@ -81,7 +81,6 @@ fn none_taken(alloc: Global, clients: usize) -> Result<Vec<usize>, AllocError>
     Ok(taken)
 }
 
-/// Adds the lines of subscribers.
 fn push_kept(text: &mut Vec<u8>, subscribers: &[Subscriber]) -> Result<(), AllocError>
     ensures { OnOk result (text.new.items ≡ text.old.items ++ kept_text 1 subscribers.now) }
 {

@@ -1,4 +1,4 @@
-//! The batches of a script, parted by the clients that hand them in.
+//! The batches of a script, divided by the clients that submit them.
 
 ghost use Rattle.std.specs.Prelude.{◌≡◌, ◌==◌, IfOk, filter, map, not};
 ghost use Rattle.cdc_run_command.specs.Runs.{client_count, entries_of as client_entries, own_of, owners_of, shares_from};
@@ -7,18 +7,18 @@ use cdc_script::ClientBatch;
 use cdc_types::Batch;
 use std::alloc::{AllocError, Global};
 
-/// The batches of a script, parted by client.
+/// The batches of a script, divided by client.
 #[derive(Drop)]
 pub struct Parted {
-    /// How many clients there are.
+    /// The greatest number of a client, at least 1.
     pub clients: u64,
-    /// The client that hands in each batch, in the order of the script.
+    /// The client that submits each batch, in the order of the script.
     pub order: Vec<u64>,
     /// The batches of each client in their order, by the clients' numbers.
     pub scripts: Vec<Vec<Batch>>,
 }
 
-/// Parts the batches of a script by the clients that hand them in.
+/// Divides the batches of a script by the clients that submit them. Fails if it is out of memory.
 pub fn part_batches(alloc: Global, batches: Vec<ClientBatch>) -> Result<Parted, AllocError>
     ensures clients { IfOk result (λ parted. parted.clients ≡ client_count batches.items) }
     ensures order { IfOk result (λ parted. parted.order.items ≡ owners_of batches.items) }
@@ -36,7 +36,7 @@ pub fn part_batches(alloc: Global, batches: Vec<ClientBatch>) -> Result<Parted, 
     })
 }
 
-/// The greatest number of a client that hands in a batch, or 1.
+/// The greatest number of a client that submits a batch, or 1 if there is none.
 fn greatest_client(batches: &[ClientBatch]) -> u64
     ensures { result ≡ client_count batches.now }
 {
@@ -47,7 +47,7 @@ fn greatest_client(batches: &[ClientBatch]) -> u64
     greatest
 }
 
-/// Who hands in each batch.
+/// The client that submits each batch.
 fn owners(alloc: Global, batches: &[ClientBatch]) -> Result<Vec<u64>, AllocError>
     ensures { IfOk result (λ owners. owners.items ≡ owners_of batches.now) }
 {
@@ -58,7 +58,6 @@ fn owners(alloc: Global, batches: &[ClientBatch]) -> Result<Vec<u64>, AllocError
     Ok(owners)
 }
 
-/// The batches, each with the number of its client.
 fn entries_of(alloc: Global, batches: Vec<ClientBatch>) -> Result<Vec<(u64, Batch)>, AllocError>
     ensures { IfOk result (λ entries. entries.items ≡ client_entries batches.items) }
 {
@@ -69,7 +68,7 @@ fn entries_of(alloc: Global, batches: Vec<ClientBatch>) -> Result<Vec<(u64, Batc
     Ok(entries)
 }
 
-/// The batches of each of so many clients.
+/// The batches of each client, by the clients' numbers.
 fn part_entries(
     alloc: Global,
     clients: u64,
@@ -91,13 +90,11 @@ fn part_entries(
 /// A client's own batches, and the others' with their clients' numbers, each in the order given.
 #[derive(Drop)]
 struct Share {
-    /// The client's own.
     own: Vec<Batch>,
-    /// What is the others'.
     others: Vec<(u64, Batch)>,
 }
 
-/// Parts a client's own from what is the others'.
+/// Separates a client's batches from those of the others.
 fn part_share(alloc: Global, client: u64, entries: Vec<(u64, Batch)>) -> Result<Share, AllocError>
     ensures own { IfOk result (λ share. share.own.items ≡ own_of client entries.items) }
     ensures others { IfOk result (λ share. share.others.items

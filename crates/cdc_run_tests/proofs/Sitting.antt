@@ -1,22 +1,22 @@
--- Where the ends of a system sit, from where they were made, and to where they are settled.
+-- The seats of a system's actors, from where they were made to where they are settled.
 use Rattle.std.proofs.Common.{◌≡◌, ◌==◌, ℕ, ◌+◌, ◌-◌, ◌<◌, List, [], ◌∷◌, ◌++◌, refl, sym, ap, ◌∙◌, subst, arith, cond, length, map}
 use Rattle.std.specs.Prelude.{All, Bool, true, false, IfOk, if◌then◌else◌, Ok, Option, Result, Some, slice_get}
 use Rattle.std.proofs.Math.ListN.{get_or-map}
 use Rattle.std.proofs.lemmas.List.{append_assoc, length_push, length-map}
 use Rattle.std.proofs.lemmas.List.Elements.{All-cons, All-nil, All-weaker}
 use Rattle.std.proofs.lemmas.Result.{IfOk-at_ok}
-use Rattle.cdc_ends.specs.BrokerEnds.{BrokerDesk}
-use Rattle.cdc_ends.specs.BrokerTurns.{first_consumer}
-use Rattle.cdc_ends.specs.Clients.{Talk, finished_talk}
-use Rattle.cdc_ends.specs.ConnectorEnds.{Publishing}
-use Rattle.cdc_ends.specs.LedgerEnds.{LedgerDesk, links_of}
-use Rattle.cdc_ends.specs.declared.faults.RunFault.{RunFault}
-use Rattle.cdc_links.specs.Links.{LinkId, fresh_end, with_sent}
+use Rattle.cdc_actors.specs.Broker.{BrokerCore}
+use Rattle.cdc_actors.specs.Broker.Turns.{first_consumer}
+use Rattle.cdc_actors.specs.Client.{ClientCore, finished_client}
+use Rattle.cdc_actors.specs.Connector.{ConnectorCore}
+use Rattle.cdc_actors.specs.Ledger.{LedgerCore, links_of}
+use Rattle.cdc_actors.specs.declared.faults.RunFault.{RunFault}
+use Rattle.cdc_links.specs.Links.{LinkId, fresh_endpoint, with_sent}
 use Rattle.cdc_progress.specs.Records.{Saved}
 use Rattle.cdc_progress.specs.Stores.{Risks}
 use Rattle.cdc_run.specs.Made.{AreMade, made_clients, made_subscribers}
-use Rattle.cdc_ends.specs.Seats.{BrokerSeat, ClientSeat, ConnectorSeat, LedgerSeat, SubscriberSeat, broker_seat, client_seat, connector_seat, ledger_seat, subscriber_seat}
-use Rattle.cdc_ends.specs.Ends.{EndState}
+use Rattle.cdc_actors.specs.Seats.{BrokerSeat, ClientSeat, ConnectorSeat, LedgerSeat, SubscriberSeat, broker_seat, client_seat, connector_seat, ledger_seat, subscriber_seat}
+use Rattle.cdc_actors.specs.Ends.{ActorState}
 use Rattle.cdc_run.specs.Wirings.{AreSeated, BrokerSits, ClientSits, ConnectorSits, LedgerSits, SubscriberSits, Wiring}
 use Rattle.cdc_run.specs.declared.configs.Config.{Config}
 use Rattle.cdc_run.specs.declared.ends.Ends.{Ends}
@@ -34,7 +34,7 @@ slice_at : {A : Type 0} (before : List A) (x : A) (rest : List A)
 slice_at [] x rest = refl
 slice_at (first ∷ before) x rest = slice_at before x rest
 
--- it stands at the place of its number, which counts from 1
+-- it is at the place of its number, which counts from 1
 at_place : {A : Type 0} (before : List A) (x : A) (rest all : List A) (number : ℕ) → before ++ x ∷ rest ≡ all
     → number ≡ length before + 1 → slice_get all (number - 1) ≡ Some x
 at_place before x rest all number split count =
@@ -42,13 +42,13 @@ at_place before x rest all number split count =
     subst (λ l. slice_get l (number - 1) ≡ Some x) split
     (subst (λ (k : ℕ). slice_get (before ++ x ∷ rest) k ≡ Some x) same (slice_at before x rest))
 
--- over which links new ends send
-links_made : (links : List (LinkId Reply)) → links_of (map (λ link. fresh_end link 0) links) ≡ links
+-- the links over which new actors send
+links_made : (links : List (LinkId Reply)) → links_of (map (λ link. fresh_endpoint link 0) links) ≡ links
 links_made [] = refl
 links_made (link ∷ links) = ap (λ (l : List (LinkId Reply)). link ∷ l) (links_made links)
 
 consumers_made : (links : List (LinkId ToSubscriber))
-    → map (λ c. c.link.link) (map first_consumer (map (λ link. fresh_end link 0) links)) ≡ links
+    → map (λ c. c.link.link) (map first_consumer (map (λ link. fresh_endpoint link 0) links)) ≡ links
 consumers_made [] = refl
 consumers_made (link ∷ links) = ap (λ (l : List (LinkId ToSubscriber)). link ∷ l) (consumers_made links)
 
@@ -60,7 +60,7 @@ module _ (system : ℕ) (w : Wiring) where
   abbrev IsSubscriber : ℕ × SubscriberSeat → Type 0
   IsSubscriber s = (s.0 ≡ system) × SubscriberSits w s.1
 
-  -- each client, behind those of some links
+  -- each client, after those of some links
   clients_made : (before links : List (LinkId Reply)) (number : ℕ) → before ++ links ≡ w.to_clients
       → number ≡ length before + 1
       → All IsClient (map (sits_at client_seat) (made_clients system w.to_ledger number links))
@@ -74,7 +74,7 @@ module _ (system : ℕ) (w : Wiring) where
       (refl, record { requests = refl; answers = at_place before link links w.to_clients number split count })
       (clients_made (before ++ link ∷ []) links (number + 1) (append_assoc before (link ∷ []) links ∙ split) next)
 
-  -- each subscriber, behind those of some links
+  -- each subscriber, after those of some links
   subscribers_made : (before links : List (LinkId ToSubscriber)) (number : ℕ) (closes : List (Option ℕ))
       → before ++ links ≡ w.to_subscribers → number ≡ length before + 1
       → All IsSubscriber (map (sits_at subscriber_seat) (made_subscribers system w.to_broker number links closes))
@@ -90,7 +90,7 @@ module _ (system : ℕ) (w : Wiring) where
       (subscribers_made (before ++ link ∷ []) links (number + 1) closes
       (append_assoc before (link ∷ []) links ∙ split) next)
 
--- all ends, as they were made
+-- all actors, as they were made
 pub system_made : {S : Type 0} (config : Config) (faults : Faults) (held : Option Saved) (honest : Bool) (risks : Risks)
     (ends : Ends S) → AreMade config faults held honest risks ends → AreOfSystem config.system (seats_of ends)
 system_made config faults held honest risks ends made =
@@ -98,22 +98,23 @@ system_made config faults held honest risks ends made =
     let system : ℕ = config.system in
     record {
       wiring = w;
-      ledger = subst (LedgerSits w) (sym (ap (λ (e : EndState LedgerDesk). ledger_seat e.work) made.ledger))
+      ledger = subst (LedgerSits w) (sym (ap (λ (e : ActorState LedgerCore). ledger_seat e.work) made.ledger))
           (record { inbox = refl; clients = links_made w.to_clients; connector = refl });
       ledger_system = ap (λ e. e.system) made.ledger;
       clients = subst (λ l. All (IsClient system w) (map (sits_at client_seat) l)) (sym made.clients)
           (clients_made system w [] w.to_clients 1 refl refl);
-      connector = subst (ConnectorSits w) (sym (ap (λ (e : EndState Publishing). connector_seat e.work) made.connector))
+      connector = subst (ConnectorSits w) (sym (ap
+          (λ (e : ActorState ConnectorCore). connector_seat e.work) made.connector))
           (record { inbox = refl; polls = refl; packets = refl });
       connector_system = ap (λ e. e.system) made.connector;
-      broker = subst (BrokerSits w) (sym (ap (λ (e : EndState BrokerDesk). broker_seat e.work) made.broker))
+      broker = subst (BrokerSits w) (sym (ap (λ (e : ActorState BrokerCore). broker_seat e.work) made.broker))
           (record { inbox = refl; confirms = refl; subscribers = consumers_made w.to_subscribers });
       broker_system = ap (λ e. e.system) made.broker;
       subscribers = subst (λ l. All (IsSubscriber system w) (map (sits_at subscriber_seat) l)) (sym made.subscribers)
           (subscribers_made system w [] w.to_subscribers 1 made.closes refl refl);
     }
 
--- the ends that a call has made
+-- the actors that a call has made
 pub wired_up : {S : Type 0} (config : Config) (faults : Faults) (held : Option Saved) (honest : Bool) (risks : Risks)
     (system : ℕ) (wired : Result (Ends S) RunFault) (ends : Ends S)
     → IfOk wired (AreMade config faults held honest risks) → wired ≡ Ok ends → config.system ≡ system
@@ -124,7 +125,7 @@ wired_up config faults held honest risks system wired ends made is named =
 
 -- ---- turns
 
--- all ends, by where they sit
+-- all actors, by their seats
 abbrev all_seats : ℕ × LedgerSeat → List (ℕ × ClientSeat) → ℕ × ConnectorSeat → ℕ × BrokerSeat
     → List (ℕ × SubscriberSeat)
     → RunSeats
@@ -136,12 +137,12 @@ all_seats ledger clients connector broker subscribers = record {
   subscribers = subscribers;
 }
 
--- who says that it is done sits where it sat
-pub finished_sits : (system : ℕ) (c : Talk)
-    → ◌≡◌ {A = ℕ × ClientSeat} (system, client_seat (finished_talk c)) (system, client_seat c)
+-- a client that reports that it is done keeps its seat
+pub finished_sits : (system : ℕ) (c : ClientCore)
+    → ◌≡◌ {A = ℕ × ClientSeat} (system, client_seat (finished_client c)) (system, client_seat c)
 finished_sits system c = go c.finished
   where
-    done : Talk
+    done : ClientCore
     done = record c { requests = with_sent c.requests (Done c.number, tt); finished = true }
 
     go : (b : Bool)
@@ -149,7 +150,7 @@ finished_sits system c = go c.finished
     go true = refl
     go false = refl
 
--- where each sits where it sat, all do
+-- if each keeps its seat, all do
 pub same_seats : {l l' : ℕ × LedgerSeat} {c c' : List (ℕ × ClientSeat)} {k k' : ℕ × ConnectorSeat}
     {b b' : ℕ × BrokerSeat} {s s' : List (ℕ × SubscriberSeat)} → l ≡ l' → c ≡ c' → k ≡ k' → b ≡ b' → s ≡ s'
     → all_seats l c k b s ≡ all_seats l' c' k' b' s'
@@ -169,8 +170,8 @@ read_back P read xs all = λ k d below.
     let within : k < length (map read xs) = omega (arith, length-map xs read) in
     subst P (get_or-map read xs k d) (all k (read d) within)
 
--- the ends of a system, with a broker's end in the place of its own
-pub seated : {S : Type 0} (wiring : ℕ → Wiring) (system : ℕ) (ends : Ends S) (broker : EndState BrokerDesk)
+-- the actors of a system, with a broker actor in the place of its own
+pub seated : {S : Type 0} (wiring : ℕ → Wiring) (system : ℕ) (ends : Ends S) (broker : ActorState BrokerCore)
     (are : AreOfSystem system (seats_of ends)) → wiring system ≡ are.wiring
     → BrokerSits (wiring broker.system) (broker_seat broker.work) → AreSeated wiring (record ends { broker = broker })
 seated wiring system ends broker are same sits =
@@ -194,20 +195,20 @@ seated wiring system ends broker are same sits =
           (read_back (IsSubscriber system w) (sits_at subscriber_seat) ends.subscribers.items are.subscribers);
     }
 
--- the ends of one system
+-- the actors of one system
 pub system_seated : {S : Type 0} (system : ℕ) (ends : Ends S) → AreOfSystem system (seats_of ends) → MayBeSettled ends
 system_seated system ends are =
     ((λ n. are.wiring), seated (λ n. are.wiring) system ends ends.broker are refl are.broker)
 
--- ---- the brokers' ends of two systems, exchanged
+-- ---- the broker actors of two systems, exchanged
 
 module _ {S : Type 0} (first second : Ends S) (one : AreOfSystem 1 (seats_of first))
     (two : AreOfSystem 2 (seats_of second)) where
-  -- system 1 has the wiring of the first ends, any other that of the second
+  -- system 1 has the wiring of the first actors, any other that of the second
   abbrev wiring_by : ℕ → Wiring
   wiring_by n = cond (n == 1) one.wiring two.wiring
 
-  -- the first system, with the broker's end of the second
+  -- the first system, with the broker actor of the second
   pub first_seated : MayBeSettled (record first { broker = second.broker })
   first_seated = (
     wiring_by,

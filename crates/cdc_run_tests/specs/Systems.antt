@@ -1,15 +1,15 @@
--- Ends of one system, by where they sit. What the tests of settling say of their helpers, and no other contract.
+-- Actors of one system, by their seats. Only the contracts of the settling tests' helpers use this.
 use Rattle.std.specs.Prelude.{◌≡◌, ℕ, List, All, map}
-use Rattle.cdc_ends.specs.Ends.{EndState}
-use Rattle.cdc_ends.specs.Seats.{BrokerSeat, ClientSeat, ConnectorSeat, LedgerSeat, SubscriberSeat, broker_seat, client_seat, connector_seat, ledger_seat, subscriber_seat}
+use Rattle.cdc_actors.specs.Ends.{ActorState}
+use Rattle.cdc_actors.specs.Seats.{BrokerSeat, ClientSeat, ConnectorSeat, LedgerSeat, SubscriberSeat, broker_seat, client_seat, connector_seat, ledger_seat, subscriber_seat}
 use Rattle.cdc_run.specs.Wirings.{AreSeated, BrokerSits, ClientSits, ConnectorSits, LedgerSits, SubscriberSits, Wiring}
 use Rattle.cdc_run.specs.declared.ends.Ends.{Ends}
 
--- where an end sits: the number of its system, and its seat there
-abbrev pub sits_at : {W Seat : Type 0} → (W → Seat) → EndState W → ℕ × Seat
+-- an actor's place among systems: the number of its system, and its seat there
+abbrev pub sits_at : {W Seat : Type 0} → (W → Seat) → ActorState W → ℕ × Seat
 sits_at seat_of end = (end.system, seat_of end.work)
 
--- where all ends of a run sit
+-- the seats of all actors of a run
 pub record RunSeats : Type 0 where
   pub ledger : ℕ × LedgerSeat
   pub clients : List (ℕ × ClientSeat)
@@ -38,6 +38,6 @@ pub record AreOfSystem (system : ℕ) (seats : RunSeats) : Type 0 where
   pub broker_system : seats.broker.0 ≡ system
   pub subscribers : All (λ s. (s.0 ≡ system) × SubscriberSits wiring s.1) seats.subscribers
 
--- ends that may be handed to settle: each sits where the wiring of its own system has it, whichever that is
+-- actors that may be passed to settle: each is where the wiring of its own system has it, whatever that is
 abbrev pub MayBeSettled : {S : Type 0} → Ends S → Type 0
 MayBeSettled ends = (wiring : ℕ → Wiring) × AreSeated wiring ends

@@ -1,4 +1,4 @@
-//! Tests of a run in threads: what no clause of its crate says.
+//! Tests of a run in threads, for what no contract of its crate states.
 #![tactic(auto)]
 
 #[cfg(test)]

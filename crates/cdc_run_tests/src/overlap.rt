@@ -1,9 +1,9 @@
-//! That the ends of a run work at the same time, each on a thread of its own.
+//! The actors of a run work at the same time, each on a thread of its own.
 
 ghost use Rattle.std.specs.Prelude.{◌≡◌, ◌+◌, ◌≤◌, vec_len};
 ghost use Rattle.cdc_run.specs.Configs.{Fits};
 
-use cdc_ends::{Repeats, RunFault, Story};
+use cdc_actors::{Repeats, Story};
 use cdc_match::Binding;
 use cdc_progress::MemoryStore;
 use cdc_run::{Config, Faults, Gate, Place, Report, run};
@@ -14,12 +14,12 @@ use std::hint::spin_loop;
 use std::process::Abort;
 use std::sync::atomic::{AtomicU64, Ordering};
 
-// How often a hold looks before it gives up.
+// How often a hold looks before it fails.
 const MOST_LOOKS: u32 = 1_000_000_000;
 
-// Holds the first turn of every place until all have been asked for; then the third turn of client 1 until the second
-// one of the last subscriber has been asked for, and the other way round. The test fails where a hold waits for too
-// long.
+// Holds the first turn of every place until all have been asked for. Then it holds the third turn of client 1 until
+// the second one of the last subscriber has been asked for, and the other way round. The test fails if a hold waits
+// too long.
 #[derive(Drop)]
 struct MeetingGate<'a, R: Abort> {
     rt: &'a R,
@@ -44,7 +44,7 @@ impl<'a, R: Abort> MeetingGate<'a, R> {
         }
     }
 
-    // How many turns were held.
+    // How many of each of the three turns were held.
     fn held(&self) -> [u64; 3] {
         [
             self.first.load(Ordering::SeqCst),
@@ -53,7 +53,7 @@ impl<'a, R: Abort> MeetingGate<'a, R> {
         ]
     }
 
-    // Holds a turn, which is counted, until so many others have been asked for.
+    // Counts a turn, and holds it until so many others have been asked for.
     fn hold(&self, mine: &AtomicU64, others: &AtomicU64, wanted: u64) {
         mine.fetch_add(1, Ordering::SeqCst);
         for _ in 0..MOST_LOOKS {
@@ -80,13 +80,9 @@ impl<R: Abort> Gate for MeetingGate<'_, R> {
         }
     }
 
-    fn hear_broker(&self, _story: Story) {}
+    fn observe_broker(&self, _story: Story) {}
 
-    fn hear_subscriber(&self, _number: u64, _repeats: Repeats) {}
-
-    fn hear_fault(&self, _place: Place, _fault: RunFault) {}
-
-    fn hear_unstarted(&self, _place: Place) {}
+    fn observe_subscriber(&self, _number: u64, _repeats: Repeats) {}
 }
 
 fn account(id: u128) -> NewAccount {
@@ -101,7 +97,7 @@ fn account(id: u128) -> NewAccount {
     }
 }
 
-// The batch that opens two accounts.
+// A batch that opens accounts 1 and 2.
 fn accounts(rt: &impl Abort, alloc: Global) -> Batch {
     let accounts = Vec::from_slice(alloc, &[account(1), account(2)]).expect(rt, "memory");
     Batch::Accounts {
@@ -110,7 +106,7 @@ fn accounts(rt: &impl Abort, alloc: Global) -> Batch {
     }
 }
 
-// The batch of one transfer from account 1 to account 2.
+// A batch of one transfer from account 1 to account 2.
 fn transfer(rt: &impl Abort, alloc: Global, now: u64, id: u128, amount: u128) -> Batch {
     let transfer = NewTransfer {
         id,
@@ -133,7 +129,7 @@ fn transfer(rt: &impl Abort, alloc: Global, now: u64, id: u128, amount: u128) ->
     }
 }
 
-// The script of the one client.
+// One script, for the one client.
 fn scripts(rt: &impl Abort, alloc: Global) -> Vec<Vec<Batch>>
     ensures { vec_len result ≡ 1 }
 {
@@ -150,12 +146,11 @@ fn scripts(rt: &impl Abort, alloc: Global) -> Vec<Vec<Batch>>
     scripts
 }
 
-// A binding to all events.
 fn all_events(rt: &impl Abort, alloc: Global) -> Binding {
     Binding::parse(alloc, &["all"]).expect(rt, "a binding")
 }
 
-// Two subscribers more, of all events.
+// The bindings, with those of two more subscribers to all events.
 fn with_two_more(rt: &impl Abort, alloc: Global, bindings: Vec<Binding>) -> Vec<Binding>
     ensures { vec_len result ≡ vec_len bindings + 2 }
 {
@@ -165,14 +160,12 @@ fn with_two_more(rt: &impl Abort, alloc: Global, bindings: Vec<Binding>) -> Vec<
     bindings
 }
 
-// The bindings of two subscribers, to all events.
 fn two_of_all(rt: &impl Abort, alloc: Global) -> Vec<Binding>
     ensures { vec_len result ≡ 2 }
 {
     with_two_more(rt, alloc, Vec::new(alloc))
 }
 
-// The bindings of eight.
 fn eight_of_all(rt: &impl Abort, alloc: Global) -> Vec<Binding>
     ensures { vec_len result ≡ 8 }
 {
@@ -198,12 +191,10 @@ fn config_of(bindings: Vec<Binding>) -> Config
     }
 }
 
-// Whether a subscriber has applied both events.
 fn has_seen_all(subscriber: &Subscriber) -> bool {
     subscriber.applied_count() == 2 && subscriber.last() == 3000
 }
 
-// How many subscribers have applied both events.
 fn count_seen(report: &Report) -> usize {
     report
         .subscribers
@@ -214,30 +205,30 @@ fn count_seen(report: &Report) -> usize {
 }
 
 #[test]
-fn two_ends_at_once(rt: HostRuntime) {
+fn two_actors_at_once(rt: HostRuntime) {
     let config = config_of(two_of_all(&rt, rt.alloc()));
     let scripts = scripts(&rt, rt.alloc());
-    // One client and two subscribers, beside the ledger, the connector and the broker.
+    // One client and two subscribers, besides the ledger, the connector and the broker.
     let gate = MeetingGate::new(&rt, 6, 2);
     let faults = Faults::none(rt.alloc());
     let store = MemoryStore::new();
-    let report = run(&rt, rt.alloc(), config, scripts, faults, store, &gate).expect(
-        &rt, "a report",
-    );
+    let report = run(&rt, rt.alloc(), config, scripts, faults, store, &gate)
+        .ok()
+        .expect(&rt, "a report");
     assert_eq!(rt; gate.held(), [6, 1, 1]);
     assert_eq!(rt; count_seen(&report), 2);
 }
 
 #[test]
-fn twelve_ends_at_once(rt: HostRuntime) {
+fn twelve_actors_at_once(rt: HostRuntime) {
     let config = config_of(eight_of_all(&rt, rt.alloc()));
     let scripts = scripts(&rt, rt.alloc());
     let gate = MeetingGate::new(&rt, 12, 8);
     let faults = Faults::none(rt.alloc());
     let store = MemoryStore::new();
-    let report = run(&rt, rt.alloc(), config, scripts, faults, store, &gate).expect(
-        &rt, "a report",
-    );
+    let report = run(&rt, rt.alloc(), config, scripts, faults, store, &gate)
+        .ok()
+        .expect(&rt, "a report");
     assert_eq!(rt; gate.held(), [12, 1, 1]);
     assert_eq!(rt; count_seen(&report), 8);
 }

@@ -1,12 +1,12 @@
-//! Ends of one system that have finished are settled; ends of two systems aren't, nor are ends that haven't begun, or
-//! of which one has met a fault.
+//! Actors of one system that have finished are settled. Actors of two systems aren't, nor are actors that haven't
+//! begun, or of which one has met a fault.
 
 ghost use Rattle.std.specs.Prelude.{◌≡◌, map};
 ghost use Rattle.cdc_run.specs.Configs.{Fits};
-ghost use Rattle.cdc_ends.specs.Seats.{broker_seat, client_seat, connector_seat, ledger_seat, subscriber_seat};
+ghost use Rattle.cdc_actors.specs.Seats.{broker_seat, client_seat, connector_seat, ledger_seat, subscriber_seat};
 ghost use Rattle.cdc_run_tests.specs.Systems.{AreOfSystem, MayBeSettled, seats_of, sits_at};
 
-use cdc_ends::{BrokerEnd, ClientEnd, ConnectorEnd, LedgerEnd, RunFault, SubscriberEnd};
+use cdc_actors::{BrokerEnd, ClientEnd, ConnectorEnd, LedgerEnd, RunFault, SubscriberEnd};
 use cdc_match::Binding;
 use cdc_progress::{MemoryStore, StoreError};
 use cdc_run::{Config, Ends, Faults, settle, wire_up};
@@ -15,7 +15,7 @@ use std::mem::swap;
 use std::process::Abort;
 use std::sync::Wait;
 
-// What a system of one client and one subscriber is made of.
+// The configuration of a system with one client and one subscriber.
 fn config_of(rt: &impl Abort, alloc: Global, system: u64) -> Config
     ensures fits { Fits result }
     ensures system { result.system ≡ system }
@@ -33,8 +33,8 @@ fn config_of(rt: &impl Abort, alloc: Global, system: u64) -> Config
     }
 }
 
-// The ends of a system of one client and one subscriber over a store, before any turn.
-fn ends_over(rt: &impl Abort, alloc: Global, system: u64, store: MemoryStore) -> Ends<MemoryStore>
+// The actors of a system with one client and one subscriber over a store, before any turn.
+fn actors_over(rt: &impl Abort, alloc: Global, system: u64, store: MemoryStore) -> Ends<MemoryStore>
     ensures { AreOfSystem system (seats_of result) }
 {
     let config = config_of(rt, alloc, system);
@@ -42,22 +42,22 @@ fn ends_over(rt: &impl Abort, alloc: Global, system: u64, store: MemoryStore) ->
 }
 
 // The same over a store that holds nothing.
-fn new_ends(rt: &impl Abort, alloc: Global, system: u64) -> Ends<MemoryStore>
+fn new_actors(rt: &impl Abort, alloc: Global, system: u64) -> Ends<MemoryStore>
     ensures { AreOfSystem system (seats_of result) }
 {
-    ends_over(rt, alloc, system, MemoryStore::new())
+    actors_over(rt, alloc, system, MemoryStore::new())
 }
 
-// The same, of which the connector has met a fault.
-fn failed_ends<R: Wait + Abort>(rt: &R, alloc: Global, system: u64) -> Ends<MemoryStore>
+// The same, with a connector that has met a fault.
+fn failed_actors<R: Wait + Abort>(rt: &R, alloc: Global, system: u64) -> Ends<MemoryStore>
     ensures { AreOfSystem system (seats_of result) }
 {
-    let mut ends = ends_over(rt, alloc, system, MemoryStore::with_faults(None, 1, false));
+    let mut ends = actors_over(rt, alloc, system, MemoryStore::with_faults(None, 1, false));
     fail_connector(rt, alloc, &mut ends.connector);
     ends
 }
 
-// Each of these takes one turn, or the one that a client without batches takes. The end stays where it sits.
+// Each of these takes one turn, or the one that a client without batches takes. The actor keeps its seat.
 
 fn turn_ledger<R: Wait + Abort>(rt: &R, alloc: Global, end: &mut LedgerEnd)
     ensures { sits_at ledger_seat end.new ≡ sits_at ledger_seat end.old }
@@ -99,7 +99,7 @@ fn finish_client<R: Wait + Abort>(rt: &R, end: &mut ClientEnd)
     end.finish(rt).expect(rt, "a client that is done");
 }
 
-// All clients, and all subscribers.
+// For all clients, and for all subscribers.
 
 fn finish_clients<R: Wait + Abort>(rt: &R, ends: &mut Vec<ClientEnd>)
     ensures { map (sits_at client_seat) ends.new.items ≡ map (sits_at client_seat) ends.old.items }
@@ -118,7 +118,7 @@ fn turn_subscribers<R: Wait + Abort>(rt: &R, alloc: Global, ends: &mut Vec<Subsc
     }
 }
 
-// The client says that it is done. The connector polls, and connects to the broker.
+// The client reports that it is done. The connector polls, and connects to the broker.
 fn ask<R: Wait + Abort>(rt: &R, alloc: Global, ends: &mut Ends<MemoryStore>)
     ensures { seats_of ends.new ≡ seats_of ends.old }
 {
@@ -126,7 +126,8 @@ fn ask<R: Wait + Abort>(rt: &R, alloc: Global, ends: &mut Ends<MemoryStore>)
     turn_connector(rt, alloc, &mut ends.connector);
 }
 
-// The ledger hears the client and the connector, and replies that nothing follows; the connector publishes the end.
+// The ledger receives from the client and the connector, and replies that nothing follows. The connector publishes
+// the end mark.
 fn publish<R: Wait + Abort>(rt: &R, alloc: Global, ends: &mut Ends<MemoryStore>)
     ensures { seats_of ends.new ≡ seats_of ends.old }
 {
@@ -135,8 +136,8 @@ fn publish<R: Wait + Abort>(rt: &R, alloc: Global, ends: &mut Ends<MemoryStore>)
     turn_connector(rt, alloc, &mut ends.connector);
 }
 
-// The broker takes two messages, and the subscriber what it is sent on the second.
-fn hand_out<R: Wait + Abort>(rt: &R, alloc: Global, ends: &mut Ends<MemoryStore>)
+// The broker takes two messages, and the subscriber takes what it is sent on the second.
+fn deliver<R: Wait + Abort>(rt: &R, alloc: Global, ends: &mut Ends<MemoryStore>)
     ensures { seats_of ends.new ≡ seats_of ends.old }
 {
     turn_broker(rt, alloc, &mut ends.broker);
@@ -144,7 +145,7 @@ fn hand_out<R: Wait + Abort>(rt: &R, alloc: Global, ends: &mut Ends<MemoryStore>
     turn_subscribers(rt, alloc, &mut ends.subscribers);
 }
 
-// The connector hears both answers of the broker, and has finished; so then has the ledger.
+// The connector receives both answers of the broker, and has finished. Then the ledger has finished too.
 fn confirm<R: Wait + Abort>(rt: &R, alloc: Global, ends: &mut Ends<MemoryStore>)
     ensures { seats_of ends.new ≡ seats_of ends.old }
 {
@@ -153,23 +154,22 @@ fn confirm<R: Wait + Abort>(rt: &R, alloc: Global, ends: &mut Ends<MemoryStore>)
     turn_ledger(rt, alloc, &mut ends.ledger);
 }
 
-// The ends of a system of one client without batches and one subscriber, once all have finished. They take their turns
-// on one thread, in an order in which a message is there for each that receives one.
-fn finished_ends<R: Wait + Abort>(rt: &R, alloc: Global, system: u64) -> Ends<MemoryStore>
+// The actors of a system of one client without batches and one subscriber, once all have finished. They take their
+// turns on one thread, in an order in which each that receives has a message.
+fn finished_actors<R: Wait + Abort>(rt: &R, alloc: Global, system: u64) -> Ends<MemoryStore>
     ensures { AreOfSystem system (seats_of result) }
 {
-    let mut ends = new_ends(rt, alloc, system);
+    let mut ends = new_actors(rt, alloc, system);
     ask(rt, alloc, &mut ends);
     publish(rt, alloc, &mut ends);
     // The connection and the end mark.
-    hand_out(rt, alloc, &mut ends);
+    deliver(rt, alloc, &mut ends);
     confirm(rt, alloc, &mut ends);
-    // The subscriber's acknowledgement, and that the connector is done.
-    hand_out(rt, alloc, &mut ends);
+    // The subscriber's acknowledgement, and the connector's last message.
+    deliver(rt, alloc, &mut ends);
     ends
 }
 
-// Exchanges the brokers' ends of systems 1 and 2.
 fn exchange_brokers(first: &mut Ends<MemoryStore>, second: &mut Ends<MemoryStore>)
     requires one { AreOfSystem 1 (seats_of first.old) }
     requires two { AreOfSystem 2 (seats_of second.old) }
@@ -179,7 +179,7 @@ fn exchange_brokers(first: &mut Ends<MemoryStore>, second: &mut Ends<MemoryStore
     swap(&mut first.broker, &mut second.broker);
 }
 
-// Whether these ends aren't settled, since they aren't those of one system that has finished.
+// Whether these actors aren't settled, since they aren't those of one system that has finished.
 fn are_refused(alloc: Global, ends: Ends<MemoryStore>) -> bool
     requires { MayBeSettled ends }
 {
@@ -189,15 +189,15 @@ fn are_refused(alloc: Global, ends: Ends<MemoryStore>) -> bool
 
 #[test]
 fn a_system_that_has_finished_is_settled(rt: HostRuntime) {
-    let ends = finished_ends(&rt, rt.alloc(), 1);
+    let ends = finished_actors(&rt, rt.alloc(), 1);
     let report = settle(rt.alloc(), ends).expect(&rt, "a report");
     assert_eq!(rt; (report.replies.len(), report.subscribers.len()), (1, 1));
 }
 
 #[test]
 fn systems_whose_brokers_are_exchanged_are_not_settled(rt: HostRuntime) {
-    let mut first = finished_ends(&rt, rt.alloc(), 1);
-    let mut second = finished_ends(&rt, rt.alloc(), 2);
+    let mut first = finished_actors(&rt, rt.alloc(), 1);
+    let mut second = finished_actors(&rt, rt.alloc(), 2);
     exchange_brokers(&mut first, &mut second);
     assert!(rt; are_refused(rt.alloc(), first));
     assert!(rt; are_refused(rt.alloc(), second));
@@ -205,12 +205,12 @@ fn systems_whose_brokers_are_exchanged_are_not_settled(rt: HostRuntime) {
 
 #[test]
 fn nothing_is_settled_before_any_turn(rt: HostRuntime) {
-    let ends = new_ends(&rt, rt.alloc(), 1);
+    let ends = new_actors(&rt, rt.alloc(), 1);
     assert!(rt; are_refused(rt.alloc(), ends));
 }
 
 #[test]
-fn an_end_that_has_met_a_fault_is_not_settled(rt: HostRuntime) {
-    let ends = failed_ends(&rt, rt.alloc(), 1);
+fn an_actor_that_has_met_a_fault_is_not_settled(rt: HostRuntime) {
+    let ends = failed_actors(&rt, rt.alloc(), 1);
     assert!(rt; are_refused(rt.alloc(), ends));
 }

@@ -1,28 +1,28 @@
--- Where there is something to keep of a script.
-use Rattle.std.proofs.Common.{ℕ, List, [], ◌∷◌, Some, Ok, Err}
+-- The scripts of which something has to be kept.
+use Rattle.std.proofs.Common.{List, [], ◌∷◌, Some, Ok, Err}
 use Rattle.std.specs.Prelude.{Result}
-use Rattle.cdc_script.specs.declared.faults.FaultKind.{FaultKind}
+use Rattle.cdc_script.specs.declared.faults.LineFault.{LineFault}
 use Rattle.cdc_script.specs.declared.statements.Context.{Context}
 use Rattle.cdc_script.specs.declared.statements.Statement.{Statement}
 use Rattle.cdc_script.specs.Faults.{◌>>=◌}
-use Rattle.cdc_script.specs.Scripts.{BeginsSubscriber, SaysOr, SaySomething}
-use Rattle.cdc_script.specs.Statements.{meaning, words_say}
-use Rattle.cdc_script.specs.Words.{spoken}
+use Rattle.cdc_script.specs.Scripts.{BeginsSubscriber, StatesOr, StateSomething}
+use Rattle.cdc_script.specs.Statements.{meaning, words_state}
+use Rattle.cdc_script.specs.Words.{Placed, spoken}
 
 -- whatever the words of a subscriber line mean
-meant : (words : List (List ℕ)) (read : Result Statement FaultKind) (later : Type 0) → BeginsSubscriber words
-    → SaysOr words (read >>= λ said. Ok (Some said)) later
-meant words (Ok said) later begins = tt
-meant words (Err kind) later begins = begins
+meant : (words : List Placed) (read : Result Statement LineFault) (later : Type 0) → BeginsSubscriber words
+    → StatesOr words (read >>= λ stated. Ok (Some stated)) later
+meant words (Ok stated) later begins = tt
+meant words (Err fault) later begins = begins
 
 -- they are words
-words-subscriber : (context : Context) (words : List (List ℕ)) (later : Type 0) → BeginsSubscriber words
-    → SaysOr words (words_say context words) later
+words-subscriber : (context : Context) (words : List Placed) (later : Type 0) → BeginsSubscriber words
+    → StatesOr words (words_state context words) later
 words-subscriber context [] later begins = absurd begins
 words-subscriber context (first ∷ rest) later begins = meant (first ∷ rest) (meaning context first rest) later begins
 
 -- so that a subscriber line has something to keep, whatever comes later
-pub SaySomething-subscriber : (context : Context) (line : List ℕ) (rest : List (List ℕ))
-    → BeginsSubscriber (spoken line) → SaySomething context (line ∷ rest)
-SaySomething-subscriber context line rest begins =
-    words-subscriber context (spoken line) (SaySomething context rest) begins
+pub StateSomething-subscriber : (context : Context) (line : Placed) (rest : List Placed)
+    → BeginsSubscriber (spoken line) → StateSomething context (line ∷ rest)
+StateSomething-subscriber context line rest begins =
+    words-subscriber context (spoken line) (StateSomething context rest) begins

@@ -2,12 +2,13 @@
 use Rattle.std.proofs.Common.{◌≡◌, ℕ, ◌+◌, Bool, true, false, cond, List, [], ◌∷◌, length, take, drop, Some, None, refl, arith}
 use Rattle.std.specs.Prelude.{◌==◌, nat_lt, position}
 use Rattle.std.specs.List.{slice_split, position_or_len, onto_first}
-use Rattle.std.specs.Str.Lines.{lines, strip_carriage_return}
+use Rattle.std.specs.Str.Lines.{strip_carriage_return}
 use Rattle.std.proofs.lemmas.List.Splits.{slice_split_first, slice_split_none}
 use Rattle.std.proofs.lemmas.List.Sums.{fails_before_first}
+use Rattle.cdc_script.specs.Words.{lines_from}
 use borrow.Author.Tests.{ltb-true, ltb-false}
 
--- where no byte parts the text, it is one part
+-- if no byte passes the test, the text is one part
 pub unparted : (p : ℕ → Bool) (bytes : List ℕ) → nat_lt (position_or_len p bytes) (length bytes) ≡ false
     → slice_split p bytes ≡ bytes ∷ []
 unparted p bytes h =
@@ -21,7 +22,7 @@ split_found p bytes i true h e = let same : position_or_len p bytes ≡ i = cc i
     rw (← same) (slice_split_first p bytes 0 (ltb-true _ _ h))
 split_found p bytes i false h e = cc
 
--- where there is no such place the text is one part
+-- if there is no such index, the text is one part
 split_missing : (p : ℕ → Bool) (bytes : List ℕ) (t : Bool) → nat_lt (position_or_len p bytes) (length bytes) ≡ t
     → cond t (Some (position_or_len p bytes)) None ≡ None → slice_split p bytes ≡ bytes ∷ []
 split_missing p bytes true h e = cc
@@ -42,7 +43,7 @@ onto_first_some : (x : ℕ) (parts : List (List ℕ)) → (y : List ℕ) × (mor
 onto_first_some x [] = (_, _, refl)
 onto_first_some x (part ∷ parts) = (_, _, refl)
 
--- so the text behind a line feed has a first line too, if only an empty one
+-- so the text after a line feed has a first line too, which may be empty
 some_part : (p : ℕ → Bool) (bytes : List ℕ) → (y : List ℕ) × (more : List (List ℕ)) × (slice_split p bytes ≡ y ∷ more)
 some_part p [] = (_, _, refl)
 some_part p (x ∷ xs) =
@@ -50,15 +51,17 @@ some_part p (x ∷ xs) =
     × (cond t ([] ∷ slice_split p xs) (onto_first x (slice_split p xs)) ≡ y ∷ more))
     [ true ↦ (_, _, refl) | false ↦ onto_first_some x (slice_split p xs) ]
 
--- the lines of a text whose parts are these
-pub lines_of_first : (text line after : List ℕ)
+-- the first line of bytes that begin at this place, and those after it
+pub lines_of_first : (start : ℕ) (text line after : List ℕ) (at next : ℕ) (stripped : List ℕ)
     → slice_split (λ b. b == 10) text ≡ line ∷ slice_split (λ b. b == 10) after
-    → lines text ≡ strip_carriage_return line ∷ lines after
-lines_of_first text line after h =
+    → at ≡ start → next ≡ start + length line + 1 → stripped ≡ strip_carriage_return line
+    → lines_from start text ≡ record { start = at; bytes = stripped } ∷ lines_from next after
+lines_of_first start text line after at next stripped h begins follows bytes =
     let s = some_part (λ b. b == 10) after in
-    rw h (rw s.2 refl)
+    rw (begins, follows, bytes, h) (rw s.2 refl)
 
--- the one line of a text without a line feed
-pub lines_of_one : (text : List ℕ) → slice_split (λ b. b == 10) text ≡ text ∷ [] → (length text == 0) ≡ false
-    → lines text ≡ text ∷ []
-lines_of_one text h some = rw (h, some) refl
+-- the one line of bytes without a line feed
+pub lines_of_one : (start next : ℕ) (text after : List ℕ) → slice_split (λ b. b == 10) text ≡ text ∷ []
+    → (length text == 0) ≡ false → after ≡ []
+    → lines_from start text ≡ record { start = start; bytes = text } ∷ lines_from next after
+lines_of_one start next text after h some none = rw (none, h, some) refl

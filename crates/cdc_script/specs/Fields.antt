@@ -1,21 +1,22 @@
 -- The fields of an item: words of the form key=value.
-use Rattle.std.specs.Prelude.{ℕ, Bool, ◌==◌, List, [], ◌∷◌, Option, Result, Ok, Err, codes, find, if◌then◌else◌}
+use Rattle.std.specs.Prelude.{ℕ, ◌==◌, List, [], ◌∷◌, Option, Some, None, Result, Ok, Err, codes, find, if◌then◌else◌}
 use Rattle.std.specs.Option.{ok_or}
-use Rattle.std.specs.List.{list_any}
 use Rattle.std.specs.Str.{bytes_eq}
 use Rattle.cdc_types.specs.declared.accounts.NewAccount.{NewAccount}
 use Rattle.cdc_types.specs.declared.transfers.NewTransfer.{NewTransfer}
 use Rattle.cdc_types.specs.Widths.{max_16, max_32, max_64, max_128}
 use Rattle.cdc_match.specs.Parts.{parted}
-use Rattle.cdc_script.specs.declared.faults.FaultKind.{FaultKind}
-use Rattle.cdc_script.specs.declared.faults.FaultKind.TheVariants.{BadText, WrongCount, UnknownKey, KeyTwice}
+use Rattle.cdc_script.specs.declared.faults.Detail.TheVariants.{GivenBy}
+use Rattle.cdc_script.specs.declared.faults.FaultKind.TheVariants.{WrongCount, UnknownKey, KeyTwice}
+use Rattle.cdc_script.specs.declared.faults.LineFault.{LineFault}
+use Rattle.cdc_script.specs.declared.faults.Span.{Span}
 use Rattle.cdc_script.specs.declared.fields.ItemKind.{ItemKind}
 use Rattle.cdc_script.specs.declared.fields.ItemKind.TheVariants as item
 use Rattle.cdc_script.specs.declared.fields.Key.{Key}
 use Rattle.cdc_script.specs.declared.fields.Key.TheVariants as key
 use Rattle.cdc_script.specs.Numbers.{number_of}
-use Rattle.cdc_script.specs.Faults.{◌>>=◌}
-use Rattle.cdc_script.specs.Words.{is_printable}
+use Rattle.cdc_script.specs.Faults.{◌>>=◌, checked, in_word, missing, span_of, wrong}
+use Rattle.cdc_script.specs.Words.{Placed}
 
 -- the name of a field
 abbrev pub key_name : Key → List ℕ
@@ -72,7 +73,7 @@ with_field fields key.Ledger value = record fields { ledger = value }
 with_field fields key.Code value = record fields { code = value }
 with_field fields key.Flags value = record fields { flags = value }
 
--- no field is given: each is 0; an account's fields stand among a transfer's
+-- no field is given: each is 0; an account's fields are among a transfer's
 abbrev pub no_fields : NewTransfer
 no_fields = record {
   id = 0;
@@ -93,17 +94,16 @@ no_fields = record {
 abbrev pub key_named : ItemKind → List ℕ → Option Key
 key_named kind name = find (λ k. bytes_eq (key_name k) name) (keys_of kind)
 
--- the field that a name and a value give
-abbrev pub named_field : ItemKind → List ℕ × List ℕ → Result (Key × ℕ) FaultKind
-named_field kind (name, value) = do
-  k ← ok_or (key_named kind name) UnknownKey
-  n ← number_of (greatest_of k) value
+-- the field that a word's name and value give
+abbrev pub named_field : ItemKind → Placed → List ℕ × List ℕ → Result (Key × ℕ) LineFault
+named_field kind word (name, value) = do
+  k ← ok_or (key_named kind name) (wrong UnknownKey word)
+  n ← in_word word (number_of (greatest_of k) value)
   Ok (k, n)
 
 -- the field that a word gives; name and value are parted by the first equals sign
-abbrev pub field_of : ItemKind → List ℕ → Result (Key × ℕ) FaultKind
-field_of kind word =
-    if is_printable word then (ok_or (parted 61 word) UnknownKey >>= named_field kind) else Err BadText
+abbrev pub field_of : ItemKind → Placed → Result (Key × ℕ) LineFault
+field_of kind word = checked word (ok_or (parted 61 word.bytes) (wrong UnknownKey word) >>= named_field kind word)
 
 -- the place of a key among all of them
 abbrev pub key_place : Key → ℕ
@@ -120,21 +120,37 @@ key_place key.Ledger = 9
 key_place key.Code = 10
 key_place key.Flags = 11
 
--- the key is one of these
-abbrev pub is_given : Key → List Key → Bool
-is_given key given = list_any (λ other. key_place other == key_place key) given
+-- a key that is given, and the word that gives it
+pub record Given : Type 0 where
+  pub key : Key
+  pub word : Span
 
--- what further words add to the fields, of which these keys are given already; no key may come twice
-abbrev pub fields_from : ItemKind → List Key → NewTransfer → List (List ℕ) → Result NewTransfer FaultKind
+-- the word that gives the key, if one of these does
+abbrev pub giver_of : Key → List Given → Option Span
+giver_of key [] = None
+giver_of key (one ∷ given) = if key_place one.key == key_place key then Some one.word else giver_of key given
+
+-- the key of the word is given already, by this one
+abbrev pub given_twice : Placed → Span → LineFault
+given_twice word earlier = record { word = Some (span_of word); kind = KeyTwice; detail = GivenBy earlier }
+
+-- what is read where no word gives the key of this one already
+abbrev pub given_once : Placed → Option Span → Result NewTransfer LineFault → Result NewTransfer LineFault
+given_once word None read = read
+given_once word (Some earlier) read = Err (given_twice word earlier)
+
+-- what further words add to the fields, where these are given already; no key may come twice
+abbrev pub fields_from : ItemKind → List Given → NewTransfer → List Placed → Result NewTransfer LineFault
 fields_from kind given fields [] = Ok fields
 fields_from kind given fields (word ∷ rest) = do
   field ← field_of kind word
-  if is_given field.0 given then Err KeyTwice
-      else fields_from kind (field.0 ∷ given) (with_field fields field.0 field.1) rest
+  given_once word (giver_of field.0 given)
+      (fields_from kind (record { key = field.0; word = span_of word } ∷ given)
+      (with_field fields field.0 field.1) rest)
 
 -- the fields of an item: its line gives one at least, and a field that it doesn't give is 0
-abbrev pub fields_of : ItemKind → List (List ℕ) → Result NewTransfer FaultKind
-fields_of kind [] = Err WrongCount
+abbrev pub fields_of : ItemKind → List Placed → Result NewTransfer LineFault
+fields_of kind [] = Err (missing WrongCount)
 fields_of kind (word ∷ rest) = fields_from kind [] no_fields (word ∷ rest)
 
 -- the account that the fields ask for

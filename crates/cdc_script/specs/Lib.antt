@@ -1,5 +1,6 @@
 pub mod Faults
 pub mod Fields
+pub mod Letters
 pub mod Numbers
 pub mod Private
 pub mod Reading

@@ -2,4 +2,5 @@
 pub mod Acts
 pub mod Drafts
 pub mod Lines
+pub mod Parts
 pub mod Suited

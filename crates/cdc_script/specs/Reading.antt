@@ -5,7 +5,7 @@ use Rattle.cdc_script.specs.declared.faults.ScriptError.{ScriptError}
 use Rattle.cdc_script.specs.declared.faults.ScriptError.TheVariants as error
 use Rattle.cdc_script.specs.declared.faults.ScriptFault.{ScriptFault}
 
--- a fault that is named is the first one; memory is wanted only where there is something to keep
+-- a fault is the first one; out of memory is possible only if there is something to keep
 abbrev pub IsFault : {A : Type 0} → ScriptError → Result A ScriptFault → Type 0 → Type 0
 IsFault (error.Fault fault) read keeps = read ≡ Err fault
 IsFault error.OutOfMemory read keeps = keeps

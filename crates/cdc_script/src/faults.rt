@@ -1,4 +1,4 @@
-//! What can be wrong with a script or a step file.
+//! The faults of scripts and step files.
 
 ghost use Rattle.std.specs.Prelude.{◌≡◌};
 ghost use Rattle.cdc_script.specs.Faults.{kind_number, kind_name};
@@ -8,34 +8,33 @@ use std::alloc::AllocError;
 use std::io;
 use thiserror::Error;
 
-/// What is wrong at a place of a script or a step file.
+/// The kind of a fault of a script or a step file. The variants are in the order of their numbers.
 #[derive(Clone, Copy, Debug)]
 pub enum FaultKind {
-    /// A byte that is neither a printable ASCII character nor a line's end.
+    /// A byte is neither a printable ASCII character nor part of a line ending.
     BadText,
-    /// No line begins with this word.
+    /// The first word of a line isn't one that begins a line.
     UnknownWord,
-    /// A word is missing, or one too many.
+    /// A word is missing, or there is one too many.
     WrongCount,
-    /// Not one or more digits.
+    /// A word has to be a number and isn't one or more digits.
     BadNumber,
-    /// Above the greatest number of its field.
+    /// A number exceeds the greatest one of its field.
     NumberOutOfRange,
-    /// Not `key=value`, or a key that the line doesn't have.
+    /// A word isn't `key=value`, or its key isn't one of the line.
     UnknownKey,
-    /// The key stands in the line already.
+    /// An earlier word of the line gives the same key.
     KeyTwice,
-    /// No batch that takes the item is open.
+    /// No batch of the item's kind is open.
     NoOpenBatch,
-    /// The binding can't be read.
+    /// The words after `subscriber` aren't a binding.
     BadBinding,
-    /// More subscribers than there may be.
+    /// The script has more than `Limits::SUBSCRIBERS` subscribers.
     TooManySubscribers,
-    /// No client has this number.
+    /// A client's number isn't from 1 to `Limits::CLIENTS`.
     BadClient,
-    /// The script has no subscriber.
     NoSubscriber,
-    /// The file has too many bytes.
+    /// The file has more than `Limits::SCRIPT_BYTES` bytes.
     TooLong,
 }
 
@@ -47,7 +46,7 @@ impl FaultKind {
         self as u8 + 1
     }
 
-    /// The fault's name as it is printed.
+    /// The name that is printed.
     pub fn name(self) -> &'static str
         ensures { result.now ≡ kind_name self }
     {
@@ -69,22 +68,64 @@ impl FaultKind {
     }
 }
 
-/// Why a line wasn't read.
+/// The location of some bytes of a text.
+#[derive(Clone, Copy, Debug)]
+pub struct Span {
+    /// The offset of the first byte, from 0.
+    pub start: u32,
+    /// The number of bytes.
+    pub length: u32,
+}
+
+/// Which line has ended a batch.
+#[derive(Clone, Copy, Debug)]
+pub enum BatchEnd {
+    /// A subscriber's.
+    Subscriber,
+    /// A line `client N`: the batches below it are that client's.
+    Client,
+    /// A batch by itself.
+    Pulse,
+}
+
+/// What a fault refers to besides its word.
+#[derive(Clone, Copy, Debug)]
+pub enum Detail {
+    Plain,
+    /// The word of the line that gives the key already.
+    GivenBy(Span),
+    /// The open batch is of the other kind. It began at the line of this number.
+    BatchBegan(u32),
+    /// The line that ended the last batch, by its number, and which line it is.
+    BatchEnded(u32, BatchEnd),
+    /// The error of a binding.
+    NoBinding(BindError),
+}
+
+/// A fault of a line.
+#[derive(Clone, Copy, Debug)]
+pub struct LineFault {
+    /// The word at fault. `None` if a word is missing after the last one.
+    pub word: Option<Span>,
+    pub kind: FaultKind,
+    pub detail: Detail,
+}
+
+/// Why reading a line failed.
 #[derive(Clone, Copy)]
 pub enum LineError {
-    /// The line is bad.
-    Fault(FaultKind),
-    /// No memory was left.
+    /// The line has a fault.
+    Fault(LineFault),
     OutOfMemory,
 }
 
-impl From<FaultKind> for LineError {
+impl From<LineFault> for LineError {
     ghost use Rattle.cdc_script.specs.declared.faults.LineError.TheVariants.{Fault};
 
-    ghost from_gives = { λ kind e. e ≡ Fault kind };
+    ghost from_gives = { λ fault e. e ≡ Fault fault };
 
-    fn from(kind: FaultKind) -> LineError {
-        LineError::Fault(kind)
+    fn from(fault: LineFault) -> LineError {
+        LineError::Fault(fault)
     }
 }
 
@@ -98,35 +139,28 @@ impl From<AllocError> for LineError {
     }
 }
 
-impl From<BindError> for LineError {
-    ghost use Rattle.cdc_script.specs.Private.Lines.{line_error};
-
-    ghost from_gives = { λ why e. e ≡ line_error why };
-
-    fn from(error: BindError) -> LineError {
-        match error {
-            BindError::OutOfMemory => LineError::OutOfMemory,
-            _ => LineError::Fault(FaultKind::BadBinding),
-        }
-    }
-}
-
-/// What is wrong with a script or a step file, and in which line, from 1; 0 for the file as a whole.
+/// A fault of a script or a step file, and its location.
 #[derive(Clone, Copy, Debug)]
 pub struct ScriptFault {
-    /// The line.
+    /// The line, from 1. 0 if the fault is of the file as a whole, which has no word at fault.
     pub line: u64,
-    /// What is wrong there.
+    /// The column of the word at fault, in bytes from 1. 0 if the fault is of the file as a whole.
+    pub column: u64,
+    /// The word at fault, or its first letter that isn't printable ASCII, if it has one. If a word is missing, an
+    /// empty span at its location.
+    pub word: Span,
+    /// The first word of the line.
+    pub first: Span,
     pub kind: FaultKind,
+    pub detail: Detail,
 }
 
-/// Why a text is no script or no step file.
+/// Why a text isn't a script or a step file.
 #[derive(Clone, Copy, Debug, Error)]
 pub enum ScriptError {
-    /// The text is bad.
+    /// The text has a fault.
     #[error("line {}: {}", .0.line, .0.kind.name())]
     Fault(ScriptFault),
-    /// No memory was left.
     #[error("out_of_memory")]
     OutOfMemory,
 }
@@ -141,13 +175,12 @@ impl From<AllocError> for ScriptError {
     }
 }
 
-/// Why a text wasn't read to its end, or what it says couldn't be kept.
+/// Why reading a file failed.
 #[derive(Clone, Copy, Debug, Error)]
 pub enum ReadError {
-    /// A read failed.
+    /// The reader returned an error.
     #[error("read_fault: {0}")]
     ReadFault(io::Error),
-    /// No memory was left.
     #[error("out_of_memory")]
     OutOfMemory,
 }

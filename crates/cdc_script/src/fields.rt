@@ -1,4 +1,4 @@
-//! The fields of an item: `key=value` words.
+//! The fields of an item: the words `key=value` of its line.
 
 ghost use Rattle.std.specs.Prelude.{◌≡◌, ◌≤◌, MatchResult};
 ghost use Rattle.std.specs.Option.{option_map};
@@ -6,54 +6,43 @@ ghost use Rattle.cdc_match.specs.Parts.{parted};
 ghost use Rattle.cdc_script.specs.Fields as spec;
 ghost use Rattle.cdc_script.specs.Fields.{key_name, key_place, keys_of, key_named};
 ghost use Rattle.cdc_script.specs.Fields.{greatest_of, field_of, fields_of};
-ghost use Rattle.cdc_script.specs.Words.{words as words_of};
+ghost use Rattle.cdc_script.specs.Private.Parts.{seen, words_of};
 
-use crate::faults::FaultKind;
-use crate::operands::read_number;
+use crate::faults::{Detail, FaultKind, LineFault, Span};
+use crate::operands::number_in;
+use crate::parts::Part;
+use crate::places::{bad_text, missing, span_of, wrong};
 use crate::words::{is_printable_word, is_word, next_word, position_of};
 use cdc_types::{NewAccount, NewTransfer};
 
-/// The name of a field.
+/// A field of an account or a transfer. The names in scripts are those of the variants in lower case, with
+/// underscores.
 #[derive(Clone, Copy)]
 pub enum Key {
-    /// `id`.
     Id,
-    /// `debit_account_id`.
     DebitAccountId,
-    /// `credit_account_id`.
     CreditAccountId,
-    /// `amount`.
     Amount,
-    /// `pending_id`.
     PendingId,
-    /// `user_data_128`.
     UserData128,
-    /// `user_data_64`.
     UserData64,
-    /// `user_data_32`.
     UserData32,
-    /// `timeout`.
     Timeout,
-    /// `ledger`.
     Ledger,
-    /// `code`.
     Code,
-    /// `flags`.
     Flags,
 }
 
-/// What an item asks for.
+/// The kind of an item of a batch.
 #[derive(Clone, Copy)]
 pub enum ItemKind {
-    /// An account to be made.
     Account,
-    /// A transfer to be made.
     Transfer,
 }
 
 impl ItemKind {
-    /// The fields of an item.
-    fn keys(self) -> &'static [Key]
+    /// The fields that an item of this kind can have.
+    pub fn keys(self) -> &'static [Key]
         ensures { result.now ≡ keys_of self }
     {
         match self {
@@ -83,8 +72,8 @@ impl ItemKind {
         }
     }
 
-    /// The field of that name, if the item has it.
-    fn key_named(self, name: &[u8]) -> Option<Key>
+    /// The field with this name. `None` if an item of this kind doesn't have it.
+    pub fn key_named(self, name: &[u8]) -> Option<Key>
         ensures { result ≡ key_named self name.now }
     {
         self.keys()
@@ -95,8 +84,8 @@ impl ItemKind {
 }
 
 impl Key {
-    /// The field's name.
-    fn name(self) -> &'static str
+    /// The field's name in scripts.
+    pub fn name(self) -> &'static str
         ensures { result.now ≡ key_name self }
     {
         match self {
@@ -115,7 +104,7 @@ impl Key {
         }
     }
 
-    /// The field's place among all of them.
+    /// The field's index among all fields, from 0.
     fn place(self) -> usize
         ensures place { result ≡ key_place self }
         ensures bound { result ≤ 11 }
@@ -123,8 +112,8 @@ impl Key {
         self as usize
     }
 
-    /// The field's greatest number.
-    fn greatest(self) -> u128
+    /// The greatest value of the field.
+    pub fn greatest(self) -> u128
         ensures { result ≡ greatest_of self }
     {
         match self {
@@ -136,7 +125,7 @@ impl Key {
     }
 }
 
-/// What a line without a field says: each field is 0. An account's fields stand among a transfer's.
+/// The fields of an item before any word is read: each is 0. An account uses a part of a transfer's fields.
 fn no_fields() -> NewTransfer
     ensures { result ≡ spec.no_fields }
 {
@@ -156,7 +145,7 @@ fn no_fields() -> NewTransfer
     }
 }
 
-/// The fields with one more given.
+/// The fields with this one set. The value fits the field.
 fn with_field(fields: NewTransfer, key: Key, value: u128) -> NewTransfer
     requires { value ≤ greatest_of key }
     ensures { result ≡ spec.with_field fields key value }
@@ -179,7 +168,7 @@ fn with_field(fields: NewTransfer, key: Key, value: u128) -> NewTransfer
     fields
 }
 
-/// The account that the fields ask for.
+/// The account that the fields ask for. Fields that only transfers have are dropped.
 pub fn account_of(fields: NewTransfer) -> NewAccount
     ensures { result ≡ spec.account_of fields }
 {
@@ -194,7 +183,7 @@ pub fn account_of(fields: NewTransfer) -> NewAccount
     }
 }
 
-/// What stands before the first equals sign of a word, and what stands after it.
+/// The bytes of a word before and after its first equals sign.
 fn parted_at_equals(word: &[u8]) -> Option<(&[u8], &[u8])>
     ensures { option_map (λ parts. (parts.0.now, parts.1.now)) result ≡ parted 61 word.now }
 {
@@ -202,37 +191,52 @@ fn parted_at_equals(word: &[u8]) -> Option<(&[u8], &[u8])>
     Some((&word[..end], &word[end + 1..]))
 }
 
-/// The field that one `key=value` word gives, with its value.
-fn read_field(word: &[u8], kind: ItemKind) -> Result<(Key, u128), FaultKind>
-    ensures field { result ≡ field_of kind word.now }
+/// The field that a word `key=value` gives, and its value.
+fn read_field(word: Part<'_>, kind: ItemKind) -> Result<(Key, u128), LineFault>
+    ensures field { result ≡ field_of kind (seen word.entry) }
     ensures bound { MatchResult result (λ field. field.1 ≤ greatest_of field.0) (λ e. Unit {0}) }
 {
-    if !is_printable_word(word) {
-        return Err(FaultKind::BadText);
+    if !is_printable_word(word.bytes) {
+        return Err(bad_text(word));
     }
-    let (name, value) = parted_at_equals(word).ok_or(FaultKind::UnknownKey)?;
-    let key = kind.key_named(name).ok_or(FaultKind::UnknownKey)?;
-    let number = read_number(value, key.greatest())?;
+    let Some((name, value)) = parted_at_equals(word.bytes) else {
+        return Err(wrong(FaultKind::UnknownKey, word));
+    };
+    let Some(key) = kind.key_named(name) else {
+        return Err(wrong(FaultKind::UnknownKey, word));
+    };
+    let number = number_in(word, value, key.greatest())?;
     Ok((key, number))
 }
 
-/// What the words of an item give. There has to be one, and no key may come twice.
-pub fn read_fields(words: &[u8], kind: ItemKind) -> Result<NewTransfer, FaultKind>
-    ensures { result ≡ fields_of kind (words_of words.now) }
+/// The key of the word is given already, by this one.
+fn given_twice(word: Part<'_>, earlier: Span) -> LineFault
+    ensures { result ≡ spec.given_twice (seen word.entry) earlier }
+{
+    LineFault {
+        word: Some(span_of(word)),
+        kind: FaultKind::KeyTwice,
+        detail: Detail::GivenBy(earlier),
+    }
+}
+
+/// The fields that the words of an item give. It is a fault if there is no word, or if a key occurs twice.
+pub fn read_fields(words: Part<'_>, kind: ItemKind) -> Result<NewTransfer, LineFault>
+    ensures { result ≡ fields_of kind (words_of words.entry) }
 {
     let mut fields = no_fields();
-    let mut given = [false; 12];
+    let mut given: [Option<Span>; 12] = [None; 12];
     let mut rest = words;
     if next_word(words).is_none() {
-        return Err(FaultKind::WrongCount);
+        return Err(missing(FaultKind::WrongCount));
     }
     while let Some((word, after)) = next_word(rest) {
         let (key, value) = read_field(word, kind)?;
         let place = key.place();
-        if given[place] {
-            return Err(FaultKind::KeyTwice);
+        if let Some(earlier) = given[place] {
+            return Err(given_twice(word, earlier));
         }
-        given[place] = true;
+        given[place] = Some(span_of(word));
         fields = with_field(fields, key, value);
         rest = after;
     }

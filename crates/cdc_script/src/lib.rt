@@ -1,17 +1,22 @@
-//! Scripts and step files: what their lines say, or what is wrong with them.
+//! Parsers of scripts and step files: the contents of their lines, or their first fault.
 #![tactic(auto)]
 
+mod bindings;
 mod drafts;
 mod faults;
 mod fields;
+mod letters;
 mod operands;
+mod parts;
+mod places;
 mod reading;
 mod scripts;
 mod statements;
 mod step_files;
 mod words;
 
-pub use faults::{FaultKind, ReadError, ScriptError, ScriptFault};
+pub use faults::{BatchEnd, Detail, FaultKind, ReadError, ScriptError, ScriptFault, Span};
+pub use fields::{ItemKind, Key};
 pub use reading::read_text;
-pub use scripts::{ClientBatch, Script, parse_script, read_script};
-pub use step_files::{Act, parse_steps, read_steps};
+pub use scripts::{ClientBatch, Script, ScriptLines, parse_script, read_script};
+pub use step_files::{Act, StepFile, parse_steps, read_steps};

@@ -1,59 +1,73 @@
-//! What follows the first word of a line, in scripts and step files: numbers, and the end of the line.
+//! The words after the first word of a line, in scripts and step files: numbers, and the end of the line.
 
 ghost use Rattle.std.specs.Prelude.{◌≡◌, Ok, Err, IfOk, MatchResult};
+ghost use Rattle.cdc_script.specs.Faults.{in_word};
 ghost use Rattle.cdc_script.specs.Numbers.{number_of};
+ghost use Rattle.cdc_script.specs.Private.Parts.{seen, words_of};
 ghost use Rattle.cdc_script.specs.Statements.{ended, lone_number, number_word};
-ghost use Rattle.cdc_script.specs.Words.{words as words_of};
 
-use crate::faults::FaultKind;
+use crate::faults::{FaultKind, LineFault};
+use crate::parts::Part;
+use crate::places::{bad_text, missing, wrong};
 use crate::words::{is_printable_word, next_word};
 use cdc_message::{decimal_up_to, is_decimal};
 
-/// The number that a word writes in decimal, at most `greatest`. Leading zeros may stand before it.
-pub fn read_number(word: &[u8], greatest: u128) -> Result<u128, FaultKind>
-    ensures { result ≡ number_of greatest word.now }
+/// The number that a text represents in decimal. Leading zeros are allowed. It is a fault if the number exceeds
+/// `greatest`.
+fn read_number(text: &[u8], greatest: u128) -> Result<u128, FaultKind>
+    ensures { result ≡ number_of greatest text.now }
 {
-    match decimal_up_to(word, greatest) {
+    match decimal_up_to(text, greatest) {
         Some(number) => Ok(number),
-        None if is_decimal(word) => Err(FaultKind::NumberOutOfRange),
+        None if is_decimal(text) => Err(FaultKind::NumberOutOfRange),
         None => Err(FaultKind::BadNumber),
     }
 }
 
-/// A number of 64 bits alone.
-pub fn read_lone_number(words: &[u8]) -> Result<u64, FaultKind>
-    ensures { result ≡ lone_number (words_of words.now) }
+/// The number that `text` represents. `text` is the word or its end, and a fault is located at the word.
+pub fn number_in(word: Part<'_>, text: &[u8], greatest: u128) -> Result<u128, LineFault>
+    ensures { result ≡ in_word (seen word.entry) (number_of greatest text.now) }
+{
+    match read_number(text, greatest) {
+        Ok(number) => Ok(number),
+        Err(kind) => Err(wrong(kind, word)),
+    }
+}
+
+/// A number of 64 bits that is the only word.
+pub fn read_lone_number(words: Part<'_>) -> Result<u64, LineFault>
+    ensures { result ≡ lone_number (words_of words.entry) }
 {
     let (number, rest) = read_word_number(words)?;
     at_end(rest, FaultKind::WrongCount, number)
 }
 
-/// The number of 64 bits that the next word writes, and the words after it.
-pub fn read_word_number(words: &[u8]) -> Result<(u64, &[u8]), FaultKind>
+/// The number of 64 bits that the next word represents, and the words after it.
+pub fn read_word_number(words: Part<'_>) -> Result<(u64, Part<'_>), LineFault>
     ensures { MatchResult result
-        (λ found. number_word (words_of words.now) ≡ Ok (found.0, words_of found.1.now))
-        (λ fault. number_word (words_of words.now) ≡ Err fault) }
+        (λ found. number_word (words_of words.entry) ≡ Ok (found.0, words_of found.1))
+        (λ fault. number_word (words_of words.entry) ≡ Err fault) }
 {
-    let (word, rest) = next_word(words).ok_or(FaultKind::WrongCount)?;
-    if !is_printable_word(word) {
-        return Err(FaultKind::BadText);
+    let (word, rest) = next_word(words).ok_or(missing(FaultKind::WrongCount))?;
+    if !is_printable_word(word.bytes) {
+        return Err(bad_text(word));
     }
-    let number = read_number(word, u128::from(u64::MAX))?;
+    let number = number_in(word, word.bytes, u128::from(u64::MAX))?;
     Ok((number as u64, rest))
 }
 
-/// What was said, where the line ends; else the fault of the word that follows.
-pub fn at_end<T: Drop>(words: &[u8], fault: FaultKind, said: T) -> Result<T, FaultKind>
-    ensures ended { result ≡ ended fault said (words_of words.now) }
-    ensures said { IfOk result (λ x. x ≡ said) }
+/// Returns `stated` if the line ends here, otherwise a fault of the word that follows.
+pub fn at_end<T: Drop>(words: Part<'_>, fault: FaultKind, stated: T) -> Result<T, LineFault>
+    ensures ended { result ≡ ended fault stated (words_of words.entry) }
+    ensures stated { IfOk result (λ x. x ≡ stated) }
 {
     match next_word(words) {
-        None => Ok(said),
+        None => Ok(stated),
         Some((word, _)) => {
-            if is_printable_word(word) {
-                Err(fault)
+            if is_printable_word(word.bytes) {
+                Err(wrong(fault, word))
             } else {
-                Err(FaultKind::BadText)
+                Err(bad_text(word))
             }
         }
     }

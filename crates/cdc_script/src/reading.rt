@@ -1,4 +1,4 @@
-//! The bytes of scripts and step files.
+//! Reading the bytes of scripts and step files.
 
 ghost use Rattle.std.specs.Prelude.{◌≡◌, ◌+◌, ◌≤◌, length, IfOk, IfSome};
 ghost use Rattle.std.specs.Io.KnownBytes.{Consumes, IsAtEnd};
@@ -6,16 +6,17 @@ ghost use Rattle.cdc_script.specs.Reading.{ConsumesAtMost};
 ghost use Rattle.cdc_script.specs.Scripts.{max_bytes, script_of};
 ghost use Rattle.cdc_script.specs.StepFiles.{acts_of};
 
-use crate::faults::{FaultKind, ReadError, ScriptError, ScriptFault};
+use crate::faults::ReadError;
 use cdc_types::Limits;
 use std::alloc::Global;
 use std::io::Read;
 
-/// How many bytes are asked for at once.
+/// The maximum number of bytes in one read.
 const PIECE: usize = 8192;
 
-/// Reads the bytes of a script or a step file, one more than it may have at most. No read follows one that failed.
-/// What such a text says is what all bytes of the reader say. An error is a read that failed, or want of memory.
+/// Reads the bytes of a script or a step file, and stops after one byte more than is allowed. The result parses as
+/// all bytes of the reader would. The error is the reader's or out of memory. After an error the reader isn't read
+/// again.
 pub fn read_text<R: Read>(alloc: Global, reader: &mut R) -> Result<Vec<u8>, ReadError>
     ensures bounded { ConsumesAtMost (max_bytes + 1)
         (R.remaining reader.old) (R.remaining reader.new) }
@@ -31,7 +32,7 @@ pub fn read_text<R: Read>(alloc: Global, reader: &mut R) -> Result<Vec<u8>, Read
     read_pieces(alloc, reader)
 }
 
-/// Reads such bytes piece by piece.
+/// Reads the bytes piece by piece.
 fn read_pieces<R: Read>(alloc: Global, reader: &mut R) -> Result<Vec<u8>, ReadError>
     ensures bounded { ConsumesAtMost (max_bytes + 1)
         (R.remaining reader.old) (R.remaining reader.new) }
@@ -54,11 +55,4 @@ fn read_pieces<R: Read>(alloc: Global, reader: &mut R) -> Result<Vec<u8>, ReadEr
         text.extend_from_slice(&piece[..count])?;
     }
     Ok(text)
-}
-
-/// A fault in a line, from 1, or in the whole, as an error.
-pub fn fault_at(line: u64, kind: FaultKind) -> ScriptError
-    ensures { result ≡ ScriptError.Fault (record { line = line; kind = kind }) }
-{
-    ScriptError::Fault(ScriptFault { line, kind })
 }

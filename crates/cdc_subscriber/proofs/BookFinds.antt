@@ -26,7 +26,7 @@ find-put entry id (other ∷ rest) =
       ]
     ]
 
--- in the book of what was shown of accounts, told from the last on, the first one of that number is found
+-- looking up a number in the book of these entries, given latest first, finds the first entry with that number
 find-book_of_sides : (latest_first : List BookEntry) (id : ℕ)
     → find (λ e. e.id == id) (book_of_sides (reverse latest_first)) ≡ find (λ e. e.id == id) latest_first
 find-book_of_sides [] id = refl

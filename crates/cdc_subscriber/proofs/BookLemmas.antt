@@ -50,22 +50,22 @@ last_shown_id shown id = found_id (reverse shown) id
 abbrev appeared : List ℕ → ℕ → List ℕ
 appeared seen id = cond (is_among id seen) seen (seen ++ id ∷ [])
 
--- where one more account is shown, its number comes last unless it was there
+-- if one more account is shown, its number comes last, unless it was there already
 first_appearances-push : (ids : List ℕ) (id : ℕ)
     → first_appearances (ids ++ id ∷ []) ≡ appeared (first_appearances ids) id
 first_appearances-push ids id = rw (fold-append appeared [] ids (id ∷ [])) refl
 
--- no number stands twice
+-- no number occurs twice
 abbrev AreDistinct : List ℕ → Type 0
 AreDistinct [] = Unit {0}
 AreDistinct (id ∷ ids) = (is_among id ids ≡ false) × AreDistinct ids
 
 -- a number that isn't in a list is neither the first one nor among the rest
-neither : (a b : Bool) → (a || b) ≡ false → (a ≡ false) × (b ≡ false)
+pub neither : (a b : Bool) → (a || b) ≡ false → (a ≡ false) × (b ≡ false)
 neither true b h = cc
 neither false b h = (refl, h)
 
--- and it still isn't, where another number joins
+-- a number that isn't in a list still isn't after a different number is added
 is_among-push : (id new : ℕ) (ids : List ℕ) → is_among id ids ≡ false → (new == id) ≡ false
     → is_among id (ids ++ new ∷ []) ≡ false
 is_among-push id new [] h other = rw other refl
@@ -74,21 +74,21 @@ is_among-push id new (x ∷ ids) h other =
     rw both.0 (is_among-push id new ids both.1 other)
 
 -- a number passes the test against itself
-eqb_same : (a : ℕ) → (a == a) ≡ true
+pub eqb_same : (a : ℕ) → (a == a) ≡ true
 eqb_same a = elim (eqb_tells a a) [ inl e ↦ e.0 | inr e ↦ absurd (e.1 refl) ]
 
 -- numbers that differ one way differ the other way
-eqb_swap : (a b : ℕ) → (a == b) ≡ false → (b == a) ≡ false
+pub eqb_swap : (a b : ℕ) → (a == b) ≡ false → (b == a) ≡ false
 eqb_swap a b h = ne_eqb b a (λ same. let back : (a == b) ≡ true = rw same (eqb_same a) in cc)
 
--- the numbers of a book stay distinct where a new one joins
+-- the numbers of a book stay distinct if a new one is added
 distinct-push : (ids : List ℕ) (id : ℕ) → AreDistinct ids → is_among id ids ≡ false → AreDistinct (ids ++ id ∷ [])
 distinct-push [] id distinct new = (refl, tt)
 distinct-push (x ∷ ids) id distinct new =
     let both = neither (x == id) (is_among id ids) new in
     (is_among-push x id ids distinct.0 (eqb_swap x id both.0), distinct-push ids id distinct.1 both.1)
 
--- so the accounts of a book, which join as they first appear, stand there once each
+-- so each account of a book, added at its first appearance, occurs exactly once
 distinct_from : (ids seen : List ℕ) → AreDistinct seen → AreDistinct (fold appeared seen ids)
 distinct_from [] seen distinct = distinct
 distinct_from (id ∷ ids) seen distinct =
@@ -97,7 +97,7 @@ distinct_from (id ∷ ids) seen distinct =
       | inr new ↦ rw new (distinct_from ids (seen ++ id ∷ []) (distinct-push seen id distinct new))
     ]
 
--- two books that show the same, but for the account of one more entry
+-- two books that show the same, except for the account of one more entry
 record Differ (f g : ℕ → BookEntry) (entry : BookEntry) : Type 0 where
   named : (id : ℕ) → (f id).id ≡ id
   changed : (id : ℕ) → g id ≡ cond (entry.id == id) entry (f id)

@@ -1,4 +1,4 @@
--- The definitions at work: what they compute for small lists of items, beside what the rules say in words.
+-- Examples: what the definitions compute for small lists of items.
 use Rattle.std.specs.Prelude.{ℕ, ◌≡◌, true, false, List, [], ◌∷◌, codes, Some, None}
 use Rattle.std.proofs.Common.{refl}
 use Rattle.std.specs.Fmt.{digits}
@@ -11,7 +11,7 @@ use Rattle.cdc_subscriber.specs.declared.book.BookEntry.{BookEntry}
 use Rattle.cdc_subscriber.specs.declared.subscriber.Taking.TheVariants.{Applied, Repeat, Ended, AfterClose}
 use Rattle.cdc_subscriber.specs.Answers.{answer_to}
 use Rattle.cdc_subscriber.specs.Book.{balances_shown, book_of}
-use Rattle.cdc_subscriber.specs.Heard.{Heard, kept_of, next}
+use Rattle.cdc_subscriber.specs.Reception.{Reception, kept_of, next}
 use Rattle.cdc_subscriber.specs.Lines.{subscriber_text}
 
 -- an account as an event shows it
@@ -80,12 +80,12 @@ shows_last : (balances_shown (first ∷ second ∷ []) 1 ≡ Some (entry 1 7 5).
     × (balances_shown (first ∷ second ∷ []) 9 ≡ None)
 shows_last = (refl, refl)
 
--- open, and having heard these items
-abbrev having : List Item → Heard
+-- an open subscriber that has received these items
+abbrev having : List Item → Reception
 having items = record { items = items; closed = false }
 
--- the second event, the first one late, the second one again, and the end
-abbrev late_first : Heard
+-- the second event, the first one late, the second one again, and the end mark
+abbrev late_first : Reception
 late_first = having (item.Event second ∷ item.Event first ∷ item.Event second ∷ item.EndMark ∷ [])
 
 -- an event that comes late is never applied
@@ -93,12 +93,13 @@ drops_late : kept_of late_first
     ≡ record { book = entry 1 7 5 ∷ entry 3 0 7 ∷ []; last = 2001; applied = 1; ended = true; closed = false }
 drops_late = refl
 
--- after the end, and after a close, nothing more is heard
-hears_no_more : (next late_first (item.Event first) ≡ late_first)
+-- after the end mark, and after a close, nothing more is received
+receives_no_more : (next late_first (item.Event first) ≡ late_first)
     × (next (record { items = []; closed = true }) item.EndMark ≡ record { items = []; closed = true })
-hears_no_more = (refl, refl)
+receives_no_more = (refl, refl)
 
--- an event is applied once; at the moment 0 never; the end is told once; a close goes before the end
+-- an event is applied once, and one with timestamp 0 never; the end mark is answered with `Ended` once; a closed
+-- subscriber answers `AfterClose`, even after the end mark
 answers : (answer_to (kept_of (having [])) (item.Event first) ≡ Applied)
     × (answer_to (kept_of (having (item.Event first ∷ []))) (item.Event first) ≡ Repeat)
     × (answer_to (kept_of (having [])) (item.Event (event 0 (side 1 1 0) (side 2 0 1))) ≡ Repeat)

@@ -1,5 +1,6 @@
 mod Examples
 pub mod BookFinds
 pub mod BookLemmas
-pub mod HeardLemmas
+pub mod ReceptionLemmas
 pub mod LineLemmas
+pub mod PushLemmas

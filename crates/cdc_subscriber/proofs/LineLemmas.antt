@@ -29,7 +29,7 @@ pub printed_none : {book : List BookEntry} {left : Accounts} {old : Option (List
     → Appends old old [] → Printed book left old old
 printed_none {left = left} all none = record { done = []; parted = all; written = none }
 
--- the line of one more account comes behind the lines of those before
+-- the line of one more account follows the lines of those before it
 pub printed_more : {book : List BookEntry} {left rest : Accounts} {account : ℕ × Balances}
     {old mid new : Option (List ℕ)} → Printed book left old mid → left ≡ account ∷ rest
     → Appends mid new (account_line (entry_for account)) → Printed book rest old new

@@ -10,31 +10,31 @@ use Rattle.cdc_subscriber.specs.declared.subscriber.Taking.{Taking}
 use Rattle.cdc_subscriber.specs.declared.subscriber.Taking.TheVariants.{Applied, Repeat, Ended, AfterClose}
 use Rattle.cdc_subscriber.specs.SubscriberState.{SubscriberState}
 
--- the answer to everything, once the subscriber is closed or has heard the end; closed comes first
+-- the answer to anything once the subscriber is closed or has received the end mark; closed takes precedence
 abbrev pub settled_answer : SubscriberState → Option Taking
 settled_answer kept = if kept.closed then Some AfterClose else (if kept.ended then Some Repeat else None)
 
--- the answer to an event that it hears, having applied events up to this moment
+-- the answer to an event that is received after events up to this timestamp were applied
 abbrev pub event_answer : ℕ → Event → Taking
 event_answer last e = if nat_le e.timestamp last then Repeat else Applied
 
--- the answer to an item that it hears
-abbrev pub heard_answer : ℕ → Item → Taking
-heard_answer last (item.Event e) = event_answer last e
-heard_answer last item.EndMark = Ended
+-- the answer to an item that is received
+abbrev pub received_answer : ℕ → Item → Taking
+received_answer last (item.Event e) = event_answer last e
+received_answer last item.EndMark = Ended
 
 -- the answer to an item
 abbrev pub answer_to : SubscriberState → Item → Taking
-answer_to kept item = unwrap_or (settled_answer kept) (heard_answer kept.last item)
+answer_to kept item = unwrap_or (settled_answer kept) (received_answer kept.last item)
 
 -- the answer to a body, of which this was read
 abbrev pub body_answer : SubscriberState → Result Event DecodeError → Result Taking TakeError
 body_answer kept (Ok e) = Ok (answer_to kept (item.Event e))
 body_answer kept (Err why) = ok_or (settled_answer kept) (Decode why)
 
--- the answer is this one or, where the subscriber has something to read, memory ran out
-abbrev pub GivesOrLacksMemory : Bool → Result Taking TakeError → Result Taking TakeError → Type 0
-GivesOrLacksMemory reads expected answer = (answer ≡ expected) ⊎ (IsTrue reads × (answer ≡ Err OutOfMemory))
+-- the answer is the expected one or, if the subscriber has something to read, out of memory
+abbrev pub GivesOrIsOutOfMemory : Bool → Result Taking TakeError → Result Taking TakeError → Type 0
+GivesOrIsOutOfMemory reads expected answer = (answer ≡ expected) ⊎ (IsTrue reads × (answer ≡ Err OutOfMemory))
 
 -- the subscriber is neither closed nor ended
 abbrev pub listens : SubscriberState → Bool
@@ -45,10 +45,10 @@ abbrev pub has_body : Item → Bool
 has_body (item.Event e) = true
 has_body item.EndMark = false
 
--- what is answered to an item: only an event that is heard takes memory
+-- the possible answers to an item: only receiving an event needs memory
 abbrev pub TakesItem : SubscriberState → Item → Result Taking TakeError → Type 0
-TakesItem kept item = GivesOrLacksMemory (listens kept && has_body item) (Ok (answer_to kept item))
+TakesItem kept item = GivesOrIsOutOfMemory (listens kept && has_body item) (Ok (answer_to kept item))
 
--- what is answered to a body of which this was read: only one that is heard takes memory
+-- the possible answers to a body that decodes as `read`: only receiving it needs memory
 abbrev pub TakesBody : SubscriberState → Result Event DecodeError → Result Taking TakeError → Type 0
-TakesBody kept read = GivesOrLacksMemory (listens kept) (body_answer kept read)
+TakesBody kept read = GivesOrIsOutOfMemory (listens kept) (body_answer kept read)

@@ -1,5 +1,5 @@
 -- The book of a list of events: each account that they show, with its balances in the last event that has it.
-use Rattle.std.specs.Prelude.{ℕ, Bool, ◌==◌, List, [], ◌∷◌, ◌++◌, map, fold, find, reverse, unwrap_or, if◌then◌else◌, Option, option_map}
+use Rattle.std.specs.Prelude.{ℕ, Bool, true, not, ◌==◌, ◌&&◌, List, [], ◌∷◌, ◌++◌, map, fold, find, reverse, unwrap_or, if◌then◌else◌, Option, option_map}
 use Rattle.std.specs.List.{list_any, flat_map}
 use Rattle.cdc_types.specs.declared.accounts.Balances.{Balances}
 use Rattle.cdc_types.specs.declared.events.Event.{Event}
@@ -25,6 +25,15 @@ sides e = entry_of e.debit_account ∷ entry_of e.credit_account ∷ []
 -- the number is one of these
 abbrev pub is_among : ℕ → List ℕ → Bool
 is_among id ids = list_any (λ other. other == id) ids
+
+-- no id occurs twice
+abbrev pub are_distinct : List ℕ → Bool
+are_distinct [] = true
+are_distinct (id ∷ ids) = not (is_among id ids) && are_distinct ids
+
+-- the ids of accounts
+abbrev pub ids_of : List BookEntry → List ℕ
+ids_of entries = map (λ entry. entry.id) entries
 
 -- numbers in the order of their first appearance
 abbrev pub first_appearances : List ℕ → List ℕ
@@ -62,7 +71,7 @@ put entry (other ∷ rest) = if other.id == entry.id then entry ∷ rest else ot
 abbrev pub balances_in : List BookEntry → ℕ → Option Balances
 balances_in book id = option_map (λ entry. entry.balances) (find (λ entry. entry.id == id) book)
 
--- the balances of the account of this number in the last event that has it, if one has; where both of that event's
+-- the balances of the account with this number in the last event that has it, if one has; if both of that event's
 -- accounts are this one, the credited side's
 abbrev pub balances_shown : List Event → ℕ → Option Balances
 balances_shown events id =

@@ -1,6 +1,7 @@
 pub mod Answers
 pub mod Book
-pub mod Heard
+pub mod Reception
 pub mod SubscriberState
 pub mod Lines
+pub mod Steps
 pub mod TakeErrors

@@ -4,15 +4,15 @@ use Rattle.std.specs.List.{flat_map}
 use Rattle.cdc_subscriber.specs.declared.book.BookEntry.{BookEntry}
 use Rattle.cdc_subscriber.specs.SubscriberState.{SubscriberState}
 
--- a number behind a space
+-- a space and a number
 abbrev pub spaced : ℕ → List ℕ
 spaced n = codes " " ++ decimal n
 
--- a number behind a word
+-- a name, a space and a number
 abbrev pub named : List ℕ → ℕ → List ℕ
 named name n = name ++ spaced n
 
--- yes or no behind a word
+-- a name, a space, and yes or no
 abbrev pub flagged : List ℕ → Bool → List ℕ
 flagged name flag = name ++ (if flag then codes " yes" else codes " no")
 

@@ -1,9 +1,10 @@
 //! The book that a subscriber keeps: the balances of each account, as its last event gave them.
 
-ghost use Rattle.std.specs.Prelude.{◌≡◌, ◌==◌, ◌+◌, ◌<◌, ◌≤◌, [], ◌∷◌, ◌++◌, List, length, OnOk, OnErr, option_map, slice_get};
+ghost use Rattle.std.specs.Prelude.{◌≡◌, ◌==◌, ◌+◌, ◌<◌, ◌≤◌, [], ◌∷◌, ◌++◌, List, length, not, true, if◌then◌else◌, IfOk, OnOk, OnErr, option_map, slice_get};
 ghost use Rattle.indexmap.specs.IndexMap.{spare};
-ghost use Rattle.cdc_types.specs.declared.events.Event.{Event as Told};
-ghost use Rattle.cdc_subscriber.specs.Book.{balances_in, balances_shown, entries_of, entry_of as shown_entry, book_of, id_and_balances, put as put_entry};
+ghost use Rattle.cdc_types.specs.declared.events.Event.{Event as Emitted};
+ghost use Rattle.cdc_subscriber.specs.Book.{are_distinct, balances_in, balances_shown, entries_of, entry_of as shown_entry, book_of, id_and_balances, ids_of, is_among, put as put_entry};
+ghost use Rattle.cdc_subscriber.specs.Steps.{book_after};
 
 use cdc_types::{Balances, Event, EventAccount};
 use indexmap::IndexMap;
@@ -11,17 +12,17 @@ use indexmap::map::Iter;
 use std::alloc::{AllocError, Global};
 use std::marker::Model;
 
-/// An account of a book.
+/// One account of a subscriber's book.
 #[derive(Clone, Copy, Debug, PartialEq, Eq)]
 pub struct BookEntry {
-    /// The account's number.
     pub id: u128,
-    /// Its balances in the last event that has it.
+    /// The account's balances in the last event that has it.
     pub balances: Balances,
 }
 
-/// The accounts that events have shown, in the order of their first appearance; of one event the debited account comes
-/// first, and where both are one account, the credited side counts. A clause sees the list of them.
+/// The accounts that events have shown, in the order of their first appearance. Within one event the debited account
+/// comes first; if both accounts are the same, the credited side counts. Contracts see a book as the list of its
+/// entries.
 #[derive(Drop)]
 pub struct Book {
     // The balances of each account by its number; new numbers come last.
@@ -39,7 +40,7 @@ impl Model for Book {
 }
 
 impl Book {
-    /// A book without accounts.
+    /// Creates an empty book.
     pub fn new(alloc: Global) -> Book
         ensures { result ≡ book_of [] }
     {
@@ -48,16 +49,16 @@ impl Book {
         }
     }
 
-    /// The balances of the account of this number, if an event has shown it.
+    /// The balances of the account with this number, or `None` if no event has shown it.
     pub fn get(&self, id: u128) -> Option<Balances>
         ensures found { result ≡ balances_in self.now id }
-        ensures last { (events : List Told) → self.now ≡ book_of events
+        ensures last { (events : List Emitted) → self.now ≡ book_of events
             → result ≡ balances_shown events id }
     {
         self.accounts.get(&id).copied()
     }
 
-    /// The account at this place, from 0 on, and its balances.
+    /// The number and the balances of the account at this index, counted from 0 in order of first appearance.
     pub fn at_place(&self, place: usize) -> Option<(u128, Balances)>
         ensures { result ≡ option_map id_and_balances (slice_get self.now place) }
     {
@@ -66,31 +67,48 @@ impl Book {
             .map(|(id, balances)| (*id, *balances))
     }
 
-    /// How many accounts there are.
+    /// The number of accounts. Their ids are distinct.
     pub fn len(&self) -> usize
-        ensures { result ≡ length self.now }
+        ensures count { result ≡ length self.now }
+        ensures distinct { are_distinct (ids_of self.now) ≡ true }
     {
         self.accounts.len()
     }
 
-    /// Whether there is no account.
     pub fn is_empty(&self) -> bool
         ensures { result ≡ (length self.now == 0) }
     {
         self.accounts.is_empty()
     }
 
-    /// The accounts, each with its balances.
+    /// Adds an account after all others, unless the book has its id; returns whether it was added. If memory runs out
+    /// the book is unchanged.
+    pub fn push(&mut self, entry: BookEntry) -> Result<bool, AllocError>
+        ensures added { IfOk result (λ added. added ≡ not (is_among entry.id (ids_of self.old))) }
+        ensures ok { IfOk result (λ added.
+            self.new ≡ (if added then (self.old ++ entry ∷ []) else self.old)) }
+        ensures err { OnErr result (self.new ≡ self.old) }
+    {
+        if self.accounts.contains_key(&entry.id) {
+            return Ok(false);
+        }
+        self.accounts.reserve(1)?;
+        put(&mut self.accounts, entry);
+        Ok(true)
+    }
+
+    /// Iterates over the accounts in order of first appearance.
     pub(crate) fn accounts(&self) -> Iter<'_, u128, Balances>
         ensures { entries_of result ≡ self.now }
     {
         self.accounts.iter()
     }
 
-    /// Takes in one event. After a refusal the book is as it was.
+    /// Applies one event to both of its accounts. On an error the book is unchanged.
     pub(crate) fn apply(&mut self, event: &Event) -> Result<(), AllocError>
-        ensures ok { OnOk result ((events : List Told) → self.old ≡ book_of events
+        ensures ok { OnOk result ((events : List Emitted) → self.old ≡ book_of events
             → self.new ≡ book_of (events ++ event.now ∷ [])) }
+        ensures after { OnOk result (self.new ≡ book_after self.old event.now) }
         ensures err { OnErr result (self.new ≡ self.old) }
     {
         self.accounts.reserve(2)?;
@@ -100,7 +118,6 @@ impl Book {
     }
 }
 
-/// What an event shows of an account.
 fn entry_of(account: &EventAccount) -> BookEntry
     ensures { result ≡ shown_entry account.now }
 {
@@ -115,7 +132,7 @@ fn entry_of(account: &EventAccount) -> BookEntry
     }
 }
 
-/// An entry takes the place of the one with its number, or comes last.
+/// Replaces the entry with the same number, or adds the entry last.
 fn put(accounts: &mut IndexMap<u128, Balances>, entry: BookEntry)
     requires { 0 < spare accounts.old }
     ensures entries { entries_of accounts.new.entries

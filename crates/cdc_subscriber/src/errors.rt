@@ -1,4 +1,4 @@
-//! Why a subscriber takes nothing.
+//! Errors of a subscriber.
 
 ghost use Rattle.std.specs.Prelude.{◌≡◌};
 ghost use Rattle.cdc_subscriber.specs.TakeErrors.{take_error_number, take_error_name};
@@ -7,13 +7,13 @@ use cdc_message::DecodeError;
 use std::alloc::AllocError;
 use thiserror::Error;
 
-/// Why a subscriber takes nothing; it is then as it was.
+/// Why a subscriber couldn't take a delivery or a body. The subscriber is then unchanged.
 #[derive(Clone, Copy, Debug, PartialEq, Eq, Error)]
 pub enum TakeError {
-    /// The bytes are no event, for this reason; never for want of memory.
+    /// The body isn't an event, for this reason. The reason is never that memory ran out.
     #[error("the body is no event: {0}")]
     Decode(DecodeError),
-    /// There was no memory, to read the body or to apply its event.
+    /// Memory ran out while reading the body or applying its event.
     #[error("out of memory")]
     OutOfMemory,
 }
@@ -54,7 +54,7 @@ impl TakeError {
         }
     }
 
-    /// The error's name, whatever the reason why bytes are no event.
+    /// The error's name. It is the same for every reason why a body isn't an event.
     pub fn name(self) -> &'static str
         ensures { result.now ≡ take_error_name self }
     {

@@ -1,4 +1,4 @@
-//! Subscribers: each applies an event once at most, where it is later than all applied before, and keeps a book.
+//! Subscribers. Each applies an event at most once, if it is later than all events applied before, and keeps a book.
 #![tactic(auto)]
 
 pub mod book;

@@ -11,7 +11,7 @@ use itoa::{Buffer, Integer};
 use std::io;
 use std::io::Write;
 
-/// The line of the subscriber of this number.
+/// Writes the line of the subscriber with this number.
 pub(crate) fn write_subscriber<W: Write>(
     writer: &mut W,
     number: u64,
@@ -28,7 +28,7 @@ pub(crate) fn write_subscriber<W: Write>(
     write_text(writer, "\n")
 }
 
-/// The lines of the accounts of a book.
+/// Writes one line for each account of a book.
 pub(crate) fn write_accounts<W: Write>(writer: &mut W, book: &Book) -> io::Result<()>
     ensures { OnOk result (Appends (W.contents writer.old) (W.contents writer.new)
         (flat_map account_line book.now)) }
@@ -43,7 +43,7 @@ pub(crate) fn write_accounts<W: Write>(writer: &mut W, book: &Book) -> io::Resul
     Ok(())
 }
 
-/// The line of an account of a book.
+/// Writes the account's number and its four balances.
 fn write_account<W: Write>(writer: &mut W, entry: &BookEntry) -> io::Result<()>
     ensures { OnOk result (Appends (W.contents writer.old) (W.contents writer.new)
         (account_line entry.now)) }
@@ -56,7 +56,7 @@ fn write_account<W: Write>(writer: &mut W, entry: &BookEntry) -> io::Result<()>
     write_text(writer, "\n")
 }
 
-/// A word, a space and a number.
+/// Writes a name, a space and a number.
 fn write_named<W: Write, I: Integer>(writer: &mut W, name: &str, number: I) -> io::Result<()>
     ensures { OnOk result (Appends (W.contents writer.old) (W.contents writer.new)
         (name.now ++ (codes " " ++ I.text number))) }
@@ -65,7 +65,7 @@ fn write_named<W: Write, I: Integer>(writer: &mut W, name: &str, number: I) -> i
     write_spaced(writer, number)
 }
 
-/// A space and a number.
+/// Writes a space and a number.
 fn write_spaced<W: Write, I: Integer>(writer: &mut W, number: I) -> io::Result<()>
     ensures { OnOk result (Appends (W.contents writer.old) (W.contents writer.new)
         (codes " " ++ I.text number)) }
@@ -74,7 +74,7 @@ fn write_spaced<W: Write, I: Integer>(writer: &mut W, number: I) -> io::Result<(
     write_text(writer, Buffer::new().format(number))
 }
 
-/// A word, a space, and yes or no.
+/// Writes a name, a space, and yes or no.
 fn write_flagged<W: Write>(writer: &mut W, name: &str, flag: bool) -> io::Result<()>
     ensures { OnOk result (Appends (W.contents writer.old) (W.contents writer.new)
         (flagged name.now flag)) }
@@ -83,7 +83,6 @@ fn write_flagged<W: Write>(writer: &mut W, name: &str, flag: bool) -> io::Result
     write_text(writer, if flag { " yes" } else { " no" })
 }
 
-/// A text.
 fn write_text<W: Write>(writer: &mut W, text: &str) -> io::Result<()>
     ensures { OnOk result (Appends (W.contents writer.old) (W.contents writer.new) text.now) }
 {

@@ -1,11 +1,12 @@
 //! The subscriber itself.
 
-ghost use Rattle.std.specs.Prelude.{◌≡◌, true, OnOk, OnErr};
+ghost use Rattle.std.specs.Prelude.{◌≡◌, false, true, OnOk, OnErr};
 ghost use Rattle.std.specs.Io.KnownBytes.{Appends};
 ghost use Rattle.cdc_message.specs.Reading.{read};
 ghost use Rattle.cdc_subscriber.specs.Lines.{subscriber_text};
-ghost use Rattle.cdc_subscriber.specs.Heard.{Heard, nothing, next, next_read, kept_of};
-ghost use Rattle.cdc_subscriber.specs.Answers.{answer_to, event_answer, settled_answer, GivesOrLacksMemory, TakesBody, TakesItem};
+ghost use Rattle.cdc_subscriber.specs.Reception.{Reception, nothing, next, next_read, kept_of};
+ghost use Rattle.cdc_subscriber.specs.Steps.{next_state, next_state_read, taken};
+ghost use Rattle.cdc_subscriber.specs.Answers.{answer_to, event_answer, settled_answer, GivesOrIsOutOfMemory, TakesBody, TakesItem};
 
 use crate::book::Book;
 use crate::errors::TakeError;
@@ -17,22 +18,22 @@ use std::io;
 use std::io::Write;
 use std::marker::Model;
 
-/// What a subscriber answers to what it is handed.
+/// A subscriber's answer to an event or an end mark.
 #[derive(Clone, Copy, Debug, PartialEq, Eq)]
 pub enum Taking {
-    /// The event is applied.
+    /// The event was later than the last one applied, and is applied.
     Applied,
-    /// Nothing changes: the event isn't later than the last one applied, or the subscriber has heard the end.
+    /// Nothing changes: the event isn't later than the last one applied, or the subscriber has received the end mark.
     Repeat,
-    /// The end is heard: no further event follows.
+    /// The end mark is received: no further event follows.
     Ended,
     /// Nothing changes: the subscriber is closed.
     AfterClose,
 }
 
-/// A subscriber. Events may come to it in any order and again; it applies those that are later than all before;
-/// it keeps the book of what it has applied. Once it has heard the end, or is closed, it applies no more. A clause sees
-/// what its readers give: for whatever list of items it heard, that is `kept_of` of this list.
+/// A subscriber. Events may reach it in any order and more than once. It applies those that are later than all before
+/// them, and keeps the book of the events applied. After the end mark, or once it is closed, it applies no more.
+/// Contracts see the state that its getters return: for any list of items received, this is `kept_of` of that list.
 pub struct Subscriber {
     book: Book,
     last: u64,
@@ -41,7 +42,7 @@ pub struct Subscriber {
     closed: bool,
 }
 
-// By hand, so that whoever lets go of a subscriber calls this, and doesn't take it apart anew.
+// Written by hand, so that code that drops a subscriber calls this instead of dropping each field itself.
 impl Drop for Subscriber {
     fn drop(self) {
         let Subscriber {
@@ -69,7 +70,7 @@ impl Model for Subscriber {
 }
 
 impl Subscriber {
-    /// A subscriber that has heard nothing.
+    /// Creates a subscriber that has received nothing.
     pub fn new(alloc: Global) -> Subscriber
         ensures { result ≡ kept_of nothing }
     {
@@ -82,11 +83,33 @@ impl Subscriber {
         }
     }
 
-    /// Takes what a queue handed out. The one error is want of memory, and only an event that is heard needs any.
+    /// Resumes from a saved book: the timestamp of the last event applied, the number of events applied, and whether the
+    /// end mark was received. The subscriber is open.
+    pub fn resume(book: Book, last: u64, applied: u64, ended: bool) -> Subscriber
+        ensures { result ≡ record {
+          book = book;
+          last = last;
+          applied = applied;
+          ended = ended;
+          closed = false;
+        } }
+    {
+        Subscriber {
+            book,
+            last,
+            applied,
+            ended,
+            closed: false,
+        }
+    }
+
+    /// Takes a delivery from a queue. The only error is that memory runs out, and only an event can cause it, while
+    /// the subscriber is neither closed nor past the end mark.
     pub fn take(&mut self, alloc: Global, delivery: &Delivery) -> Result<Taking, TakeError>
         ensures answer { TakesItem self.old delivery.now.item result }
-        ensures stands { (heard : Heard) → self.old ≡ kept_of heard
-            → OnOk result (self.new ≡ kept_of (next heard delivery.now.item)) }
+        ensures stands { (reception : Reception) → self.old ≡ kept_of reception
+            → OnOk result (self.new ≡ kept_of (next reception delivery.now.item)) }
+        ensures state { OnOk result (self.new ≡ next_state self.old delivery.now.item) }
         ensures err { OnErr result (self.new ≡ self.old) }
     {
         match &delivery.item {
@@ -95,26 +118,42 @@ impl Subscriber {
         }
     }
 
-    /// Takes the bytes of a body. A subscriber that is closed, or has heard the end, doesn't read them; else bytes that
-    /// are no event are an error, and so is want of memory.
+    /// Takes the bytes of a body. A subscriber that is closed or has received the end mark doesn't read them.
+    /// Otherwise it fails if the bytes aren't an event or memory runs out.
     pub fn take_body(&mut self, alloc: Global, body: &[u8]) -> Result<Taking, TakeError>
         ensures answer { TakesBody self.old (read body.now) result }
-        ensures stands { (heard : Heard) → self.old ≡ kept_of heard
-            → OnOk result (self.new ≡ kept_of (next_read heard (read body.now))) }
+        ensures stands { (reception : Reception) → self.old ≡ kept_of reception
+            → OnOk result (self.new ≡ kept_of (next_read reception (read body.now))) }
+        ensures state { OnOk result (self.new ≡ next_state_read self.old (read body.now)) }
         ensures err { OnErr result (self.new ≡ self.old) }
     {
         if let Some(answer) = self.settled() {
             return Ok(answer);
         }
         let event = decode(alloc, body)?;
-        self.hear(&event)
+        self.receive(&event)
     }
 
-    /// Takes the mark that no further event follows.
+    /// Takes an event that was read before. The only error is that memory runs out, under the same conditions.
+    pub fn take_event(&mut self, event: &Event) -> Result<Taking, TakeError>
+        ensures answer { TakesItem self.old (Item.Event event.now) result }
+        ensures stands { (reception : Reception) → self.old ≡ kept_of reception
+            → OnOk result (self.new ≡ kept_of (next reception (Item.Event event.now))) }
+        ensures state { OnOk result (self.new ≡ next_state self.old (Item.Event event.now)) }
+        ensures err { OnErr result (self.new ≡ self.old) }
+    {
+        if let Some(answer) = self.settled() {
+            return Ok(answer);
+        }
+        self.receive(event)
+    }
+
+    /// Takes the end mark: no further event follows.
     pub fn take_end(&mut self) -> Taking
         ensures answer { result ≡ answer_to self.old Item.EndMark }
-        ensures stands { (heard : Heard) → self.old ≡ kept_of heard
-            → self.new ≡ kept_of (next heard Item.EndMark) }
+        ensures stands { (reception : Reception) → self.old ≡ kept_of reception
+            → self.new ≡ kept_of (next reception Item.EndMark) }
+        ensures state { self.new ≡ next_state self.old Item.EndMark }
     {
         if let Some(answer) = self.settled() {
             return answer;
@@ -126,20 +165,19 @@ impl Subscriber {
     /// Closes the subscriber: it applies nothing more. Closing it again changes nothing.
     pub fn close(&mut self)
         ensures closes { self.new ≡ record self.old { closed = true } }
-        ensures stands { (heard : Heard) → self.old ≡ kept_of heard
-            → self.new ≡ kept_of (record heard { closed = true }) }
+        ensures stands { (reception : Reception) → self.old ≡ kept_of reception
+            → self.new ≡ kept_of (record reception { closed = true }) }
     {
         self.closed = true;
     }
 
-    /// Whether the subscriber is closed.
     pub fn closed(&self) -> bool
         ensures { result ≡ self.now.closed }
     {
         self.closed
     }
 
-    /// Whether the subscriber has heard the end.
+    /// Whether the subscriber has received the end mark.
     pub fn ended(&self) -> bool
         ensures { result ≡ self.now.ended }
     {
@@ -153,7 +191,7 @@ impl Subscriber {
         self.last
     }
 
-    /// How many events are applied; the count stays at 2^64-1.
+    /// How many events were applied. The count saturates at 2^64-1.
     pub fn applied_count(&self) -> u64
         ensures { result ≡ self.now.applied }
     {
@@ -167,8 +205,8 @@ impl Subscriber {
         &self.book
     }
 
-    /// Writes the subscriber's line, under this number, and a line for each account of its book. After an error some of
-    /// them may be written.
+    /// Writes the subscriber's line with this number, and one line for each account of its book. After an error some
+    /// of the lines may be written.
     pub fn print<W: Write>(&self, writer: &mut W, number: u64) -> io::Result<()>
         ensures { OnOk result (Appends (W.contents writer.old) (W.contents writer.new)
             (subscriber_text number self.now)) }
@@ -177,7 +215,7 @@ impl Subscriber {
         write_accounts(writer, &self.book)
     }
 
-    /// What the subscriber answers to everything, once it is closed or has heard the end.
+    /// The answer to anything once the subscriber is closed or has received the end mark; `None` before that.
     fn settled(&self) -> Option<Taking>
         ensures { result ≡ settled_answer self.now }
     {
@@ -190,13 +228,14 @@ impl Subscriber {
         }
     }
 
-    /// Hears an event, and applies it where it is later than the last one applied.
-    fn hear(&mut self, event: &Event) -> Result<Taking, TakeError>
+    /// Receives an event, and applies it if it is later than the last one applied.
+    fn receive(&mut self, event: &Event) -> Result<Taking, TakeError>
         requires { settled_answer self.old ≡ None }
-        ensures answer { GivesOrLacksMemory true
+        ensures answer { GivesOrIsOutOfMemory true
             (Ok (event_answer self.old.last event.now)) result }
-        ensures stands { (heard : Heard) → self.old ≡ kept_of heard
-            → OnOk result (self.new ≡ kept_of (next heard (Item.Event event.now))) }
+        ensures stands { (reception : Reception) → self.old ≡ kept_of reception
+            → OnOk result (self.new ≡ kept_of (next reception (Item.Event event.now))) }
+        ensures state { OnOk result (self.new ≡ taken self.old (Item.Event event.now)) }
         ensures err { OnErr result (self.new ≡ self.old) }
     {
         if event.timestamp <= self.last {

@@ -1,17 +1,16 @@
--- Pasts that continue one another, and the histories that they tell.
+-- Pasts that continue one another, and their histories.
 use Rattle.std.proofs.Common.{◌≡◌, Bool, true, false, List, [], ◌∷◌, ◌++◌, refl, sym, ap, ◌∙◌, subst, append_assoc, append-nil}
 use Rattle.cdc_laws.specs.GoingOn.{GoesOn}
 use Rattle.cdc_laws.proofs.GoingOn.{GoesOn-batches, GoesOn-closed, GoesOn-same, GoesOn-trans}
 use Rattle.cdc_ledger.specs.History.{History, empty_history}
 use Rattle.cdc_ledger.specs.Sound.{IsSound}
-use Rattle.cdc_ledger.specs.Submit.{after_batches, closed_if, history_or, submit_by}
+use Rattle.cdc_ledger.specs.Submit.{after_batches, closed_if, history_or, submit}
 use Rattle.cdc_ledger.proofs.KeptLaws.{IsSound-after_batches}
 use Rattle.cdc_ledger.proofs.SoundLaws.{IsSound-closed, IsSound-empty}
 use Rattle.cdc_message.specs.Replays.{IsPrefix}
 use Rattle.cdc_traffic.specs.Pasts.{Continues, history_of, with_batch}
 use Rattle.cdc_traffic.specs.declared.pasts.Past.{Past}
 use Rattle.cdc_types.specs.declared.batches.Batch.{Batch}
-use Rattle.cdc_types.specs.Features.{features}
 
 -- a past continues itself
 pub Continues-same : (past : Past) → Continues past past
@@ -41,31 +40,31 @@ Continues-batch batch past not_closed = record {
 
 -- later batches come upon what the earlier ones left
 after_batches-append : (h : History) (xs ys : List Batch)
-    → after_batches features h (xs ++ ys) ≡ after_batches features (after_batches features h xs) ys
+    → after_batches h (xs ++ ys) ≡ after_batches (after_batches h xs) ys
 after_batches-append h [] ys = refl
-after_batches-append h (x ∷ xs) ys = after_batches-append (history_or h (submit_by features h x)) xs ys
+after_batches-append h (x ∷ xs) ys = after_batches-append (history_or h (submit h x)) xs ys
 
--- a close, where there is one, keeps a history that goes on
+-- a close, if there is one, keeps a history that goes on
 closes : (close : Bool) (h k : History) → IsSound k → GoesOn h k
     → GoesOn h (closed_if close k) × IsSound (closed_if close k)
 closes true h k is on = (GoesOn-trans h k (record k { closed = true }) on (GoesOn-closed k), IsSound-closed k is)
 closes false h k is on = (on, is)
 
 -- whatever batches make is sound
-made_sound : (bs : List Batch) → IsSound (after_batches features empty_history bs)
+made_sound : (bs : List Batch) → IsSound (after_batches empty_history bs)
 made_sound bs = IsSound-after_batches empty_history bs IsSound-empty
 
 -- and so is the history of every past
 pub past_sound : (past : Past) → IsSound (history_of past)
 past_sound past =
-    let k : History = after_batches features empty_history past.batches in
+    let k : History = after_batches empty_history past.batches in
     (closes past.closed k k (made_sound past.batches) (GoesOn-same k)).1
 
 -- the past of these batches, with a close or without one
 abbrev past_of : List Batch → Bool → Past
 past_of batches closed = record { batches = batches; closed = closed }
 
--- a past that continues another tells a history that goes on from that one's
+-- the history of a past that continues another goes on from that one's history
 goes_on : (early late : List Batch) (shut closed : Bool) → IsPrefix early late
     → (shut ≡ true → past_of late closed ≡ past_of early shut)
     → GoesOn (history_of (past_of early shut)) (history_of (past_of late closed))
@@ -73,10 +72,10 @@ goes_on early late true closed front same =
     let past : Past = past_of early true in
     subst (λ (p : Past). GoesOn (history_of past) (history_of p)) (sym (same refl)) (GoesOn-same (history_of past))
 goes_on early late false closed front same =
-    let h : History = after_batches features empty_history early in
-    let k : History = after_batches features empty_history late in
-    let whole : k ≡ after_batches features h front.rest =
-    ap (after_batches features empty_history) (sym front.whole)
+    let h : History = after_batches empty_history early in
+    let k : History = after_batches empty_history late in
+    let whole : k ≡ after_batches h front.rest =
+    ap (after_batches empty_history) (sym front.whole)
     ∙ after_batches-append empty_history early front.rest in
     let on : GoesOn h k = subst (GoesOn h) (sym whole) (GoesOn-batches h front.rest (made_sound early)) in
     (closes closed h k (made_sound late) on).0

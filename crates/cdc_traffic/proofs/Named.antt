@@ -28,7 +28,7 @@ module _ {M N : Type 0} (may_follow : ℕ → List (M × N) → M × N → Type 
       subst (λ (l : List (M × N)). FollowFrom may_follow j l ys) (append_assoc before (x ∷ []) xs)
       (follow-rest j (before ++ x ∷ []) xs ys chain.1)
 
-  -- where each message may only continue what the messages before it name, so do more of them
+  -- if each message may only continue what the messages before it name, so do several of them
   pub follow-continues : (j : ℕ) (name : List (M × N) → Past)
       → ((before : List (M × N)) (x : M × N) → may_follow j before x
       → Continues (name before) (name (before ++ x ∷ []))) → (before xs : List (M × N))
@@ -119,7 +119,7 @@ all_read before (x ∷ xs) chain are =
     (all_read more xs chain.1
     (subst (λ (rs : List Reading). AreReadings rs (history_of (last_named more))) (sym read) named))
 
--- and so are those of any beginning of them, of each history that extends it
+-- and so are those of any prefix of them, for each history that extends it
 pub poll_replies_read : (received more : List (ToConnector × Option Past)) (past : Past)
     → CanSend FollowsToConnector 0 (received ++ more) → Continues (last_named (received ++ more)) past
     → AreReadings (readings_of received) (history_of past)

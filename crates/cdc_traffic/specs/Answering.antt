@@ -1,4 +1,4 @@
--- What the ledger replies to a request and to a poll, told by its history.
+-- What the ledger replies to a request and to a poll, determined by its history.
 use Rattle.std.specs.Prelude.{Result, Ok, Err, take}
 use Rattle.cdc_ledger.specs.declared.errors.BatchError.{BatchError}
 use Rattle.cdc_ledger.specs.Events.{events}

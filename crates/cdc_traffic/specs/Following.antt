@@ -38,7 +38,7 @@ ends_to_ledger (to_ledger.Done client) = true
 ends_to_ledger (to_ledger.Poll poll) = false
 ends_to_ledger to_ledger.Finish = true
 
--- this sender may send it after so many others: a client says its own number, and numbers its requests from 1
+-- this sender may send it after this many others: a client gives its own number, and numbers its requests from 1
 abbrev pub MaySendLedger : ℕ → ℕ → ToLedger → Type 0
 MaySendLedger sender count (to_ledger.Request request) =
     (0 < sender) × (request.client ≡ sender) × (request.number ≡ count + 1)
@@ -87,7 +87,7 @@ HasTag Connected = Unit {0}
 HasTag Ignored = Unit {0}
 HasTag Broken = Unit {0}
 
--- a confirm is of a session, and of a tag where it confirms one
+-- a confirm is of a session, and of a tag if it confirms one
 abbrev pub IsConfirm : Confirm → Type 0
 IsConfirm confirm = (0 < confirm.session) × HasTag confirm.answer
 
@@ -106,14 +106,14 @@ pub record FollowsToConnector (sender : ℕ) (before : List (ToConnector × Opti
 -- ---- to the broker, of the connector (0) and of each subscriber (its number)
 
 -- an event is one of a history that batches and a close make
-abbrev pub IsTold : Item → Type 0
-IsTold (OfEvent event) = (h : History) × IsLegal h × Contains (events h) event
-IsTold EndMark = Unit {0}
+abbrev pub IsEmitted : Item → Type 0
+IsEmitted (OfEvent event) = (h : History) × IsLegal h × Contains (events h) event
+IsEmitted EndMark = Unit {0}
 
 -- sessions and tags are counted from 1
 abbrev pub IsPacket : APacket → Type 0
 IsPacket (Connect session) = 0 < session
-IsPacket (Publish session tag item) = (0 < session) × (0 < tag) × IsTold item
+IsPacket (Publish session tag item) = (0 < session) × (0 < tag) × IsEmitted item
 
 -- the last message of the connector; a subscriber has none
 abbrev pub ends_to_broker : ToBroker → Bool
@@ -121,7 +121,7 @@ ends_to_broker (to_broker.Packet packet) = false
 ends_to_broker to_broker.Finish = true
 ends_to_broker (to_broker.Ack ack) = false
 
--- a subscriber says its own number, and a position, which are counted from 1
+-- a subscriber gives its own number, and a position; both are counted from 1
 abbrev pub MaySendBroker : ℕ → ToBroker → Type 0
 MaySendBroker sender (to_broker.Packet packet) = (sender ≡ 0) × IsPacket packet
 MaySendBroker sender to_broker.Finish = sender ≡ 0

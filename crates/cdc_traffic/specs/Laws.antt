@@ -26,12 +26,12 @@ RepliesGoOn = (received more : List (Reply × Past)) → CanSend FollowsToClient
 
 -- ---- polls
 
--- what a reply to a poll says of the ledger
+-- what a reply to a poll states about the ledger
 abbrev pub reading_of : PollReply → Reading
 reading_of reply =
     record { after = reply.poll.after; limit = reply.poll.limit; events = reply.events; complete = reply.complete }
 
--- with a message more, of readings of which the latest stands first
+-- the readings after one more message; the list has the latest first
 abbrev pub with_reading : List Reading → ToConnector → List Reading
 with_reading readings (OfPoll reply) = reading_of reply ∷ readings
 with_reading readings (OfPacket confirm) = readings
@@ -40,8 +40,8 @@ with_reading readings (OfPacket confirm) = readings
 abbrev pub readings_of : {N : Type 0} → List (ToConnector × N) → List Reading
 readings_of sent = fold (λ readings each. with_reading readings each.0) [] sent
 
--- what the ledger has replied to polls, and any beginning of it, are readings of each history that extends the one
--- that it named last
+-- what the ledger has replied to polls, and any prefix of it, are readings of each history that extends the one that
+-- it named last
 abbrev pub PollRepliesAreReadings : Type 0
 PollRepliesAreReadings = (received more : List (ToConnector × Option Past)) (past : Past)
     → CanSend FollowsToConnector 0 (received ++ more) → Continues (last_named (received ++ more)) past

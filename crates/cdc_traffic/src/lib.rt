@@ -1,5 +1,5 @@
 //! The messages of a run in threads: what ledger, clients, connector, broker and subscribers send one another over
-//! links, and what each message keeps of its own content, of the history that it names, and of who may send it when.
+//! links. Contracts state the content of each message, the history that it names, and who may send it when.
 #![tactic(auto)]
 
 mod laws;

@@ -1,4 +1,4 @@
-//! What goes over each link but a client's, whose messages are replies.
+//! The messages of each link except a client's, whose messages are replies.
 
 use crate::pasts::Past;
 use crate::polls::{Poll, PollReply};
@@ -6,18 +6,18 @@ use crate::requests::Request;
 use cdc_links::Message;
 use cdc_message::{Confirm, Delivery, Packet};
 
-/// Over the link to the ledger: of the connector, whose end has the number 0, and of each client, whose end has the
-/// client's number.
+/// A message over the link to the ledger: from the connector, whose endpoint has the number 0, or from a client,
+/// whose endpoint has the client's number.
 #[derive(Drop)]
 pub enum ToLedger {
-    /// A client's batch.
+    /// A client submits a batch.
     Request(Request),
     /// A client's last message.
     Done {
         /// The client's number, from 1.
         client: u64,
     },
-    /// What the connector asks for.
+    /// The connector asks for events.
     Poll(Poll),
     /// The connector's last message.
     Finish,
@@ -31,8 +31,8 @@ impl Message for ToLedger {
     ghost may_follow = { FollowsToLedger };
 }
 
-/// Over the link to the connector: of the ledger, whose end has the number 0, and of the broker, whose end has the
-/// number 1.
+/// A message over the link to the connector: from the ledger, whose endpoint has the number 0, or from the broker,
+/// whose endpoint has the number 1.
 #[derive(Drop)]
 pub enum ToConnector {
     /// The ledger's answer to a poll.
@@ -49,7 +49,7 @@ impl Message for ToConnector {
     ghost may_follow = { FollowsToConnector };
 }
 
-/// That a subscriber took a delivery.
+/// A subscriber's acknowledgement that it took a delivery.
 #[derive(Clone, Copy, Debug, PartialEq, Eq)]
 pub struct Ack {
     /// The subscriber's number, from 1.
@@ -58,15 +58,15 @@ pub struct Ack {
     pub position: u64,
 }
 
-/// Over the link to the broker: of the connector, whose end has the number 0, and of each subscriber, whose end has the
-/// subscriber's number.
+/// A message over the link to the broker: from the connector, whose endpoint has the number 0, or from a subscriber,
+/// whose endpoint has the subscriber's number.
 #[derive(Drop)]
 pub enum ToBroker {
-    /// What the connector publishes.
+    /// The connector publishes a packet.
     Packet(Packet),
     /// The connector's last message.
     Finish,
-    /// What a subscriber acknowledges.
+    /// A subscriber acknowledges a delivery.
     Ack(Ack),
 }
 
@@ -78,12 +78,12 @@ impl Message for ToBroker {
     ghost may_follow = { FollowsToBroker };
 }
 
-/// Over the link to a subscriber, of the broker.
+/// A message over the link from the broker to a subscriber.
 #[derive(Drop)]
 pub enum ToSubscriber {
-    /// What its queue hands out.
+    /// The subscriber's queue delivers an item.
     Delivery(Delivery),
-    /// The last message.
+    /// The broker's last message.
     Stop,
 }
 

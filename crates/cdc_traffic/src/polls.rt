@@ -1,4 +1,4 @@
-//! What the connector asks the ledger for, and what it is answered.
+//! The connector's polls, and the ledger's replies.
 
 ghost use Rattle.std.specs.Prelude.{◌≡◌, IfOk};
 ghost use Rattle.cdc_ledger.specs.Submit.{IsLegal};
@@ -10,32 +10,32 @@ use cdc_publisher::Poll as Wanted;
 use cdc_types::{Event, Items};
 use std::alloc::{AllocError, Global};
 
-/// The events that a connector's session asks for: those after a moment, up to a number.
+/// A poll: a connector's session asks for the events after a timestamp, up to a number.
 #[derive(Clone, Copy, Debug, PartialEq, Eq)]
 pub struct Poll {
-    /// The session's number.
+    /// The number of the session that asks.
     pub session: u64,
-    /// The poll's place among the session's, from 1.
+    /// The poll's number among those of its session, from 1.
     pub number: u64,
-    /// The moment that the events follow, in nanoseconds.
+    /// The timestamp that the events follow, in nanoseconds.
     pub after: u64,
-    /// How many there may be.
+    /// The greatest number of events.
     pub limit: usize,
 }
 
 /// The ledger's reply to a poll.
 #[derive(Drop)]
 pub struct PollReply {
-    /// The poll.
+    /// The poll that this replies to.
     pub poll: Poll,
-    /// The first events after its moment, as many as it may have.
+    /// The first events after the poll's timestamp, up to its limit.
     pub events: Items<Event>,
-    /// Whether the ledger is closed, and these are all.
+    /// Whether the ledger is closed, and these events are all that follow.
     pub complete: bool,
 }
 
 impl Poll {
-    /// Reads what the poll asks for of the ledger's log as it is now; an error is want of memory for the events.
+    /// Reads what the poll asks for from the ledger's log as it is now. Fails if there is no memory for the events.
     pub fn read(self, alloc: Global, ledger: &Ledger) -> Result<PollReply, AllocError>
         ensures reply { IfOk result (λ reply. reply ≡ read_by ledger.now self) }
         ensures legal { IsLegal ledger.now }

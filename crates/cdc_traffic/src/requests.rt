@@ -1,4 +1,4 @@
-//! What a client and the ledger send each other.
+//! The messages between a client and the ledger.
 
 ghost use Rattle.std.specs.Prelude.{◌≡◌, IfErr, IfOk};
 ghost use Rattle.cdc_ledger.specs.Submit.{IsLegal, history_or, submit};
@@ -15,24 +15,24 @@ use std::alloc::{AllocError, Global};
 pub struct Request {
     /// The client's number, from 1.
     pub client: u64,
-    /// The request's place among the client's, from 1.
+    /// The request's number among those of its client, from 1.
     pub number: u64,
-    /// The batch.
     pub batch: Batch,
 }
 
 /// The ledger's reply to a request.
 #[derive(Drop)]
 pub struct Reply {
-    /// The request's place among the client's, from 1.
+    /// The request's number among those of its client, from 1.
     pub number: u64,
-    /// The request's batch.
+    /// The batch of the request.
     pub batch: Batch,
-    /// What the ledger answered to it: its results, or why it was refused as a whole. Want of memory is no reply.
+    /// The ledger's answer: the results of the batch, or why it was refused as a whole. A ledger that runs out of
+    /// memory sends no reply.
     pub answer: Result<BatchResults, BatchError>,
 }
 
-/// Over the link to a client.
+/// The messages of the link to a client.
 impl Message for Reply {
     ghost use Rattle.cdc_traffic.specs.Following.{FollowsToClient};
 
@@ -42,8 +42,8 @@ impl Message for Reply {
 }
 
 impl Request {
-    /// Submits the batch to the ledger, and makes the reply of its answer. Where memory runs out there is none, and the
-    /// ledger is as it was.
+    /// Submits the batch to the ledger, and replies with its answer. If memory runs out, it fails and the ledger is
+    /// unchanged.
     pub fn answer(self, alloc: Global, ledger: &mut Ledger) -> Result<Reply, AllocError>
         ensures reply { IfOk result (λ reply. reply ≡ reply_to ledger.old self) }
         ensures after { IfOk result (λ _.
@@ -73,7 +73,7 @@ impl Request {
 }
 
 impl Reply {
-    /// An equal reply in memory of its own.
+    /// Copies the reply. Fails if there is no memory for the copy.
     pub fn try_copy(&self, alloc: Global) -> Result<Reply, AllocError>
         ensures { IfOk result (λ copy. copy ≡ self.now) }
     {

@@ -1,4 +1,3 @@
-pub mod Features
 pub mod Flags
 pub mod Lines
 pub mod Results

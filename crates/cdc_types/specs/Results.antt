@@ -5,7 +5,7 @@ use Rattle.cdc_types.specs.declared.results.AccountResult.TheVariants as account
 use Rattle.cdc_types.specs.declared.results.TransferResult.{TransferResult}
 use Rattle.cdc_types.specs.declared.results.TransferResult.TheVariants as transfer
 
--- the place of the result in its table, and 0 where the item was accepted
+-- the number of the result in its table; 0 if the item was accepted
 abbrev pub account_number : AccountResult → ℕ
 account_number account.Accepted = 0
 account_number account.ReservedFlag = 1
@@ -19,7 +19,7 @@ account_number account.Exists = 8
 account_number account.LinkedEventFailed = 9
 account_number account.LinkedEventChainOpen = 10
 
--- the name of the result: the manual's, but for ours, `ok` and `exists_with_different_fields`
+-- the name of the result: the manual's, except for `ok` and `exists_with_different_fields`, which are ours
 abbrev pub account_name : AccountResult → List ℕ
 account_name account.Accepted = codes "ok"
 account_name account.ReservedFlag = codes "reserved_flag"
@@ -33,7 +33,7 @@ account_name account.Exists = codes "exists"
 account_name account.LinkedEventFailed = codes "linked_event_failed"
 account_name account.LinkedEventChainOpen = codes "linked_event_chain_open"
 
--- the place of the result in its table, and 0 where the item was accepted
+-- the number of the result in its table; 0 if the item was accepted
 abbrev pub transfer_number : TransferResult → ℕ
 transfer_number transfer.Accepted = 0
 transfer_number transfer.ReservedFlag = 1
@@ -76,7 +76,7 @@ transfer_number transfer.ExceedsDebits = 37
 transfer_number transfer.LinkedEventFailed = 38
 transfer_number transfer.LinkedEventChainOpen = 39
 
--- the name of the result: the manual's, but for ours, `ok` and `exists_with_different_fields`
+-- the name of the result: the manual's, except for `ok` and `exists_with_different_fields`, which are ours
 abbrev pub transfer_name : TransferResult → List ℕ
 transfer_name transfer.Accepted = codes "ok"
 transfer_name transfer.ReservedFlag = codes "reserved_flag"

@@ -2,7 +2,7 @@
 use Rattle.std.specs.Prelude.{ℕ, ◌<◌, List, [], ◌∷◌}
 use Rattle.cdc_types.specs.declared.events.Event.{Event}
 
--- the timestamp of the last event, or t where there is none
+-- the timestamp of the last event, or t if there is none
 abbrev pub last_timestamp_from : ℕ → List Event → ℕ
 last_timestamp_from t [] = t
 last_timestamp_from t (event ∷ events) = last_timestamp_from event.timestamp events
@@ -11,7 +11,7 @@ last_timestamp_from t (event ∷ events) = last_timestamp_from event.timestamp e
 abbrev pub last_timestamp : List Event → ℕ
 last_timestamp events = last_timestamp_from 0 events
 
--- each event is later than the moment t, and than the one before it
+-- each event is later than the timestamp t and later than the event before it
 abbrev pub RiseFrom : ℕ → List Event → Type 0
 RiseFrom t [] = Unit {0}
 RiseFrom t (event ∷ events) = (t < event.timestamp) × RiseFrom event.timestamp events

@@ -1,9 +1,8 @@
-//! Accounts: what a client asks for, and what the ledger keeps.
+//! Accounts: the client's request, and the account that the ledger keeps.
 
 ghost use Rattle.std.specs.Prelude.{◌≡◌};
 ghost use Rattle.cdc_types.specs.Flags.{is_linked_account};
 ghost use Rattle.cdc_types.specs.Shapes.{account_refusal};
-ghost use Rattle.cdc_types.specs.Features.{features};
 
 use crate::results::AccountResult;
 
@@ -20,65 +19,63 @@ impl AccountFlags {
     /// Credits may not exceed debits.
     pub const CREDITS_MUST_NOT_EXCEED_DEBITS: u16 = 4;
 
-    /// Shown in messages, with no other effect.
+    /// The flag is shown in messages and has no other effect.
     pub const HISTORY: u16 = 8;
 
-    /// The bits that the ledger accepts today.
+    /// The bits that the ledger accepts. Any other bit is refused as `ReservedFlag`.
     pub const ACCEPTED: u16 = 15;
 }
 
-/// An account as a client asks for it (TigerBeetle, Account).
+/// A client's request for an account (TigerBeetle, Account).
 #[derive(Clone, Copy, Debug, PartialEq, Eq)]
 pub struct NewAccount {
-    /// The account's number: neither 0 nor 2^128-1.
+    /// 0 and 2^128-1 are refused.
     pub id: u128,
-    /// The client's own.
+    /// Opaque to the ledger, as are the next two.
     pub user_data_128: u128,
-    /// The client's own.
+    /// Opaque to the ledger, as are the next two.
     pub user_data_64: u64,
-    /// The client's own.
+    /// Opaque to the ledger, as are the next two.
     pub user_data_32: u32,
-    /// Transfers go between accounts of one ledger.
+    /// 0 is refused. A transfer connects two accounts of the same ledger.
     pub ledger: u32,
-    /// The client's kind of account.
+    /// 0 is refused. The client chooses what it means.
     pub code: u16,
     /// Bits of `AccountFlags`.
     pub flags: u16,
 }
 
-/// The four sums of an account (TigerBeetle, Account).
+/// The four balances of an account (TigerBeetle, Account).
 #[derive(Clone, Copy, Debug, PartialEq, Eq)]
 pub struct Balances {
-    /// What unresolved pending transfers debit.
+    /// The sum of the debits of unresolved pending transfers.
     pub debits_pending: u128,
-    /// What has been debited.
+    /// The sum of the debits of single-phase and posted transfers.
     pub debits_posted: u128,
-    /// What unresolved pending transfers credit.
+    /// The sum of the credits of unresolved pending transfers.
     pub credits_pending: u128,
-    /// What has been credited.
+    /// The sum of the credits of single-phase and posted transfers.
     pub credits_posted: u128,
 }
 
-/// An account of the ledger.
+/// An account as the ledger keeps it: the request's fields with balances and a timestamp.
 #[derive(Clone, Copy, Debug, PartialEq, Eq)]
 pub struct Account {
-    /// The account's number.
     pub id: u128,
-    /// The client's own.
+    /// Opaque to the ledger, as are the next two.
     pub user_data_128: u128,
-    /// The client's own.
+    /// Opaque to the ledger, as are the next two.
     pub user_data_64: u64,
-    /// The client's own.
+    /// Opaque to the ledger, as are the next two.
     pub user_data_32: u32,
-    /// Transfers go between accounts of one ledger.
+    /// 0 is refused. A transfer connects two accounts of the same ledger.
     pub ledger: u32,
-    /// The client's kind of account.
+    /// 0 is refused. The client chooses what it means.
     pub code: u16,
     /// Bits of `AccountFlags`.
     pub flags: u16,
-    /// The account's sums.
     pub balances: Balances,
-    /// When the account was made, in nanoseconds.
+    /// When the account was created, in nanoseconds.
     pub timestamp: u64,
 }
 
@@ -90,9 +87,10 @@ impl NewAccount {
         self.flags & AccountFlags::LINKED != 0
     }
 
-    /// The first refusal that the request's own fields call for, whatever the ledger holds.
+    /// The first reason to refuse the request that its own fields give, whatever the ledger holds. `None` if there is
+    /// none.
     pub fn check(&self) -> Option<AccountResult>
-        ensures { result ≡ account_refusal features self.now }
+        ensures { result ≡ account_refusal self.now }
     {
         if self.flags & !AccountFlags::ACCEPTED != 0 {
             Some(AccountResult::ReservedFlag)

@@ -1,4 +1,4 @@
-//! What is handed to the ledger at once, and what it answers.
+//! Batches that clients submit to the ledger, and their results.
 
 ghost use Rattle.std.specs.Prelude.{◌≡◌, IfOk};
 
@@ -8,7 +8,7 @@ use crate::transfers::NewTransfer;
 use std::alloc::{AllocError, Global};
 use std::marker::Model;
 
-/// A list of plain items inside a batch or an answer. A clause sees the list.
+/// A list of plain items inside a batch or its results. Contracts see the list.
 #[derive(Drop)]
 pub struct Items<T> {
     items: Vec<T>,
@@ -23,14 +23,14 @@ impl<T> Model for Items<T> {
 }
 
 impl<T> Items<T> {
-    /// The items of a `Vec`, with no memory taken.
+    /// Takes over a `Vec` without allocating.
     pub fn from_vec(list: Vec<T>) -> Items<T>
         ensures { result ≡ list.items }
     {
         Items { items: list }
     }
 
-    /// The items as a `Vec`, with no memory taken.
+    /// Gives the `Vec` back without allocating.
     pub fn into_vec(self) -> Vec<T>
         ensures { result.items ≡ self }
     {
@@ -38,7 +38,6 @@ impl<T> Items<T> {
         items
     }
 
-    /// The items, in order.
     pub fn as_slice(&self) -> &[T]
         ensures { result.now ≡ self.now }
     {
@@ -47,7 +46,7 @@ impl<T> Items<T> {
 }
 
 impl<T: Copy> Items<T> {
-    /// Equal items in memory of their own.
+    /// An equal list in memory of its own. The error is out of memory.
     pub fn try_copy(&self, alloc: Global) -> Result<Items<T>, AllocError>
         ensures { IfOk result (λ copy. copy ≡ self.now) }
     {
@@ -57,43 +56,31 @@ impl<T: Copy> Items<T> {
     }
 }
 
-/// What is handed to the ledger at once, at the moment `now` in nanoseconds.
+/// What a client submits to the ledger in one call. `now` is in nanoseconds: the batch's timestamps start at `now`,
+/// or right after the ledger's last timestamp if that is later.
 #[derive(Drop)]
 pub enum Batch {
-    /// Accounts to be made.
-    Accounts {
-        /// The moment.
-        now: u64,
-        /// The requests.
-        items: Items<NewAccount>,
-    },
-    /// Transfers to be made.
-    Transfers {
-        /// The moment.
-        now: u64,
-        /// The requests.
-        items: Items<NewTransfer>,
-    },
-    /// Pending transfers whose time is up expire.
-    Pulse {
-        /// The moment.
-        now: u64,
-    },
+    /// Creates accounts.
+    Accounts { now: u64, items: Items<NewAccount> },
+    /// Creates transfers.
+    Transfers { now: u64, items: Items<NewTransfer> },
+    /// Expires the pending transfers that are due at `now`.
+    Pulse { now: u64 },
 }
 
-/// What the ledger answers to a batch that it takes.
+/// The ledger's reply to a batch that it accepts.
 #[derive(Drop)]
 pub enum BatchResults {
-    /// One result for each account that was asked for.
+    /// One result for each requested account, in the batch's order.
     Accounts(Items<AccountResult>),
-    /// One result for each transfer that was asked for.
+    /// One result for each requested transfer, in the batch's order.
     Transfers(Items<TransferResult>),
-    /// How many pending transfers expired.
+    /// The number of pending transfers that expired.
     Pulsed(u64),
 }
 
 impl Batch {
-    /// An equal batch in memory of its own.
+    /// An equal batch in memory of its own. The error is out of memory.
     pub fn try_copy(&self, alloc: Global) -> Result<Batch, AllocError>
         ensures { IfOk result (λ copy. copy ≡ self.now) }
     {
@@ -112,7 +99,7 @@ impl Batch {
 }
 
 impl BatchResults {
-    /// Equal results in memory of their own.
+    /// Equal results in memory of their own. The error is out of memory.
     pub fn try_copy(&self, alloc: Global) -> Result<BatchResults, AllocError>
         ensures { IfOk result (λ copy. copy ≡ self.now) }
     {

@@ -1,51 +1,48 @@
-//! What the ledger tells of each movement.
+//! Events: what the ledger publishes about each movement.
 
 use crate::transfers::Transfer;
 
-/// What a transfer, or the expiry of one, did (TigerBeetle, Change Data Capture, `type`).
+/// What happened to a transfer (TigerBeetle, Change Data Capture, `type`).
 #[derive(Clone, Copy, Debug, PartialEq, Eq)]
 pub enum EventKind {
-    /// A transfer in one step.
+    /// A transfer moved its amount in one step.
     SinglePhase,
-    /// An amount was held back.
+    /// A pending transfer held back its amount.
     TwoPhasePending,
-    /// A pending transfer was posted.
+    /// A post moved the amount of a pending transfer, or a part of it.
     TwoPhasePosted,
-    /// A pending transfer was voided.
+    /// A void released the amount of a pending transfer.
     TwoPhaseVoided,
-    /// A pending transfer expired.
+    /// A pending transfer reached its timeout, which released its amount.
     TwoPhaseExpired,
 }
 
-/// One movement of the ledger. For an expiry the transfer is the pending one.
+/// One movement of the ledger. The transfer of an expiry is the pending transfer that expired.
 #[derive(Clone, Copy, Debug, PartialEq, Eq)]
 pub struct Entry {
-    /// When it was, in nanoseconds.
+    /// When the movement happened, in nanoseconds.
     pub timestamp: u64,
-    /// What it did.
     pub kind: EventKind,
-    /// The stored transfer.
+    /// The transfer as the ledger stores it.
     pub transfer: Transfer,
 }
 
-/// The transfer of an event.
+/// A transfer as an event shows it: without its accounts and its ledger, which the event has.
 #[derive(Clone, Copy, Debug, PartialEq, Eq)]
 pub struct EventTransfer {
-    /// The transfer's number.
     pub id: u128,
-    /// How much was moved, held back, posted or voided.
+    /// The amount that is moved, held back, posted or voided.
     pub amount: u128,
-    /// The pending transfer that was posted or voided, or 0.
+    /// The pending transfer that is posted or voided, or 0.
     pub pending_id: u128,
-    /// The client's own.
+    /// Opaque to the ledger, as are the next two.
     pub user_data_128: u128,
-    /// The client's own.
+    /// Opaque to the ledger, as are the next two.
     pub user_data_64: u64,
-    /// The client's own.
+    /// Opaque to the ledger, as are the next two.
     pub user_data_32: u32,
-    /// How many seconds a pending transfer stands; 0 for no end.
+    /// The seconds after which a pending transfer expires; 0 if it never does.
     pub timeout: u32,
-    /// The client's kind of transfer.
     pub code: u16,
     /// Bits of `TransferFlags`.
     pub flags: u16,
@@ -53,73 +50,62 @@ pub struct EventTransfer {
     pub timestamp: u64,
 }
 
-/// One of the two accounts of an event, with its sums after it.
+/// One of the two accounts of an event, with its balances right after the event.
 #[derive(Clone, Copy, Debug, PartialEq, Eq)]
 pub struct EventAccount {
-    /// The account's number.
     pub id: u128,
-    /// What unresolved pending transfers debit.
+    /// The sum of the debits of unresolved pending transfers.
     pub debits_pending: u128,
-    /// What has been debited.
+    /// The sum of the debits of single-phase and posted transfers.
     pub debits_posted: u128,
-    /// What unresolved pending transfers credit.
+    /// The sum of the credits of unresolved pending transfers.
     pub credits_pending: u128,
-    /// What has been credited.
+    /// The sum of the credits of single-phase and posted transfers.
     pub credits_posted: u128,
-    /// The client's own.
+    /// Opaque to the ledger, as are the next two.
     pub user_data_128: u128,
-    /// The client's own.
+    /// Opaque to the ledger, as are the next two.
     pub user_data_64: u64,
-    /// The client's own.
+    /// Opaque to the ledger, as are the next two.
     pub user_data_32: u32,
-    /// The client's kind of account.
     pub code: u16,
     /// Bits of `AccountFlags`.
     pub flags: u16,
-    /// When the account was made, in nanoseconds.
+    /// When the account was created, in nanoseconds.
     pub timestamp: u64,
 }
 
-/// What the ledger tells of one movement (TigerBeetle, Change Data Capture).
+/// An event: what the ledger publishes about one movement (TigerBeetle, Change Data Capture).
 #[derive(Clone, Copy, Debug, PartialEq, Eq)]
 pub struct Event {
-    /// When it was, in nanoseconds.
+    /// When the movement happened, in nanoseconds.
     pub timestamp: u64,
-    /// What it did.
     pub kind: EventKind,
-    /// The ledger of the transfer.
     pub ledger: u32,
-    /// The transfer; for an expiry the pending one.
+    /// The transfer. For an expiry it is the pending transfer that expired.
     pub transfer: EventTransfer,
-    /// The account that is debited.
     pub debit_account: EventAccount,
-    /// The account that is credited.
     pub credit_account: EventAccount,
 }
 
-/// What a message is routed by (TigerBeetle, Change Data Capture, headers).
+/// The headers by which a message is routed (TigerBeetle, Change Data Capture, headers).
 #[derive(Clone, Copy, Debug, PartialEq, Eq)]
 pub struct Headers {
-    /// What the event did.
     pub kind: EventKind,
-    /// The ledger of the transfer.
     pub ledger: u32,
-    /// The transfer's code.
     pub transfer_code: u16,
-    /// The debited account's code.
     pub debit_account_code: u16,
-    /// The credited account's code.
     pub credit_account_code: u16,
 }
 
 /// The basic properties of a message (TigerBeetle, Change Data Capture; AMQP 0-9-1, basic class).
 #[derive(Clone, Copy, Debug, PartialEq, Eq)]
 pub struct Properties {
-    /// Who wrote the message.
+    /// The program that wrote the message.
     pub app_id: &'static str,
-    /// What its body is.
+    /// The media type of the body.
     pub content_type: &'static str,
-    /// 2: the message is to outlive a restart of the broker.
+    /// 2: the message has to survive a restart of the broker.
     pub delivery_mode: u8,
     /// The event's timestamp in whole seconds.
     pub timestamp: u64,

@@ -5,16 +5,16 @@ pub mod accounts;
 pub mod batches;
 pub mod bounds;
 pub mod events;
-pub mod moments;
 pub mod results;
 pub mod steps;
+pub mod times;
 pub mod transfers;
 
 pub use accounts::{Account, AccountFlags, Balances, NewAccount};
 pub use batches::{Batch, BatchResults, Items};
 pub use bounds::Limits;
 pub use events::{Entry, Event, EventAccount, EventKind, EventTransfer, Headers, Properties};
-pub use moments::Moment;
 pub use results::{AccountResult, TransferResult};
 pub use steps::Step;
+pub use times::EventTimestamp;
 pub use transfers::{NewTransfer, Transfer, TransferFlags};

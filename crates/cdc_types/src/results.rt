@@ -1,91 +1,79 @@
-//! What becomes of each item of a batch, with numbers and names.
+//! The results of a batch's items, with their numbers and names.
 
 ghost use Rattle.std.specs.Prelude.{◌≡◌};
 ghost use Rattle.cdc_types.specs.Results.{account_number, account_name, transfer_number, transfer_name};
 
-/// What became of a request for an account (TigerBeetle, `create_accounts`). The variants stand in the order of their
-/// numbers, from 0.
+/// The result of a request for an account (TigerBeetle, `create_accounts`). The variants are in the order of their
+/// numbers, from 0. All except the first are reasons to refuse the request.
 #[derive(Clone, Copy, Debug, PartialEq, Eq)]
 pub enum AccountResult {
-    /// The account was made.
+    /// The ledger created the account.
     Accepted,
-    /// A flag is set that the ledger doesn't take.
+    /// A flag is set that the ledger doesn't support.
     ReservedFlag,
-    /// The id is 0.
     IdMustNotBeZero,
     /// The id is 2^128-1.
     IdMustNotBeIntMax,
-    /// Both limits on a balance are asked for.
+    /// The request sets both balance limits.
     FlagsAreMutuallyExclusive,
-    /// The ledger is 0.
     LedgerMustNotBeZero,
-    /// The code is 0.
     CodeMustNotBeZero,
-    /// The id is another account's, with other fields.
+    /// An account with this id exists, and some of its fields differ from the request's.
     ExistsWithDifferentFields,
-    /// The account is there already.
+    /// An account with this id and these fields exists.
     Exists,
     /// Another item of its chain was refused.
     LinkedEventFailed,
-    /// It links on to a next item, and is the last of its batch.
+    /// The item is linked to a next one, and is the last of its batch.
     LinkedEventChainOpen,
 }
 
-/// What became of a request for a transfer (TigerBeetle, `create_transfers`). The variants stand in the order of their
-/// numbers, from 0.
+/// The result of a request for a transfer (TigerBeetle, `create_transfers`). The variants are in the order of their
+/// numbers, from 0. All except the first are reasons to refuse the request.
 #[derive(Clone, Copy, Debug, PartialEq, Eq)]
 pub enum TransferResult {
-    /// The transfer was made.
+    /// The ledger created the transfer.
     Accepted,
-    /// A flag is set that the ledger doesn't take.
+    /// A flag is set that the ledger doesn't support.
     ReservedFlag,
-    /// The id is 0.
     IdMustNotBeZero,
     /// The id is 2^128-1.
     IdMustNotBeIntMax,
-    /// Two of pending, post and void are asked for.
+    /// More than one of the flags pending, post and void is set.
     FlagsAreMutuallyExclusive,
-    /// Only a post or a void names a pending transfer.
+    /// The request is neither a post nor a void, so it can't name a pending transfer.
     PendingIdMustBeZero,
-    /// A post or a void names a pending transfer.
+    /// A post or a void has to name a pending transfer.
     PendingIdMustNotBeZero,
     /// A transfer can't post or void itself.
     PendingIdMustBeDifferent,
-    /// Only a pending transfer has a timeout.
+    /// Only a pending transfer can have a timeout.
     TimeoutReservedForPendingTransfer,
-    /// The ledger is 0.
     LedgerMustNotBeZero,
-    /// The code is 0.
     CodeMustNotBeZero,
-    /// Both accounts are one.
+    /// The debited and the credited account are the same.
     AccountsMustBeDifferent,
-    /// The id is another transfer's, with other fields.
+    /// A transfer with this id exists, and some of its fields differ from the request's.
     ExistsWithDifferentFields,
-    /// The transfer is there already.
+    /// A transfer with this id and these fields exists.
     Exists,
-    /// There is no such account.
     DebitAccountNotFound,
-    /// There is no such account.
     CreditAccountNotFound,
-    /// The accounts are of two ledgers.
+    /// The two accounts belong to different ledgers.
     AccountsMustHaveTheSameLedger,
-    /// The transfer is of another ledger than its accounts.
+    /// The accounts belong to another ledger than the transfer.
     TransferMustHaveTheSameLedgerAsAccounts,
-    /// There is no such transfer.
+    /// No transfer with the id `pending_id` exists.
     PendingTransferNotFound,
-    /// The transfer isn't a pending one.
+    /// The transfer that `pending_id` names isn't a pending one.
     PendingTransferNotPending,
-    /// The pending transfer debits another account.
     PendingTransferHasDifferentDebitAccountId,
-    /// The pending transfer credits another account.
     PendingTransferHasDifferentCreditAccountId,
-    /// The pending transfer is of another ledger.
     PendingTransferHasDifferentLedger,
-    /// The pending transfer has another code.
     PendingTransferHasDifferentCode,
-    /// More than was held back.
+    /// A post or a void asks for more than the pending transfer holds back.
     ExceedsPendingTransferAmount,
-    /// A void of another amount than was held back.
+    /// A void asks for less than the pending transfer holds back.
     PendingTransferHasDifferentAmount,
     /// The pending transfer was posted.
     PendingTransferAlreadyPosted,
@@ -93,39 +81,40 @@ pub enum TransferResult {
     PendingTransferAlreadyVoided,
     /// The pending transfer has expired.
     PendingTransferExpired,
-    /// The sum would pass 2^128-1.
+    /// The sum would exceed 2^128-1.
     OverflowsDebitsPending,
-    /// The sum would pass 2^128-1.
+    /// The sum would exceed 2^128-1.
     OverflowsCreditsPending,
-    /// The sum would pass 2^128-1.
+    /// The sum would exceed 2^128-1.
     OverflowsDebitsPosted,
-    /// The sum would pass 2^128-1.
+    /// The sum would exceed 2^128-1.
     OverflowsCreditsPosted,
-    /// Pending and posted debits together would pass 2^128-1.
+    /// The sum of pending and posted debits would exceed 2^128-1.
     OverflowsDebits,
-    /// Pending and posted credits together would pass 2^128-1.
+    /// The sum of pending and posted credits would exceed 2^128-1.
     OverflowsCredits,
-    /// The end of the pending transfer would pass 2^63-1.
+    /// The timestamp at which the pending transfer expires would exceed 2^63-1.
     OverflowsTimeout,
-    /// The debits would pass the credits of an account that forbids it.
+    /// The debits would exceed the credits of an account whose flags forbid it.
     ExceedsCredits,
-    /// The credits would pass the debits of an account that forbids it.
+    /// The credits would exceed the debits of an account whose flags forbid it.
     ExceedsDebits,
     /// Another item of its chain was refused.
     LinkedEventFailed,
-    /// It links on to a next item, and is the last of its batch.
+    /// The item is linked to a next one, and is the last of its batch.
     LinkedEventChainOpen,
 }
 
 impl AccountResult {
-    /// The result's number: 0 where the account was made.
+    /// The number in the results' table; 0 if the account was created.
     pub fn number(self) -> u8
         ensures { result ≡ account_number self }
     {
         self as u8
     }
 
-    /// The name: the manual's, but for ours, `exists_with_different_fields` and `ok` where the account was made.
+    /// The manual's name, except for `ok` (the account was created) and `exists_with_different_fields`, which are
+    /// ours.
     pub fn name(self) -> &'static str
         ensures { result.now ≡ account_name self }
     {
@@ -146,14 +135,15 @@ impl AccountResult {
 }
 
 impl TransferResult {
-    /// The result's number: 0 where the transfer was made.
+    /// The number in the results' table; 0 if the transfer was created.
     pub fn number(self) -> u8
         ensures { result ≡ transfer_number self }
     {
         self as u8
     }
 
-    /// The name: the manual's, but for ours, `exists_with_different_fields` and `ok` where the transfer was made.
+    /// The manual's name, except for `ok` (the transfer was created) and `exists_with_different_fields`, which are
+    /// ours.
     pub fn name(self) -> &'static str
         ensures { result.now ≡ transfer_name self }
     {

@@ -1,7 +1,6 @@
-//! Transfers: what a client asks for, and what the ledger keeps.
+//! Transfers: the client's request, and the transfer that the ledger keeps.
 
 ghost use Rattle.std.specs.Prelude.{◌≡◌};
-ghost use Rattle.cdc_types.specs.Features.{features};
 ghost use Rattle.cdc_types.specs.Flags.{is_linked_transfer, is_pending_request, is_post_request, is_void_request, is_plain_request};
 ghost use Rattle.cdc_types.specs.Shapes.{transfer_refusal, asks_for_two_kinds};
 
@@ -23,63 +22,62 @@ impl TransferFlags {
     /// Voids the pending transfer that `pending_id` names.
     pub const VOID_PENDING_TRANSFER: u16 = 8;
 
-    /// The bits that the ledger accepts today.
+    /// The bits that the ledger accepts. Any other bit is refused as `ReservedFlag`.
     pub const ACCEPTED: u16 = 15;
 }
 
-/// A transfer as a client asks for it (TigerBeetle, Transfer).
+/// A client's request for a transfer (TigerBeetle, Transfer).
 #[derive(Clone, Copy, Debug, PartialEq, Eq)]
 pub struct NewTransfer {
-    /// The transfer's number: neither 0 nor 2^128-1.
+    /// 0 and 2^128-1 are refused.
     pub id: u128,
-    /// The account that is debited.
+    /// In a post or a void, 0 means the pending transfer's account.
     pub debit_account_id: u128,
-    /// The account that is credited.
+    /// In a post or a void, 0 means the pending transfer's account.
     pub credit_account_id: u128,
-    /// How much is moved or held back; in a post 2^128-1, and in a void 0, stands for the whole of the pending one.
+    /// The amount to move or to hold back. In a post 2^128-1, and in a void 0, means the whole pending amount.
     pub amount: u128,
-    /// The pending transfer that is posted or voided, or 0.
+    /// The pending transfer to post or to void, or 0.
     pub pending_id: u128,
-    /// The client's own.
+    /// Opaque to the ledger, as are the next two. In a post or a void, 0 means the pending transfer's own value.
     pub user_data_128: u128,
-    /// The client's own.
+    /// Opaque to the ledger, as are the next two. In a post or a void, 0 means the pending transfer's own value.
     pub user_data_64: u64,
-    /// The client's own.
+    /// Opaque to the ledger, as are the next two. In a post or a void, 0 means the pending transfer's own value.
     pub user_data_32: u32,
-    /// How many seconds a pending transfer stands; 0 for no end.
+    /// The seconds after which a pending transfer expires; 0 if it never does.
     pub timeout: u32,
-    /// The ledger of both accounts.
+    /// The ledger of both accounts. In a post or a void, 0 means the pending transfer's.
     pub ledger: u32,
-    /// The client's kind of transfer.
+    /// The client chooses what it means. In a post or a void, 0 means the pending transfer's.
     pub code: u16,
     /// Bits of `TransferFlags`.
     pub flags: u16,
 }
 
-/// A transfer of the ledger.
+/// A transfer as the ledger stores it. A post or a void is filled in from its pending transfer.
 #[derive(Clone, Copy, Debug, PartialEq, Eq)]
 pub struct Transfer {
-    /// The transfer's number.
     pub id: u128,
-    /// The account that is debited.
+    /// In a post or a void, 0 means the pending transfer's account.
     pub debit_account_id: u128,
-    /// The account that is credited.
+    /// In a post or a void, 0 means the pending transfer's account.
     pub credit_account_id: u128,
-    /// How much was moved, held back, posted or voided.
+    /// The amount that was moved, held back, posted or voided.
     pub amount: u128,
     /// The pending transfer that was posted or voided, or 0.
     pub pending_id: u128,
-    /// The client's own.
+    /// Opaque to the ledger, as are the next two. In a post or a void, 0 means the pending transfer's own value.
     pub user_data_128: u128,
-    /// The client's own.
+    /// Opaque to the ledger, as are the next two. In a post or a void, 0 means the pending transfer's own value.
     pub user_data_64: u64,
-    /// The client's own.
+    /// Opaque to the ledger, as are the next two. In a post or a void, 0 means the pending transfer's own value.
     pub user_data_32: u32,
-    /// How many seconds a pending transfer stands; 0 for no end.
+    /// The seconds after which a pending transfer expires; 0 if it never does.
     pub timeout: u32,
-    /// The ledger of both accounts.
+    /// The ledger of both accounts. In a post or a void, 0 means the pending transfer's.
     pub ledger: u32,
-    /// The client's kind of transfer.
+    /// The client chooses what it means. In a post or a void, 0 means the pending transfer's.
     pub code: u16,
     /// Bits of `TransferFlags`.
     pub flags: u16,
@@ -95,21 +93,21 @@ impl NewTransfer {
         self.flags & TransferFlags::LINKED != 0
     }
 
-    /// Whether the amount is to be held back.
+    /// Whether the request holds back its amount until it is posted or voided.
     pub fn is_pending(&self) -> bool
         ensures { result ≡ is_pending_request self.now }
     {
         self.flags & TransferFlags::PENDING != 0
     }
 
-    /// Whether a pending transfer is to be posted.
+    /// Whether the request posts a pending transfer.
     pub fn is_post(&self) -> bool
         ensures { result ≡ is_post_request self.now }
     {
         self.flags & TransferFlags::POST_PENDING_TRANSFER != 0
     }
 
-    /// Whether a pending transfer is to be voided.
+    /// Whether the request voids a pending transfer.
     pub fn is_void(&self) -> bool
         ensures { result ≡ is_void_request self.now }
     {
@@ -123,7 +121,7 @@ impl NewTransfer {
         !(self.is_post() || self.is_void())
     }
 
-    // Whether two of the three kinds are asked for.
+    // Whether more than one of the flags pending, post and void is set.
     fn has_two_kinds(&self) -> bool
         ensures { result ≡ asks_for_two_kinds self.now }
     {
@@ -131,9 +129,10 @@ impl NewTransfer {
         pending && post || pending && void || post && void
     }
 
-    /// The first refusal that the request's own fields call for, whatever the ledger holds.
+    /// The first reason to refuse the request that its own fields give, whatever the ledger holds. `None` if there is
+    /// none.
     pub fn check_shape(&self) -> Option<TransferResult>
-        ensures { result ≡ transfer_refusal features self.now }
+        ensures { result ≡ transfer_refusal self.now }
     {
         let pending = self.is_pending();
         let plain = self.is_plain();

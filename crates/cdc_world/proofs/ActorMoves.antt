@@ -1,4 +1,5 @@
--- What is kept of the actors after a step that leaves the store alone, and the state that it stands for.
+-- The kept state of the actors after a step that leaves the store alone, and the state of the world that it
+-- represents.
 use Rattle.std.proofs.Common.{◌≡◌, ℕ, true, IsTrue, List, [], ◌∷◌, Option, Result, Ok, Err, refl, sym, ap, ◌∙◌, subst, map, length, replicate, arith}
 use Rattle.std.specs.Result.{IsErrAnd}
 use Rattle.std.proofs.lemmas.List.{length-map, length-replicate}
@@ -22,7 +23,7 @@ use Rattle.cdc_world.specs.Moves.{IsStoreCounted, Moves, MovesBy}
 use Rattle.cdc_world.specs.Next.{IsStepRisked, IsTried, Next, next, takes_memory, with_batch, with_ledger_closed}
 use Rattle.cdc_world.specs.declared.subscriptions.Subscription.{Subscription as Kept_subscription}
 use Rattle.cdc_world.specs.Parts.{ActorParts, Parts, subscription_parts}
-use Rattle.cdc_world.specs.Stands.{ActorsStand, HaveHandedOut, Stands, parts_of, queue_for, view_of}
+use Rattle.cdc_world.specs.Stands.{ActorsStand, HaveDelivered, Stands, parts_of, queue_for, view_of}
 use Rattle.cdc_world.specs.Turns.{ActorsMove, IsNotOfStore, IsOfActors, empty_actors, empty_subscription}
 use Rattle.cdc_world.specs.Worlds.{WorldState, new_subscription, new_world}
 
@@ -38,7 +39,7 @@ pub refusal_is : (answer : Result Did StepError) (why : StepError) → IsErrAnd 
 refusal_is (Ok did) why is = absurd is
 refusal_is (Err e) why is = ap Err is
 
--- so a call that gives up on the error of an actor is a refused step from what was kept as it began
+-- so a call that fails with the error of an actor is a refused step from the kept state at its entry
 pub at_entry_err : {q a new : ActorParts} (step : Step) (answer : Result Did StepError) (why : StepError)
     → IsErrAnd answer (λ e. e ≡ why) → q ≡ a → ActorsMove q step (Err why) new → ActorsMove a step answer new
 at_entry_err {q} {a} {new} step answer why is same moves =
@@ -57,10 +58,10 @@ pub unable : (a : ActorParts) (step : Step) → ((w : WorldState) → ActorsStan
     → ActorsMove a step (Err NotEnabled) a
 unable a step none = (tt, λ w st. (w, (st, ((none w st, refl), refl))))
 
--- where memory ran out, nothing changes
-pub lacking : (a : ActorParts) (step : Step) → IsTrue (takes_memory step)
+-- if memory runs out, nothing changes
+pub exhausted : (a : ActorParts) (step : Step) → IsTrue (takes_memory step)
     → ((w : WorldState) → ActorsStand a w → IsTried (next w step)) → ActorsMove a step (Err OutOfMemory) a
-lacking a step takes tried = (tt, λ w st. (w, (st, ((takes, (tried w st, refl)), refl))))
+exhausted a step takes tried = (tt, λ w st. (w, (st, ((takes, (tried w st, refl)), refl))))
 
 -- a step that is done is tried
 pub tried : (w w' : WorldState) (step : Step) (did : Did) → next w step ≡ Ok (did, w') → IsTried (next w step)
@@ -73,7 +74,7 @@ pub moves_entry : {q p new : Parts} (step : Step) (answer : Result Did StepError
     → Moves p step answer new
 moves_entry {q} {p} {new} step answer same moves = subst (λ (r : Parts). Moves r step answer new) same moves
 
--- a call that gives up on the error of a part
+-- a call that fails with the error of a part
 pub moves_entry_err : {q p new : Parts} (step : Step) (answer : Result Did StepError) (why : StepError)
     → IsErrAnd answer (λ e. e ≡ why) → q ≡ p → Moves q step (Err why) new → Moves p step answer new
 moves_entry_err {q} {p} {new} step answer why is same moves =
@@ -179,16 +180,16 @@ new_parts : (bindings : List Arguments)
 new_parts [] = refl
 new_parts (binding ∷ bindings) = ap (λ ss. empty_subscription ∷ ss) (new_parts bindings)
 
--- and nothing was handed out
-new_handed : (bindings : List Arguments) → HaveHandedOut (map empty_queue bindings) (map new_subscription bindings)
-new_handed [] = tt
-new_handed (binding ∷ bindings) = (
+-- and nothing was delivered
+new_delivered : (bindings : List Arguments) → HaveDelivered (map empty_queue bindings) (map new_subscription bindings)
+new_delivered [] = tt
+new_delivered (binding ∷ bindings) = (
   record {
     first = omega arith;
     flight = λ d there. absurd (none_there d there);
     acks = λ position there. absurd (none_there position there);
   },
-  new_handed bindings,
+  new_delivered bindings,
 )
 
 -- as many subscriptions as queues
@@ -199,7 +200,7 @@ new_counts bindings count items b counted kept is =
     sym (length-map items subscription_parts) ∙ (ap length kept ∙ (length-replicate count empty_subscription ∙ (counted
     ∙ (sym (length-map bindings empty_queue) ∙ ap (λ (b : BrokerState). length b.queues) (sym is)))))
 
--- so actors who have done nothing stand for a new world
+-- so actors that have done nothing represent a new world
 pub new_stands : (p : Parts) (bindings : List Arguments) (window : ℕ) (held : Option Saved)
     → p.actors ≡ empty_actors bindings window → p.held ≡ held → Stands p (new_world bindings window held)
 new_stands p bindings window held actors is = record {
@@ -211,7 +212,7 @@ new_stands p bindings window held actors is = record {
         subscribers = record {
           queues = new_queues bindings;
           subscriptions = new_parts bindings;
-          handed = new_handed bindings;
+          delivered = new_delivered bindings;
         };
       });
   held = is;

@@ -1,5 +1,6 @@
 -- What is kept of the actors after a packet came to the broker.
-use Rattle.std.proofs.Common.{◌≡◌, ℕ, Bool, true, false, List, [], ◌∷◌, ◌++◌, Option, Some, Ok, refl, sym, ap, ap₂, ◌∙◌, subst, map}
+use Rattle.std.proofs.Common.{◌≡◌, ℕ, Bool, true, false, List, [], ◌∷◌, ◌++◌, Option, Some, Ok, Err, refl, sym, ap, ap₂, ◌∙◌, subst, map}
+use Rattle.std.specs.declared.alloc.AllocError.{AllocError}
 use Rattle.cdc_broker.specs.Broker.{BrokerState, after_packet, takes_packet}
 use Rattle.cdc_broker.specs.Packets.{expected_after, is_taken, is_taken_at, items_of, session_after}
 use Rattle.cdc_message.specs.declared.items.Item.{Item}
@@ -8,13 +9,15 @@ use Rattle.cdc_message.specs.declared.packets.Packet.{Packet}
 use Rattle.cdc_message.specs.declared.packets.Packet.TheVariants.{Connect, Publish}
 use Rattle.cdc_types.specs.declared.steps.Step.TheVariants.{Arrive}
 use Rattle.cdc_world.specs.declared.steps.Did.TheVariants.{Arrived}
+use Rattle.cdc_world.specs.declared.steps.StepError.TheVariants.{OutOfMemory}
 use Rattle.cdc_world.specs.Next.{◌>>=◌, arrival, confirms_of, next, with_arrival}
 use Rattle.cdc_world.specs.Parts.{ActorParts}
 use Rattle.cdc_world.specs.Stands.{ActorsStand, BrokerSide, SubscribersStand, broker_of, broker_parts, queue_for}
 use Rattle.cdc_world.specs.Turns.{ActorsMove, ComesTo}
 use Rattle.cdc_world.specs.Worlds.{Subscription, WorldState, numbered}
 use Rattle.cdc_laws.proofs.Taking.{current_session-push, expected_tag-push}
-use Rattle.cdc_world.proofs.QueueViews.{handed_after, items_of-connected, items_of-published, queues_after}
+use Rattle.cdc_world.proofs.ActorMoves.{exhausted, tried}
+use Rattle.cdc_world.proofs.QueueViews.{delivered_after, items_of-connected, items_of-published, queues_after}
 
 -- whether the broker takes a packet
 takes_is : (a : ActorParts) (w : WorldState) (packet : Packet) → ActorsStand a w
@@ -52,7 +55,7 @@ side_after w packet =
       confirms = w.confirms ++ confirms_of packet;
     }) (current_session-push w.accepted packet) (expected_tag-push w.accepted packet)
 
--- each queue has the packet's item where it belongs to it, and has handed out what it had
+-- each queue has the packet's item if the item matches its binding, and has delivered what it had
 subscribers_after : (a : ActorParts) (accepted : List Packet) (packet : Packet) (subscriptions : List Subscription)
     → SubscribersStand a.broker.queues a.subscriptions (items_of accepted) subscriptions
     → SubscribersStand (after_packet a.broker packet).queues a.subscriptions (items_of (accepted ++ packet ∷ []))
@@ -65,7 +68,7 @@ subscribers_after a accepted (Publish session tag item) subscriptions st = recor
       ∙ ap (λ (items : List Item). map (queue_for items) subscriptions) (sym
       (items_of-published accepted session tag item));
   subscriptions = st.subscriptions;
-  handed = handed_after item a.broker.queues subscriptions st.handed;
+  delivered = delivered_after item a.broker.queues subscriptions st.delivered;
 }
 
 -- a packet that is there comes
@@ -103,10 +106,10 @@ arrive_taken a packet k there takes = (
   ),
 )
 
--- one that is passed over: nothing changes
-arrive_passed : (a : ActorParts) (packet : Packet) (k : ℕ) → numbered a.packets k ≡ Some packet
+-- one that is ignored: nothing changes
+arrive_ignored : (a : ActorParts) (packet : Packet) (k : ℕ) → numbered a.packets k ≡ Some packet
     → takes_packet a.broker packet ≡ false → ActorsMove a (Arrive k) (Ok (Arrived false)) a
-arrive_passed a packet k there takes = (
+arrive_ignored a packet k there takes = (
   tt,
   λ w st. (
     w,
@@ -119,6 +122,22 @@ arrive_passed a packet k there takes = (
     ),
   ),
 )
+
+-- one that memory ran out for: nothing changes
+pub arrive_refused : (a : ActorParts) (packet : Packet) (k : ℕ) (why : AllocError) (b' : BrokerState)
+    (confirms' : List Confirm)
+    → numbered a.packets k ≡ Some packet → ComesTo a.broker a.confirms packet (Err why) b' confirms'
+    → ActorsMove a (Arrive k) (Err OutOfMemory) (record a { broker = b'; confirms = confirms' })
+arrive_refused a packet k why b' confirms' there comes =
+    subst (λ (b : BrokerState). ActorsMove a (Arrive k) (Err OutOfMemory) (record a {
+      broker = b;
+      confirms = confirms';
+    })) (sym comes.0)
+    (subst (λ (cs : List Confirm). ActorsMove a (Arrive k) (Err OutOfMemory) (record a { confirms = cs }))
+    (sym comes.1)
+    (exhausted a (Arrive k) refl
+    (λ w st. tried w _ (Arrive k) _
+    (arrives w k packet (is_taken w.accepted packet) (packet_is a w k (Some packet) st there) refl))))
 
 -- a packet comes to the broker
 pub arrive_done : (a : ActorParts) (packet : Packet) (k : ℕ) (taken : Bool) (b' : BrokerState)
@@ -142,4 +161,4 @@ arrive_done a packet k false b' confirms' there comes =
     })) (sym comes.1.0)
     (subst (λ (cs : List Confirm). ActorsMove a (Arrive k) (Ok (Arrived false)) (record a { confirms = cs }))
     (sym comes.1.1)
-    (arrive_passed a packet k there comes.0))
+    (arrive_ignored a packet k there comes.0))

@@ -1,11 +1,11 @@
--- No step, and so no play, changes what a closed subscriber has heard, nor any binding.
+-- No step, and so no play, changes what a closed subscriber has received, or any binding.
 use Rattle.std.proofs.Common.{◌≡◌, ◌⊎◌, ℕ, zero, suc, ◌-◌, Bool, true, false, Option, Some, Result, List, [], ◌∷◌, ◌++◌, refl, sym, ap, ◌∙◌, subst, inl, inr}
 use Rattle.std.specs.Prelude.{◌||◌, slice_get, slice_set, if◌then◌else◌}
 use Rattle.std.proofs.lemmas.Option.{same_Some}
 use Rattle.cdc_message.specs.declared.items.Delivery.{Delivery}
 use Rattle.cdc_message.specs.declared.packets.Packet.{Packet}
 use Rattle.cdc_progress.specs.Stores.{Risks}
-use Rattle.cdc_subscriber.specs.Heard.{Heard, has_ended}
+use Rattle.cdc_subscriber.specs.Reception.{Reception, has_ended}
 use Rattle.cdc_world.specs.declared.steps.Did.{Did}
 use Rattle.cdc_types.specs.declared.steps.Step.{Step}
 use Rattle.cdc_world.specs.declared.steps.StepError.{StepError}
@@ -25,22 +25,22 @@ use Rattle.cdc_world.proofs.RelatedWorlds.{EachMove, Leaves, Relates, has_past, 
 Stays-same : (s : Subscription) → Stays s s
 Stays-same s = record { binding = refl; closed = λ shut. refl }
 
--- so does one that takes a delivery: once it is closed it hears nothing of it
+-- so does one that takes a delivery: once it is closed, it receives nothing of it
 Stays-taking : (first : Delivery × List Delivery) (s : Subscription) → Stays s (with_taking first.0 first.1 s)
 Stays-taking first s =
-    let after : Bool → Heard = λ b.
-    if b || has_ended s.heard then s.heard
-    else record { items = s.heard.items ++ first.0.item ∷ []; closed = s.heard.closed } in
+    let after : Bool → Reception = λ b.
+    if b || has_ended s.reception then s.reception
+    else record { items = s.reception.items ++ first.0.item ∷ []; closed = s.reception.closed } in
     record { binding = refl; closed = λ shut. ap after shut }
 
 -- so does one that closes, perhaps once more
 Stays-close : (s : Subscription) → Stays s (with_close s)
 Stays-close s =
-    record { binding = refl; closed = λ shut. ap (λ (b : Bool). record s.heard { closed = b }) (sym shut) }
+    record { binding = refl; closed = λ shut. ap (λ (b : Bool). record s.reception { closed = b }) (sym shut) }
 
 -- ---- one subscriber is replaced
 
--- what stands at a place after another element was put at a place
+-- the element at a place after another element was put at a place
 set_there : {X : Type 0} (xs : List X) (k j : ℕ) (y x t : X) → slice_get xs k ≡ Some x → slice_get xs j ≡ Some t
     → (z : X) × (slice_get (slice_set xs k y) j ≡ Some z) × ((z ≡ t) ⊎ ((x ≡ t) × (z ≡ y)))
 set_there [] k j y x t at there = cc
@@ -49,7 +49,7 @@ set_there (a ∷ xs) zero (suc j) y x t at there = (t, there, inl refl)
 set_there (a ∷ xs) (suc k) zero y x t at there = (t, there, inl refl)
 set_there (a ∷ xs) (suc k) (suc j) y x t at there = set_there xs k j y x t at there
 
--- where one subscriber changes and stays, all stay, since no other is touched
+-- if one subscriber changes and stays, all stay, since no other is touched
 AllStay-with : (w : WorldState) (i : ℕ) (s s' : Subscription) → numbered w.subscriptions i ≡ Some s → Stays s s'
     → AllStay w (with_subscription i s' w)
 AllStay-with w i s s' at stays j t found =
@@ -63,13 +63,13 @@ AllStay-with w i s s' at stays j t found =
       | inr new ↦ (after.0, numbered_so, subst (λ x. Stays x after.0) new.0 (subst (Stays s) (sym new.1) stays))
     ]
 
--- so they do where the ledger, the connector or the broker alone takes a step
+-- so they do if only the ledger, the connector or the broker takes a step
 AllStay-same : (w : WorldState) → AllStay w w
 AllStay-same w i s found = (s, found, Stays-same s)
 
 -- ---- each step
 
--- a packet that comes to the broker, taken or passed over
+-- a packet that comes to the broker, taken or ignored
 AllStay-arrival : (w : WorldState) (packet : Packet) (taken : Bool)
     → AllStay w (with_arrival w packet taken)
 AllStay-arrival w packet true = AllStay-same w
@@ -109,8 +109,8 @@ Stays-trans : (a b c : Subscription) → Stays a b → Stays b c → Stays a c
 Stays-trans a b c first second = record {
   binding = second.binding ∙ first.binding;
   closed = λ shut.
-      let same : b.heard ≡ a.heard = first.closed shut in
-      second.closed (ap (λ (heard : Heard). heard.closed) same ∙ shut) ∙ same;
+      let same : b.reception ≡ a.reception = first.closed shut in
+      second.closed (ap (λ (reception : Reception). reception.closed) same ∙ shut) ∙ same;
 }
 
 -- and so do all
@@ -130,7 +130,7 @@ AllStay-over risks w step answer w' next = AllStay-next w step answer w' next.0
 
 -- ---- what is kept
 
--- a step leaves what a closed subscriber has heard
+-- a step leaves what a closed subscriber has received
 pub StepFixesClosed-moves : (p : Parts) (step : Step) (answer : Result Did StepError) (p' : Parts)
     → Moves p step answer p' → StepFixesClosed p step answer p'
 StepFixesClosed-moves p step answer p' moves honest w st =

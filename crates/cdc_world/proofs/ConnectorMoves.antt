@@ -1,4 +1,4 @@
--- What is kept after each step of the connector, and the state that it stands for.
+-- The kept state after each step of the connector, and the state of the world that it represents.
 use Rattle.std.proofs.Common.{◌≡◌, ℕ, Bool, true, false, List, [], ◌∷◌, ◌++◌, Option, Some, None, Result, Ok, Err, refl, sym, ap, ◌∙◌, subst, take, inl, inr}
 use Rattle.std.specs.Prelude.{◌⊎◌, ◌+◌, ◌==◌, IsTrue, is_some, option_map, if◌then◌else◌}
 use Rattle.cdc_ledger.specs.Events.{events}
@@ -37,13 +37,13 @@ pub record IsCourse (kept : SessionState) (session : Option Course) : Type 0 whe
   pub is : session ≡ Some course
   pub stands : StandsFor kept course
 
--- a session that is kept stands for a course that is there
+-- a kept session represents a course that is there
 course_found : (kept : SessionState) (session : Option Course) → SessionStands (Some kept) session
     → IsCourse kept session
 course_found kept None stands = absurd stands
 course_found kept (Some course) stands = record { course = course; is = refl; stands = stands }
 
--- so a step finds the course that the kept session stands for
+-- so a step finds the course that the kept session represents
 course_of : (a : ActorParts) (w : WorldState) (kept : SessionState) → ActorsStand a w → a.session ≡ Some kept
     → IsCourse kept w.session
 course_of a w kept st is =
@@ -54,7 +54,7 @@ no_course_found : (session : Option Course) → SessionStands None session → s
 no_course_found None stands = refl
 no_course_found (Some course) stands = absurd stands
 
--- so a step finds that the connector is down where no session is kept
+-- so a step finds that the connector is down if no session is kept
 no_course : (a : ActorParts) (w : WorldState) → ActorsStand a w → a.session ≡ None → w.session ≡ None
 no_course a w st is =
     no_course_found w.session (subst (λ (s : Option SessionState). SessionStands s w.session) is st.connector.session)
@@ -147,7 +147,7 @@ publish_done a kept kept' packets' is sends = (
       ),
 )
 
--- something, where there is something
+-- something, if there is something
 some_of : {A : Type 0} (o : Option A) → is_some o ≡ true → (x : A) × (o ≡ Some x)
 some_of None is = cc
 some_of (Some x) is = (x, refl)
@@ -183,7 +183,7 @@ answers_next a w k course found st is there =
     ∙ ap (λ (f : Option Confirm). f >>= with_answer w course)
     (ap (λ b. numbered b.confirms k) (sym st.broker) ∙ there)
 
--- whether it counts, the session says
+-- the session decides whether it counts
 pub answer_done : (a : ActorParts) (kept kept' : SessionState) (k : ℕ) (confirm : Confirm) (counted : Bool)
     → a.session ≡ Some kept → numbered a.confirms k ≡ Some confirm
     → ((course : Course) → StandsFor kept course → counted ≡ counts course confirm.session confirm.answer)
@@ -216,7 +216,7 @@ answer_done a kept kept' k confirm counted is there answer stands = (
       ),
 )
 
--- a step of a session isn't enabled where the connector is down
+-- a step of a session isn't enabled if the connector is down
 pub down : (a : ActorParts) (step : Step) (rest : WorldState → Course → Outcome)
     → ((w : WorldState) → next w step ≡ (w.session >>= rest w)) → a.session ≡ None
     → ActorsMove a step (Err NotEnabled) a
@@ -231,14 +231,14 @@ actors_held : (a : ActorParts) (w : WorldState) (held : Option Saved) → Actors
 actors_held a w held st =
     record { history = st.history; connector = st.connector; broker = st.broker; subscribers = st.subscribers }
 
--- what is kept where the store holds something else
+-- the kept state if the store holds something else
 with_held : (p : Parts) (w : WorldState) (held : Option Saved) (honest : Bool) (risks : Risks) (failed' : ℕ)
     (held' : Option Saved) → Stands p w → held ≡ held'
     → Stands (record p { held = held; honest = honest; failed = failed'; risks = risks }) (record w { held = held' })
 with_held p w held honest risks failed' held' st same =
     record { actors = actors_held p.actors w held' st.actors; held = same }
 
--- a save is done where there is a session, and its progress is held then
+-- a save is done if there is a session, and its progress is held then
 saves_next : (w : WorldState) (course : Course) → w.session ≡ Some course
     → next w Save ≡ success (with_progress w course)
 saves_next w course is = ap (λ (s : Option Course). s >>= (λ course. success (with_progress w course))) is
@@ -257,7 +257,7 @@ save_done p kept held honest' risks' failed' is saved honest w st =
       ),
     )
 
--- where a session runs, nothing but the store or memory can keep it from saving its progress
+-- if a session runs, only the store or memory can keep it from saving its progress
 save_tried : (w : WorldState) (course : Course) → w.session ≡ Some course → IsTried (next w Save)
 save_tried w course is = subst IsTried (sym (saves_next w course is)) tt
 
@@ -269,17 +269,17 @@ pub save_failed : (p : Parts) (kept : SessionState) (held : Option Saved) (hones
     → (why ≡ store.OutOfMemory → held ≡ p.held) → MayRefuseSave failed failed' why
     → MovesBy Next p Save (Err (store_refusal why))
     (record p { held = held; honest = honest; failed = failed'; risks = risks })
-save_failed p kept held honest' risks' store.ReadFault failed failed' is either lacking may honest w st = absurd may
-save_failed p kept held honest' risks' store.BadRecord failed failed' is either lacking may honest w st = absurd may
-save_failed p kept held honest' risks' store.OutOfMemory failed failed' is either lacking may honest w st =
+save_failed p kept held honest' risks' store.ReadFault failed failed' is either exhausted may honest w st = absurd may
+save_failed p kept held honest' risks' store.BadRecord failed failed' is either exhausted may honest w st = absurd may
+save_failed p kept held honest' risks' store.OutOfMemory failed failed' is either exhausted may honest w st =
     let at = course_of p.actors w kept st.actors is in (
       w,
       (
-        with_held p w held honest' risks' failed' w.held st (lacking refl ∙ st.held),
+        with_held p w held honest' risks' failed' w.held st (exhausted refl ∙ st.held),
         (refl, (save_tried w at.course at.is, refl)),
       ),
     )
-save_failed p kept held honest' risks' store.WriteFault failed failed' is either lacking may honest w st =
+save_failed p kept held honest' risks' store.WriteFault failed failed' is either exhausted may honest w st =
     let at = course_of p.actors w kept st.actors is in
     elim (either at.course at.stands) [
       | inl same ↦ (
@@ -313,33 +313,33 @@ save_failed p kept held honest' risks' store.WriteFault failed failed' is either
 -- a step that starts a session turns to the store: it loads, and may run out of memory before that
 loads_start : (at : Option ℕ) → IsTrue (loads (start_after at))
 loads_start None = refl
-loads_start (Some moment) = refl
+loads_start (Some time) = refl
 
 uses_start : (at : Option ℕ) → IsTrue (uses_store (start_after at))
 uses_start None = refl
-uses_start (Some moment) = refl
+uses_start (Some time) = refl
 
 room_start : (at : Option ℕ) → IsTrue (takes_memory (start_after at))
 room_start None = refl
-room_start (Some moment) = refl
+room_start (Some time) = refl
 
 -- what it saves
 saves_start : (w : WorldState) (at : Option ℕ) (saved : Saved) → begun w.held at ≡ Ok saved
     → saves w (start_after at) ≡ Some saved
 saves_start w None saved begins = ap saved_in begins
-saves_start w (Some moment) saved begins = ap saved_in begins
+saves_start w (Some time) saved begins = ap saved_in begins
 
--- a session starts where the connector is down, or what keeps it from that is answered
+-- a session starts if the connector is down, or what keeps it from that is answered
 starts_next : (w : WorldState) (at : Option ℕ) (answer : Result Saved StartError) → w.session ≡ None
     → begun w.held at ≡ answer → next w (start_after at) ≡ with_session w answer
 starts_next w None answer down begins = ap (with_start w None) down ∙ ap (with_session w) begins
-starts_next w (Some moment) answer down begins = ap (with_start w (Some moment)) down ∙ ap (with_session w) begins
+starts_next w (Some time) answer down begins = ap (with_start w (Some time)) down ∙ ap (with_session w) begins
 
--- a session that is about to start is refused only where there is no further number for it, or for the moment that is
--- asked for
+-- a session that is about to start is refused only if there is no further number for it, or because of the timestamp
+-- that is asked for
 begun_tried : (w : WorldState) (held : Option Saved) (at : Option ℕ) → IsTried (with_session w (begun held at))
 begun_tried w None at = tt
-begun_tried w (Some held) (Some moment) = tt
+begun_tried w (Some held) (Some time) = tt
 begun_tried w (Some held) None = by (held.session == last_session)
   where
     by : (b : Bool) → IsTried (with_session w
@@ -347,7 +347,7 @@ begun_tried w (Some held) None = by (held.session == last_session)
     by true = tt
     by false = tt
 
--- so where the connector is down a start may fail for the store's sake or for want of memory
+-- so if the connector is down, a start may fail because of the store or because memory runs out
 start_tried : (w : WorldState) (at : Option ℕ) → w.session ≡ None → IsTried (next w (start_after at))
 start_tried w at down =
     subst IsTried (sym (starts_next w at (begun w.held at) down refl)) (begun_tried w w.held at)
@@ -358,7 +358,7 @@ begins_held : (held loaded before : Option Saved) (at : Option ℕ) (answer : Re
 begins_held held loaded before at answer stands given begins =
     ap (λ h. begun h at) (sym (given ∙ stands)) ∙ begins
 
--- a session starts over an honest store: it stands for a new course under the record that is now held
+-- a session starts over an honest store: it represents a new course under the record that is now held
 pub start_done : (p : Parts) (at : Option ℕ) (actors' : ActorParts) (kept : SessionState) (held : Option Saved)
     (honest : Bool) (risks : Risks) (failed' window : ℕ) → p.actors.session ≡ None
     → actors' ≡ record p.actors { session = Some kept }

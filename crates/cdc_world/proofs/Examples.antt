@@ -1,4 +1,4 @@
--- The definitions at work: what runs of a few steps make of small worlds, beside what the rules say in words.
+-- Examples: what runs of a few steps make of small worlds.
 use Rattle.std.specs.Prelude.{ℕ, ◌≡◌, true, false, Option, Some, None, Ok, Err, List, [], ◌∷◌, ◌++◌, map}
 use Rattle.std.proofs.Common.{refl, inl, inr, arith}
 use Rattle.cdc_types.specs.declared.accounts.NewAccount.{NewAccount}
@@ -11,7 +11,7 @@ use Rattle.cdc_progress.specs.Stores.{Risks}
 use Rattle.cdc_progress.specs.declared.errors.StoreError.TheVariants.{WriteFault}
 use Rattle.cdc_publisher.specs.Courses.{new_course}
 use Rattle.cdc_subscriber.specs.declared.book.BookEntry.{BookEntry}
-use Rattle.cdc_subscriber.specs.Heard.{kept_of}
+use Rattle.cdc_subscriber.specs.Reception.{kept_of}
 use Rattle.cdc_subscriber.specs.SubscriberState.{SubscriberState}
 use Rattle.cdc_types.specs.declared.steps.Step.{Step}
 use Rattle.cdc_types.specs.declared.steps.Step.TheVariants.{Submit, CloseLedger, Start, StartAt, Crash, Poll, Publish, Arrive, Answer, Save, Send, Rewind, Break, Take, Ack, Close}
@@ -55,7 +55,7 @@ connected transfers =
     Submit (batch.Accounts 1000 (account 1 ∷ account 2 ∷ [])) ∷ Submit (batch.Transfers 2000 transfers)
     ∷ Start ∷ Publish ∷ Arrive 1 ∷ []
 
--- the next packet of an event, or of the end, is sent; or sent and taken; or sent, taken and confirmed
+-- the next packet of an event, or of the end mark, is sent; or sent and taken; or sent, taken and confirmed
 abbrev sent : List Step
 sent = Poll ∷ Publish ∷ []
 
@@ -64,12 +64,12 @@ abbrev taken : ℕ → List Step
 taken packet = sent ++ Arrive packet ∷ []
 
 -- and the broker's confirm of it, under its number, comes to the session
-abbrev told : ℕ → ℕ → List Step
-told packet confirm = taken packet ++ Answer confirm ∷ []
+abbrev emitted : ℕ → ℕ → List Step
+emitted packet confirm = taken packet ++ Answer confirm ∷ []
 
 -- what a run shows: how many steps were done, the refusal, what the store holds, and what each subscriber keeps
 abbrev shown : Run → (ℕ × Option StepError) × Option Saved × List SubscriberState
-shown run = (run.0, run.1.held, map (λ s. kept_of s.heard) run.1.subscriptions)
+shown run = (run.0, run.1.held, map (λ s. kept_of s.reception) run.1.subscriptions)
 
 -- an account of a book
 abbrev entry : ℕ → ℕ → ℕ → BookEntry
@@ -82,44 +82,44 @@ entry id debits credits = record {
 abbrev moved : ℕ → List BookEntry
 moved amount = entry 1 amount 0 ∷ entry 2 0 amount ∷ []
 
--- an empty ledger is closed: the subscriber hears the end and nothing else
+-- an empty ledger is closed: the subscriber receives the end mark and nothing else
 abbrev empty_and_closed : List Step
 empty_and_closed =
-    CloseLedger ∷ Start ∷ Publish ∷ Arrive 1 ∷ told 2 1 ++ Send 1 ∷ Take 1 ∷ []
+    CloseLedger ∷ Start ∷ Publish ∷ Arrive 1 ∷ emitted 2 1 ++ Send 1 ∷ Take 1 ∷ []
 
--- the subscriber has ended with an empty book, and the first session is held with moment 0
-tells_end : shown (run_of start empty_and_closed) ≡ (
+-- the subscriber has ended with an empty book, and the first session is held with timestamp 0
+shows_the_end : shown (run_of start empty_and_closed) ≡ (
   (10, None),
   Some (saved 1 0),
   record { book = []; last = 0; applied = 0; ended = true; closed = false } ∷ [],
 )
-tells_end = refl
+shows_the_end = refl
 
--- an empty ledger that is open has nothing to tell, not even its end
-tells_no_end : shown (run_of start (Start ∷ Publish ∷ Arrive 1 ∷ sent)) ≡ (
+-- an empty ledger that is open has nothing to publish, not even its end mark
+shows_no_end : shown (run_of start (Start ∷ Publish ∷ Arrive 1 ∷ sent)) ≡ (
   (4, Some NotEnabled),
   Some (saved 1 0),
   record { book = []; last = 0; applied = 0; ended = false; closed = false } ∷ [],
 )
-tells_no_end = refl
+shows_no_end = refl
 
--- two transfers without a fault: both are told, confirmed and saved, and the end after them
+-- two transfers without a fault: both are published, confirmed and saved, and then the end mark
 abbrev two_transfers : List NewTransfer
 two_transfers = transfer 1 5 ∷ transfer 2 7 ∷ []
 
--- its steps: the ledger closes only once both events are confirmed, and all three entries go out at the end
+-- its steps: the ledger closes only once both events are confirmed, and all three items are delivered last
 abbrev whole_way : List Step
 whole_way =
-    connected two_transfers ++ told 2 1 ++ told 3 2 ++ Save ∷ CloseLedger ∷ told 4 3
+    connected two_transfers ++ emitted 2 1 ++ emitted 3 2 ++ Save ∷ CloseLedger ∷ emitted 4 3
     ++ Send 1 ∷ Send 1 ∷ Send 1 ∷ Take 1 ∷ Take 1 ∷ Take 1 ∷ []
 
--- the book shows both amounts, the subscriber has ended, and the second event's moment is held
-tells_all : shown (run_of start whole_way) ≡ (
+-- the book shows both amounts, the subscriber has ended, and the second event's timestamp is held
+shows_all : shown (run_of start whole_way) ≡ (
   (25, None),
   Some (saved 1 2001),
   record { book = moved 12; last = 2001; applied = 2; ended = true; closed = false } ∷ [],
 )
-tells_all = refl
+shows_all = refl
 
 -- why a step isn't done: a closed ledger refuses a batch; a session runs already, or there is no further number for
 -- one; there is no packet, confirm, subscriber or acknowledgement of that number; nothing is on its way; or a step of
@@ -143,27 +143,27 @@ refuses : (refused start (CloseLedger ∷ Submit (batch.Pulse 5) ∷ []) ≡ (1,
     × (refused start (Ack 1 1 ∷ []) ≡ (0, Some NotEnabled))
 refuses = (refl, refl, refl, refl, refl, refl, refl, refl, refl, refl, refl, refl)
 
--- the packets of a session that crashed come after the next session's connect, and are passed over
+-- the packets of a session that crashed come after the next session's connect, and are ignored
 abbrev late_packets : List Step
 late_packets =
     connected (transfer 1 100 ∷ []) ++ sent ++ Crash ∷ Start ∷ Publish ∷ Arrive 3 ∷ Arrive 1 ∷ Arrive 2 ∷ taken 4
     ++ Send 1 ∷ Take 1 ∷ Send 1 ∷ []
 
--- the event is in the queue once, as the second session sent it: there is nothing to hand out after it
-passes_over_late : shown (run_of start late_packets) ≡ (
+-- the event is in the queue once, as the second session sent it: there is nothing to deliver after it
+ignores_late : shown (run_of start late_packets) ≡ (
   (18, Some NotEnabled),
   Some (saved 2 0),
   record { book = moved 100; last = 2000; applied = 1; ended = false; closed = false } ∷ [],
 )
-passes_over_late = refl
+ignores_late = refl
 
--- a session saves before what it has sent is confirmed, and crashes: the next one tells it again
+-- a session saves before what it has sent is confirmed, and crashes: the next one publishes it again
 abbrev saved_early : List Step
 saved_early =
-    connected two_transfers ++ sent ++ Save ∷ Crash ∷ Start ∷ Publish ∷ Arrive 3 ∷ told 4 1 ++ told 5 2
+    connected two_transfers ++ sent ++ Save ∷ Crash ∷ Start ∷ Publish ∷ Arrive 3 ∷ emitted 4 1 ++ emitted 5 2
     ++ Save ∷ Send 1 ∷ Take 1 ∷ Send 1 ∷ Take 1 ∷ []
 
--- the first save holds moment 0, so both events come from the second session; its own save has the last one
+-- the first save holds timestamp 0, so both events come from the second session; its own save has the last one
 saves_confirmed_alone : shown (run_of start saved_early) ≡ (
   (25, None),
   Some (saved 2 2001),
@@ -171,19 +171,19 @@ saves_confirmed_alone : shown (run_of start saved_early) ≡ (
 )
 saves_confirmed_alone = refl
 
--- a queue that goes back hands out again what isn't acknowledged, and the subscriber applies nothing twice
+-- a queue that rewinds delivers again what isn't acknowledged, and the subscriber applies nothing twice
 abbrev four_transfers : List NewTransfer
 four_transfers = transfer 1 1 ∷ transfer 2 2 ∷ transfer 3 3 ∷ transfer 4 4 ∷ []
 
--- its steps: three entries go out, the queue goes back, all four go out, and seven deliveries are taken
-abbrev handed_out_again : List Step
-handed_out_again =
-    connected four_transfers ++ told 2 1 ++ told 3 2 ++ told 4 3 ++ told 5 4
+-- its steps: three items are delivered, the queue rewinds, all four are delivered, and seven deliveries are taken
+abbrev delivered_again : List Step
+delivered_again =
+    connected four_transfers ++ emitted 2 1 ++ emitted 3 2 ++ emitted 4 3 ++ emitted 5 4
     ++ Send 1 ∷ Send 1 ∷ Send 1 ∷ Rewind 1 ∷ Send 1 ∷ Send 1 ∷ Send 1 ∷ Send 1
     ∷ Take 1 ∷ Take 1 ∷ Take 1 ∷ Take 1 ∷ Take 1 ∷ Take 1 ∷ Take 1 ∷ []
 
 -- of the seven deliveries four are applied, and each amount is in the book once
-applies_once : shown (run_of start handed_out_again) ≡ (
+applies_once : shown (run_of start delivered_again) ≡ (
   (36, None),
   Some (saved 1 0),
   record { book = moved 10; last = 2003; applied = 4; ended = false; closed = false } ∷ [],
@@ -200,11 +200,11 @@ eight_transfers =
 -- the second begins with the third, and has sent the seventh when the late confirm has the same tag
 abbrev crashed_between : List Step
 crashed_between =
-    connected eight_transfers ++ told 2 1 ++ told 3 2 ++ Save ∷ told 4 3 ++ told 5 4 ++ taken 6
-    ++ Crash ∷ Start ∷ Publish ∷ Arrive 7 ∷ told 8 6 ++ told 9 7 ++ told 10 8 ++ told 11 9
+    connected eight_transfers ++ emitted 2 1 ++ emitted 3 2 ++ Save ∷ emitted 4 3 ++ emitted 5 4 ++ taken 6
+    ++ Crash ∷ Start ∷ Publish ∷ Arrive 7 ∷ emitted 8 6 ++ emitted 9 7 ++ emitted 10 8 ++ emitted 11 9
     ++ sent ++ Answer 5 ∷ Save ∷ []
 
--- the sixth event's moment is held, not the seventh's
+-- the sixth event's timestamp is held, not the seventh's
 goes_on_from_saved : shown (run_of start crashed_between) ≡ (
   (49, None),
   Some (saved 2 2005),
@@ -215,7 +215,7 @@ goes_on_from_saved = refl
 -- a subscriber that closed applies nothing more, and still acknowledges what it takes
 abbrev closed_between : List Step
 closed_between =
-    connected two_transfers ++ told 2 1 ++ taken 3 ++ Send 1 ∷ Send 1 ∷ Take 1 ∷ Close 1 ∷ Take 1 ∷ Ack 1 2 ∷ []
+    connected two_transfers ++ emitted 2 1 ++ taken 3 ++ Send 1 ∷ Send 1 ∷ Take 1 ∷ Close 1 ∷ Take 1 ∷ Ack 1 2 ∷ []
 
 -- the second event is taken, but book, count and last timestamp are those of the first
 stays_closed : shown (run_of start closed_between) ≡ (
@@ -225,14 +225,14 @@ stays_closed : shown (run_of start closed_between) ≡ (
 )
 stays_closed = refl
 
--- what is on its way is lost and handed out again; an acknowledgement lifts a cursor that went back, and so nothing is
--- left to hand out
+-- what is on its way is lost and delivered again; an acknowledgement moves a cursor that rewound forward, and so
+-- nothing is left to deliver
 abbrev broken_off : List Step
 broken_off =
-    connected two_transfers ++ told 2 1 ++ taken 3 ++ Send 1 ∷ Send 1 ∷ Take 1 ∷ Break 1 ∷ Send 1 ∷ Ack 1 1 ∷ Send 1
+    connected two_transfers ++ emitted 2 1 ++ taken 3 ++ Send 1 ∷ Send 1 ∷ Take 1 ∷ Break 1 ∷ Send 1 ∷ Ack 1 1 ∷ Send 1
     ∷ Take 1 ∷ Take 1 ∷ Rewind 1 ∷ Ack 1 3 ∷ Send 1 ∷ []
 
--- the last hand-out isn't enabled, and of the three deliveries that were taken two are applied
+-- the last delivery isn't enabled, and of the three deliveries that were taken two are applied
 lifts_cursor : shown (run_of start broken_off) ≡ (
   (23, Some NotEnabled),
   Some (saved 1 0),
@@ -248,14 +248,14 @@ joins_late =
     Submit (batch.Accounts 1000 (account 1 ∷ account 2 ∷ [])) ∷ Submit (batch.Transfers 2000 two_transfers)
     ∷ StartAt 2000 ∷ []
 
--- the second event alone is told, and yet the book has both amounts, since the ledger's balances come with it; the
--- moment that was asked for is held as where all is confirmed up to, and as the start
-tells_what_follows : shown (run_of start (joins_late ++ Publish ∷ Arrive 1 ∷ taken 2 ++ Send 1 ∷ Take 1 ∷ [])) ≡ (
+-- only the second event is published, and yet the book has both amounts, since the event carries the ledger's
+-- balances; the timestamp that was asked for is held as the one up to which all is confirmed, and as the start
+shows_what_follows : shown (run_of start (joins_late ++ Publish ∷ Arrive 1 ∷ taken 2 ++ Send 1 ∷ Take 1 ∷ [])) ≡ (
   (10, None),
   Some (saved_from 2000 1 2000),
   record { book = moved 12; last = 2001; applied = 1; ended = false; closed = false } ∷ [],
 )
-tells_what_follows = refl
+shows_what_follows = refl
 
 -- once it is held, no other start may be asked for: nothing is saved then
 no_second_start : shown (run_of start (joins_late ++ Crash ∷ StartAt 5 ∷ [])) ≡ (
@@ -265,15 +265,15 @@ no_second_start : shown (run_of start (joins_late ++ Crash ∷ StartAt 5 ∷ [])
 )
 no_second_start = refl
 
--- a session that starts without asking goes on where the first one was, and every save keeps the start
-keeps_its_start : shown (run_of start (joins_late ++ Publish ∷ Arrive 1 ∷ told 2 1 ++ Save ∷ Crash ∷ Start ∷ [])) ≡ (
+-- a session that starts without asking continues from where the first one was, and every save keeps the start
+keeps_its_start : shown (run_of start (joins_late ++ Publish ∷ Arrive 1 ∷ emitted 2 1 ++ Save ∷ Crash ∷ Start ∷ [])) ≡ (
   (12, None),
   Some (saved_from 2000 2 2001),
   record { book = []; last = 0; applied = 0; ended = false; closed = false } ∷ [],
 )
 keeps_its_start = refl
 
--- where a session runs the step isn't enabled, whatever it asks for
+-- if a session runs, the step isn't enabled, whatever it asks for
 starts_once : refused start (joins_late ++ StartAt 2000 ∷ []) ≡ (3, Some NotEnabled)
 starts_once = refl
 
@@ -293,7 +293,7 @@ abbrev running : ℕ → WorldState
 running session =
     record (holding session) { session = Some (new_course (saved session 0) 1) }
 
--- the store may fail, and lacks no memory
+-- the store may fail, and does not run out of memory
 abbrev failing : Risks
 failing = record { memory = false; faults = true }
 
@@ -304,7 +304,7 @@ fails_with_new = (refl, (tt, (saved 1 0, refl, inr refl)))
 fails_with_old : Next start Start (Err (Store WriteFault)) start
 fails_with_old = (refl, (tt, (saved 1 0, refl, inl refl)))
 
--- it is refused where it isn't tried again
+-- it is refused if it isn't tried again
 start_refused : NextPast failing 0 start Start (Err (Store WriteFault)) (holding 1)
 start_refused = record {
   failed = 0;
@@ -315,7 +315,7 @@ start_refused = record {
   spent = λ passing. refl;
 }
 
--- tried once more it starts the session after the one that is held: the second where the new record was kept, ..
+-- tried once more it starts the session after the one that is held: the second if the new record was kept, ..
 start_after_new : NextPast failing 1 start Start (Ok Done) (running 2)
 start_after_new = record {
   failed = 1;
@@ -326,7 +326,7 @@ start_after_new = record {
   spent = λ passing. cc;
 }
 
--- .. and the first where the old one was
+-- .. and the first if the old one was
 start_after_old : NextPast failing 1 start Start (Ok Done) (running 1)
 start_after_old = record {
   failed = 1;

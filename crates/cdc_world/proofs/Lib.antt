@@ -4,6 +4,7 @@ pub mod ClosedSubscribers
 pub mod ConnectorMoves
 pub mod Counting
 mod Examples
+pub mod MovedReadings
 pub mod NumberedElements
 pub mod OrderlyWorlds
 pub mod PlayMoves

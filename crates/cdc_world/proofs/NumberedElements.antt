@@ -1,4 +1,4 @@
--- Elements by their numbers, and what stands at them.
+-- Elements by their numbers, and by their places.
 use Rattle.std.proofs.Common.{◌≡◌, ℕ, ◌-◌, ◌<◌, ◌≤◌, ◌==◌, Bool, true, false, List, [], ◌∷◌, Some, None, zero, suc, refl, sym, ap, ◌∙◌, subst, length, map, get_or, inl, inr, arith}
 use Rattle.std.specs.Prelude.{Contains, nat_lt, option_map, if◌then◌else◌}
 use Rattle.std.specs.List.{slice_get}
@@ -20,8 +20,8 @@ numbered_place xs zero below = absurd (omega arith)
 numbered_place {X} xs (suc i) below =
     ap (λ (b : Bool). if b then None else slice_get xs (suc i - 1)) (above_none i)
 
--- a number that names something is at least 1 and names what stands at the place before it,
--- so that a tag gives its item's place in the line
+-- a number that names something is at least 1 and names the element at the place before it, so a tag gives its item's
+-- place in the line
 pub numbered_parts : {X : Type 0} (xs : List X) (k : ℕ) (x : X) → numbered xs k ≡ Some x
     → (0 < k) × (slice_get xs (k - 1) ≡ Some x)
 numbered_parts xs k x h =
@@ -30,7 +30,7 @@ numbered_parts xs k x h =
       | inr not ↦ let above : 0 < k = omega (arith, eqb-false k 0 not) in (above, rw not at h)
     ]
 
--- and what stands at a place is named by the number after it
+-- and the element at a place is named by the number after it
 pub numbered_from : {X : Type 0} (xs : List X) (k : ℕ) (x : X) → 0 < k → slice_get xs (k - 1) ≡ Some x
     → numbered xs k ≡ Some x
 numbered_from xs k x above h =
@@ -49,7 +49,7 @@ pub record IsPlace (i count place : ℕ) : Type 0 where
   pub here : place ≡ i - 1
   pub inside : i - 1 < count
 
--- a number above 0 has a place where the list is long enough
+-- a number above 0 has a place if the list is long enough
 place_above : (i count : ℕ) → place_in (suc i) count ≡ (if nat_lt (suc i - 1) count then Some (suc i - 1) else None)
 place_above i count =
     ap (λ (b : Bool). if b then None else (if nat_lt (suc i - 1) count then Some (suc i - 1) else None)) (above_none i)
@@ -61,14 +61,14 @@ place_cases i count place true below found =
     record { above = omega arith; here = cc; inside = grind arith }
 place_cases i count place false below found = cc
 
--- so where the code finds a place for a subscriber's number, that subscriber is there
+-- so if the code finds a place for a subscriber's number, that subscriber is there
 pub place_is : (i count place : ℕ) → place_in i count ≡ Some place → IsPlace i count place
 place_is zero count place found = cc
 place_is (suc i) count place found =
     place_cases i count place (nat_lt (suc i - 1) count) refl (sym (place_above i count) ∙ found)
 
--- behind a list's end there is nothing
-slice_get_past : {X : Type 0} (xs : List X) (k : ℕ) → length xs ≤ k → slice_get xs k ≡ None
+-- after a list's end there is nothing
+pub slice_get_past : {X : Type 0} (xs : List X) (k : ℕ) → length xs ≤ k → slice_get xs k ≡ None
 slice_get_past [] k past = refl
 slice_get_past (x ∷ xs) zero past = absurd (omega arith)
 slice_get_past (x ∷ xs) (suc k) past = slice_get_past xs k (omega arith)
@@ -80,7 +80,7 @@ unplaced xs i true below none = cc
 unplaced xs i false past none =
     numbered_place xs (suc i) (omega arith) ∙ slice_get_past xs (suc i - 1) (grind arith)
 
--- so where the code finds no place for a number, nothing has that number
+-- so if the code finds no place for a number, nothing has that number
 pub numbered_none : {X : Type 0} (xs : List X) (i count : ℕ) → count ≡ length xs → place_in i count ≡ None
     → numbered xs i ≡ None
 numbered_none xs zero count same none = refl
@@ -88,7 +88,7 @@ numbered_none xs (suc i) count same none =
     unplaced xs i (nat_lt (suc i - 1) (length xs)) refl
     (sym (place_above i (length xs)) ∙ subst (λ n. place_in (suc i) n ≡ None) same none)
 
--- and where it finds one, what stands there has the number
+-- and if it finds one, the element there has the number
 pub numbered_some : {X : Type 0} (xs : List X) (i count place : ℕ) (x : X) → count ≡ length xs
     → place_in i count ≡ Some place → x ≡ get_or xs place x → numbered xs i ≡ Some x
 numbered_some xs i count place x same found here =
@@ -96,7 +96,7 @@ numbered_some xs i count place x same found here =
     numbered_place xs i at.above ∙ ap (slice_get xs) (sym at.here)
     ∙ slice_get_read xs count place x same (omega (arith, at.inside, at.here)) here
 
--- an element of a list that is made of another stands for the other's element there
+-- an element of a mapped list is the image of the list's element at the same place
 pub slice_get_made : {X Y : Type 0} (f : X → Y) (xs : List X) (k : ℕ) (y : Y) → slice_get (map f xs) k ≡ Some y
     → (x : X) × ((slice_get xs k ≡ Some x) × (f x ≡ y))
 slice_get_made f [] k y found = cc

@@ -65,7 +65,7 @@ IsOrderly-new bindings window held start = record {
   confirmed = λ session tag there. absurd (none_there _ there);
 }
 
--- ---- where parts of the world change
+-- ---- when parts of the world change
 
 -- the subscribers
 IsOrderly-subscriptions : (w : WorldState) (subscriptions : List Subscription) → IsOrderly w
@@ -120,7 +120,7 @@ IsOrderly-started w at (Ok saved) is new =
     (KeepsTo-start w.history (connector_in w is.received) at saved w.window is.connector new)
 IsOrderly-started w at (Err why) is new = tt
 
--- where the connector is down
+-- when the connector is down
 IsOrderly-starting : (w : WorldState) (at : Option ℕ) (session : Option Course) → IsOrderly w
     → Leaves IsOrderly (with_start w at session)
 IsOrderly-starting w at None is = IsOrderly-started w at (begun w.held at) is refl
@@ -217,7 +217,7 @@ IsOrderly-taken w packet is sent takes = record {
   confirmed = confirms_taken w.confirms w.accepted packet is.confirmed;
 }
 
--- or passes over it
+-- or ignores it
 IsOrderly-arrived : (w : WorldState) (packet : Packet) → IsOrderly w → Contains w.packets packet
     → IsOrderly (with_arrival w packet (is_taken w.accepted packet))
 IsOrderly-arrived w packet is sent =
@@ -248,7 +248,7 @@ IsOrderly-step w CloseLedger is =
     IsOrderly-history w (record w.history { closed = true }) is (GoesOn-closed w.history)
     (IsSound-closed w.history is.sound)
 IsOrderly-step w Start is = IsOrderly-starting w None w.session is
-IsOrderly-step w (StartAt moment) is = IsOrderly-starting w (Some moment) w.session is
+IsOrderly-step w (StartAt time) is = IsOrderly-starting w (Some time) w.session is
 IsOrderly-step w Crash is =
     Leaves_on IsOrderly w.session _ (λ course there.
     IsOrderly-session w w.held None is (KeepsTo-end w.history (connector_in w is.received) is.connector))
@@ -287,7 +287,7 @@ IsOrderly-step w (Close i) is =
 
 -- ---- a store that fails
 
--- a start that is tried comes where the connector is down
+-- a start that is tried comes while the connector is down
 tried_down : (w : WorldState) (at : Option ℕ) (session : Option Course) → IsTried (with_start w at session)
     → session ≡ None
 tried_down w at None tried = refl
@@ -320,8 +320,8 @@ saved_of (Some course) saved is = (course, refl, same_Some (progress_of course) 
 IsOrderly-written : (w : WorldState) (s : Step) → IsOrderly w → (saved : Saved) → IsTried (next w s)
     → saves w s ≡ Some saved → IsOrderly (record w { held = Some saved })
 IsOrderly-written w Start is saved tried saves = IsOrderly-start_written w None is saved tried saves
-IsOrderly-written w (StartAt moment) is saved tried saves =
-    IsOrderly-start_written w (Some moment) is saved tried saves
+IsOrderly-written w (StartAt time) is saved tried saves =
+    IsOrderly-start_written w (Some time) is saved tried saves
 IsOrderly-written w Save is saved tried saves =
     let of = saved_of w.session saved saves in
     IsOrderly-session w (Some saved) w.session is

@@ -57,7 +57,7 @@ HasDone-more Goes p p' p'' steps done step did inside here has moves honest' ris
       );
 }
 
--- the step at a place and those behind it
+-- the step at a place and those after it
 drop_here : {X : Type 0} (xs : List X) (i : ℕ) (x : X) → i < length xs → x ≡ get_or xs i x
     → (rest : List X) × (drop i xs ≡ x ∷ rest)
 drop_here [] i x inside here = absurd (omega arith)
@@ -86,7 +86,7 @@ Plays-stopped Goes p p' p'' steps done step why inside here has moves honest w s
       ),
     )
 
--- behind a whole list there is nothing
+-- after a whole list there is nothing
 drop_length : {X : Type 0} (xs : List X) → drop (length xs) xs ≡ []
 drop_length [] = refl
 drop_length (x ∷ xs) = drop_length xs

@@ -1,5 +1,4 @@
--- The broker's queues, as they stand for the subscriptions: after an item that was taken, and after one of them
--- changed.
+-- The broker's queues as they represent the subscriptions: after an item was taken, and after one queue has changed.
 use Rattle.std.proofs.Common.{◌≡◌, ℕ, zero, suc, Bool, true, false, List, [], ◌∷◌, ◌++◌, Some, None, refl, sym, ap, ap₂, ◌∙◌, subst, map, append-nil}
 use Rattle.std.specs.Prelude.{Option, slice_get, slice_set, unwrap_or, if◌then◌else◌}
 use Rattle.std.proofs.lemmas.Option.{same_Some}
@@ -11,7 +10,7 @@ use Rattle.cdc_match.specs.Queue.{takes_item}
 use Rattle.cdc_message.specs.declared.items.Item.{Item}
 use Rattle.cdc_message.specs.declared.packets.Packet.{Packet}
 use Rattle.cdc_message.specs.declared.packets.Packet.TheVariants.{Connect, Publish}
-use Rattle.cdc_world.specs.Stands.{WereHandedOut, HaveHandedOut, QueueView, queue_for, view_of}
+use Rattle.cdc_world.specs.Stands.{WereDelivered, HaveDelivered, QueueView, queue_for, view_of}
 use Rattle.cdc_world.specs.Worlds.{Subscription}
 
 -- ---- an item is taken
@@ -20,7 +19,7 @@ use Rattle.cdc_world.specs.Worlds.{Subscription}
 abbrev requeued : Item → QueueView → QueueView
 requeued item v = record v { items = v.items ++ (if takes_item v.binding item then item ∷ [] else []) }
 
--- a queue is seen with the item at its back where its binding takes it, and else as it was
+-- a queue is seen with the item at its end if the item matches its binding, and otherwise as it was
 with_item_view : (b : Bool) (item : Item) (q : QueueState)
     → view_of (with_item (if b then Some item else None) q)
     ≡ record (view_of q) { items = q.items ++ (if b then item ∷ [] else []) }
@@ -28,7 +27,7 @@ with_item_view true item q = refl
 with_item_view false item q = ap (λ (items : List Item). record (view_of q) { items = items }) (sym
     (append-nil q.items))
 
--- a queue that stands for a subscription's does so after one more item
+-- a queue that represents a subscription's does so after one more item
 queued_view : (item : Item) (items : List Item) (q : QueueState) (s : Subscription) → view_of q ≡ queue_for items s
     → view_of (queued item q) ≡ queue_for (items ++ item ∷ []) s
 queued_view item items q s same =
@@ -49,60 +48,60 @@ queues_after item items (q ∷ queues) (s ∷ subscriptions) same =
     ap₂ (λ (v : QueueView) (vs : List QueueView). v ∷ vs) (queued_view item items q s here)
     (queues_after item items queues subscriptions rest)
 
--- an item that joins a queue leaves what it handed out
-with_item_handed : (item : Option Item) (q : QueueState) → (with_item item q).handed ≡ q.handed
-with_item_handed None q = refl
-with_item_handed (Some item) q = refl
+-- an item added to a queue leaves what it delivered
+with_item_delivered : (item : Option Item) (q : QueueState) → (with_item item q).delivered ≡ q.delivered
+with_item_delivered None q = refl
+with_item_delivered (Some item) q = refl
 
--- so what was handed out stays so in all queues
-pub handed_after : (item : Item) (queues : List QueueState) (subscriptions : List Subscription)
-    → HaveHandedOut queues subscriptions → HaveHandedOut (map (queued item) queues) subscriptions
-handed_after item [] subscriptions handed = tt
-handed_after item (q ∷ queues) [] handed = tt
-handed_after item (q ∷ queues) (s ∷ subscriptions) handed = (
-  subst (λ n. WereHandedOut n s) (sym (with_item_handed (item_for q.binding item) q)) handed.0,
-  handed_after item queues subscriptions handed.1,
+-- so what was delivered stays so in all queues
+pub delivered_after : (item : Item) (queues : List QueueState) (subscriptions : List Subscription)
+    → HaveDelivered queues subscriptions → HaveDelivered (map (queued item) queues) subscriptions
+delivered_after item [] subscriptions delivered = tt
+delivered_after item (q ∷ queues) [] delivered = tt
+delivered_after item (q ∷ queues) (s ∷ subscriptions) delivered = (
+  subst (λ n. WereDelivered n s) (sym (with_item_delivered (item_for q.binding item) q)) delivered.0,
+  delivered_after item queues subscriptions delivered.1,
 )
 
 -- ---- one queue changes
 
--- a list is left as it was where what stands at a place is put there again
+-- a list is unchanged if the element at a place is put there again
 pub set_found : {X : Type 0} (xs : List X) (k : ℕ) (x : X) → slice_get xs k ≡ Some x → slice_set xs k x ≡ xs
 set_found [] k x found = refl
 set_found (y ∷ xs) zero x found = ap (λ z. z ∷ xs) (sym (same_Some y x found))
 set_found (y ∷ xs) (suc k) x found = ap (λ zs. y ∷ zs) (set_found xs k x found)
 
--- the same of what stands there, or of anything where nothing does
+-- the same for the element there, or for anything if there is none
 pub set_same : {X : Type 0} (xs : List X) (k : ℕ) (none : X) → slice_set xs k (unwrap_or (slice_get xs k) none) ≡ xs
 set_same [] k none = refl
 set_same (x ∷ xs) zero none = refl
 set_same (x ∷ xs) (suc k) none = ap (λ zs. x ∷ zs) (set_same xs k none)
 
--- where one queue and its subscription change so that what was handed out stays so, it does in all
-pub handed_set : (k : ℕ) (queues : List QueueState) (subscriptions : List Subscription) (none q' : QueueState)
+-- if one queue and its subscription change so that what was delivered stays so, it does in all
+pub delivered_set : (k : ℕ) (queues : List QueueState) (subscriptions : List Subscription) (none q' : QueueState)
     (s s' : Subscription) → slice_get subscriptions k ≡ Some s
-    → (WereHandedOut (unwrap_or (slice_get queues k) none).handed s → WereHandedOut q'.handed s')
-    → HaveHandedOut queues subscriptions → HaveHandedOut (slice_set queues k q') (slice_set subscriptions k s')
-handed_set k [] subscriptions none q' s s' found step handed = tt
-handed_set k (q ∷ queues) [] none q' s s' found step handed = cc
-handed_set zero (q ∷ queues) (t ∷ subscriptions) none q' s s' found step handed =
-    (step (subst (WereHandedOut q.handed) (same_Some t s found) handed.0), handed.1)
-handed_set (suc k) (q ∷ queues) (t ∷ subscriptions) none q' s s' found step handed =
-    (handed.0, handed_set k queues subscriptions none q' s s' found step handed.1)
+    → (WereDelivered (unwrap_or (slice_get queues k) none).delivered s → WereDelivered q'.delivered s')
+    → HaveDelivered queues subscriptions → HaveDelivered (slice_set queues k q') (slice_set subscriptions k s')
+delivered_set k [] subscriptions none q' s s' found step delivered = tt
+delivered_set k (q ∷ queues) [] none q' s s' found step delivered = cc
+delivered_set zero (q ∷ queues) (t ∷ subscriptions) none q' s s' found step delivered =
+    (step (subst (WereDelivered q.delivered) (same_Some t s found) delivered.0), delivered.1)
+delivered_set (suc k) (q ∷ queues) (t ∷ subscriptions) none q' s s' found step delivered =
+    (delivered.0, delivered_set k queues subscriptions none q' s s' found step delivered.1)
 
--- what was handed out by the queue of one subscription, which is there since each subscription has a queue
-pub handed_here : (k : ℕ) (queues : List QueueState) (subscriptions : List Subscription) (items : List Item)
+-- what was delivered by the queue of one subscription, which is there since each subscription has a queue
+pub delivered_here : (k : ℕ) (queues : List QueueState) (subscriptions : List Subscription) (items : List Item)
     (none : QueueState) (s : Subscription) → map view_of queues ≡ map (queue_for items) subscriptions
-    → slice_get subscriptions k ≡ Some s → HaveHandedOut queues subscriptions
-    → WereHandedOut (unwrap_or (slice_get queues k) none).handed s
-handed_here k [] [] items none s same found handed = cc
-handed_here k [] (t ∷ subscriptions) items none s same found handed = cc
-handed_here k (q ∷ queues) [] items none s same found handed = cc
-handed_here zero (q ∷ queues) (t ∷ subscriptions) items none s same found handed =
-    subst (WereHandedOut q.handed) (same_Some t s found) handed.0
-handed_here (suc k) (q ∷ queues) (t ∷ subscriptions) items none s same found handed =
+    → slice_get subscriptions k ≡ Some s → HaveDelivered queues subscriptions
+    → WereDelivered (unwrap_or (slice_get queues k) none).delivered s
+delivered_here k [] [] items none s same found delivered = cc
+delivered_here k [] (t ∷ subscriptions) items none s same found delivered = cc
+delivered_here k (q ∷ queues) [] items none s same found delivered = cc
+delivered_here zero (q ∷ queues) (t ∷ subscriptions) items none s same found delivered =
+    subst (WereDelivered q.delivered) (same_Some t s found) delivered.0
+delivered_here (suc k) (q ∷ queues) (t ∷ subscriptions) items none s same found delivered =
     let rest : map view_of queues ≡ map (queue_for items) subscriptions = cc in
-    handed_here k queues subscriptions items none s rest found handed.1
+    delivered_here k queues subscriptions items none s rest found delivered.1
 
 -- ---- what packets make of it
 

@@ -3,7 +3,7 @@ use Rattle.std.proofs.Common.{◌≡◌, ℕ, Some}
 use Rattle.cdc_laws.specs.Faithful.{IsFaithful, kept_from}
 use Rattle.cdc_laws.proofs.Faithful.{IsFaithful-queue, kept_of-queue}
 use Rattle.cdc_message.specs.Replays.{IsReplay}
-use Rattle.cdc_subscriber.specs.Heard.{kept_of}
+use Rattle.cdc_subscriber.specs.Reception.{kept_of}
 use Rattle.cdc_world.specs.Next.{IsReached}
 use Rattle.cdc_world.specs.Worlds.{Subscription, WorldState, numbered, queue_in, start_of, taken_items}
 use Rattle.cdc_world.specs.Orderly.{IsOrderly}
@@ -17,18 +17,18 @@ module _ (w : WorldState) (i : ℕ) (s : Subscription) (reached : IsReached w)
   orderly : IsOrderly w
   orderly = IsOrderly-reached w reached
 
-  -- what it heard is a replay of its queue
-  hears : IsReplay s.heard.items (queue_in w s)
-  hears = IsReplay-served (queue_in w s) s (AreQueued-reached w reached i s found)
+  -- what it received is a replay of its queue
+  receives : IsReplay s.reception.items (queue_in w s)
+  receives = IsReplay-served (queue_in w s) s (AreQueued-reached w reached i s found)
 
   -- so each subscriber is faithful
-  pub faithful-reached : IsFaithful w.history (start_of w) s.binding s.heard
+  pub faithful-reached : IsFaithful w.history (start_of w) s.binding s.reception
   faithful-reached =
-      IsFaithful-queue w.history (start_of w) s.binding s.heard orderly.sound (taken_items w)
-      (IsReplay-orderly w orderly) hears
+      IsFaithful-queue w.history (start_of w) s.binding s.reception orderly.sound (taken_items w)
+      (IsReplay-orderly w orderly) receives
 
-  -- and what it keeps, as its readers tell it, is told by what it has applied
-  pub kept-reached : kept_of s.heard ≡ kept_from s.heard
+  -- and its state, as its getters return it, is determined by what it has applied
+  pub kept-reached : kept_of s.reception ≡ kept_from s.reception
   kept-reached =
-      kept_of-queue w.history (start_of w) s.binding s.heard orderly.sound (taken_items w)
-      (IsReplay-orderly w orderly) hears
+      kept_of-queue w.history (start_of w) s.binding s.reception orderly.sound (taken_items w)
+      (IsReplay-orderly w orderly) receives

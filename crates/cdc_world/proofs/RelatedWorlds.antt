@@ -27,12 +27,12 @@ use Rattle.cdc_world.specs.Worlds.{Subscription, WorldState, new_world, numbered
 
 -- ---- what a step leaves
 
--- this holds of the world after a step, where it is done
+-- this holds for the world after a step, if the step is done
 abbrev pub Leaves : (WorldState → Type 0) → Outcome → Type 0
 Leaves P (Ok after) = P after.1
 Leaves P (Err why) = Unit {0}
 
--- what a step leaves where it is done holds of the world that came of it
+-- what a step leaves if it is done holds for the world after it
 Leaves_so : (P : WorldState → Type 0) (outcome : Outcome) (did : Did) (w : WorldState) → Leaves P outcome
     → outcome ≡ Ok (did, w) → P w
 Leaves_so P (Ok after) did w holds is =
@@ -70,12 +70,12 @@ module _ (P : WorldState → Type 0) (w : WorldState)
   leaves_batch (Ok answered) = others answered.1 w.held w.session w.packets
   leaves_batch (Err why) = tt
 
-  -- a session that starts, where it may
+  -- a session that starts, if it may
   leaves_session : (answer : Result Saved StartError) → Leaves P (with_session w answer)
   leaves_session (Ok saved) = others w.history (Some saved) (Some (new_course saved w.window)) w.packets
   leaves_session (Err why) = tt
 
-  -- and where none runs
+  -- and if none runs
   leaves_start : (at : Option ℕ) (session : Option Course) → Leaves P (with_start w at session)
   leaves_start at None = leaves_session (begun w.held at)
   leaves_start at (Some course) = tt
@@ -91,7 +91,7 @@ module _ (P : WorldState → Type 0) (w : WorldState)
   step_leaves (Submit batch) = leaves_batch (submit w.history batch)
   step_leaves CloseLedger = others (record w.history { closed = true }) w.held w.session w.packets
   step_leaves Start = leaves_start None w.session
-  step_leaves (StartAt moment) = leaves_start (Some moment) w.session
+  step_leaves (StartAt time) = leaves_start (Some time) w.session
   step_leaves Crash = Leaves_on P w.session _ (λ course found. others w.history w.held None w.packets)
   step_leaves PollStep =
       Leaves_on P w.session _ (λ course found.
@@ -118,7 +118,8 @@ module _ (P : WorldState → Type 0) (w : WorldState)
 
 -- ---- whatever is answered
 
--- what a step leaves, where it holds before it, and where the store holds in the end what the step saves
+-- what a step leaves, if it holds before the step, and also for the world in which the store holds what the step
+-- saves
 pub next_leaves : (P : WorldState → Type 0) (w : WorldState) (s : Step)
     (answer : Result Did StepError) (w' : WorldState) → Next w s answer w' → P w
     → ((saved : Saved) → IsTried (next w s) → saves w s ≡ Some saved → P (record w { held = Some saved }))
@@ -146,7 +147,8 @@ abbrev pub Relates : (WorldState → WorldState → Type 0) → Going → Type 0
 Relates R Goes = (w : WorldState) (s : Step) (answer : Result Did StepError) (w' : WorldState) → Goes w s answer w'
     → R w w'
 
--- where a world is so related to itself, and through a third one, steps in a row relate worlds as each does
+-- if each world is so related to itself, and the relation is transitive, steps in a row relate worlds if each step
+-- does
 module _ (R : WorldState → WorldState → Type 0) (same : (w : WorldState) → R w w)
     (on : (u v w : WorldState) → R u v → R v w → R u w) where
   -- to what is the same
@@ -194,11 +196,11 @@ module _ (R : WorldState → WorldState → Type 0) (same : (w : WorldState) →
       on w play.before w' (has_does Goes has w (take done steps) play.before play.does)
       (has_stops Goes has play.before (drop done steps) refusal w' play.stops)
 
--- one world has this where the other has it
+-- one world has this if the other has it
 abbrev pub Keeps : (WorldState → Type 0) → WorldState → WorldState → Type 0
 Keeps P w w' = P w → P w'
 
--- where it holds before the first step, it holds of each world that steps lead to
+-- if it holds before the first step, it holds for each world that steps lead to
 pub reached_has : (P : WorldState → Type 0) → Relates (Keeps P) Next
     → ((bindings : List Arguments) (window : ℕ) (held : Option Saved) → IsAtStart held
     → P (new_world bindings window held))

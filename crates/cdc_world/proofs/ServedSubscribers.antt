@@ -1,16 +1,16 @@
--- What holds of a subscriber and its queue stays so when the queue grows, hands out or goes back, and when the
--- subscriber takes, acknowledges or closes.
+-- What holds for a subscriber and its queue is preserved when the queue gets an item, delivers or rewinds, and when
+-- the subscriber takes, acknowledges or closes.
 use Rattle.std.proofs.Common.{◌≡◌, ◌⊎◌, ℕ, ◌+◌, ◌<◌, ◌≤◌, max, Some, List, [], ◌∷◌, ◌++◌, length, get_or, take, refl, sym, ap, ap₂, ◌∙◌, subst, inl, inr, arith}
 use Rattle.std.specs.Prelude.{Contains}
 use Rattle.std.proofs.lemmas.Bool.{cases_lt}
 use Rattle.std.proofs.lemmas.List.{append_assoc, append-nil, get_or-take, length-take, map_push}
 use Rattle.std.proofs.lemmas.List.Elements.{Contains-append_left}
 use Rattle.cdc_broker.specs.Cursors.{delivery_at}
-use Rattle.cdc_laws.specs.Brokers.{HasHandedOut}
+use Rattle.cdc_laws.specs.Brokers.{HasDelivered}
 use Rattle.cdc_laws.specs.Deliveries.{deliveries}
 use Rattle.cdc_laws.proofs.Deliveries.{HasNoneTwice-deliveries, length-deliveries, position-deliveries}
-use Rattle.cdc_laws.proofs.Hearing.{HasTaken-close, HasTaken-next, HasTaken-nil, IsReplay-front, IsReplay-of_queue}
-use Rattle.cdc_laws.proofs.Queues.{HasHandedOut-longer, HasHandedOut-next, HasHandedOut-nil, HasHandedOut-rewound}
+use Rattle.cdc_laws.proofs.Receiving.{HasTaken-close, HasTaken-next, HasTaken-nil, IsReplay-front, IsReplay-of_queue}
+use Rattle.cdc_laws.proofs.Queues.{HasDelivered-longer, HasDelivered-next, HasDelivered-nil, HasDelivered-rewound}
 use Rattle.cdc_laws.proofs.Replays.{Contains-unmap}
 use Rattle.cdc_match.specs.Arguments.{Arguments}
 use Rattle.cdc_message.specs.declared.items.Delivery.{Delivery}
@@ -21,28 +21,28 @@ use Rattle.cdc_world.specs.Next.{first_flight, with_ack, with_break, with_close,
 use Rattle.cdc_world.specs.Served.{IsServed, queue_at, sent_to}
 use Rattle.cdc_world.specs.Worlds.{Subscription, new_subscription}
 
--- to a new subscriber nothing was handed out, and it has missed nothing
+-- nothing was delivered to a new subscriber, and it has missed nothing
 pub IsServed-new : (binding : Arguments) → IsServed [] (new_subscription binding)
 IsServed-new binding =
-    record { handed = 0; out = HasHandedOut-nil binding; hears = HasTaken-nil; acks = refl; acked = inl refl }
+    record { delivered = 0; out = HasDelivered-nil binding; receives = HasTaken-nil; acks = refl; acked = inl refl }
 
--- what came is a beginning of what came or may yet come
+-- what came is a prefix of what came or may yet come
 came : (s : Subscription) → IsPrefix s.taken (sent_to s)
 came s = record { rest = s.flight; whole = refl }
 
 module _ (items : List Item) (s : Subscription) (served : IsServed items s) where
-  -- what it heard is a replay of its queue
-  pub IsReplay-served : IsReplay s.heard.items items
+  -- what it received is a replay of its queue
+  pub IsReplay-served : IsReplay s.reception.items items
   IsReplay-served =
-      IsReplay-of_queue (queue_at items served.handed s) s.heard
-      (record { out = sent_to s; handed = served.out; taken = s.taken; front = came s; hears = served.hears })
+      IsReplay-of_queue (queue_at items served.delivered s) s.reception
+      (record { out = sent_to s; delivered = served.out; taken = s.taken; front = came s; receives = served.receives })
 
-  -- items that join a queue stand behind all that was handed out
+  -- items added to a queue follow all that was delivered
   pub IsServed-longer : (more : List Item) → IsServed (items ++ more) s
   IsServed-longer more = record {
-    handed = served.handed;
-    out = HasHandedOut-longer (queue_at items served.handed s) (sent_to s) more served.out;
-    hears = served.hears;
+    delivered = served.delivered;
+    out = HasDelivered-longer (queue_at items served.delivered s) (sent_to s) more served.out;
+    receives = served.receives;
     acks = served.acks;
     acked = served.acked;
   }
@@ -50,31 +50,31 @@ module _ (items : List Item) (s : Subscription) (served : IsServed items s) wher
   -- the item at the cursor goes on its way
   pub IsServed-sending : (d : Delivery) → delivery_at s.cursor items ≡ Some d → IsServed items (with_delivery d s)
   IsServed-sending d found = record {
-    handed = max served.handed s.cursor.next;
-    out = subst (HasHandedOut (queue_at items (max served.handed s.cursor.next) (with_delivery d s)))
+    delivered = max served.delivered s.cursor.next;
+    out = subst (HasDelivered (queue_at items (max served.delivered s.cursor.next) (with_delivery d s)))
         (append_assoc s.taken s.flight (d ∷ []))
-        (HasHandedOut-next (queue_at items served.handed s) (sent_to s) d served.out found);
-    hears = served.hears;
+        (HasDelivered-next (queue_at items served.delivered s) (sent_to s) d served.out found);
+    receives = served.receives;
     acks = served.acks;
     acked = served.acked;
   }
 
-  -- the queue goes back
+  -- the queue rewinds
   pub IsServed-rewound : IsServed items (with_rewind s)
   IsServed-rewound = record {
-    handed = served.handed;
-    out = HasHandedOut-rewound (queue_at items served.handed s) (sent_to s) served.out;
-    hears = served.hears;
+    delivered = served.delivered;
+    out = HasDelivered-rewound (queue_at items served.delivered s) (sent_to s) served.out;
+    receives = served.receives;
     acks = served.acks;
     acked = served.acked;
   }
 
-  -- a subscriber that closes has heard what it has
+  -- a subscriber that closes keeps what it has received
   pub IsServed-close : IsServed items (with_close s)
   IsServed-close = record {
-    handed = served.handed;
+    delivered = served.delivered;
     out = served.out;
-    hears = HasTaken-close s.heard s.taken served.hears;
+    receives = HasTaken-close s.reception s.taken served.receives;
     acks = served.acks;
     acked = served.acked;
   }
@@ -115,22 +115,22 @@ module _ (items : List Item) (s : Subscription) (served : IsServed items s) wher
   }
   IsReached-acked p (inr there) = IsReached-acks p there
 
-  -- the queue goes back, and what is on its way is lost
+  -- the queue rewinds, and what is on its way is lost
   pub IsServed-broken : IsServed items (with_break s)
   IsServed-broken =
       let reached : IsReached s.cursor.acked = IsReached-acked s.cursor.acked served.acked in
       record {
-        handed = s.cursor.acked;
-        out = subst (HasHandedOut (queue_at items s.cursor.acked (with_break s))) (sym (append-nil s.taken))
+        delivered = s.cursor.acked;
+        out = subst (HasDelivered (queue_at items s.cursor.acked (with_break s))) (sym (append-nil s.taken))
             (record {
               replay = IsReplay-front s.taken (sent_to s) (deliveries items) (came s) served.out.replay;
               all = reached.all;
               there = reached.within;
               from_one = omega arith;
               next_at_most = omega arith;
-              acked_handed = omega arith;
+              acked_delivered = omega arith;
             });
-        hears = served.hears;
+        receives = served.receives;
         acks = served.acks;
         acked = served.acked;
       }
@@ -140,25 +140,25 @@ module _ (items : List Item) (s : Subscription) (served : IsServed items s) wher
   IsServed-ack position there =
       let reached : IsReached position = IsReached-acks position there in
       record {
-        handed = max served.handed position;
+        delivered = max served.delivered position;
         out = record {
           replay = served.out.replay;
           all = λ d before.
-              elim (cases_lt served.handed position) [
+              elim (cases_lt served.delivered position) [
                 | inl further ↦
-                    let count : max served.handed position ≡ position = omega (arith, further) in
+                    let count : max served.delivered position ≡ position = omega (arith, further) in
                     Contains-append_left s.taken s.flight d
                     (reached.all d (subst (λ n. Contains (take n (deliveries items)) d) count before))
                 | inr known ↦
-                    let count : max served.handed position ≡ served.handed = omega (arith, known) in
+                    let count : max served.delivered position ≡ served.delivered = omega (arith, known) in
                     served.out.all d (subst (λ n. Contains (take n (deliveries items)) d) count before)
               ];
           there = omega (arith, reached.within, served.out.there);
           from_one = omega (arith, served.out.from_one);
-          next_at_most = omega (arith, served.out.next_at_most, served.out.acked_handed);
-          acked_handed = omega (arith, served.out.acked_handed);
+          next_at_most = omega (arith, served.out.next_at_most, served.out.acked_delivered);
+          acked_delivered = omega (arith, served.out.acked_delivered);
         };
-        hears = served.hears;
+        receives = served.receives;
         acks = served.acks;
         acked = elim (cases_lt s.cursor.acked position) [
           | inl newer ↦
@@ -170,7 +170,7 @@ module _ (items : List Item) (s : Subscription) (served : IsServed items s) wher
 
   -- ---- the subscriber takes a delivery
 
-  -- the first delivery on its way and those behind it are all that are
+  -- the first delivery on its way and those after it are all that are
   in_flight : (flight : List Delivery) (first : Delivery × List Delivery) → first_flight flight ≡ Some first
       → flight ≡ first.0 ∷ first.1
   in_flight [] first found = cc
@@ -179,7 +179,7 @@ module _ (items : List Item) (s : Subscription) (served : IsServed items s) wher
       ap₂ (λ x xs. x ∷ xs) (ap (λ (p : Delivery × List Delivery). p.0) is)
       (ap (λ (p : Delivery × List Delivery). p.1) is)
 
-  -- it was on its way: all that was handed out is the same, and one more is acknowledged
+  -- it was on its way: all that was delivered is the same, and one more is acknowledged
   pub IsServed-taking : (first : Delivery × List Delivery) → first_flight s.flight ≡ Some first
       → IsServed items (with_taking first.0 first.1 s)
   IsServed-taking first found =
@@ -187,9 +187,9 @@ module _ (items : List Item) (s : Subscription) (served : IsServed items s) wher
       let sent : sent_to s ≡ (s.taken ++ d ∷ []) ++ first.1 =
       ap (λ ds. s.taken ++ ds) (in_flight s.flight first found) ∙ sym (append_assoc s.taken (d ∷ []) first.1) in
       record {
-        handed = served.handed;
-        out = subst (HasHandedOut (queue_at items served.handed s)) sent served.out;
-        hears = HasTaken-next s.heard s.taken d served.hears;
+        delivered = served.delivered;
+        out = subst (HasDelivered (queue_at items served.delivered s)) sent served.out;
+        receives = HasTaken-next s.reception s.taken d served.receives;
         acks = ap (λ ps. ps ++ d.position ∷ []) served.acks
             ∙ sym (map_push (λ (x : Delivery). x.position) s.taken d);
         acked = elim served.acked [

@@ -19,7 +19,7 @@ use Rattle.cdc_world.proofs.ServedSubscribers.{IsServed-ack, IsServed-broken, Is
 
 -- ---- elements by their numbers
 
--- after one element is replaced, what stands at a place is the new one, or stood there before
+-- after one element is replaced, the element at a place is the new one, or was there before
 get_set : {X : Type 0} (xs : List X) (k j : ℕ) (y t : X) → slice_get (slice_set xs k y) j ≡ Some t
     → (y ≡ t) ⊎ (slice_get xs j ≡ Some t)
 get_set [] k j y t found = inr found
@@ -47,7 +47,7 @@ get_map f (x ∷ xs) (suc k) y found = get_map f xs k y found
 
 -- ---- the start
 
--- in a new world nothing was handed out to anyone, from queues that are empty
+-- in a new world nothing was delivered to anyone, from queues that are empty
 pub AreQueued-new : (bindings : List Arguments) (window : ℕ) (held : Option Saved)
     → AreQueued (new_world bindings window held)
 AreQueued-new bindings window held i s found =
@@ -81,7 +81,7 @@ AreQueued-accepted w w' packet same more are i s found =
     (IsServed-longer (queue_in w s) s (are i s (ap (λ subscriptions. numbered subscriptions i) (sym same) ∙ found))
     (queue (items_of (packet ∷ [])) s.binding))
 
--- so whether it is taken or passed over, each queue keeps what it handed out
+-- so whether it is taken or ignored, each queue keeps what it delivered
 AreQueued-arrival : (w : WorldState) (packet : Packet) (taken : Bool) → AreQueued w
     → AreQueued (with_arrival w packet taken)
 AreQueued-arrival w packet true are =

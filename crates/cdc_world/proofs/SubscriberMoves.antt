@@ -14,7 +14,7 @@ use Rattle.cdc_message.specs.declared.items.Item.{Item}
 use Rattle.cdc_subscriber.specs.Answers.{TakesItem, answer_to}
 use Rattle.cdc_subscriber.specs.declared.errors.TakeError.{TakeError}
 use Rattle.cdc_subscriber.specs.declared.subscriber.Taking.{Taking}
-use Rattle.cdc_subscriber.specs.Heard.{Heard, kept_of, next as next_heard}
+use Rattle.cdc_subscriber.specs.Reception.{Reception, kept_of, next as next_reception}
 use Rattle.cdc_subscriber.specs.SubscriberState.{SubscriberState}
 use Rattle.cdc_types.specs.declared.steps.Step.{Step}
 use Rattle.cdc_types.specs.declared.steps.Step.TheVariants.{Send, Rewind, Break, Take, Ack, Close}
@@ -25,12 +25,12 @@ use Rattle.cdc_world.specs.declared.steps.StepError.TheVariants.{NotEnabled, Out
 use Rattle.cdc_world.specs.declared.subscriptions.Subscription.{Subscription as Kept_subscription}
 use Rattle.cdc_world.specs.Next.{Outcome, ◌>>=◌, acknowledgement, first_flight, next, next_delivery, success, taking, with_ack, with_break, with_close, with_delivery, with_rewind, with_subscription, with_taking}
 use Rattle.cdc_world.specs.Parts.{ActorParts, SubscriptionParts, subscription_parts}
-use Rattle.cdc_world.specs.Stands.{ActorsStand, WereHandedOut, IsHandedOut, QueueView, parts_of, queue_for, view_of}
-use Rattle.cdc_world.specs.Turns.{ActorsMove, HandsAt, HasClosed, HasTakenFirst, TakesAt, place_in}
+use Rattle.cdc_world.specs.Stands.{ActorsStand, WereDelivered, IsDelivered, QueueView, parts_of, queue_for, view_of}
+use Rattle.cdc_world.specs.Turns.{ActorsMove, DeliversAt, HasClosed, HasTakenFirst, TakesAt, place_in}
 use Rattle.cdc_world.specs.Worlds.{Subscription, WorldState, numbered, taken_items}
 use Rattle.cdc_world.proofs.NumberedElements.{Contains_numbered, IsPlace, numbered_place, place_is, slice_get_made, subscription_here}
-use Rattle.cdc_world.proofs.QueueViews.{handed_here, handed_set, set_found, set_same}
-use Rattle.cdc_world.proofs.ActorMoves.{lacking, tried, unable}
+use Rattle.cdc_world.proofs.QueueViews.{delivered_here, delivered_set, set_found, set_same}
+use Rattle.cdc_world.proofs.ActorMoves.{exhausted, tried, unable}
 
 -- ---- one subscription and its queue
 
@@ -64,22 +64,22 @@ queue_is a w i s st there =
     ∙ ap (option_map (queue_for (taken_items w))) there)) in
     ap (λ (q : Option QueueState). view_of (unwrap_or q (empty_queue nobody))) found.1.0 ∙ found.1.1
 
--- what its queue has handed out
-handed_is : (a : ActorParts) (w : WorldState) (i : ℕ) (s : Subscription) → ActorsStand a w
-    → slice_get w.subscriptions (i - 1) ≡ Some s → WereHandedOut (queue_of a.broker i).handed s
-handed_is a w i s st there =
-    handed_here (i - 1) a.broker.queues w.subscriptions (taken_items w) (empty_queue nobody) s st.subscribers.queues
-    there st.subscribers.handed
+-- what its queue has delivered
+delivered_is : (a : ActorParts) (w : WorldState) (i : ℕ) (s : Subscription) → ActorsStand a w
+    → slice_get w.subscriptions (i - 1) ≡ Some s → WereDelivered (queue_of a.broker i).delivered s
+delivered_is a w i s st there =
+    delivered_here (i - 1) a.broker.queues w.subscriptions (taken_items w) (empty_queue nobody) s st.subscribers.queues
+    there st.subscribers.delivered
 
--- where one subscription and its queue change together, the actors stand for the world with the new one
+-- if one subscription and its queue change together, the actors represent the world with the new one
 one_changes : (a : ActorParts) (w : WorldState) (i : ℕ) (s s' : Subscription) (q' : QueueState)
     (kept' : SubscriptionParts) → ActorsStand a w → slice_get w.subscriptions (i - 1) ≡ Some s
     → view_of q' ≡ queue_for (taken_items w) s' → kept' ≡ parts_of s'
-    → (WereHandedOut (queue_of a.broker i).handed s → WereHandedOut q'.handed s')
+    → (WereDelivered (queue_of a.broker i).delivered s → WereDelivered q'.delivered s')
     → ActorsStand
     (record a { broker = with_queue i q' a.broker; subscriptions = slice_set a.subscriptions (i - 1) kept' })
     (with_subscription i s' w)
-one_changes a w i s s' q' kept' st there seen same handed = record {
+one_changes a w i s s' q' kept' st there seen same delivered = record {
   history = st.history;
   connector = st.connector;
   broker = st.broker;
@@ -90,8 +90,8 @@ one_changes a w i s s' q' kept' st there seen same handed = record {
     subscriptions = ap₂ (λ (ks : List SubscriptionParts) (k : SubscriptionParts). slice_set ks (i - 1)
         k) st.subscribers.subscriptions same
         ∙ sym (map-set parts_of w.subscriptions (i - 1) s');
-    handed = handed_set (i - 1) a.broker.queues w.subscriptions (empty_queue nobody) q' s s' there handed
-        st.subscribers.handed;
+    delivered = delivered_set (i - 1) a.broker.queues w.subscriptions (empty_queue nobody) q' s s' there delivered
+        st.subscribers.delivered;
   };
 }
 
@@ -99,32 +99,32 @@ one_changes a w i s s' q' kept' st there seen same handed = record {
 subscription_changes : (a : ActorParts) (w : WorldState) (i : ℕ) (s s' : Subscription) (kept' : SubscriptionParts)
     → ActorsStand a w → slice_get w.subscriptions (i - 1) ≡ Some s
     → queue_for (taken_items w) s ≡ queue_for (taken_items w) s' → kept' ≡ parts_of s'
-    → (WereHandedOut (queue_of a.broker i).handed s → WereHandedOut (queue_of a.broker i).handed s')
+    → (WereDelivered (queue_of a.broker i).delivered s → WereDelivered (queue_of a.broker i).delivered s')
     → ActorsStand (record a { subscriptions = slice_set a.subscriptions (i - 1) kept' }) (with_subscription i s' w)
-subscription_changes a w i s s' kept' st there seen same handed =
+subscription_changes a w i s s' kept' st there seen same delivered =
     subst (λ (queues : List QueueState). ActorsStand (record a {
       broker = record a.broker { queues = queues };
       subscriptions = slice_set a.subscriptions (i - 1) kept';
     }) (with_subscription i s' w)) (set_same a.broker.queues (i - 1) (empty_queue nobody))
-    (one_changes a w i s s' (queue_of a.broker i) kept' st there (queue_is a w i s st there ∙ seen) same handed)
+    (one_changes a w i s s' (queue_of a.broker i) kept' st there (queue_is a w i s st there ∙ seen) same delivered)
 
 -- and of a queue whose subscription is kept as it was
 queue_changes : (a : ActorParts) (w : WorldState) (i : ℕ) (kept : SubscriptionParts) (s s' : Subscription)
     (q' : QueueState) → ActorsStand a w → slice_get a.subscriptions (i - 1) ≡ Some kept
     → slice_get w.subscriptions (i - 1) ≡ Some s
     → view_of q' ≡ queue_for (taken_items w) s' → kept ≡ parts_of s'
-    → (WereHandedOut (queue_of a.broker i).handed s → WereHandedOut q'.handed s')
+    → (WereDelivered (queue_of a.broker i).delivered s → WereDelivered q'.delivered s')
     → ActorsStand (record a { broker = with_queue i q' a.broker }) (with_subscription i s' w)
-queue_changes a w i kept s s' q' st here there seen same handed =
+queue_changes a w i kept s s' q' st here there seen same delivered =
     subst (λ (kepts : List SubscriptionParts). ActorsStand (record a {
       broker = with_queue i q' a.broker;
       subscriptions = kepts;
     }) (with_subscription i s' w)) (set_found a.subscriptions (i - 1) kept here)
-    (one_changes a w i s s' q' kept st there seen same handed)
+    (one_changes a w i s s' q' kept st there seen same delivered)
 
--- ---- a queue hands out
+-- ---- a queue delivers
 
--- what a queue hands out is that which its subscription's does
+-- a queue delivers what its subscription's queue does
 deliveries_same : (a : ActorParts) (w : WorldState) (i : ℕ) (s : Subscription) → ActorsStand a w
     → slice_get w.subscriptions (i - 1) ≡ Some s → next_of_queue (queue_of a.broker i) ≡ next_delivery w s
 deliveries_same a w i s st there = ap (λ (v : QueueView). delivery_at v.cursor v.items) (queue_is a w i s st there)
@@ -137,11 +137,11 @@ position_from cursor None delivery found = cc
 position_from cursor (Some item) delivery found =
     ap (λ (d : Delivery). d.position) (sym (same_Some (record { position = cursor.next; item = item }) delivery found))
 
--- what is handed out was handed out then
-handed_more : (handed : ℕ) (cursor : Cursor) (s : Subscription) (delivery : Delivery) → s.cursor ≡ cursor
-    → delivery.position ≡ cursor.next → WereHandedOut handed s
-    → WereHandedOut (max handed cursor.next) (with_delivery delivery s)
-handed_more handed cursor s delivery same position has =
+-- what is delivered now counts as delivered
+delivered_more : (delivered : ℕ) (cursor : Cursor) (s : Subscription) (delivery : Delivery) → s.cursor ≡ cursor
+    → delivery.position ≡ cursor.next → WereDelivered delivered s
+    → WereDelivered (max delivered cursor.next) (with_delivery delivery s)
+delivered_more delivered cursor s delivery same position has =
     let at : s.cursor.next ≡ cursor.next = ap (λ (c : Cursor). c.next) same in
     record {
       first = omega arith;
@@ -155,16 +155,16 @@ handed_more handed cursor s delivery same position has =
       acks = λ p there. let is = has.acks p there in (is.0, omega (arith, is.1));
     }
 
--- what a queue hands out where it is done
-handed_found : (i : ℕ) (b b' : BrokerState) (s s' : SubscriptionParts) (found : Option Delivery)
-    → HandsAt i b s found (Ok tt) b' s'
+-- what a queue delivers if it is done
+delivered_found : (i : ℕ) (b b' : BrokerState) (s s' : SubscriptionParts) (found : Option Delivery)
+    → DeliversAt i b s found (Ok tt) b' s'
     → (delivery : Delivery) × ((found ≡ Some delivery) × ((b'
     ≡ with_queue i (with_delivery_of (Some delivery) (queue_of b i)) b)
     × (s' ≡ record s { flight = s.flight ++ delivery ∷ [] })))
-handed_found i b b' s s' None hands = cc (hands.0)
-handed_found i b b' s s' (Some delivery) hands = (delivery, (refl, hands))
+delivered_found i b b' s s' None delivers = cc (delivers.0)
+delivered_found i b b' s s' (Some delivery) delivers = (delivery, (refl, delivers))
 
--- a step of a queue is what it does with what it hands out next
+-- a step of a queue is what it does with what it delivers next
 sends_next : (w : WorldState) (i : ℕ) (s : Subscription) (found : Option Delivery) → numbered w.subscriptions i ≡ Some s
     → next_delivery w s ≡ found
     → next w (Send i) ≡ (found >>= (λ delivery. success (with_subscription i (with_delivery delivery s) w)))
@@ -174,14 +174,14 @@ sends_next w i s found here next =
     ap (λ (found : Option Subscription). found >>= (λ s. next_delivery w s >>= after s)) here
     ∙ ap (λ (found : Option Delivery). found >>= after s) next
 
--- a queue hands out
+-- a queue delivers
 send_done : (a : ActorParts) (i : ℕ) (s s' : SubscriptionParts) (b' : BrokerState) → 0 < i
     → slice_get a.subscriptions (i - 1) ≡ Some s
-    → HandsAt i a.broker s (next_of_queue (queue_of a.broker i)) (Ok tt) b' s'
+    → DeliversAt i a.broker s (next_of_queue (queue_of a.broker i)) (Ok tt) b' s'
     → ActorsMove a (Send i) (Ok Done)
     (record a { broker = b'; subscriptions = slice_set a.subscriptions (i - 1) s' })
-send_done a i s s' b' above here hands =
-    let found = handed_found i a.broker b' s s' (next_of_queue (queue_of a.broker i)) hands in
+send_done a i s s' b' above here delivers =
+    let found = delivered_found i a.broker b' s s' (next_of_queue (queue_of a.broker i)) delivers in
     let delivery = found.0 in (
       tt,
       λ w st.
@@ -206,7 +206,7 @@ send_done a i s s' b' above here hands =
                   (one_changes a w i sub (with_delivery delivery sub)
                   (with_delivery_of (Some delivery) q) s' st of.there
                   (ap (λ (v : QueueView). record v { cursor = after_delivery v.cursor }) seen) same
-                  (handed_more q.handed q.cursor sub delivery cursor position)),
+                  (delivered_more q.delivered q.cursor sub delivery cursor position)),
               (sends_next w i sub (Some delivery) of.numbered_so next_is, refl),
             ),
           ),
@@ -221,12 +221,12 @@ unsent_none a i s above here none =
     let of = of_number a w i s st above here in
     sends_next w i of.subscription None of.numbered_so (sym (deliveries_same a w i of.subscription st of.there) ∙ none))
 
--- one that has something doesn't for want of memory alone
+-- one that has something fails only if memory runs out
 unsent_some : (a : ActorParts) (i : ℕ) (s : SubscriptionParts) (delivery : Delivery) → 0 < i
     → slice_get a.subscriptions (i - 1) ≡ Some s → next_of_queue (queue_of a.broker i) ≡ Some delivery
     → ActorsMove a (Send i) (Err OutOfMemory) a
 unsent_some a i s delivery above here some =
-    lacking a (Send i) refl
+    exhausted a (Send i) refl
     (λ w st.
     let of = of_number a w i s st above here in
     tried w _ (Send i) _
@@ -237,25 +237,25 @@ unsent_some a i s delivery above here some =
 err_same : {A : Type 0} (why why' : StepError) → ◌≡◌ {A = Result A StepError} (Err why) (Err why') → why' ≡ why
 err_same why why' is = cc
 
--- so a hand-out that is refused, for either reason, leaves broker, subscription and all that is kept as they were
+-- so a delivery that is refused, for either reason, leaves broker, subscription and all that is kept as they were
 unsent : (a : ActorParts) (i : ℕ) (s s' : SubscriptionParts) (b' : BrokerState) (found : Option Delivery)
     (why : StepError) → 0 < i
     → slice_get a.subscriptions (i - 1) ≡ Some s → next_of_queue (queue_of a.broker i) ≡ found
-    → HandsAt i a.broker s found (Err why) b' s'
+    → DeliversAt i a.broker s found (Err why) b' s'
     → (b' ≡ a.broker) × ((s' ≡ s) × ActorsMove a (Send i) (Err why) a)
-unsent a i s s' b' None why above here is hands = (
-  hands.1.0,
+unsent a i s s' b' None why above here is delivers = (
+  delivers.1.0,
   (
-    hands.1.1,
-    subst (λ (e : StepError). ActorsMove a (Send i) (Err e) a) (err_same why NotEnabled hands.0)
+    delivers.1.1,
+    subst (λ (e : StepError). ActorsMove a (Send i) (Err e) a) (err_same why NotEnabled delivers.0)
         (unsent_none a i s above here is),
   ),
 )
-unsent a i s s' b' (Some delivery) why above here is hands = (
-  hands.1.0,
+unsent a i s s' b' (Some delivery) why above here is delivers = (
+  delivers.1.0,
   (
-    hands.1.1,
-    subst (λ (e : StepError). ActorsMove a (Send i) (Err e) a) (sym hands.0) (unsent_some a i s delivery above here is),
+    delivers.1.1,
+    subst (λ (e : StepError). ActorsMove a (Send i) (Err e) a) (sym delivers.0) (unsent_some a i s delivery above here is),
   ),
 )
 
@@ -270,23 +270,23 @@ put_back a step answer i s s' here same moves =
 -- the same of the step
 send_refused : (a : ActorParts) (i : ℕ) (s s' : SubscriptionParts) (b' : BrokerState) (why : StepError) → 0 < i
     → slice_get a.subscriptions (i - 1) ≡ Some s
-    → HandsAt i a.broker s (next_of_queue (queue_of a.broker i)) (Err why) b' s'
+    → DeliversAt i a.broker s (next_of_queue (queue_of a.broker i)) (Err why) b' s'
     → ActorsMove a (Send i) (Err why) (record a { broker = b'; subscriptions = slice_set a.subscriptions (i - 1) s' })
-send_refused a i s s' b' why above here hands =
-    let un = unsent a i s s' b' (next_of_queue (queue_of a.broker i)) why above here refl hands in
+send_refused a i s s' b' why above here delivers =
+    let un = unsent a i s s' b' (next_of_queue (queue_of a.broker i)) why above here refl delivers in
     subst (λ (b : BrokerState). ActorsMove a (Send i) (Err why) (record a {
       broker = b;
       subscriptions = slice_set a.subscriptions (i - 1) s';
     })) (sym un.0)
     (put_back a (Send i) (Err why) i s s' here un.1.0 un.1.1)
 
--- ---- a queue goes back
+-- ---- a queue rewinds
 
--- what was handed out stays so where the queue goes back
-handed_rewound : (handed : ℕ) (s : Subscription) → WereHandedOut handed s → WereHandedOut handed (with_rewind s)
-handed_rewound handed s has = record { first = omega arith; flight = has.flight; acks = has.acks }
+-- what was delivered stays so if the queue rewinds
+delivered_rewound : (delivered : ℕ) (s : Subscription) → WereDelivered delivered s → WereDelivered delivered (with_rewind s)
+delivered_rewound delivered s has = record { first = omega arith; flight = has.flight; acks = has.acks }
 
--- the queue goes back
+-- the queue rewinds
 rewind_done : (a : ActorParts) (i : ℕ) (s : SubscriptionParts) → 0 < i → slice_get a.subscriptions (i - 1) ≡ Some s
     → ActorsMove a (Rewind i) (Ok Done)
     (record a { broker = with_queue i (rewound_queue (queue_of a.broker i)) a.broker })
@@ -300,7 +300,7 @@ rewind_done a i s above here = (
         (
           queue_changes a w i s sub (with_rewind sub) (rewound_queue q) st here of.there
               (ap (λ (v : QueueView). record v { cursor = rewound v.cursor }) (queue_is a w i sub st of.there))
-              (sym of.parts) (handed_rewound q.handed sub),
+              (sym of.parts) (delivered_rewound q.delivered sub),
           (
             ap (λ (found : Option Subscription). found >>= (λ s. success (with_subscription i (with_rewind s) w)))
                 of.numbered_so,
@@ -311,8 +311,8 @@ rewind_done a i s above here = (
 )
 
 -- nothing is on its way after a break
-handed_broken : (handed : ℕ) (s : Subscription) → WereHandedOut handed s → WereHandedOut handed (with_break s)
-handed_broken handed s has =
+delivered_broken : (delivered : ℕ) (s : Subscription) → WereDelivered delivered s → WereDelivered delivered (with_break s)
+delivered_broken delivered s has =
     record { first = omega arith; flight = λ d there. absurd (none_there d there); acks = has.acks }
 
 -- and what is on its way is lost
@@ -333,7 +333,7 @@ break_done a i s s' above here lost = (
           one_changes a w i sub (with_break sub) (rewound_queue q) s' st of.there
               (ap (λ (v : QueueView). record v { cursor = rewound v.cursor }) (queue_is a w i sub st of.there))
               (lost ∙ ap (λ (t : SubscriptionParts). record t { flight = [] }) (sym of.parts))
-              (handed_broken q.handed sub),
+              (delivered_broken q.delivered sub),
           (
             ap (λ (found : Option Subscription). found >>= (λ s. success (with_subscription i (with_break s) w)))
                 of.numbered_so,
@@ -366,23 +366,23 @@ takes_next w i s flight here first =
     ap (λ (found : Option Subscription). found >>= (λ s. first_flight s.flight >>= taking w i s)) here
     ∙ ap (λ (flight : List Delivery). first_flight flight >>= taking w i s) first
 
--- what stands first in a list, or behind that
+-- the first element of a list, or one after it
 contains_first : {X : Type 0} (x : X) (xs : List X) → Contains (x ∷ xs) x
 contains_first x xs = (0, omega arith, refl)
 
 contains_rest : {X : Type 0} (x : X) (xs : List X) (y : X) → Contains xs y → Contains (x ∷ xs) y
 contains_rest x xs y (i, low, is) = (suc i, omega (arith, low), is)
 
--- what was handed out stays so where a delivery is taken and acknowledged
-handed_taken : (handed : ℕ) (s : Subscription) (delivery : Delivery) (rest : List Delivery)
-    → s.flight ≡ delivery ∷ rest → WereHandedOut handed s → WereHandedOut handed (with_taking delivery rest s)
-handed_taken handed s delivery rest first has = record {
+-- what was delivered stays so if a delivery is taken and acknowledged
+delivered_taken : (delivered : ℕ) (s : Subscription) (delivery : Delivery) (rest : List Delivery)
+    → s.flight ≡ delivery ∷ rest → WereDelivered delivered s → WereDelivered delivered (with_taking delivery rest s)
+delivered_taken delivered s delivery rest first has = record {
   first = has.first;
   flight = λ d there. has.flight d (subst (λ ds. Contains ds d) (sym first) (contains_rest delivery rest d there));
   acks = λ p there.
       elim (Contains-push_cases s.acks delivery.position p there) [
         | inl old ↦ has.acks p old
-        | inr new ↦ subst (IsHandedOut handed) new
+        | inr new ↦ subst (IsDelivered delivered) new
             (has.flight delivery (subst (λ ds. Contains ds delivery) (sym first) (contains_first delivery rest)))
       ];
 }
@@ -403,15 +403,15 @@ take_done a i s s' answer above here takes =
           let sub' : Subscription = with_taking delivery rest sub in
           let flight : sub.flight ≡ delivery ∷ rest =
           ap (λ (t : SubscriptionParts). t.flight) of.parts ∙ found.1.1.0 in
-          let kept : s.kept ≡ kept_of sub.heard = ap (λ (t : SubscriptionParts). t.kept) (sym of.parts) in
+          let kept : s.kept ≡ kept_of sub.reception = ap (λ (t : SubscriptionParts). t.kept) (sym of.parts) in
           let acks : s.acks ≡ sub.acks = ap (λ (t : SubscriptionParts). t.acks) (sym of.parts) in
           let same : s' ≡ parts_of sub' =
-          parts_same s' (parts_of sub') (has.hears sub.heard kept) has.flight
+          parts_same s' (parts_of sub') (has.receives sub.reception kept) has.flight
           (has.acks ∙ ap (λ (xs : List ℕ). xs ++ delivery.position ∷ []) acks) in (
             with_subscription i sub' w,
             (
               subscription_changes a w i sub sub' s' st of.there refl same
-                  (handed_taken (queue_of a.broker i).handed sub delivery rest flight),
+                  (delivered_taken (queue_of a.broker i).delivered sub delivery rest flight),
               (
                 takes_next w i sub (delivery ∷ rest) of.numbered_so flight
                     ∙ ap (λ (t : Taking). Ok (Took t, with_subscription i sub' w))
@@ -422,7 +422,7 @@ take_done a i s s' answer above here takes =
           ),
     )
 
--- where nothing is on its way to a subscriber it can't take anything
+-- if nothing is on its way to a subscriber, it can't take anything
 untaken_none : (a : ActorParts) (i : ℕ) (s : SubscriptionParts) → 0 < i → slice_get a.subscriptions (i - 1) ≡ Some s
     → s.flight ≡ [] → ActorsMove a (Take i) (Err NotEnabled) a
 untaken_none a i s above here none =
@@ -431,12 +431,12 @@ untaken_none a i s above here none =
     let of = of_number a w i s st above here in
     takes_next w i of.subscription [] of.numbered_so (ap (λ (t : SubscriptionParts). t.flight) of.parts ∙ none))
 
--- where something is, only want of memory keeps it from taking that
+-- if something is, it fails to take that only if memory runs out
 untaken_some : (a : ActorParts) (i : ℕ) (s : SubscriptionParts) (delivery : Delivery) (rest : List Delivery) → 0 < i
     → slice_get a.subscriptions (i - 1) ≡ Some s → s.flight ≡ delivery ∷ rest
     → ActorsMove a (Take i) (Err OutOfMemory) a
 untaken_some a i s delivery rest above here first =
-    lacking a (Take i) refl
+    exhausted a (Take i) refl
     (λ w st.
     let of = of_number a w i s st above here in
     tried w _ (Take i) _
@@ -475,17 +475,17 @@ acks_next w i k s found here there =
     ap (λ (found : Option Subscription). found >>= (λ s. numbered s.acks k >>= acknowledgement w i s)) here
     ∙ ap (λ (found : Option ℕ). found >>= acknowledgement w i s) there
 
--- what was handed out stays so where the cursor is lifted
-handed_acked : (handed : ℕ) (s : Subscription) (position : ℕ) → WereHandedOut handed s
-    → WereHandedOut handed (with_ack position s)
-handed_acked handed s position has =
+-- what was delivered stays so if the cursor moves forward
+delivered_acked : (delivered : ℕ) (s : Subscription) (position : ℕ) → WereDelivered delivered s
+    → WereDelivered delivered (with_ack position s)
+delivered_acked delivered s position has =
     record { first = omega (arith, has.first); flight = has.flight; acks = has.acks }
 
--- a position that was handed out is known to the broker
-known : (q : QueueState) (position : ℕ) → IsHandedOut q.handed position → is_unknown q position ≡ false
+-- a position that was delivered is known to the broker
+known : (q : QueueState) (position : ℕ) → IsDelivered q.delivered position → is_unknown q position ≡ false
 known q position is =
     let above : (position == 0) ≡ false = grind (arith, is.0) in
-    let inside : nat_lt q.handed position ≡ false = grind (arith, is.1) in
+    let inside : nat_lt q.delivered position ≡ false = grind (arith, is.1) in
     ap₂ (λ (a b : Bool). a || b) above inside
 
 -- an acknowledgement comes to the queue, and counts
@@ -502,7 +502,7 @@ ack_done a i k s position b' counted above here there answer state = (
       let q = queue_of a.broker i in
       let given : numbered sub.acks k ≡ Some position =
       ap (λ (t : SubscriptionParts). numbered t.acks k) of.parts ∙ there in
-      let has = handed_is a w i sub st of.there in
+      let has = delivered_is a w i sub st of.there in
       let is : counted ≡ true =
       answer ∙ ap not (known q position (has.acks position (Contains_numbered sub.acks k position given))) in
       let broker : b' ≡ with_queue i (acknowledged position q) a.broker =
@@ -515,7 +515,7 @@ ack_done a i k s position b' counted above here there answer state = (
               (queue_changes a w i s sub (with_ack position sub) (acknowledged position q) st here of.there
               (ap (λ (v : QueueView). record v { cursor = after_ack position v.cursor })
               (queue_is a w i sub st of.there))
-              (sym of.parts) (handed_acked q.handed sub position)),
+              (sym of.parts) (delivered_acked q.delivered sub position)),
           (
             acks_next w i k sub (Some position) of.numbered_so given
                 ∙ ap (λ (b : Bool). Ok (Counted b, with_subscription i (with_ack position sub) w)) (sym is),
@@ -546,13 +546,13 @@ close_done a i s s' above here has = (
   λ w st.
       let of = of_number a w i s st above here in
       let sub = of.subscription in
-      let kept : s.kept ≡ kept_of sub.heard = ap (λ (t : SubscriptionParts). t.kept) (sym of.parts) in
+      let kept : s.kept ≡ kept_of sub.reception = ap (λ (t : SubscriptionParts). t.kept) (sym of.parts) in
       let flight : s.flight ≡ sub.flight = ap (λ (t : SubscriptionParts). t.flight) (sym of.parts) in
       let acks : s.acks ≡ sub.acks = ap (λ (t : SubscriptionParts). t.acks) (sym of.parts) in (
         with_subscription i (with_close sub) w,
         (
           subscription_changes a w i sub (with_close sub) s' st of.there refl
-              (parts_same s' (parts_of (with_close sub)) (has.closes sub.heard kept) (has.flight ∙ flight)
+              (parts_same s' (parts_of (with_close sub)) (has.closes sub.reception kept) (has.flight ∙ flight)
               (has.acks ∙ acks))
               (λ has. record { first = has.first; flight = has.flight; acks = has.acks }),
           (
@@ -566,19 +566,19 @@ close_done a i s s' above here has = (
 
 -- ---- by the place that the code finds
 
--- where no place is found, the step isn't enabled
+-- if no place is found, the step isn't enabled
 refused_none : (place : Option ℕ) (why : StepError) → ok_or place NotEnabled ≡ Err why
     → (place ≡ None) × (why ≡ NotEnabled)
 refused_none None why is = (refl, cc)
 refused_none (Some place) why is = cc
 
--- within a list something stands
+-- each place within a list has an element
 slice_get_within : {X : Type 0} (xs : List X) (k : ℕ) → k < length xs → (x : X) × (slice_get xs k ≡ Some x)
 slice_get_within [] k inside = absurd (omega arith)
 slice_get_within (x ∷ xs) zero inside = (x, refl)
 slice_get_within (x ∷ xs) (suc k) inside = slice_get_within xs k (omega arith)
 
--- the queue of a subscriber goes back, by the place that the code finds for the number
+-- the queue of a subscriber rewinds, by the place that the code finds for the number
 pub rewind_at : (a : ActorParts) (i count place : ℕ) (items : List Kept_subscription) (b' : BrokerState)
     → a.subscriptions ≡ map subscription_parts items → count ≡ length items → place_in i count ≡ Some place
     → b' ≡ with_queue (place + 1) (rewound_queue (queue_of a.broker (place + 1))) a.broker
@@ -618,37 +618,37 @@ module _ (a : ActorParts) (i count place : ℕ) (items : List Kept_subscription)
   number_is : place + 1 ≡ i
   number_is = let at = is_at in omega (arith, at.above, at.here)
 
-  -- so that a queue hands out to what the code found
+  -- so that a queue delivers to what the code found
   pub send_at : (s' : Kept_subscription) (b' : BrokerState)
-      → HandsAt (place + 1) a.broker (subscription_parts s) (next_of_queue (queue_of a.broker (place + 1))) (Ok tt) b'
+      → DeliversAt (place + 1) a.broker (subscription_parts s) (next_of_queue (queue_of a.broker (place + 1))) (Ok tt) b'
       (subscription_parts s')
       → ActorsMove a (Send i) (Ok Done)
       (record a { broker = b'; subscriptions = map subscription_parts (slice_set items place s') })
-  send_at s' b' hands =
+  send_at s' b' delivers =
       subst (λ (kepts : List SubscriptionParts). ActorsMove a (Send i) (Ok Done) (record a {
         broker = b';
         subscriptions = kepts;
       })) (sym (set_at s'))
       (send_done a i (subscription_parts s) (subscription_parts s') b' is_at.above kept_at
-      (subst (λ (n : ℕ). HandsAt n a.broker (subscription_parts s) (next_of_queue (queue_of a.broker n)) (Ok tt) b'
-      (subscription_parts s')) number_is hands))
+      (subst (λ (n : ℕ). DeliversAt n a.broker (subscription_parts s) (next_of_queue (queue_of a.broker n)) (Ok tt) b'
+      (subscription_parts s')) number_is delivers))
 
   -- or hands nothing out
   pub send_at_refused : (s' : Kept_subscription) (b' : BrokerState) (why : StepError)
-      → HandsAt (place + 1) a.broker (subscription_parts s) (next_of_queue (queue_of a.broker (place + 1)))
+      → DeliversAt (place + 1) a.broker (subscription_parts s) (next_of_queue (queue_of a.broker (place + 1)))
       (Err why) b' (subscription_parts s')
       → ActorsMove a (Send i) (Err why)
       (record a { broker = b'; subscriptions = map subscription_parts (slice_set items place s') })
-  send_at_refused s' b' why hands =
+  send_at_refused s' b' why delivers =
       subst (λ (kepts : List SubscriptionParts). ActorsMove a (Send i) (Err why) (record a {
         broker = b';
         subscriptions = kepts;
       })) (sym (set_at s'))
       (send_refused a i (subscription_parts s) (subscription_parts s') b' why is_at.above kept_at
-      (subst (λ (n : ℕ). HandsAt n a.broker (subscription_parts s) (next_of_queue (queue_of a.broker n)) (Err why) b'
-      (subscription_parts s')) number_is hands))
+      (subst (λ (n : ℕ). DeliversAt n a.broker (subscription_parts s) (next_of_queue (queue_of a.broker n)) (Err why) b'
+      (subscription_parts s')) number_is delivers))
 
-  -- or goes back while what is on its way is lost
+  -- or rewinds while what is on its way is lost
   pub break_at : (s' : Kept_subscription) (b' : BrokerState)
       → b' ≡ with_queue (place + 1) (rewound_queue (queue_of a.broker (place + 1))) a.broker
       → subscription_parts s' ≡ record (subscription_parts s) { flight = [] }
@@ -736,21 +736,21 @@ parts_read a w i kept s st above here there =
 pub taken_is : (s s' : SubscriptionParts) (delivery : Delivery) (flight : List Delivery) (answer : Taking)
     → delivery ≡ get_or flight 0 delivery → 0 < length flight → s'.flight ≡ drop 1 flight
     → answer ≡ answer_to s.kept delivery.item → s'.acks ≡ s.acks ++ delivery.position ∷ []
-    → ((heard : Heard) → s.kept ≡ kept_of heard → s'.kept ≡ kept_of (next_heard heard delivery.item))
+    → ((reception : Reception) → s.kept ≡ kept_of reception → s'.kept ≡ kept_of (next_reception reception delivery.item))
     → TakesAt s flight (Ok answer) s'
-taken_is s s' delivery [] answer first some rest answers acks hears = absurd (omega arith)
-taken_is s s' delivery (d ∷ ds) answer first some rest answers acks hears = record {
+taken_is s s' delivery [] answer first some rest answers acks receives = absurd (omega arith)
+taken_is s s' delivery (d ∷ ds) answer first some rest answers acks receives = record {
   answers = answers ∙ ap (λ (x : Delivery). answer_to s.kept x.item) first;
   flight = rest;
   acks = acks ∙ ap (λ (x : Delivery). s.acks ++ x.position ∷ []) first;
-  hears = λ heard is. hears heard is ∙ ap (λ (x : Delivery). kept_of (next_heard heard x.item)) first;
+  receives = λ reception is. receives reception is ∙ ap (λ (x : Delivery). kept_of (next_reception reception x.item)) first;
 }
 
 -- an answer, whatever the errors
 abbrev pub ok_of : {A : Type 0} → (F : Type 0) → A → Result A F
 ok_of F x = Ok x
 
--- the answer behind a mapped error
+-- the answer before its error is mapped
 pub mapped_ok : {A E : Type 0} (F : Type 0) (r : Result A E) (x : A) (Q : E → Type 0)
     → MatchResult r (λ y. ok_of F x ≡ ok_of F y) Q → true ≡ is_ok r → r ≡ Ok x
 mapped_ok F (Ok y) x Q mapped ok = cc mapped

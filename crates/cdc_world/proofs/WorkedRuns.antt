@@ -7,7 +7,7 @@ use Rattle.cdc_world.specs.Next.{IsReached, Leads, Outcome, next}
 use Rattle.cdc_world.specs.Runs.{Run, going_on, run_of}
 use Rattle.cdc_world.specs.Worlds.{WorldState, new_world}
 
--- one step, where those that follow lead to the world after them
+-- one step, if those that follow lead to the world after them
 leads-on : (w : WorldState) (step : Step) (steps : List Step) (rest : WorldState → Run)
     → ((between : WorldState) → Leads between (take (rest between).0.0 steps) (rest between).1)
     → (outcome : Outcome) → next w step ≡ outcome

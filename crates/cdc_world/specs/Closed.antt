@@ -2,10 +2,10 @@
 use Rattle.std.specs.Prelude.{◌≡◌, ℕ, true, Some}
 use Rattle.cdc_world.specs.Worlds.{Subscription, WorldState, numbered}
 
--- a subscriber is the same one after a step: its binding stays, and so does all that it heard once it is closed
+-- a subscriber is the same one after a step: its binding stays, and so does all that it received once it is closed
 pub record Stays (before after : Subscription) : Type 0 where
   pub binding : after.binding ≡ before.binding
-  pub closed : before.heard.closed ≡ true → after.heard ≡ before.heard
+  pub closed : before.reception.closed ≡ true → after.reception ≡ before.reception
 
 -- each subscriber stays, under its number
 abbrev pub AllStay : WorldState → WorldState → Type 0

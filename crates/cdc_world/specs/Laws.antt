@@ -13,14 +13,14 @@ use Rattle.cdc_world.specs.Next.{IsAtStart, IsReached, Next}
 use Rattle.cdc_world.specs.Tries.{NextPast}
 use Rattle.cdc_world.specs.Worlds.{Subscription, WorldState, new_world, numbered, start_of}
 
--- every subscriber is faithful in every world that steps lead to: crashes, packets and confirms that come late, again
--- or never, deliveries that are repeated or broken off, and closes among them
+-- every subscriber is faithful in every world that steps lead to, including crashes, packets and confirms that come
+-- late, again or never, deliveries that are duplicated or broken off, and closes
 abbrev pub SubscribersAreFaithful : Type 0
 SubscribersAreFaithful = (w : WorldState) → IsReached w
     → (i : ℕ) (s : Subscription) → numbered w.subscriptions i ≡ Some s
-    → IsFaithful w.history (start_of w) s.binding s.heard
+    → IsFaithful w.history (start_of w) s.binding s.reception
 
--- no step changes what a closed subscriber has heard, nor the binding of any
+-- no step changes what a closed subscriber has received, or any subscriber's binding
 abbrev pub ClosedSubscribersStay : Type 0
 ClosedSubscribersStay = (w : WorldState) (step : Step) (answer : Result Did StepError)
     → (w' : WorldState) → Next w step answer w' → AllStay w w'
@@ -41,7 +41,7 @@ abbrev pub PlaysGoOn : Type 0
 PlaysGoOn = (risks : Risks) (w : WorldState) (steps : List Step) (done : ℕ) (refusal : Option StepError)
     → (w' : WorldState) → IsReached w → IsPlay risks w steps done refusal w' → IsReached w'
 
--- and by a play that tries again what the store or want of memory refused
+-- and by a play that tries again what was refused because the store failed or memory ran out
 abbrev pub PlaysPastGoOn : Type 0
 PlaysPastGoOn = (risks : Risks) (tries : ℕ) (w : WorldState) (steps : List Step) (done : ℕ)
     → (refusal : Option StepError) (w' : WorldState) → IsReached w

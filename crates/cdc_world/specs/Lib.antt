@@ -2,6 +2,7 @@
 pub mod Closed
 pub mod Errors
 pub mod Laws
+pub mod Moved
 pub mod Moves
 pub mod Next
 pub mod Parts

@@ -8,12 +8,14 @@ use Rattle.cdc_world.specs.Closed.{AllStay}
 use Rattle.cdc_world.specs.declared.steps.Did.{Did}
 use Rattle.cdc_world.specs.declared.steps.StepError.{StepError}
 use Rattle.cdc_world.specs.declared.steps.StepError.TheVariants.{NotEnabled, Refused, Store, SessionsExhausted, OutOfMemory, StartNotAllowed}
+use Rattle.cdc_world.specs.Moved.{ReportsMoved, did_of}
+use Rattle.cdc_world.specs.declared.moved.Moved.{Moved}
 use Rattle.cdc_world.specs.Next.{Next, NextOver, loads}
 use Rattle.cdc_world.specs.Parts.{Parts}
 use Rattle.cdc_world.specs.Stands.{Stands}
 use Rattle.cdc_world.specs.Worlds.{WorldState}
 
--- what is kept goes on like this: whatever state it stood for, it stands for one that this relation leads to
+-- the kept state changes like this: whatever world it represented, it now represents one that this relation leads to
 abbrev pub GoesOn : Parts → (WorldState → WorldState → Type 0) → Parts → Type 0
 GoesOn p LeadsTo p' = (w : WorldState) → Stands p w → (w' : WorldState) × (Stands p' w' × LeadsTo w w')
 
@@ -21,7 +23,7 @@ GoesOn p LeadsTo p' = (w : WorldState) → Stands p w → (w' : WorldState) × (
 abbrev pub Going : Type 1
 Going = WorldState → Step → Result Did StepError → WorldState → Type 0
 
--- by a step that is taken like this and answered so; of a step that loads this is said over an honest store
+-- by a step that is taken like this and answered so; a step that loads needs an honest store
 abbrev pub MovesBy : Going → Parts → Step → Result Did StepError → Parts → Type 0
 MovesBy Goes p step answer p' =
     (IsTrue (loads step) → IsTrue p.honest) → GoesOn p (λ w w'. Goes w step answer w') p'
@@ -30,7 +32,12 @@ MovesBy Goes p step answer p' =
 abbrev pub Moves : Parts → Step → Result Did StepError → Parts → Type 0
 Moves p = MovesBy (NextOver p.risks) p
 
--- by one, and no closed subscriber has heard anything more after it, and each has its binding
+-- by one that reports what it moved
+abbrev pub MovesReported : Parts → Step → Result (Did × Option Moved) StepError → Parts → Type 0
+MovesReported p step answer p' = (IsTrue (loads step) → IsTrue p.honest)
+    → GoesOn p (λ w w'. NextOver p.risks w step (did_of answer) w' × ReportsMoved w step answer w') p'
+
+-- by one, and no closed subscriber has received anything more after it, and each has its binding
 abbrev pub StepFixesClosed : Parts → Step → Result Did StepError → Parts → Type 0
 StepFixesClosed p step answer p' =
     (IsTrue (loads step) → IsTrue p.honest) → GoesOn p (λ w w'. Next w step answer w' × AllStay w w') p'
@@ -48,7 +55,7 @@ StopsAt Goes w [] (Some why) w' = ⊥
 StopsAt Goes w (step ∷ steps) None w' = ⊥
 StopsAt Goes w (step ∷ steps) (Some why) w' = Goes w step (Err why) w'
 
--- a play of steps, each taken like this, of which so many are done, and then they end, or one is refused
+-- a play of steps, each taken like this, of which this many are done; after them no step is left, or one is refused
 pub record IsPlayBy (Goes : Going) (w : WorldState) (steps : List Step) (done : ℕ) (refusal : Option StepError)
     (w' : WorldState) : Type 0 where
   pub count : done ≤ length steps
@@ -60,7 +67,7 @@ pub record IsPlayBy (Goes : Going) (w : WorldState) (steps : List Step) (done : 
 abbrev pub IsPlay : Risks → WorldState → List Step → ℕ → Option StepError → WorldState → Type 0
 IsPlay risks = IsPlayBy (NextOver risks)
 
--- what is kept goes on by a play; where one of its steps loads, this is said over an honest store
+-- the kept state changes by a play; if one of its steps loads, this needs an honest store
 abbrev pub PlaysBy : Going → Parts → List Step → ℕ → Option StepError → Parts → Type 0
 PlaysBy Goes p steps done refusal p' =
     (IsTrue (list_any loads steps) → IsTrue p.honest) → GoesOn p (λ w w'. IsPlayBy Goes w steps done refusal w') p'
@@ -69,7 +76,7 @@ PlaysBy Goes p steps done refusal p' =
 abbrev pub Plays : Parts → List Step → ℕ → Option StepError → Parts → Type 0
 Plays p = PlaysBy (NextOver p.risks) p
 
--- the same, and no closed subscriber has heard anything more after it, and each has its binding
+-- the same, and no closed subscriber has received anything more after it, and each has its binding
 abbrev pub PlayFixesClosedBy : Going → Parts → List Step → ℕ → Option StepError → Parts → Type 0
 PlayFixesClosedBy Goes p steps done refusal p' =
     (IsTrue (list_any loads steps) → IsTrue p.honest)
@@ -93,11 +100,12 @@ IsStoreCounted before after (Err SessionsExhausted) = after ≡ before
 IsStoreCounted before after (Err OutOfMemory) = after ≡ before
 IsStoreCounted before after (Err StartNotAllowed) = after ≡ before
 
--- a play that ends so, each of its steps taken once, leaves the count as it is, but for a step that is refused
+-- a play with this outcome, each of its steps taken once, leaves the count as it is, except for a step that is
+-- refused
 abbrev pub IsPlayCounted : ℕ → ℕ → Option StepError → Type 0
 IsPlayCounted before after None = after ≡ before
 IsPlayCounted before after (Some why) = IsStoreCounted before after (Err why)
 
--- a session that runs saves its progress, where nothing may befall the store
+-- a session that runs saves its progress, if the store can't fail
 abbrev pub SavesSafely : Parts → Result Did StepError → Type 0
 SavesSafely p answer = IsTrue (is_some p.actors.session) → p.risks ≡ no_risks → IsOk answer

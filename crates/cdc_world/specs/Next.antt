@@ -24,7 +24,7 @@ use Rattle.cdc_publisher.specs.Courses.{Course, after_answer, begun, new_course,
 use Rattle.cdc_publisher.specs.declared.errors.StartError.{StartError}
 use Rattle.cdc_publisher.specs.declared.session.Poll.{Poll}
 use Rattle.cdc_subscriber.specs.Answers.{answer_to}
-use Rattle.cdc_subscriber.specs.Heard.{kept_of, next as next_heard}
+use Rattle.cdc_subscriber.specs.Reception.{kept_of, next as next_reception}
 use Rattle.cdc_types.specs.declared.batches.BatchResults.{BatchResults}
 use Rattle.cdc_types.specs.declared.steps.Step.{Step}
 use Rattle.cdc_types.specs.declared.steps.Step.TheVariants.{Submit, CloseLedger, Start, StartAt, Crash, Poll as PollStep, Publish as PublishStep, Arrive, Answer, Save, Send, Rewind, Break, Take, Ack, Close}
@@ -35,7 +35,7 @@ use Rattle.cdc_world.specs.declared.steps.StepError.TheVariants.{NotEnabled, Ref
 use Rattle.cdc_world.specs.Refusals.{start_refusal}
 use Rattle.cdc_world.specs.Worlds.{Subscription, WorldState, new_world, numbered, queue_in, with_numbered}
 
--- what a step does, where memory and the store allow it: its answer and the world after it, or why it isn't done
+-- what a step does, if memory and the store allow it: its answer and the world after it, or why it isn't done
 abbrev pub Outcome : Type 0
 Outcome = Result (Did × WorldState) StepError
 
@@ -45,7 +45,7 @@ abbrev pub ◌>>=◌ : {A : Type 0} → Option A → (A → Outcome) → Outcome
 Some x >>= rest = rest x
 None >>= rest = Err NotEnabled
 
--- a step that is done, without more to say
+-- a step that is done, and answered only with `Done`
 abbrev pub success : WorldState → Outcome
 success w = Ok (Done, w)
 
@@ -67,7 +67,7 @@ abbrev pub with_session : WorldState → Result Saved StartError → Outcome
 with_session w (Ok saved) = success (record w { held = Some saved; session = Some (new_course saved w.window) })
 with_session w (Err why) = Err (start_refusal why)
 
--- the same where the connector is down, after a moment that is asked for or not
+-- the same if the connector is down, after a timestamp that is asked for or not
 abbrev pub with_start : WorldState → Option ℕ → Option Course → Outcome
 with_start w at None = with_session w (begun w.held at)
 with_start w at (Some course) = Err NotEnabled
@@ -90,7 +90,7 @@ with_packet w course packet = record w {
   session = Some (with_sent (Some packet) course);
 }
 
--- what the broker says of a packet counts for a session where it confirms one of its tags
+-- the broker's answer to a packet counts for a session if it confirms one of its tags
 abbrev pub counts : Course → ℕ → BrokerAnswer → Bool
 counts course session (Confirmed tag) = takes_confirm course session tag
 counts course session Connected = false
@@ -115,7 +115,7 @@ abbrev pub confirms_of : Packet → List Confirm
 confirms_of (Connect session) = []
 confirms_of (Publish session tag item) = record { session = session; answer = Confirmed tag } ∷ []
 
--- a packet that the broker takes, or one that it passes over
+-- a packet that the broker takes, or one that it ignores
 abbrev pub with_arrival : WorldState → Packet → Bool → WorldState
 with_arrival w packet true = record w {
   accepted = w.accepted ++ packet ∷ [];
@@ -133,7 +133,7 @@ arrival w packet = Ok (Arrived (is_taken w.accepted packet), with_arrival w pack
 abbrev pub with_subscription : ℕ → Subscription → WorldState → WorldState
 with_subscription i s w = record w { subscriptions = with_numbered i s w.subscriptions }
 
--- what the queue of a subscriber hands out next, if there is anything
+-- what the queue of a subscriber delivers next, if there is anything
 abbrev pub next_delivery : WorldState → Subscription → Option Delivery
 next_delivery w s = delivery_at s.cursor (queue_in w s)
 
@@ -141,7 +141,7 @@ next_delivery w s = delivery_at s.cursor (queue_in w s)
 abbrev pub with_delivery : Delivery → Subscription → Subscription
 with_delivery delivery s = record s { flight = s.flight ++ delivery ∷ []; cursor = after_delivery s.cursor }
 
--- the queue goes back to what isn't acknowledged
+-- the queue rewinds to what isn't acknowledged
 abbrev pub with_rewind : Subscription → Subscription
 with_rewind s = record s { cursor = rewound s.cursor }
 
@@ -149,24 +149,24 @@ with_rewind s = record s { cursor = rewound s.cursor }
 abbrev pub with_break : Subscription → Subscription
 with_break s = record s { flight = []; cursor = rewound s.cursor }
 
--- the first delivery on its way, and those behind it
+-- the first delivery on its way, and those after it
 abbrev pub first_flight : List Delivery → Option (Delivery × List Delivery)
 first_flight [] = None
 first_flight (delivery ∷ rest) = Some (delivery, rest)
 
--- the subscriber takes a delivery, hears its item and acknowledges its position
+-- the subscriber takes a delivery, receives its item and acknowledges its position
 abbrev pub with_taking : Delivery → List Delivery → Subscription → Subscription
 with_taking delivery rest s = record s {
   taken = s.taken ++ delivery ∷ [];
   flight = rest;
   acks = s.acks ++ delivery.position ∷ [];
-  heard = next_heard s.heard delivery.item;
+  reception = next_reception s.reception delivery.item;
 }
 
 -- the subscriber's answer to the first of the deliveries on its way
 abbrev pub taking : WorldState → ℕ → Subscription → Delivery × List Delivery → Outcome
 taking w i s first =
-    Ok (Took (answer_to (kept_of s.heard) first.0.item), with_subscription i (with_taking first.0 first.1 s) w)
+    Ok (Took (answer_to (kept_of s.reception) first.0.item), with_subscription i (with_taking first.0 first.1 s) w)
 
 -- an acknowledgement comes to the queue
 abbrev pub with_ack : ℕ → Subscription → Subscription
@@ -178,21 +178,21 @@ acknowledgement w i s position = Ok (Counted true, with_subscription i (with_ack
 
 -- the subscriber closes
 abbrev pub with_close : Subscription → Subscription
-with_close s = record s { heard = record s.heard { closed = true } }
+with_close s = record s { reception = record s.reception { closed = true } }
 
 -- ---- all steps
 
--- the step that starts a session after a moment that is asked for or not
+-- the step that starts a session after a timestamp that is asked for or not
 abbrev pub start_after : Option ℕ → Step
 start_after None = Start
-start_after (Some moment) = StartAt moment
+start_after (Some time) = StartAt time
 
 -- what a step answers and does
 abbrev pub next : WorldState → Step → Outcome
 next w (Submit batch) = with_batch w (submit w.history batch)
 next w CloseLedger = success (with_ledger_closed w)
 next w Start = with_start w None w.session
-next w (StartAt moment) = with_start w (Some moment) w.session
+next w (StartAt time) = with_start w (Some time) w.session
 next w Crash = w.session >>= (λ course. success (with_crash w))
 next w PollStep = w.session >>= (λ course. next_poll course >>= (λ poll. success (with_poll w course poll)))
 next w PublishStep = w.session >>= (λ course. next_packet course >>= (λ packet. success (with_packet w course packet)))
@@ -209,7 +209,7 @@ next w (Close i) = numbered w.subscriptions i >>= (λ s. success (with_subscript
 
 -- ---- whatever is answered
 
--- what is saved, where a session may start
+-- what is saved, if a session may start
 abbrev pub saved_in : Result Saved StartError → Option Saved
 saved_in (Ok saved) = Some saved
 saved_in (Err why) = None
@@ -217,14 +217,14 @@ saved_in (Err why) = None
 -- what a step saves, if it is one that does
 abbrev pub saves : WorldState → Step → Option Saved
 saves w Start = saved_in (begun w.held None)
-saves w (StartAt moment) = saved_in (begun w.held (Some moment))
+saves w (StartAt time) = saved_in (begun w.held (Some time))
 saves w Save = option_map progress_of w.session
 saves w _ = None
 
 -- the step reads or writes the store
 abbrev pub uses_store : Step → Bool
 uses_store Start = true
-uses_store (StartAt moment) = true
+uses_store (StartAt time) = true
 uses_store Save = true
 uses_store _ = false
 
@@ -250,11 +250,11 @@ IsTried (Err _) = ⊥
 -- the step reads the store
 abbrev pub loads : Step → Bool
 loads Start = true
-loads (StartAt moment) = true
+loads (StartAt time) = true
 loads _ = false
 
--- the world after a store failed: as it was, where it failed to load; as it was or with the new record held, where it
--- failed to save one; a step that loads has an honest store, which holds nothing else than a record
+-- the world after a store failed: as it was, if it failed to load; as it was or with the new record held, if it
+-- failed to save one; the store of a step that loads is honest, and so holds nothing but a record
 abbrev pub AfterFailure : WorldState → Step → StoreError → WorldState → Type 0
 AfterFailure w step store.ReadFault w' = IsTrue (loads step) × (w' ≡ w)
 AfterFailure w step store.WriteFault w' =
@@ -262,8 +262,8 @@ AfterFailure w step store.WriteFault w' =
 AfterFailure w step store.BadRecord w' = ⊥
 AfterFailure w step store.OutOfMemory w' = ⊥
 
--- a step may be answered so, and leave this world: as `next` says; or the store failed, an honest one where the step
--- loads; or memory ran out, which leaves the world as it was
+-- a step may be answered so, and leave this world: as `next` determines; or the store failed, an honest one if the
+-- step loads; or memory ran out, which leaves the world as it was
 abbrev pub Next : WorldState → Step → Result Did StepError → WorldState → Type 0
 Next w step (Ok did) w' = next w step ≡ Ok (did, w')
 Next w step (Err NotEnabled) w' = (next w step ≡ Err NotEnabled) × (w' ≡ w)
@@ -274,8 +274,8 @@ Next w step (Err OutOfMemory) w' = IsTrue (takes_memory step) × (IsTried (next 
 Next w step (Err (Store why)) w' =
     IsTrue (uses_store step) × (IsTried (next w step) × AfterFailure w step why w')
 
--- a step may be answered so over a store of these risks: the store fails where it may. Memory may run out wherever the
--- step is tried: a start makes its room before it turns to the store
+-- a step may be answered so over a store with these risks: the store fails only if it may. Memory may run out
+-- whenever the step is tried: a start allocates before it uses the store
 abbrev pub IsStepRisked : Risks → Result Did StepError → Type 0
 IsStepRisked risks (Ok did) = Unit {0}
 IsStepRisked risks (Err NotEnabled) = Unit {0}

@@ -7,7 +7,7 @@ use Rattle.cdc_message.specs.declared.packets.Confirm.{Confirm}
 use Rattle.cdc_message.specs.declared.packets.Packet.{Packet}
 use Rattle.cdc_world.specs.Worlds.{WorldState}
 
--- the connector of a world, where these confirms came to it
+-- the connector of a world, if these confirms came to it
 abbrev pub connector_in : WorldState → List Confirm → ConnectorState
 connector_in w received =
     record { held = w.held; session = w.session; sent = w.packets; confirms = received }

@@ -1,4 +1,4 @@
--- Which refusal of a step stands for a refusal of one of the actors.
+-- Which refusal of a step corresponds to a refusal of one of the actors.
 use Rattle.cdc_ledger.specs.declared.errors.BatchError.{BatchError}
 use Rattle.cdc_ledger.specs.declared.errors.BatchError.TheVariants as batch
 use Rattle.cdc_progress.specs.declared.errors.StoreError.{StoreError}

@@ -9,12 +9,12 @@ use Rattle.cdc_world.specs.Worlds.{WorldState}
 abbrev pub Run : Type 0
 Run = (ℕ × Option StepError) × WorldState
 
--- a step that was done is one more, before those that follow; one that wasn't is the end
+-- a step that was done is one more, before those that follow; one that wasn't is the last
 abbrev pub going_on : WorldState → Outcome → (WorldState → Run) → Run
 going_on w (Ok did) rest = let later = rest did.1 in ((later.0.0 + 1, later.0.1), later.1)
 going_on w (Err why) rest = ((0, Some why), w)
 
--- steps in a row, where memory and the store allow it
+-- steps in a row, if memory and the store allow it
 abbrev pub run_of : WorldState → List Step → Run
 run_of w [] = ((0, None), w)
 run_of w (step ∷ steps) = going_on w (next w step) (λ between. run_of between steps)

@@ -28,7 +28,8 @@ FailsTimes risks (suc failed) w step w' =
     × (FailsTimes risks failed w step between × (IsTrue (is_passing answer) × NextOver risks between step answer w'))
 
 -- a step that is tried again after such an answer, at most this many times more: the tries that failed, and the last
--- one, whose answer is the step's; that one too has failed only where as many failed before it as may be tried again
+-- one, whose answer is the step's; that one too may have failed only if as many failed before it as may be tried
+-- again
 pub record NextPast (risks : Risks) (tries : ℕ) (w : WorldState) (step : Step) (answer : Result Did StepError)
     (w' : WorldState) : Type 0 where
   pub failed : ℕ
@@ -38,7 +39,7 @@ pub record NextPast (risks : Risks) (tries : ℕ) (w : WorldState) (step : Step)
   pub last : NextOver risks before step answer w'
   pub spent : IsTrue (is_passing answer) → failed ≡ tries
 
--- each try that failed may have counted in the store; where no step is tried again, none did
+-- each try that failed may have counted in the store; if no step is tried again, none did
 abbrev pub HaveTriesCounted : ℕ → ℕ → ℕ → Type 0
 HaveTriesCounted tries before between = (before ≤ between) × (tries ≡ 0 → between ≡ before)
 
@@ -47,11 +48,11 @@ abbrev pub IsStoreCountedPast : ℕ → ℕ → ℕ → Result Did StepError →
 IsStoreCountedPast tries before after answer =
     (between : ℕ) × (HaveTriesCounted tries before between × IsStoreCounted between after answer)
 
--- and those of a play that ends so, and then the last try of a step that is refused
+-- and those of a play with this outcome, and then the last try of a step that is refused
 abbrev pub IsPlayCountedPast : ℕ → ℕ → ℕ → Option StepError → Type 0
 IsPlayCountedPast tries before after refusal =
     (between : ℕ) × (HaveTriesCounted tries before between × IsPlayCounted between after refusal)
 
--- what is kept goes on by a step that is tried so; of a step that loads this is said over an honest store
+-- the kept state changes by a step that is tried so; a step that loads needs an honest store
 abbrev pub MovesPast : ℕ → Parts → Step → Result Did StepError → Parts → Type 0
 MovesPast tries p = MovesBy (NextPast p.risks tries) p

@@ -8,7 +8,7 @@ ghost use Rattle.cdc_world.specs.Parts.{subscription_parts};
 ghost use Rattle.cdc_world.specs.Turns.{ActorsMove, empty_actors, place_in};
 ghost use Rattle.cdc_world.specs.Worlds.{numbered};
 
-use crate::broker::{hand_out, take_in};
+use crate::broker::{deliver, take_in};
 use crate::connector::{poll, publish, take_confirm};
 use crate::steps::{Did, StepError};
 use crate::subscriptions::{Subscription, empty_subscriptions};
@@ -22,7 +22,7 @@ use std::alloc::{AllocError, Global};
 use std::marker::Model;
 
 /// A ledger; the session of the connector that publishes its events; the broker; and the subscriptions. Packets and
-/// confirms that were ever sent stay there, since any of them may come at any time, and again.
+/// confirms that were ever sent stay there, since any of them may come at any time, and more than once.
 #[derive(Drop)]
 pub(crate) struct Actors {
     ledger: Ledger,
@@ -56,7 +56,7 @@ impl Model for Actors {
 }
 
 impl Actors {
-    /// Actors who have done nothing, with a subscription for each binding.
+    /// Creates actors that have done nothing, with a subscription for each binding.
     pub(crate) fn new(
         alloc: Global,
         bindings: Vec<Binding>,
@@ -77,14 +77,13 @@ impl Actors {
         })
     }
 
-    /// The ledger.
     pub(crate) fn ledger(&self) -> &Ledger
         ensures { result.now ≡ self.now.history }
     {
         &self.ledger
     }
 
-    /// For how many events a session waits at a time.
+    /// How many events of a session may wait for their confirms at a time.
     pub(crate) fn window(&self) -> usize
         ensures value { result ≡ self.now.window }
         ensures fits { IsWindow result }
@@ -92,35 +91,35 @@ impl Actors {
         self.window
     }
 
-    /// The connector's session, where it is up.
+    /// The connector's session, or `None` while the connector is down.
     pub(crate) fn session(&self) -> Option<&Session>
         ensures { option_copied result ≡ self.now.session }
     {
         self.session.as_ref()
     }
 
-    /// The connector goes on with this session.
+    /// Replaces the connector's session, if there is one, with this one.
     pub(crate) fn begin(&mut self, session: Session)
         ensures { self.new ≡ record self.old { session = Some session } }
     {
         self.session = Some(session);
     }
 
-    /// The packets that were ever sent.
+    /// The packets that were ever sent, in order.
     pub(crate) fn packets(&self) -> &[Packet]
         ensures { result.now ≡ self.now.packets }
     {
         self.packets.as_slice()
     }
 
-    /// The confirms that were ever sent.
+    /// The confirms that were ever sent, in order.
     pub(crate) fn confirms(&self) -> &[Confirm]
         ensures { result.now ≡ self.now.confirms }
     {
         self.confirms.as_slice()
     }
 
-    /// The packet that was sent under this number, from 1 on.
+    /// The packet that was sent with this number, from 1 on.
     pub(crate) fn packet(&self, k: u64) -> Option<&Packet>
         ensures { option_copied result ≡ numbered self.now.packets k }
     {
@@ -128,7 +127,7 @@ impl Actors {
         Some(&self.packets[place])
     }
 
-    /// The confirm that was sent under this number, from 1 on.
+    /// The confirm that was sent with this number, from 1 on.
     pub(crate) fn confirm(&self, k: u64) -> Option<&Confirm>
         ensures { option_copied result ≡ numbered self.now.confirms k }
     {
@@ -136,7 +135,6 @@ impl Actors {
         Some(&self.confirms[place])
     }
 
-    /// The broker.
     pub(crate) fn broker(&self) -> &Broker
         ensures kept { result.now ≡ self.now.broker }
         ensures count { length result.now.queues ≡ length self.now.subscriptions }
@@ -144,14 +142,13 @@ impl Actors {
         &self.broker
     }
 
-    /// How many subscribers there are.
     pub(crate) fn subscription_count(&self) -> usize
         ensures { result ≡ length self.now.subscriptions }
     {
         self.subscriptions.len()
     }
 
-    /// The subscription of this number, from 1 on.
+    /// The subscription with this number, from 1 on.
     pub(crate) fn subscription(&self, i: usize) -> &Subscription
         requires first { 0 < i }
         requires last { i ≤ length self.now.subscriptions }
@@ -183,14 +180,12 @@ impl Actors {
         }
     }
 
-    /// The ledger takes a batch.
     fn submit(&mut self, alloc: Global, batch: &Batch) -> Result<Did, StepError>
         ensures next { ActorsMove self.old (Submit batch.now) result self.new }
     {
         Ok(Did::Submitted(self.ledger.submit(alloc, batch)?))
     }
 
-    /// The ledger closes.
     fn close_ledger(&mut self) -> Result<Did, StepError>
         ensures next { ActorsMove self.old CloseLedger result self.new }
     {
@@ -198,7 +193,7 @@ impl Actors {
         Ok(Did::Done)
     }
 
-    /// The connector crashes, where it is up: its session is gone.
+    /// The connector crashes and loses its session. Not enabled while the connector is down.
     fn crash(&mut self) -> Result<Did, StepError>
         ensures next { ActorsMove self.old Crash result self.new }
     {
@@ -209,7 +204,7 @@ impl Actors {
         Ok(Did::Done)
     }
 
-    /// The session is offered the events that it wants.
+    /// The session is offered the events of the ledger that it wants.
     fn poll(&mut self, alloc: Global) -> Result<Did, StepError>
         ensures next { ActorsMove self.old PollStep result self.new }
     {
@@ -231,7 +226,7 @@ impl Actors {
         Ok(Did::Done)
     }
 
-    /// The packet that was sent under this number comes to the broker.
+    /// The packet that was sent with this number, from 1 on, comes to the broker.
     fn arrive(&mut self, alloc: Global, k: u64) -> Result<Did, StepError>
         ensures next { ActorsMove self.old (Arrive k) result self.new }
     {
@@ -241,7 +236,7 @@ impl Actors {
         Ok(Did::Arrived(taken))
     }
 
-    /// The confirm that was sent under this number comes to the session.
+    /// The confirm that was sent with this number, from 1 on, comes to the session.
     fn answer(&mut self, k: u64) -> Result<Did, StepError>
         ensures next { ActorsMove self.old (Answer k) result self.new }
     {
@@ -252,12 +247,12 @@ impl Actors {
         Ok(Did::Counted(take_confirm(session, self.confirms[place])))
     }
 
-    /// The queue of a subscriber hands out its next delivery.
+    /// The queue of a subscriber makes its next delivery.
     fn send(&mut self, alloc: Global, i: u64) -> Result<Did, StepError>
         ensures next { ActorsMove self.old (Send i) result self.new }
     {
         let place = place_of(i, self.subscriptions.len()).ok_or(StepError::NotEnabled)?;
-        hand_out(
+        deliver(
             alloc,
             &mut self.broker,
             place + 1,
@@ -266,7 +261,7 @@ impl Actors {
         Ok(Did::Done)
     }
 
-    /// The queue of a subscriber goes back to the first entry that isn't acknowledged.
+    /// The queue of a subscriber rewinds to the first position that isn't acknowledged.
     fn rewind(&mut self, i: u64) -> Result<Did, StepError>
         ensures next { ActorsMove self.old (Rewind i) result self.new }
     {
@@ -275,7 +270,7 @@ impl Actors {
         Ok(Did::Done)
     }
 
-    /// What is on its way to a subscriber is lost, and its queue goes back.
+    /// What is on its way to a subscriber is lost, and its queue rewinds.
     fn break_off(&mut self, i: u64) -> Result<Did, StepError>
         ensures next { ActorsMove self.old (Break i) result self.new }
     {
@@ -294,7 +289,7 @@ impl Actors {
         Ok(Did::Took(subscription.take(alloc)?))
     }
 
-    /// The acknowledgement that a subscriber gave under this number comes to its queue.
+    /// The acknowledgement that a subscriber sent with number `k`, from 1 on, comes to its queue.
     fn ack(&mut self, i: u64, k: u64) -> Result<Did, StepError>
         ensures next { ActorsMove self.old (Ack i k) result self.new }
     {
@@ -304,7 +299,6 @@ impl Actors {
         Ok(Did::Counted(self.broker.ack(place + 1, acks[ack])))
     }
 
-    /// A subscriber closes.
     fn close(&mut self, i: u64) -> Result<Did, StepError>
         ensures next { ActorsMove self.old (Close i) result self.new }
     {
@@ -314,7 +308,7 @@ impl Actors {
     }
 }
 
-/// The place of this number among so many, if it has one.
+/// The place of a number, from 1 on, in a list of `count` elements, if it has one.
 fn place_of(number: u64, count: usize) -> Option<usize>
     ensures { result ≡ place_in number count }
 {

@@ -1,11 +1,11 @@
-//! What comes to the broker, and what its queues hand out.
+//! What comes to the broker, and what its queues deliver.
 
 ghost use Rattle.std.specs.Prelude.{◌<◌, ◌≤◌, length};
 ghost use Rattle.cdc_broker.specs.Broker.{queue_of};
 ghost use Rattle.cdc_broker.specs.Queues.{next_delivery};
 ghost use Rattle.cdc_message.specs.declared.packets.Packet.TheVariants.{Publish as PublishOf};
 ghost use Rattle.cdc_world.specs.Parts.{subscription_parts};
-ghost use Rattle.cdc_world.specs.Turns.{ComesTo, HandsAt};
+ghost use Rattle.cdc_world.specs.Turns.{ComesTo, DeliversAt};
 
 use crate::steps::StepError;
 use crate::subscriptions::Subscription;
@@ -13,7 +13,7 @@ use cdc_broker::{Broker, Taken};
 use cdc_message::{Answer, Confirm, Item, Packet};
 use std::alloc::{AllocError, Global};
 
-/// A packet comes to the broker, which confirms an item that it takes.
+/// A packet comes to the broker, which confirms an item that it takes. Returns whether it was taken.
 pub(crate) fn take_in(
     alloc: Global,
     broker: &mut Broker,
@@ -31,7 +31,7 @@ pub(crate) fn take_in(
     }
 }
 
-/// An item comes to the broker.
+/// An item comes to the broker. Returns whether it was taken.
 fn take_item(
     alloc: Global,
     broker: &mut Broker,
@@ -57,8 +57,8 @@ fn take_item(
     }
 }
 
-/// Queue `i` of the broker hands out its next delivery.
-pub(crate) fn hand_out(
+/// Queue `i` of the broker, from 1 on, makes its next delivery.
+pub(crate) fn deliver(
     alloc: Global,
     broker: &mut Broker,
     i: usize,
@@ -66,7 +66,7 @@ pub(crate) fn hand_out(
 ) -> Result<(), StepError>
     requires first { 0 < i }
     requires last { i ≤ length broker.old.queues }
-    ensures { HandsAt i broker.old (subscription_parts subscription.old)
+    ensures { DeliversAt i broker.old (subscription_parts subscription.old)
         (next_delivery (queue_of broker.old i)) result
         broker.new (subscription_parts subscription.new) }
 {

@@ -1,4 +1,4 @@
-//! What the connector's session does with the ledger's events, and with what the broker says.
+//! What the connector's session does with the ledger's events, and with the broker's answers.
 
 ghost use Rattle.std.specs.Prelude.{◌≡◌, ◌≤◌, IfErr, length};
 ghost use Rattle.cdc_publisher.specs.Courses.{Course, after_answer};
@@ -13,7 +13,7 @@ use cdc_message::{Answer, Confirm, Packet};
 use cdc_publisher::Session;
 use std::alloc::Global;
 
-/// The session is offered the events that it wants of the ledger's log.
+/// Offers the session the events that it wants of the ledger's log.
 pub(crate) fn poll(alloc: Global, ledger: &Ledger, session: &mut Session) -> Result<(), StepError>
     ensures offers { Offers ledger.now session.old result session.new }
     ensures refusals { IfErr result IsNotOfStore }
@@ -44,7 +44,7 @@ pub(crate) fn publish(
     Ok(())
 }
 
-/// A confirm comes to the session: whether it counts.
+/// A confirm comes to the session. Returns whether it counts.
 pub(crate) fn take_confirm(session: &mut Session, confirm: Confirm) -> bool
     ensures answer { (course : Course) → StandsFor session.old course
         → result ≡ counts course confirm.session confirm.answer }

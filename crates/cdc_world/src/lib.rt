@@ -5,12 +5,15 @@ mod actors;
 mod broker;
 mod connector;
 pub mod laws;
+pub mod moved;
+mod movements;
 mod refusals;
 pub mod steps;
 mod subscriptions;
 pub mod world;
 
-pub use cdc_types::{Moment, Step};
+pub use cdc_types::{EventTimestamp, Step};
 pub use laws::world_laws;
+pub use moved::{ItemName, Moved, PacketName};
 pub use steps::{Did, StepError};
 pub use world::{Played, World};

@@ -1,4 +1,4 @@
-//! Which refusal of a step stands for a refusal of one of the actors.
+//! Which refusal of a step corresponds to a refusal of one of the actors.
 
 use crate::steps::StepError;
 use cdc_ledger::BatchError;

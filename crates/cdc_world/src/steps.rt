@@ -1,4 +1,4 @@
-//! What the world answers to a step.
+//! The answers of a world to a step.
 
 ghost use Rattle.std.specs.Prelude.{◌≡◌};
 ghost use Rattle.cdc_world.specs.Errors.{step_error_name, step_error_number};
@@ -9,18 +9,18 @@ use cdc_subscriber::Taking;
 use cdc_types::BatchResults;
 use thiserror::Error;
 
-/// What a step did.
+/// The answer to a step that was done.
 #[derive(Drop)]
 pub enum Did {
     /// The ledger's results of a batch.
     Submitted(BatchResults),
-    /// A packet came: whether it was taken.
+    /// A packet came to the broker; whether the broker took it.
     Arrived(bool),
-    /// A confirm or an acknowledgement came: whether it counted.
+    /// A confirm or an acknowledgement came; whether it counted.
     Counted(bool),
     /// A subscriber's answer to a delivery.
     Took(Taking),
-    /// Any other step, done.
+    /// Any other step was done.
     Done,
 }
 
@@ -30,19 +30,19 @@ pub enum StepError {
     /// There is nothing that the step could act on now.
     #[error("not_enabled")]
     NotEnabled,
-    /// The ledger refuses the batch.
+    /// The ledger refuses the batch, for this reason.
     #[error("refused: {}", .0.name())]
     Refused(BatchError),
-    /// The store failed.
+    /// The store failed, with this error.
     #[error("store: {}", .0.name())]
     Store(StoreError),
     /// There is no further number for a session.
     #[error("sessions_exhausted")]
     SessionsExhausted,
-    /// No memory was left.
+    /// Memory ran out.
     #[error("out_of_memory")]
     OutOfMemory,
-    /// A session may start after a moment only where no progress is saved.
+    /// A timestamp to start after was given, but a session may start after one only if no progress is saved.
     #[error("start_not_allowed")]
     StartNotAllowed,
 }

@@ -19,7 +19,7 @@ pub(crate) struct Subscription {
 }
 
 impl Subscription {
-    /// A subscription that nothing has come to.
+    /// Creates a subscription that nothing has come to.
     pub(crate) fn new(alloc: Global) -> Subscription
         ensures { subscription_parts result ≡ empty_subscription }
     {
@@ -64,7 +64,7 @@ impl Subscription {
     }
 }
 
-/// As many subscriptions that nothing has come to.
+/// Creates `count` subscriptions that nothing has come to.
 pub(crate) fn empty_subscriptions(
     alloc: Global,
     count: usize,

@@ -4,10 +4,11 @@ ghost use Rattle.std.specs.Prelude.{◌≡◌, ◌-◌, ◌<◌, ◌≤◌, ℕ,
 ghost use Rattle.cdc_broker.specs.Packets.{current_session, expected_tag};
 ghost use Rattle.cdc_laws.specs.Faithful.{IsFaithful, kept_from};
 ghost use Rattle.cdc_progress.specs.Stores.{IsRisked, MayRefuseLoad};
-ghost use Rattle.cdc_subscriber.specs.Heard.{kept_of};
+ghost use Rattle.cdc_subscriber.specs.Reception.{kept_of};
 ghost use Rattle.cdc_types.specs.Windows.{IsWindow};
 ghost use Rattle.cdc_types.specs.declared.steps.Step.TheVariants.{Save};
-ghost use Rattle.cdc_world.specs.Moves.{IsPlayCounted, IsStoreCounted, Moves, PlayFixesClosed, PlayFixesClosedBy, Plays, PlaysBy, SavesSafely, StepFixesClosed};
+ghost use Rattle.cdc_world.specs.Moved.{did_of};
+ghost use Rattle.cdc_world.specs.Moves.{IsPlayCounted, IsStoreCounted, Moves, MovesReported, PlayFixesClosed, PlayFixesClosedBy, Plays, PlaysBy, SavesSafely, StepFixesClosed};
 ghost use Rattle.cdc_world.specs.Next.{IsReached, start_after};
 ghost use Rattle.cdc_world.specs.Stands.{Stands, queue_for, view_of};
 ghost use Rattle.cdc_publisher.specs.Stands.{SessionStands};
@@ -15,6 +16,7 @@ ghost use Rattle.cdc_world.specs.Tries.{IsPlayCountedPast, IsStoreCountedPast, M
 ghost use Rattle.cdc_world.specs.Worlds.{Subscription, WorldState, new_world, numbered, start_of, taken_items};
 
 use crate::actors::Actors;
+use crate::moved::Moved;
 use crate::steps::{Did, StepError};
 use cdc_broker::Broker;
 use cdc_ledger::Ledger;
@@ -23,25 +25,25 @@ use cdc_message::{Confirm, Delivery, Packet};
 use cdc_progress::{Progress, ProgressStore, StoreError};
 use cdc_publisher::Session;
 use cdc_subscriber::Subscriber;
-use cdc_types::{Moment, Step};
+use cdc_types::{EventTimestamp, Step};
 use std::alloc::{AllocError, Global};
 use std::marker::Model;
 
-/// How far a play came.
+/// The outcome of a play.
 #[derive(Clone, Copy, Debug, PartialEq, Eq)]
 pub struct Played {
-    /// How many steps were done.
+    /// How many steps were done before the first refused one.
     pub done: usize,
-    /// Why the step after them was refused, if one was.
+    /// Why the step after them was refused; `None` if all steps were done.
     pub refusal: Option<StepError>,
 }
 
-/// A ledger; the connector that publishes its events, with its session and its store of progress; the broker; and the
-/// subscribers, each with a queue. Whatever was sent, a packet, a confirm or an acknowledgement, may come late, again
-/// and again, or not at all.
+/// A ledger; the connector that publishes its events, with its session and its progress store; the broker; and the
+/// subscribers, each with a queue. Whatever was sent, a packet, a confirm or an acknowledgement, may come late, more
+/// than once, or not at all.
 ///
-/// A world keeps only what is still to be used, so a clause speaks of the states of all actors: whatever state the
-/// world stands for before a step, it stands for one after it that the step may leave.
+/// A world keeps only what is still to be used, so contracts refer to the states of all actors: whatever state the
+/// world represents before a step, it represents one after it that the step may leave.
 #[derive(Drop)]
 pub struct World<S: ProgressStore> {
     actors: Actors,
@@ -62,7 +64,7 @@ impl<S: ProgressStore> Model for World<S> {
     } };
 }
 
-// Whether a step that is answered so may be done at a further try: the store failed, or memory ran out.
+// Whether a step with this answer may succeed at a further try: the store failed, or memory ran out.
 fn is_passing(answer: &Result<Did, StepError>) -> bool
     ensures { result ≡ is_passing answer.now }
 {
@@ -70,8 +72,8 @@ fn is_passing(answer: &Result<Did, StepError>) -> bool
 }
 
 impl<S: ProgressStore + Drop> World<S> {
-    /// A world in which nothing has happened, with a subscriber for each binding. The session waits for `window` events
-    /// at a time.
+    /// Creates a world in which nothing has happened, with a subscriber for each binding. At most `window` events of
+    /// a session wait for their confirms at a time.
     pub fn new(
         alloc: Global,
         bindings: Vec<Binding>,
@@ -92,9 +94,9 @@ impl<S: ProgressStore + Drop> World<S> {
 }
 
 impl<S: ProgressStore> World<S> {
-    /// Takes one step. A step that is refused changes nothing, except that a store counts a read or a write that fails,
-    /// and that one that fails to save may hold the new record. No step changes what a closed subscriber has heard, and
-    /// so what it has applied.
+    /// Takes one step. A step that is refused changes nothing, with two exceptions: the store counts a read or a
+    /// write that fails, and a store that fails to save may hold the new record. No step changes what a closed
+    /// subscriber has received, and so what it has applied.
     pub fn step(&mut self, alloc: Global, step: &Step) -> Result<Did, StepError>
         ensures next { Moves self.old step.now result self.new }
         ensures fixed { StepFixesClosed self.old step.now result self.new }
@@ -105,9 +107,32 @@ impl<S: ProgressStore> World<S> {
     {
         match step {
             Step::Start => self.start(alloc, None),
-            Step::StartAt(moment) => self.start(alloc, Some(*moment)),
+            Step::StartAt(time) => self.start(alloc, Some(*time)),
             Step::Save => self.save(),
             _ => self.actors.step(alloc, step),
+        }
+    }
+
+    /// Takes one step, as `step` does, and also returns what it moved.
+    pub fn step_moved(
+        &mut self,
+        alloc: Global,
+        step: &Step,
+    ) -> Result<(Did, Option<Moved>), StepError>
+        ensures next { MovesReported self.old step.now result self.new }
+        ensures fixed { StepFixesClosed self.old step.now (did_of result) self.new }
+        ensures counted { IsStoreCounted self.old.failed self.new.failed (did_of result) }
+        ensures safe { step.now ≡ Save → SavesSafely self.old (did_of result) }
+        ensures honest { self.new.honest ≡ self.old.honest }
+        ensures risks { self.new.risks ≡ self.old.risks }
+    {
+        let leaving = self.leaving(step);
+        match self.step(alloc, step) {
+            Ok(did) => {
+                let moved = leaving.or(self.brought(step, &did));
+                Ok((did, moved))
+            }
+            Err(why) => Err(why),
         }
     }
 
@@ -122,8 +147,8 @@ impl<S: ProgressStore> World<S> {
         self.play_past(alloc, steps, 0)
     }
 
-    /// Takes these steps in order, up to the first that is refused. One that is refused because the store failed or
-    /// memory ran out is taken again, at most `tries` times more; the answer of the last try is the step's.
+    /// Takes these steps in order, up to the first that is refused. A step that is refused because the store failed
+    /// or memory ran out is taken again, at most `tries` times more; the answer of the last try is the step's.
     pub fn play_past(&mut self, alloc: Global, steps: &[Step], tries: usize) -> Played
         ensures plays { PlaysBy (NextPast self.old.risks tries) self.old steps.now result.done
             result.refusal self.new }
@@ -147,32 +172,30 @@ impl<S: ProgressStore> World<S> {
         }
     }
 
-    /// The ledger.
     pub fn ledger(&self) -> &Ledger
         ensures { (w : WorldState) → Stands self.now w → result.now ≡ w.history }
     {
         self.actors.ledger()
     }
 
-    /// The subscriber of this number, from 1 on. In every world that steps lead to, what it has applied is a beginning
-    /// of the ledger's events after the start that its binding takes, and complete once it has ended; what it keeps is
-    /// told by that; and where its binding takes every event, its book has just their accounts, with the ledger's
-    /// balances as of the last one that it has applied.
+    /// The subscriber with this number, from 1 on. In every world that steps lead to, the events that it has applied
+    /// are a prefix of the ledger's events that follow the start and match its binding, and all of them once it has
+    /// ended. Its state is determined by these events. If every event matches the binding, its book has exactly their
+    /// accounts, with the ledger's balances as of the last one applied.
     pub fn subscriber(&self, i: usize) -> &Subscriber
         requires first { 0 < i }
         requires last { i ≤ length self.now.actors.subscriptions }
-        ensures heard { (w : WorldState) → Stands self.now w → (s : Subscription)
-            → numbered w.subscriptions i ≡ Some s → result.now ≡ kept_of s.heard }
+        ensures reception { (w : WorldState) → Stands self.now w → (s : Subscription)
+            → numbered w.subscriptions i ≡ Some s → result.now ≡ kept_of s.reception }
         ensures applied { (w : WorldState) → Stands self.now w → IsReached w → (s : Subscription)
-            → numbered w.subscriptions i ≡ Some s → result.now ≡ kept_from s.heard }
+            → numbered w.subscriptions i ≡ Some s → result.now ≡ kept_from s.reception }
         ensures faithful { (w : WorldState) → Stands self.now w → IsReached w → (s : Subscription)
             → numbered w.subscriptions i ≡ Some s
-            → IsFaithful w.history (start_of w) s.binding s.heard }
+            → IsFaithful w.history (start_of w) s.binding s.reception }
     {
         &self.actors.subscription(i).subscriber
     }
 
-    /// How many subscribers there are.
     pub fn subscriber_count(&self) -> usize
         ensures count { result ≡ length self.now.actors.subscriptions }
         ensures subscriptions { (w : WorldState) → Stands self.now w
@@ -181,8 +204,8 @@ impl<S: ProgressStore> World<S> {
         self.actors.subscription_count()
     }
 
-    /// What the store holds, as it says, or why it doesn't load. A read that fails is counted, and where the store is
-    /// honest nothing else changes.
+    /// The progress that the store holds, or why it doesn't load. A read that fails is counted. If the store is
+    /// honest, nothing else changes.
     pub fn progress(&mut self) -> Result<Option<Progress>, StoreError>
         ensures held { IsTrue self.old.honest → (w : WorldState) → Stands self.old w
             → IfOk result (λ held. held ≡ w.held) }
@@ -198,7 +221,7 @@ impl<S: ProgressStore> World<S> {
         self.store.load()
     }
 
-    /// The connector's session, where it is up.
+    /// The connector's session, or `None` while the connector is down.
     pub fn session(&self) -> Option<&Session>
         ensures kept { option_copied result ≡ self.now.actors.session }
         ensures stands { (w : WorldState) → Stands self.now w
@@ -221,7 +244,7 @@ impl<S: ProgressStore> World<S> {
         self.actors.broker()
     }
 
-    /// The packet that was sent under this number, from 1 on.
+    /// The packet that was sent with this number, from 1 on.
     pub fn packet(&self, k: u64) -> Option<&Packet>
         ensures { (w : WorldState) → Stands self.now w
             → option_copied result ≡ numbered w.packets k }
@@ -229,7 +252,7 @@ impl<S: ProgressStore> World<S> {
         self.actors.packet(k)
     }
 
-    /// The confirm that was sent under this number, from 1 on.
+    /// The confirm that was sent with this number, from 1 on.
     pub fn confirm(&self, k: u64) -> Option<&Confirm>
         ensures { (w : WorldState) → Stands self.now w
             → option_copied result ≡ numbered w.confirms k }
@@ -251,7 +274,7 @@ impl<S: ProgressStore> World<S> {
         self.actors.confirms().len()
     }
 
-    /// How many deliveries are on their way to the subscriber of this number, from 1 on.
+    /// How many deliveries are on their way to the subscriber with this number, from 1 on.
     pub fn flight(&self, i: usize) -> usize
         requires first { 0 < i }
         requires last { i ≤ length self.now.actors.subscriptions }
@@ -261,7 +284,7 @@ impl<S: ProgressStore> World<S> {
         self.actors.subscription(i).flight.len()
     }
 
-    /// The delivery that comes first of those that are on their way to the subscriber of this number, from 1 on.
+    /// The first of the deliveries on their way to the subscriber with this number, from 1 on.
     pub fn first_in_flight(&self, i: usize) -> Option<&Delivery>
         requires first { 0 < i }
         requires last { i ≤ length self.now.actors.subscriptions }
@@ -271,8 +294,7 @@ impl<S: ProgressStore> World<S> {
         self.actors.subscription(i).flight.front()
     }
 
-    /// The delivery that was handed out last of those that are on their way to the subscriber of this number, from 1
-    /// on.
+    /// The last of the deliveries on their way to the subscriber with this number, from 1 on.
     pub fn last_in_flight(&self, i: usize) -> Option<&Delivery>
         requires first { 0 < i }
         requires last { i ≤ length self.now.actors.subscriptions }
@@ -283,7 +305,7 @@ impl<S: ProgressStore> World<S> {
         self.actors.subscription(i).flight.back()
     }
 
-    /// How many positions the subscriber of this number, from 1 on, has acknowledged.
+    /// How many positions the subscriber with this number, from 1 on, has acknowledged.
     pub fn acks(&self, i: usize) -> usize
         requires first { 0 < i }
         requires last { i ≤ length self.now.actors.subscriptions }
@@ -309,8 +331,8 @@ impl<S: ProgressStore> World<S> {
         self.step(alloc, step)
     }
 
-    /// The connector starts a session, where it is down; after a moment, where one is asked for.
-    fn start(&mut self, alloc: Global, at: Option<Moment>) -> Result<Did, StepError>
+    /// The connector starts a session, after the timestamp `at` if one is given. Not enabled while a session runs.
+    fn start(&mut self, alloc: Global, at: Option<EventTimestamp>) -> Result<Did, StepError>
         ensures next { Moves self.old (start_after at) result self.new }
         ensures counted { IsStoreCounted self.old.failed self.new.failed result }
         ensures honest { self.new.honest ≡ self.old.honest }
@@ -324,7 +346,7 @@ impl<S: ProgressStore> World<S> {
         Ok(Did::Done)
     }
 
-    /// The session saves its progress.
+    /// The session saves its progress. Not enabled while the connector is down.
     fn save(&mut self) -> Result<Did, StepError>
         ensures next { Moves self.old Save result self.new }
         ensures counted { IsStoreCounted self.old.failed self.new.failed result }

@@ -1,8 +1,8 @@
-//! Whole courses of steps: that each finds memory, and what is left in the end.
+//! Whole courses of steps: each step finds memory, and the world in the end is as expected.
 
 use crate::played::{Course, Seen, outcome};
 use cdc_progress::MemoryStore;
-use cdc_world::{Moment, Played, Step, StepError};
+use cdc_world::{EventTimestamp, Played, Step, StepError};
 use std::alloc::{AllocError, Global};
 use std::process::Abort;
 use std::test::Fail;
@@ -49,8 +49,8 @@ const EMPTY: [Step; 10] = [
 ];
 
 // The steps of a run with each fault: a crash between a publish and its confirm, a late packet and confirm of the
-// session that crashed, deliveries that are rewound and broken off, an acknowledgement that comes twice, and a close.
-const FAULTY: [Step; 28] = [
+// session that crashed, deliveries that are rewound and broken off, a duplicate acknowledgement, and a close.
+pub const FAULTY: [Step; 28] = [
     Step::Start,
     Step::Publish,
     Step::Arrive(1),
@@ -81,7 +81,7 @@ const FAULTY: [Step; 28] = [
     Step::Ack(1, 3),
 ];
 
-// Steps that a world in which nothing has happened refuses, each.
+// Steps each of which a world refuses in which nothing has happened.
 const IDLE: [Step; 5] = [
     Step::Crash,
     Step::Arrive(u64::MAX),
@@ -103,7 +103,7 @@ const NOTHING: Seen = Seen {
     ended: false,
 };
 
-// Transfers of these amounts and these steps, over a store that never fails, come so far and leave this.
+// Transfers of these amounts and then these steps, over a store that never fails, come so far and leave this.
 fn leaves(
     rt: &impl Abort,
     alloc: Global,
@@ -122,7 +122,7 @@ fn leaves(
     Ok(())
 }
 
-// What is left of a whole course up to the last three steps, which take what was sent.
+// What is left of a whole course up to its last three steps, which take what was sent.
 const SENT: Seen = Seen {
     saved: Some((1, 2001)),
     events: 2,
@@ -210,7 +210,7 @@ fn steps_with_nothing_to_act_on(rt: HostRuntime) -> Result<(), Fail> {
     Ok(())
 }
 
-// The steps that tell a thousand events and no more, one after another.
+// The steps that publish and deliver exactly a thousand events, one after another.
 fn long_course(alloc: Global) -> Result<Vec<Step>, AllocError> {
     let mut steps = Vec::with_capacity(alloc, 6_004)?;
     steps.push(Step::Start)?;
@@ -251,8 +251,8 @@ fn a_thousand_events(rt: HostRuntime) -> Result<(), Fail> {
     )
 }
 
-// The steps of a publisher that starts after this moment, with the events that follow it.
-fn late_course(alloc: Global, at: Moment) -> Result<Vec<Step>, AllocError> {
+// The steps of a connector that starts after this timestamp, with the events that follow it.
+fn late_course(alloc: Global, at: EventTimestamp) -> Result<Vec<Step>, AllocError> {
     let mut steps = Vec::with_capacity(alloc, 8)?;
     steps.push(Step::StartAt(at))?;
     steps.push(Step::Publish)?;
@@ -277,7 +277,7 @@ fn a_start_after_the_first_of_two_events(rt: HostRuntime) -> Result<(), Fail> {
         last: 2001,
         ..NOTHING
     };
-    let at = Moment::new(2000).expect(&rt, "a moment");
+    let at = EventTimestamp::new(2000).expect(&rt, "a timestamp");
     let steps = late_course(rt.alloc(), at)?;
     leaves(&rt, rt.alloc(), &[5, 7], steps.as_slice(), (8, None), left)
 }
@@ -289,8 +289,8 @@ fn a_second_late_start_is_not_allowed(rt: HostRuntime) -> Result<(), Fail> {
         events: 2,
         ..NOTHING
     };
-    let at = Moment::new(2000).expect(&rt, "a moment");
-    let again = Moment::new(5).expect(&rt, "a moment");
+    let at = EventTimestamp::new(2000).expect(&rt, "a timestamp");
+    let again = EventTimestamp::new(5).expect(&rt, "a timestamp");
     let steps = [Step::StartAt(at), Step::Crash, Step::StartAt(again)];
     let refused = (2, Some(StepError::StartNotAllowed));
     leaves(&rt, rt.alloc(), &[5, 7], &steps, refused, left)

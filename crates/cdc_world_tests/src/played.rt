@@ -1,5 +1,5 @@
-//! A world that is played and told in numbers. A function that holds a world is proved to let go of it at each of its
-//! ends, which takes longer than all else, so one function holds it, and the tests compare.
+//! A world that runs a course, and what is seen of it in numbers. A function that holds a world is proved to let go
+//! of it at each of its exits, which takes most of the time. So only one function holds it, and the tests compare.
 
 use cdc_match::Binding;
 use cdc_progress::{MemoryStore, StoreError};
@@ -39,7 +39,7 @@ fn transfer(id: u128, amount: u128) -> NewTransfer {
     }
 }
 
-/// The step that opens two accounts at the moment 1000.
+/// The step that opens accounts 1 and 2 at timestamp 1000.
 pub fn accounts(alloc: Global) -> Result<Step, AllocError> {
     Ok(Step::Submit(Batch::Accounts {
         now: 1000,
@@ -47,7 +47,7 @@ pub fn accounts(alloc: Global) -> Result<Step, AllocError> {
     }))
 }
 
-/// The step that makes transfers of these amounts at the moment 2000, with the ids from this one on.
+/// The step that makes transfers of these amounts at timestamp 2000, with ids from `first` on.
 pub fn transfers(alloc: Global, first: u64, amounts: &[u128]) -> Result<Step, AllocError> {
     let mut items = Vec::new(alloc);
     for (id, amount) in (first..u64::MAX).zip(amounts) {
@@ -59,7 +59,7 @@ pub fn transfers(alloc: Global, first: u64, amounts: &[u128]) -> Result<Step, Al
     }))
 }
 
-/// A world with one subscriber of all events, over this store.
+/// A world with one subscriber to all events and a window of 1, over this store.
 pub fn world_over(alloc: Global, store: MemoryStore) -> Result<World<MemoryStore>, Fail> {
     let bindings = Vec::from_array(alloc, [Binding::parse(alloc, &["all"])?])?;
     Ok(World::new(alloc, bindings, 1, store)?)
@@ -74,8 +74,8 @@ pub struct Seen {
     pub events: usize,
     pub packets: usize,
     pub confirms: usize,
-    /// Of the subscriber: how many deliveries are on their way, how many positions it has acknowledged, how many events
-    /// it has applied, the timestamp of the last, and whether it has heard that nothing follows.
+    /// Of the subscriber: how many deliveries are on their way, how many positions it has acknowledged, how many
+    /// events it has applied, the timestamp of the last, and whether it has received the end mark.
     pub flight: usize,
     pub acks: usize,
     pub applied: u64,
@@ -89,7 +89,8 @@ pub fn saved(world: &mut World<MemoryStore>) -> Result<Option<(u64, u64)>, Store
     Ok(progress.map(|progress| (progress.session(), progress.timestamp())))
 }
 
-/// What is seen of a world of one subscriber. The store may fail once meanwhile.
+/// What is seen of a world. A store that fails once is read again. None if it fails twice, or if the world doesn't
+/// have one subscriber.
 pub fn look_at(world: &mut World<MemoryStore>) -> Option<Seen> {
     let saved = match saved(world) {
         Ok(saved) => saved,
@@ -121,14 +122,14 @@ pub struct Course<'a> {
     pub tries: usize,
 }
 
-// The two accounts and transfers of these amounts.
+// Takes the two accounts and transfers of these amounts.
 fn begin(alloc: Global, world: &mut World<MemoryStore>, amounts: &[u128]) -> Result<(), Fail> {
     let _ = world.step(alloc, &accounts(alloc)?)?;
     let _ = world.step(alloc, &transfers(alloc, 1, amounts)?)?;
     Ok(())
 }
 
-// Plays a course in a world, and says how far it came and what is seen then.
+// Runs a course in a world, and returns how far it came and what is seen then.
 fn play(
     alloc: Global,
     world: &mut World<MemoryStore>,
@@ -141,7 +142,7 @@ fn play(
     Ok((played, look_at(world)))
 }
 
-/// What comes of a course in a new world over this store.
+/// The same in a new world over this store.
 pub fn outcome(
     alloc: Global,
     store: MemoryStore,

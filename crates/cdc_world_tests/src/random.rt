@@ -1,4 +1,4 @@
-//! Random steps over a store of which one call fails, beside the same steps over one that never fails.
+//! Random steps over a store of which one call fails, compared with the same steps over one that never fails.
 
 use crate::played::{Seen, accounts, look_at, transfers, world_over};
 use cdc_progress::MemoryStore;
@@ -6,19 +6,19 @@ use cdc_world::{Step, World};
 use std::alloc::{AllocError, Global};
 use std::test::Fail;
 
-// The next of a row of numbers without an order that can be seen, the same row each time.
+// The next number of a pseudorandom sequence, which is the same each time.
 fn next_random(random: u64) -> u64 {
     random
         .wrapping_mul(6_364_136_223_846_793_005)
         .wrapping_add(1_442_695_040_888_963_407)
 }
 
-// The number of one of the last two that there are, or a number of none.
+// The number of one of the last two that there are; 0, which is the number of none, if there are too few.
 fn recent(count: usize, choice: u64) -> u64 {
     (count as u64).saturating_sub(choice % 2)
 }
 
-// One of most kinds of steps. Of what was sent, something recent comes.
+// A random step of most kinds. A packet or a confirm is a recent one.
 fn random_step(alloc: Global, world: &World<MemoryStore>, random: u64) -> Result<Step, AllocError> {
     let choice = random / 65_536;
     Ok(match (random / 4_294_967_296) % 20 {
@@ -37,11 +37,11 @@ fn random_step(alloc: Global, world: &World<MemoryStore>, random: u64) -> Result
     })
 }
 
-// How many random steps are played in a world.
+// How many random steps run in a world.
 const STEPS: u64 = 300;
 
-// Plays the same random steps in both worlds, where one that the store refuses is tried again in the second; says
-// whether each step is answered alike.
+// Runs the same random steps in both worlds. A step that the store refuses is tried again in the second. Returns
+// whether each step has the same result.
 fn are_answered_alike(
     alloc: Global,
     sound: &mut World<MemoryStore>,
@@ -60,7 +60,7 @@ fn are_answered_alike(
     Ok(alike)
 }
 
-// The same, but for the number of the session, which a start that is tried again may have passed over.
+// The same, without the number of the session: a start that is tried again may have skipped one.
 fn without_session(seen: Option<Seen>) -> Option<Seen> {
     let seen = seen?;
     let timestamp = match seen.saved {
@@ -73,7 +73,7 @@ fn without_session(seen: Option<Seen>) -> Option<Seen> {
     })
 }
 
-// Whether both worlds answer alike, and come to the same.
+// Whether both worlds have the same results, and are the same in the end.
 fn go_alike(
     alloc: Global,
     sound: &mut World<MemoryStore>,
@@ -84,7 +84,7 @@ fn go_alike(
     Ok(alike && without_session(look_at(sound)) == without_session(look_at(faulty)))
 }
 
-// Whether a world whose store fails at this call does what this one does.
+// Whether a world whose store fails at this call does what `sound` does.
 fn does_the_same(
     alloc: Global,
     sound: &mut World<MemoryStore>,
@@ -96,7 +96,7 @@ fn does_the_same(
     go_alike(alloc, sound, &mut faulty, u64::from(fails_at))
 }
 
-// The same, beside a world whose store never fails.
+// The same, compared with a world whose store never fails.
 fn changes_nothing(alloc: Global, fails_at: u8, keeps_new: bool) -> Result<bool, Fail> {
     let mut sound = world_over(alloc, MemoryStore::new())?;
     does_the_same(alloc, &mut sound, fails_at, keeps_new)

@@ -8,7 +8,7 @@ use std::alloc::Global;
 use std::process::Abort;
 use std::test::Fail;
 
-// A start; two of them; and one session after another.
+// A start twice; and one session after another.
 const START: [Step; 2] = [Step::Start, Step::Start];
 
 const AGAIN: [Step; 4] = [Step::Start, Step::Save, Step::Crash, Step::Start];
@@ -18,8 +18,8 @@ const AT_WRITE: Option<StepError> = Some(StepError::Store(StoreError::WriteFault
 
 const AT_READ: Option<StepError> = Some(StepError::Store(StoreError::ReadFault));
 
-// A store of which one call fails: which one, and whether a save that fails holds the new record. How many more tries a
-// step has. Then how far the steps come, why no further, and what the store holds.
+// A store of which one call fails: which one, and whether a save that fails holds the new record. How many more tries
+// a step has. Then how far the steps come, why no further, and what the store holds.
 type Row = (
     u8,
     bool,
@@ -29,7 +29,7 @@ type Row = (
     Option<(u64, u64)>,
 );
 
-// Two events and these steps go as each of these rows says.
+// Two events and these steps go as each of these rows has it.
 fn go(rt: &impl Abort, alloc: Global, steps: &[Step], rows: &[Row]) -> Result<(), Fail> {
     for (fails_at, keeps_new, tries, done, refusal, held) in rows {
         let store = MemoryStore::with_faults(None, u64::from(*fails_at), *keeps_new);
@@ -45,7 +45,7 @@ fn go(rt: &impl Abort, alloc: Global, steps: &[Step], rows: &[Row]) -> Result<()
     Ok(())
 }
 
-// A start is a load and a save. Its save fails, once and for all or with a further try.
+// A start is a load and a save. Its save fails, for good or until a further try.
 #[test]
 fn a_start_whose_save_fails_is_tried_again(rt: HostRuntime) -> Result<(), Fail> {
     let rows = [

@@ -19,20 +19,20 @@ pub record SimulationParts : Type 0 where
   pub batches : ℕ
   pub answers : List Answered
 
--- its world stands for that of the stage, and its batches and the answers are those of the stage
+-- its world represents that of the stage, and its batches and the answers are those of the stage
 pub record IsAt (simulation : SimulationParts) (stage : Stage) : Type 0 where
   pub world : Stands simulation.world stage.world
   pub batches : simulation.batches ≡ stage.batches
   pub answers : simulation.answers ≡ stage.answers
 
--- a step was done at a stage, and the simulation's world stands for the one after it
+-- a step was done at a stage, and the simulation's world represents the one after it
 abbrev pub HasDoneAt : Stage → Step → SimulationParts → Type 0
 HasDoneAt stage step simulation =
     (did : Did) × (w : WorldState) × (Stands simulation.world w × Next stage.world step (Ok did) w)
 
--- a simulation gives up at an act whose step was done, where what is printed of it has no room: at a batch, that of the
--- batch at its place in the script
-abbrev pub GivesUpAt : List ClientBatch → Stage → Act → SimulationParts → Type 0
-GivesUpAt batches stage act.Batch simulation =
+-- a simulation fails at an act whose step was done, if there is no room for what is printed of it: for a batch, the
+-- step that submits the batch at its place in the script
+abbrev pub AbortsAt : List ClientBatch → Stage → Act → SimulationParts → Type 0
+AbortsAt batches stage act.Batch simulation =
     (b : ClientBatch) × ((slice_get batches stage.batches ≡ Some b) × HasDoneAt stage (step.Submit b.batch) simulation)
-GivesUpAt batches stage (act.Step said) simulation = HasDoneAt stage said simulation
+AbortsAt batches stage (act.Step stated) simulation = HasDoneAt stage stated simulation

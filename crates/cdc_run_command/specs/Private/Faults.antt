@@ -1,11 +1,11 @@
--- The faults of the program that stand for those of a run.
-use Rattle.cdc_ends.specs.declared.faults.RunFault.{RunFault}
-use Rattle.cdc_ends.specs.declared.faults.RunFault.TheVariants as run
+-- The faults of the program that correspond to those of a run.
+use Rattle.cdc_actors.specs.declared.faults.RunFault.{RunFault}
+use Rattle.cdc_actors.specs.declared.faults.RunFault.TheVariants as run
 use Rattle.cdc_commands.specs.declared.faults.ProgramFault.{ProgramFault}
 use Rattle.cdc_commands.specs.declared.faults.ProgramFault.TheVariants as program
 use Rattle.cdc_commands.specs.Faults.{store_fault}
 
--- why a run gave up, as the fault of the program
+-- why a run failed, as the fault of the program
 abbrev pub run_fault : RunFault → ProgramFault
 run_fault run.PeerGone = program.PeerGone
 run_fault run.OutOfMemory = program.OutOfMemory

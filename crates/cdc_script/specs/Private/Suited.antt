@@ -4,20 +4,20 @@ use Rattle.cdc_script.specs.declared.fields.ItemKind.{ItemKind}
 use Rattle.cdc_script.specs.declared.fields.ItemKind.TheVariants as item
 use Rattle.cdc_script.specs.declared.statements.Context.{Context}
 use Rattle.cdc_script.specs.declared.statements.Statement.{Statement}
-use Rattle.cdc_script.specs.declared.statements.Statement.TheVariants as says
+use Rattle.cdc_script.specs.declared.statements.Statement.TheVariants as states
 
 -- the statement is no item of a batch
 abbrev pub IsNoItem : Statement → Type 0
-IsNoItem (says.Account a) = ⊥
-IsNoItem (says.Transfer t) = ⊥
+IsNoItem (states.Account a) = ⊥
+IsNoItem (states.Transfer t) = ⊥
 IsNoItem _ = Unit {0}
 
 -- an item finds a batch of its kind open
 abbrev pub HasBatch : Option ItemKind → Statement → Type 0
-HasBatch open_batch (says.Account a) = open_batch ≡ Some item.Account
-HasBatch open_batch (says.Transfer t) = open_batch ≡ Some item.Transfer
+HasBatch open_batch (states.Account a) = open_batch ≡ Some item.Account
+HasBatch open_batch (states.Transfer t) = open_batch ≡ Some item.Transfer
 HasBatch open_batch _ = Unit {0}
 
 -- the statement may follow
 abbrev pub IsSuited : Context → Statement → Type 0
-IsSuited context said = HasBatch context.open_batch said
+IsSuited context stated = HasBatch context.open_batch stated

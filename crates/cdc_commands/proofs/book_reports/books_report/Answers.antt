@@ -2,7 +2,7 @@ use Rattle.std.proofs.Common.{true, ◌≡◌, ◌<◌, ◌^◌, ◌∙◌, ap, 
 use Rattle.cdc_types.specs.declared.events.Event.{Event}
 use Rattle.cdc_ledger.specs.Events.{events}
 use Rattle.cdc_match.specs.Arguments.{Arguments}
-use Rattle.cdc_laws.specs.Line.{told}
+use Rattle.cdc_laws.specs.Line.{emitted}
 use Rattle.cdc_commands.specs.Printed.{history_of}
 use Rattle.cdc_commands.specs.Queues.{filled_queues}
 use Rattle.cdc_commands.proofs.HeldLaws.{few_of_script}
@@ -19,4 +19,4 @@ returns-clause-queues c =
     let events_are : c.log.result.now.events ≡ events (history_of c.args.script) =
     c.log.ensures ∙ ap events c.in_ok-ledger.ensures.ledger in
     c.in_ok-broker.ensures
-    ∙ ap₂ (λ (es : List Event) (bs : List Arguments). filled_queues (told es true) bs) events_are c.into_vec.ensures
+    ∙ ap₂ (λ (es : List Event) (bs : List Arguments). filled_queues (emitted es true) bs) events_are c.into_vec.ensures

@@ -1,7 +1,10 @@
-use Rattle.cdc_commands.proofs.OutputLemmas.{writes_outcome}
+use Rattle.std.proofs.lemmas.Result.{IfErr-weaker}
+use Rattle.cdc_commands.specs.Outcomes.{MayFailScript}
+use Rattle.cdc_commands.proofs.OutputLemmas.{writes_made}
 use Rattle.cdc_commands.proofs.check.check.Goals as goal
 
 pub returns-clause-writes : goal.returns-clause-writes
 returns-clause-writes g c =
-    writes_outcome _ _ _ _ c.judge.result _ c.print_output.ensures.text c.print_output.ensures.fault
-    c.judge.ensures.output c.judge.ensures.ending c.judge.ensures.fault
+    writes_made _ g.F.Form.prints_fault _ _ c.validate-output.result _ c.print_output.ensures.text c.print_output.ensures.fault
+    c.validate-output.ensures.output
+    (IfErr-weaker c.validate-output.result MayFailScript _ (λ why may line stated. (may, stated)) c.validate-output.ensures.fault)

@@ -1,7 +1,10 @@
-use Rattle.cdc_commands.proofs.OutputLemmas.{writes_outcome}
+use Rattle.std.proofs.lemmas.Result.{IfErr-weaker}
+use Rattle.cdc_commands.specs.Outcomes.{MayFailScript}
+use Rattle.cdc_commands.proofs.OutputLemmas.{writes_made}
 use Rattle.cdc_commands.proofs.messages.messages.Goals as goal
 
 pub returns-clause-writes : goal.returns-clause-writes
 returns-clause-writes g c =
-    writes_outcome _ _ _ _ c.read_messages.result _ c.print_output.ensures.text c.print_output.ensures.fault
-    c.read_messages.ensures.output c.read_messages.ensures.ending c.read_messages.ensures.fault
+    writes_made _ g.F.Form.prints_fault _ _ c.read_messages-output.result _ c.print_output.ensures.text c.print_output.ensures.fault
+    c.read_messages-output.ensures.output
+    (IfErr-weaker c.read_messages-output.result MayFailScript _ (λ why may line stated. (may, stated)) c.read_messages-output.ensures.fault)

@@ -5,29 +5,22 @@ use Rattle.cdc_subscriber.specs.SubscriberState.{SubscriberState}
 use Rattle.cdc_commands.specs.declared.batches.Answered.{Answered}
 use Rattle.cdc_commands.specs.Feeds.{kept_by}
 use Rattle.cdc_commands.specs.Printed.{answers_to, history_of}
-use Rattle.cdc_commands.proofs.TakerLemmas.{IsUntaken-filled}
 use Rattle.cdc_json.specs.Lines.{answered_values, json_lines, kept_values}
 use Rattle.cdc_json.specs.Private.Taking.{kept_of_queue}
 use Rattle.cdc_json.proofs.LineLemmas.{json_lines-append}
 use Rattle.cdc_json.proofs.TakenLemmas.{kept_of_filled}
 use Rattle.cdc_json.proofs.books.books_lines.Goals as goal
 
-pub push_takers-requires : goal.push_takers-requires
-push_takers-requires c =
-    IsUntaken-filled (line (history_of c.args.script)) c.args.script.bindings c.in_ok-answers.field-0.broker.queues
-    c.in_ok-answers.ensures.queues
-
 pub returns : goal.returns
-returns c =
-    let script = c.args.script in
+returns c = λ script is.
     let items = line (history_of script) in
     let answers = answers_to 1 empty_history script.batches in
-    let told : c.push_answers.new.lines.text.items ≡ json_lines (answered_values answers) =
+    let printed : c.push_answers.new.lines.text.items ≡ json_lines (answered_values answers) =
     c.in_ok-push_answers.ensures
     ∙ ap₂ (λ (text : List ℕ) (given : List Answered). text ++ json_lines (answered_values given)) c.new-lines.ensures
-    (c.as_slice.ensures.value ∙ c.in_ok-answers.ensures.answers) in
-    let takers : map kept_of_queue c.in_ok-answers.field-0.broker.queues ≡ map (kept_by items) script.bindings =
-    ap (map kept_of_queue) c.in_ok-answers.ensures.queues ∙ kept_of_filled items script.bindings in
+    (c.as_slice.ensures.value ∙ is.answers) in
+    let takers : map kept_of_queue c.args.report.broker.queues ≡ map (kept_by items) script.bindings =
+    ap (map kept_of_queue) is.queues ∙ kept_of_filled items script.bindings in
     c.in_ok-push_takers.ensures
-    ∙ ap₂ (λ (text : List ℕ) (kept : List SubscriberState). text ++ json_lines (kept_values 1 kept)) told takers
+    ∙ ap₂ (λ (text : List ℕ) (kept : List SubscriberState). text ++ json_lines (kept_values 1 kept)) printed takers
     ∙ sym (json_lines-append (answered_values answers) (kept_values 1 (map (kept_by items) script.bindings)))

@@ -14,7 +14,7 @@ use Rattle.cdc_json.proofs.books.push_takers.Goals as goal
 
 pub loop-place-init : goal.loop-place-init
 loop-place-init c = record {
-  told = refl;
+  emitted = refl;
   taken = ([], ArePrinted-none c.args.broker.now.queues []);
 }
 
@@ -43,11 +43,11 @@ loop-place-preserved c =
     c.in_ok-subscriber.ensures.subscriber
     ∙ ap kept_of_queue (queue_of_next place all c.loop-place.broker [] taken.0 inside taken.1) in
     record {
-      told = kept_more (map kept_of_queue all) place (kept_of_queue q) _ _ _ there
+      emitted = kept_more (map kept_of_queue all) place (kept_of_queue q) _ _ _ there
           (c.in_ok-push_subscriber.ensures
           ∙ ap (λ (kept : SubscriberState). c.loop-place.lines.text.items
           ++ json_lines (subscriber_values (place + 1) kept)) whose)
-          c.loop-place.invariant.told;
+          c.loop-place.invariant.emitted;
       taken = (
         _,
         ArePrinted-more place all c.loop-place.broker c.take_queue.new.broker [] taken.0 _
@@ -61,4 +61,4 @@ returns c =
     let all = c.args.broker.now.queues in
     let past : length (map kept_of_queue all) ≤ c.loop-place.place =
     omega (arith, length-map all kept_of_queue, c.queue_count-place-end.ensures) in
-    kept_whole (map kept_of_queue all) c.loop-place.place _ _ past c.loop-place.invariant.told
+    kept_whole (map kept_of_queue all) c.loop-place.place _ _ past c.loop-place.invariant.emitted

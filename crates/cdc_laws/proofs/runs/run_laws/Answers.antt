@@ -2,7 +2,7 @@ use Rattle.cdc_ledger.specs.Events.{events}
 use Rattle.cdc_laws.proofs.Arrivals.{IsReplay-taken}
 use Rattle.cdc_laws.proofs.Feeds.{IsPrefix-line, whole-line}
 use Rattle.cdc_laws.proofs.GoingOn.{GoesOn-extends}
-use Rattle.cdc_laws.proofs.Hearing.{IsFaithful-run}
+use Rattle.cdc_laws.proofs.Receiving.{IsFaithful-run}
 use Rattle.cdc_laws.proofs.Rising.{after_rise}
 use Rattle.cdc_log.specs.Log.{events_after}
 use Rattle.cdc_laws.proofs.LongerRuns.{IsConnectorRun-goes_on, IsConnectorRun-more}

@@ -23,8 +23,8 @@ returns-clause-is_offered c = KeepsTo-offer
 pub returns-clause-sends : goal.returns-clause-sends
 returns-clause-sends c = λ h side course packet keeps runs is. KeepsTo-sent h side keeps course runs packet is
 
-pub returns-clause-hears : goal.returns-clause-hears
-returns-clause-hears c = KeepsTo-confirm
+pub returns-clause-receives : goal.returns-clause-receives
+returns-clause-receives c = KeepsTo-confirm
 
 pub returns-clause-saves : goal.returns-clause-saves
 returns-clause-saves c = KeepsTo-save

@@ -1,21 +1,21 @@
-use Rattle.cdc_laws.proofs.Hearing.{HasTaken-close, HasTaken-next, HasTaken-nil}
-use Rattle.cdc_laws.proofs.Queues.{HasHandedOut-ack, HasHandedOut-next, HasHandedOut-nil, HasHandedOut-queued, HasHandedOut-rewound}
+use Rattle.cdc_laws.proofs.Receiving.{HasTaken-close, HasTaken-next, HasTaken-nil}
+use Rattle.cdc_laws.proofs.Queues.{HasDelivered-ack, HasDelivered-next, HasDelivered-nil, HasDelivered-queued, HasDelivered-rewound}
 use Rattle.cdc_laws.proofs.steps.delivery_laws.Goals as goal
 
 pub returns-clause-begins : goal.returns-clause-begins
-returns-clause-begins c = HasHandedOut-nil
+returns-clause-begins c = HasDelivered-nil
 
 pub returns-clause-grows : goal.returns-clause-grows
-returns-clause-grows c = HasHandedOut-queued
+returns-clause-grows c = HasDelivered-queued
 
-pub returns-clause-hands_out : goal.returns-clause-hands_out
-returns-clause-hands_out c = HasHandedOut-next
+pub returns-clause-delivers : goal.returns-clause-delivers
+returns-clause-delivers c = HasDelivered-next
 
 pub returns-clause-acknowledges : goal.returns-clause-acknowledges
-returns-clause-acknowledges c = HasHandedOut-ack
+returns-clause-acknowledges c = HasDelivered-ack
 
 pub returns-clause-goes_back : goal.returns-clause-goes_back
-returns-clause-goes_back c = HasHandedOut-rewound
+returns-clause-goes_back c = HasDelivered-rewound
 
 pub returns-clause-subscribes : goal.returns-clause-subscribes
 returns-clause-subscribes c = HasTaken-nil

@@ -1,6 +1,6 @@
 use Rattle.std.proofs.Common.{◌≡◌, ◌≤◌, ◌-◌, [], vec_len, vec_capacity}
 use Rattle.crossbeam_channel.specs.Ends.{sends_on}
-use Rattle.cdc_links.specs.Links.{fresh_ends}
+use Rattle.cdc_links.specs.Links.{fresh_endpoints}
 use Rattle.cdc_links.specs.Rule.{IsLinkOf}
 use Rattle.cdc_links.proofs.ends.link.Given as goal
 
@@ -9,7 +9,7 @@ invariant-loop-into g l =
     IsLinkOf l.into.link (sends_on l.sender)
     × (l.into.senders ≡ vec_len l.outs)
     × (l.into.received ≡ [])
-    × (l.outs.items ≡ fresh_ends l.into.link (vec_len l.outs))
+    × (l.outs.items ≡ fresh_endpoints l.into.link (vec_len l.outs))
     × (vec_len l.outs ≤ l.senders)
     × (vec_capacity l.outs ≡ l.senders)
 

@@ -16,4 +16,4 @@ returns-in-Err-2-clause-event c =
 pub returns-in-Ok-clause-memory : goal.returns-in-Ok-clause-memory
 returns-in-Ok-clause-memory c =
     let parsed = c.in-Ok.ensures.ok in
-    λ lacking. some_bytes c.args.bytes.now _ parsed.1
+    λ exhausted. some_bytes c.args.bytes.now _ parsed.1

@@ -3,7 +3,7 @@ use Rattle.std.proofs.lemmas.Bool.Decides.{nat_tests}
 use Rattle.cdc_message.proofs.Law.{read_own}
 use Rattle.cdc_message.proofs.own_bodies.own_event.Goals as goal
 
--- nothing stands behind the event
+-- nothing follows the event
 pub returns-then-is_empty : goal.returns-then-is_empty
 returns-then-is_empty c =
     let none : length c.event.new.self.rest.now ≡ 0 = grind (arith, nat_tests) in

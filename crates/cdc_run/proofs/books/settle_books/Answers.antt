@@ -2,28 +2,28 @@ use Rattle.std.proofs.Common.{◌≡◌, ◌∙◌, ℕ, true, false, List, ◌�
 use Rattle.std.specs.Prelude.{All}
 use Rattle.std.specs.List.{AllZip}
 use Rattle.std.proofs.lemmas.Simd.{map-map}
-use Rattle.cdc_ends.specs.Clients.{Talk}
-use Rattle.cdc_ends.specs.LedgerEnds.{order_of, LedgerDesk, is_over}
-use Rattle.cdc_ends.specs.Ends.{EndState, has_finished}
+use Rattle.cdc_actors.specs.Client.{ClientCore}
+use Rattle.cdc_actors.specs.Ledger.{order_of, LedgerCore, is_over}
+use Rattle.cdc_actors.specs.Ends.{ActorState, has_finished}
 use Rattle.cdc_ledger.specs.History.{History}
 use Rattle.cdc_links.specs.Links.{CanSend, Incoming, IsAccount, Outgoing}
 use Rattle.cdc_traffic.specs.Following.{FollowsToLedger}
 use Rattle.cdc_traffic.specs.declared.messages.ToLedger.{ToLedger}
 use Rattle.cdc_traffic.specs.declared.requests.Reply.{Reply}
 use Rattle.cdc_types.specs.declared.batches.Batch.{Batch}
-use Rattle.cdc_run.specs.Accounts.{IsAccounted}
+use Rattle.cdc_run.specs.SettledLinks.{IsAccounted}
 use Rattle.cdc_run.specs.Books.{AreBooks}
 use Rattle.cdc_run.specs.ClientMail.{AreClientsOf, HasFinishedWith}
 use Rattle.cdc_run.specs.Parted.{works_of}
 use Rattle.cdc_run.proofs.ClientsParted.{AreTogether, all_settled, as_many_senders, of_one_link, senders, together}
-use Rattle.cdc_run.proofs.Refused.{asked_more, handed_on}
+use Rattle.cdc_run.proofs.Refused.{asked_more, passed_on}
 use Rattle.cdc_run.proofs.Zips.{same_zip}
 use Rattle.cdc_run.proofs.books.settle_books.Goals as goal
 
-pub settle-tally-requires-clause-ours : goal.settle-tally-requires-clause-ours
-settle-tally-requires-clause-ours c =
-    let ledger : EndState LedgerDesk = c.args.ledger in
-    let clients : List (EndState Talk) = c.args.clients.items in
+pub settle_link-requires-clause-ours : goal.settle_link-requires-clause-ours
+settle_link-requires-clause-ours c =
+    let ledger : ActorState LedgerCore = c.args.ledger in
+    let clients : List (ActorState ClientCore) = c.args.clients.items in
     let parts = c.in-Some.parts in
     let is = c.in-Some.ensures.parts in
     let same_len : c.args.clients.len ≡ parts.clients.len = first_of (omega arith, cc, search rules) in
@@ -32,17 +32,18 @@ settle-tally-requires-clause-ours c =
     let are : AreTogether ledger c.args.polls clients =
     together ledger c.args.polls clients c.system-system.result c.in-Some.ensures.some c.in-Some.ensures.kept
     c.in_ok-mail.ensures.clients c.system-system.ensures c.requires.polls c.requires.wired many in
-    let made : c.in_ok-handed.handed.items ≡ senders ledger c.args.polls clients are =
-    c.in_ok-handed.ensures ∙ ap (λ l. c.args.polls ∷ l) c.in_ok-mail.ensures.mail.requests in
-    subst (λ (into : Incoming ToLedger (Unit {0})). All (λ end. end.link ≡ into.link) c.in_ok-handed.handed.items)
+    let made : c.args.polls ∷ c.in_ok-mail.mail.requests.items ≡ senders ledger c.args.polls clients are =
+    ap (λ l. c.args.polls ∷ l) c.in_ok-mail.ensures.mail.requests in
+    subst (λ (into : Incoming ToLedger (Unit {0})).
+    All (λ end. end.link ≡ into.link) (c.args.polls ∷ c.in_ok-mail.mail.requests.items))
     (sym is.inbox_is)
     (subst (λ (ends : List (Outgoing ToLedger (Unit {0}))). All (λ end. end.link ≡ ledger.work.inbox.link) ends)
     (sym made) (of_one_link ledger c.args.polls clients are))
 
-pub settle-tally-requires-clause-all : goal.settle-tally-requires-clause-all
-settle-tally-requires-clause-all c =
-    let ledger : EndState LedgerDesk = c.args.ledger in
-    let clients : List (EndState Talk) = c.args.clients.items in
+pub settle_link-requires-clause-all : goal.settle_link-requires-clause-all
+settle_link-requires-clause-all c =
+    let ledger : ActorState LedgerCore = c.args.ledger in
+    let clients : List (ActorState ClientCore) = c.args.clients.items in
     let parts = c.in-Some.parts in
     let is = c.in-Some.ensures.parts in
     let same_len : c.args.clients.len ≡ parts.clients.len = first_of (omega arith, cc, search rules) in
@@ -51,15 +52,18 @@ settle-tally-requires-clause-all c =
     let are : AreTogether ledger c.args.polls clients =
     together ledger c.args.polls clients c.system-system.result c.in-Some.ensures.some c.in-Some.ensures.kept
     c.in_ok-mail.ensures.clients c.system-system.ensures c.requires.polls c.requires.wired many in
-    let made : c.in_ok-handed.handed.items ≡ senders ledger c.args.polls clients are =
-    c.in_ok-handed.ensures ∙ ap (λ l. c.args.polls ∷ l) c.in_ok-mail.ensures.mail.requests in
-    c.in_ok-handed.handed.ok.0 ∙ ap (λ l. length l) made ∙ as_many_senders ledger c.args.polls clients are
-    ∙ ap (λ (into : Incoming ToLedger (Unit {0})). into.senders) (sym is.inbox_is)
+    let made : c.args.polls ∷ c.in_ok-mail.mail.requests.items ≡ senders ledger c.args.polls clients are =
+    ap (λ l. c.args.polls ∷ l) c.in_ok-mail.ensures.mail.requests in
+    let count : length (c.args.polls ∷ c.in_ok-mail.mail.requests.items) ≡ parts.inbox.senders =
+    ap (λ l. length l) made ∙ as_many_senders ledger c.args.polls clients are
+    ∙ ap (λ (into : Incoming ToLedger (Unit {0})). into.senders) (sym is.inbox_is) in
+    let many_requests = c.in_ok-mail.mail.requests.ok.0 in
+    omega arith
 
 pub returns-clause-books : goal.returns-clause-books
 returns-clause-books c =
-    let ledger : EndState LedgerDesk = c.args.ledger in
-    let clients : List (EndState Talk) = c.args.clients.items in
+    let ledger : ActorState LedgerCore = c.args.ledger in
+    let clients : List (ActorState ClientCore) = c.args.clients.items in
     let parts = c.in-Some.parts in
     let is = c.in-Some.ensures.parts in
     let same_len : c.args.clients.len ≡ parts.clients.len = first_of (omega arith, cc, search rules) in
@@ -68,18 +72,18 @@ returns-clause-books c =
     let are : AreTogether ledger c.args.polls clients =
     together ledger c.args.polls clients c.system-system.result c.in-Some.ensures.some c.in-Some.ensures.kept
     c.in_ok-mail.ensures.clients c.system-system.ensures c.requires.polls c.requires.wired many in
-    let made : c.in_ok-handed.handed.items ≡ senders ledger c.args.polls clients are =
-    c.in_ok-handed.ensures ∙ ap (λ l. c.args.polls ∷ l) c.in_ok-mail.ensures.mail.requests in
-    let account = c.settle-tally.ensures.account in
+    let made : c.args.polls ∷ c.in_ok-mail.mail.requests.items ≡ senders ledger c.args.polls clients are =
+    ap (λ l. c.args.polls ∷ l) c.in_ok-mail.ensures.mail.requests in
+    let account = c.in_ok-settle_link.ensures.account in
     let whole : IsAccount ledger.work.inbox (senders ledger c.args.polls clients are) account.0 =
     subst (λ (into : Incoming ToLedger (Unit {0})). IsAccount into (senders ledger c.args.polls clients are) account.0)
     is.inbox_is
     (subst (λ (ends : List (Outgoing ToLedger (Unit {0}))). IsAccount parts.inbox ends account.0) made account.1) in
     let lawful : All (λ end. CanSend FollowsToLedger end.number end.sent) (senders ledger c.args.polls clients are) =
     subst (λ (ends : List (Outgoing ToLedger (Unit {0}))).
-    All (λ end. CanSend FollowsToLedger end.number end.sent) ends) made c.settle-tally.ensures.lawful in
-    let answers : AllZip IsAccounted (map (λ (t : Talk). t.answers) (works_of clients)) ledger.work.clients =
-    same_zip IsAccounted c.in_ok-mail.mail.answers.items (map (λ (t : Talk). t.answers) (works_of clients))
+    All (λ end. CanSend FollowsToLedger end.number end.sent) ends) made c.in_ok-settle_link.ensures.lawful in
+    let answers : AllZip IsAccounted (map (λ (t : ClientCore). t.answers) (works_of clients)) ledger.work.clients =
+    same_zip IsAccounted c.in_ok-mail.mail.answers.items (map (λ (t : ClientCore). t.answers) (works_of clients))
     parts.clients.items ledger.work.clients c.in_ok-mail.ensures.mail.answers is.clients_are
     c.in_ok-settle_each.ensures in
     let order : List (ℕ × Batch) = order_of ledger.work.inbox.received in
@@ -89,15 +93,20 @@ returns-clause-books c =
     (subst (λ (replies : List (List Reply)). AreBooks order ledger.work.ledger replies)
     (sym c.in_ok-mail.ensures.mail.replies) books)
 
+-- the order is the one that was noted
+pub returns-clause-order : goal.returns-clause-order
+returns-clause-order c = c.in-Some.ensures.parts.order_is ∙ c.in-Some.ensures.kept.booked.order
+
 pub returns-clause-replies : goal.returns-clause-replies
 returns-clause-replies c =
-    let clients : List (EndState Talk) = c.args.clients.items in
-    c.in_ok-mail.ensures.mail.replies ∙ map-map (λ (t : Talk). t.replies) (λ (s : EndState Talk). s.work) clients
+    let clients : List (ActorState ClientCore) = c.args.clients.items in
+    c.in_ok-mail.ensures.mail.replies ∙ map-map (λ (t : ClientCore). t.replies)
+    (λ (s : ActorState ClientCore). s.work) clients
 
 pub returns-clause-finished : goal.returns-clause-finished
 returns-clause-finished c =
-    let ledger : EndState LedgerDesk = c.args.ledger in
-    let clients : List (EndState Talk) = c.args.clients.items in
+    let ledger : ActorState LedgerCore = c.args.ledger in
+    let clients : List (ActorState ClientCore) = c.args.clients.items in
     let parts = c.in-Some.parts in
     let is = c.in-Some.ensures.parts in
     let same_len : c.args.clients.len ≡ parts.clients.len = first_of (omega arith, cc, search rules) in
@@ -108,7 +117,7 @@ returns-clause-finished c =
     c.in_ok-mail.ensures.clients c.system-system.ensures c.requires.polls c.requires.wired many in
     are.finished
 
--- the ledger's end hasn't finished, or has met a fault
+-- the ledger actor hasn't finished, or has met a fault
 pub returns-in_default-clause-refused : goal.returns-in_default-clause-refused
 returns-in_default-clause-refused c =
     inr (
@@ -137,8 +146,8 @@ returns-then-len-clause-refused c =
 -- one of them isn't as it has to be
 pub returns-in_err-mail-clause-refused : goal.returns-in_err-mail-clause-refused
 returns-in_err-mail-clause-refused c =
-    let clients : List (EndState Talk) = c.args.clients.items in
-    handed_on (HasFinishedWith c.args.ledger clients) c.from_residual.result c.in_err-mail.field-0.0
+    let clients : List (ActorState ClientCore) = c.args.clients.items in
+    passed_on (HasFinishedWith c.args.ledger clients) c.from_residual.result c.in_err-mail.field-0.0
     c.from_residual.ensures.1
     (asked_more (AreClientsOf c.system-system.result 1 clients) (HasFinishedWith c.args.ledger clients)
     c.in_err-mail.field-0.0

@@ -1,19 +1,23 @@
-use Rattle.std.proofs.Common.{◌≡◌, ◌∙◌, ℕ, true, false, List, refl, sym, arith, subst, map, inr, rules}
-use Rattle.std.proofs.lemmas.Bool.{false≢true}
-use Rattle.cdc_ends.specs.SubscriberEnds.{Intake}
+use Rattle.std.proofs.Common.{◌≡◌, ◌∙◌, ℕ, true, false, List, refl, sym, ap, arith, subst, map, inr, rules}
+use Rattle.std.specs.Prelude.{is_none}
+use Rattle.std.proofs.lemmas.Bool.{and_parts, false≢true}
+use Rattle.cdc_actors.specs.Subscriber.{SubscriberCore}
 use Rattle.cdc_ledger.specs.History.{History}
+use Rattle.cdc_links.specs.Links.{Outgoing}
 use Rattle.cdc_subscriber.specs.SubscriberState.{SubscriberState}
+use Rattle.cdc_traffic.specs.declared.messages.ToBroker.{ToBroker}
 use Rattle.cdc_run.specs.ClientMail.{HasFinishedWith as LedgerHasFinishedWith}
 use Rattle.cdc_run.specs.Parted.{works_of}
 use Rattle.cdc_run.specs.Reports.{AreFinished, AreSubscribed}
-use Rattle.cdc_ends.specs.Seats.{broker_seat}
-use Rattle.cdc_ends.specs.Ends.{EndState, has_finished}
-use Rattle.cdc_ends.specs.ConnectorEnds.{Publishing}
-use Rattle.cdc_run.specs.Streams.{AllCome, Middle}
+use Rattle.cdc_actors.specs.Seats.{broker_seat}
+use Rattle.cdc_actors.specs.Ends.{ActorState, has_finished}
+use Rattle.cdc_actors.specs.Connector.{ConnectorCore}
+use Rattle.cdc_run.specs.Streams.{AllCome, ArePacketsTo, Middle}
 use Rattle.cdc_run.specs.SubscriberMail.{AreSubscribersOf, HasFinishedWith as BrokerHasFinishedWith}
-use Rattle.cdc_run.proofs.Refused.{asked_more, handed_on}
+use Rattle.cdc_run.proofs.Refused.{asked_more, passed_on}
 use Rattle.cdc_run.proofs.Reported.{all_subscribed, books_of, finished, left_by, start_known, streams_of}
 use Rattle.cdc_run.proofs.Seated.{AreBetween, joined, polls_to, wired}
+use Rattle.cdc_run.proofs.Totals.{is_count}
 use Rattle.cdc_run.proofs.reports.settle.Goals as goal
 
 pub settle_books-requires-clause-polls : goal.settle_books-requires-clause-polls
@@ -68,27 +72,37 @@ returns-clause-report g c =
       replies = books.connector;
       packets = is.sent;
     } in
-    let over : has_finished (λ (c : Publishing). c.finished) ends.connector ≡ true = sym c.in-Some.ensures.some in
-    let subscribers : List (EndState Intake) = ends.subscribers.items in
+    let over : has_finished (λ (c : ConnectorCore). c.finished) ends.connector ≡ true = sym c.in-Some.ensures.some in
+    let subscribers : List (ActorState SubscriberCore) = ends.subscribers.items in
     let broker : BrokerHasFinishedWith ends.ledger.system ends.broker subscribers =
     subst (λ (n : ℕ). BrokerHasFinishedWith n ends.broker subscribers) named streams.finished in
+    let own : parts.packets.number ≡ 0 =
+    ap (λ (o : Outgoing ToBroker (Unit {0})). o.number) is.sent ∙ c.in-Some.ensures.kept.publishing.wired.packets in
+    let came : ArePacketsTo ends.broker.work.inbox ends.connector.work.packets.sent =
+    subst (λ (o : Outgoing ToBroker (Unit {0})). ArePacketsTo ends.broker.work.inbox o.sent) is.sent
+    (streams.packets own) in
     record {
       finished = finished ends books.finished over same broker;
+      order = books.order;
       replies = books.replies;
       books = books.books;
+      counts = is_count ends.connector ends.broker c.in_ok-counts.counts c.in-Some.ensures.kept
+          (and_parts (is_none ends.connector.fault) ends.connector.work.finished over).1 streams.core
+          (and_parts (is_none ends.broker.fault) ends.broker.work.finished broker.over).1 came
+          c.in_ok-counts.ensures;
       subscribers = λ start seat.
           let come : AllCome ends.ledger.work start ends.broker.work 0 (works_of subscribers) =
           subst (λ (n : ℕ). AllCome ends.ledger.work n ends.broker.work 0 (works_of subscribers))
           (start_known ends start seat)
-          (streams.come ends.ledger.work ends.connector.work (left_by ends m between books.desk over start seat)) in
+          (streams.come ends.ledger.work ends.connector.work (left_by ends m between books.core over start seat)) in
           subst (λ (h : History). AreSubscribed h start (broker_seat ends.broker.work).bindings
-          (map (λ (s : EndState Intake). s.work.close_after) subscribers)
+          (map (λ (s : ActorState SubscriberCore). s.work.close_after) subscribers)
           c.in_ok-subscribers.subscribers.items) (sym books.ledger)
           (subst (λ (kept : List SubscriberState).
           AreSubscribed ends.ledger.work.ledger start (broker_seat ends.broker.work).bindings
-          (map (λ (s : EndState Intake). s.work.close_after) subscribers) kept) (sym streams.keeps)
+          (map (λ (s : ActorState SubscriberCore). s.work.close_after) subscribers) kept) (sym streams.keeps)
           (all_subscribed ends.ledger.work start ends.broker.work subscribers come
-          (broker.count ∙ sym streams.desk.desk.queues)));
+          (broker.count ∙ sym streams.core.core.queues)));
     }
 
 -- the connector is of another system
@@ -107,26 +121,26 @@ returns-in_default-clause-refused g c =
     inr (
       refl,
       λ fit.
-          let over : has_finished (λ (c : Publishing). c.finished) c.args.ends.connector ≡ true = fit.connector in
-          let not_over : false ≡ has_finished (λ (c : Publishing). c.finished) c.args.ends.connector =
+          let over : has_finished (λ (c : ConnectorCore). c.finished) c.args.ends.connector ≡ true = fit.connector in
+          let not_over : false ≡ has_finished (λ (c : ConnectorCore). c.finished) c.args.ends.connector =
           c.in_default.ensures.some in
           false≢true (not_over ∙ over),
     )
 
--- the ledger's end and the clients aren't as they have to be
+-- the ledger actor and the clients aren't as required
 pub returns-in_err-books-clause-refused : goal.returns-in_err-books-clause-refused
 returns-in_err-books-clause-refused g c =
     let ends = c.args.ends in
-    handed_on (AreFinished ends) c.from_residual.result c.in_err-books.field-0.0 c.from_residual.ensures.1
+    passed_on (AreFinished ends) c.from_residual-in_err-books.result c.in_err-books.field-0.0 c.from_residual-in_err-books.ensures.1
     (asked_more (LedgerHasFinishedWith ends.ledger ends.clients.items) (AreFinished ends) c.in_err-books.field-0.0
     (books_of ends) c.in_err-books.ensures.refused)
 
--- the broker's end and the subscribers aren't
+-- the broker actor and the subscribers aren't
 pub returns-in_err-subscribers-clause-refused : goal.returns-in_err-subscribers-clause-refused
 returns-in_err-subscribers-clause-refused g c =
     let ends = c.args.ends in
     let named : c.system-system.result ≡ ends.ledger.system = c.system-system.ensures in
-    handed_on (AreFinished ends) c.from_residual-in_err-subscribers.result c.in_err-subscribers.field-0.0
+    passed_on (AreFinished ends) c.from_residual-in_err-subscribers.result c.in_err-subscribers.field-0.0
     c.from_residual-in_err-subscribers.ensures.1
     (asked_more (BrokerHasFinishedWith c.system-system.result ends.broker ends.subscribers.items) (AreFinished ends)
     c.in_err-subscribers.field-0.0

@@ -1,5 +1,4 @@
-use Rattle.std.proofs.Common.{◌≡◌, ◌∙◌, List, [], ◌∷◌, ◌++◌, ap, arith, length, rules}
-use Rattle.std.proofs.lemmas.List.{length_push}
+use Rattle.std.proofs.Common.{◌∙◌, List, [], ◌∷◌, ◌++◌, ap, rules}
 use Rattle.std.proofs.lemmas.Iterator.{YieldsList-from_zip}
 use Rattle.std.proofs.lemmas.Iterator.Adapters.{YieldsList-from_vec}
 use Rattle.std.proofs.lemmas.Iterator.Consumers.{YieldsList-end}
@@ -9,7 +8,7 @@ use Rattle.cdc_run.specs.declared.placed.Task.TheVariants as task
 use Rattle.cdc_run.proofs.Listed.{all_listed, client_push, subscriber_push}
 use Rattle.cdc_run.proofs.runs.tasks_of.Goals as goal
 
--- the ledger's end comes first
+-- the ledger actor comes first
 pub loop-client-init : goal.loop-client-init
 loop-client-init g c =
     c.in_ok-push.ensures.items
@@ -25,13 +24,8 @@ loop-client-preserved g c =
 -- one subscriber more
 pub loop-subscriber-preserved : goal.loop-subscriber-preserved
 loop-subscriber-preserved g c =
-    let count : c.loop-subscriber.number ≡ length c.loop-subscriber.yielded = c.loop-subscriber.invariant.0 in
-    let long = length_push c.loop-subscriber.yielded c.in-Some-subscriber.subscriber in (
-      omega arith,
-      subscriber_push g.row.S.Denot c.loop-subscriber.number c.loop-subscriber.yielded
-          c.in-Some-subscriber.subscriber _ _ _ c.loop-subscriber.invariant.0 c.loop-subscriber.invariant.1
-          c.in_ok-push-5.ensures.items,
-    )
+    subscriber_push g.row.S.Denot c.loop-subscriber.yielded c.in-Some-subscriber.subscriber _ _ _
+    c.loop-subscriber.invariant c.in_ok-push-5.ensures.items
 
 -- all are listed
 pub returns : goal.returns
@@ -51,4 +45,4 @@ returns g c =
     c.loop-subscriber.yielded c.loop-client.tasks.items c.push-2.new.self.items c.push-3.new.self.items
     c.loop-subscriber.tasks.items
     c.loop-client.invariant pairs.0 c.in_ok-push-3.ensures.items c.in_ok-push-4.ensures.items
-    c.loop-subscriber.invariant.1 subscribers.0
+    c.loop-subscriber.invariant subscribers.0

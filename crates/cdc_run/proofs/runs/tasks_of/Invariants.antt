@@ -1,5 +1,4 @@
-use Rattle.std.proofs.Common.{◌≡◌, ◌∷◌, ◌++◌, length, map}
-use Rattle.cdc_run.specs.Tasks.{numbered}
+use Rattle.std.proofs.Common.{◌≡◌, ◌∷◌, ◌++◌, map}
 use Rattle.cdc_run.specs.declared.placed.Task.TheVariants as task
 use Rattle.cdc_run.proofs.runs.tasks_of.Given as goal
 
@@ -11,4 +10,4 @@ invariant-loop-client g l =
 
 abbrev pub invariant-loop-subscriber : goal.invariant-loop-subscriber
 invariant-loop-subscriber g l =
-    (l.number ≡ length l.yielded) × (l.tasks.items ≡ l.initial.tasks.items ++ numbered 1 l.yielded)
+    l.tasks.items ≡ l.initial.tasks.items ++ map task.Subscriber l.yielded

@@ -1,35 +1,21 @@
-use Rattle.std.proofs.Common.{◌≡◌, ◌∙◌, IfErr, ap, subst, sym}
-use Rattle.std.specs.Prelude.{IsErrAnd}
-use Rattle.std.proofs.lemmas.Result.{err_from_is_err_and}
-use Rattle.cdc_ends.specs.Faults.{IsTurnFault}
-use Rattle.cdc_ends.specs.Seats.{client_seat}
-use Rattle.cdc_ends.specs.declared.faults.RunFault.{RunFault}
-use Rattle.cdc_run.specs.Tasks.{IsMet}
+use Rattle.std.proofs.Common.{◌∙◌, ap}
+use Rattle.cdc_actors.specs.Faults.{IsTurnFault}
+use Rattle.cdc_actors.specs.Seats.{client_seat}
+use Rattle.cdc_run.specs.Tasks.{client_place}
+use Rattle.cdc_run.proofs.Stopped.{has_met}
 use Rattle.cdc_run.proofs.scripts.run_script.Goals as goal
 
--- a batch wasn't replied to, and the client stands where it stood
-pub returns-in_err-_reply-clause-met : goal.returns-in_err-_reply-clause-met
-returns-in_err-_reply-clause-met g c =
-    let Is : RunFault → Type 0 = IsMet client_seat (λ _. IsTurnFault) c.args.end in
-    let met : Is c.in_err-_reply.field-0.0 = (
-      c.submit.new.self,
-      c.submit.ensures.seat ∙ c.loop-batch.invariant.1,
-      (c.in_err-_reply.ensures.fault, c.in_err-_reply.ensures.kind),
-    ) in
-    let same : IsErrAnd c.from_residual.result (λ e. e ≡ c.in_err-_reply.field-0.0) = c.from_residual.ensures.1 in
-    let out = err_from_is_err_and c.from_residual.result same in
-    subst (λ r. IfErr r Is) (sym out.1) (subst Is (sym out.2) met)
+-- a batch got no reply, and the client's seat is unchanged
+pub returns-in-Err-clause-stopped : goal.returns-in-Err-clause-stopped
+returns-in-Err-clause-stopped g c =
+    has_met client_seat client_place (λ _. IsTurnFault) c.args.end c.stop.result c.submit.new.self _
+    (c.submit.ensures.seat ∙ c.loop-batch.invariant.1) (c.submit.ensures.system ∙ c.loop-batch.invariant.0)
+    c.in-Err.ensures.fault c.in-Err.ensures.kind c.stop.ensures
 
--- or it couldn't say that it is done
-pub returns-in_err-finish-clause-met : goal.returns-in_err-finish-clause-met
-returns-in_err-finish-clause-met g c =
-    let Is : RunFault → Type 0 = IsMet client_seat (λ _. IsTurnFault) c.args.end in
-    let met : Is c.in_err-finish.field-0.0 = (
-      c.finish.new.self,
-      ap client_seat c.in_err-finish.ensures.failed ∙ c.loop-batch.invariant.1,
-      (c.in_err-finish.ensures.fault, c.in_err-finish.ensures.kind),
-    ) in
-    let same : IsErrAnd c.from_residual-in_err-finish.result (λ e. e ≡ c.in_err-finish.field-0.0) =
-    c.from_residual-in_err-finish.ensures.1 in
-    let out = err_from_is_err_and c.from_residual-in_err-finish.result same in
-    subst (λ r. IfErr r Is) (sym out.1) (subst Is (sym out.2) met)
+-- or it couldn't report that it is done
+pub returns-in-Err-finish-clause-stopped : goal.returns-in-Err-finish-clause-stopped
+returns-in-Err-finish-clause-stopped g c =
+    has_met client_seat client_place (λ _. IsTurnFault) c.args.end c.stop-in-Err-finish.result c.finish.new.self _
+    (ap client_seat c.in-Err-finish.ensures.failed ∙ c.loop-batch.invariant.1)
+    (c.finish.ensures.system ∙ c.loop-batch.invariant.0) c.in-Err-finish.ensures.fault c.in-Err-finish.ensures.kind
+    c.stop-in-Err-finish.ensures

@@ -1,8 +1,8 @@
 use Rattle.std.proofs.Common.{◌≡◌, ◌++◌, false, map}
-use Rattle.cdc_ends.specs.Seats.{client_seat}
+use Rattle.cdc_actors.specs.Seats.{client_seat}
 use Rattle.cdc_run.proofs.scripts.run_script.Given as goal
 
--- it is of the same system and stands where it stood, hasn't finished, and has submitted the batches so far
+-- it has the same system and seat, hasn't finished, and has submitted the batches so far
 abbrev pub invariant-loop-batch : goal.invariant-loop-batch
 invariant-loop-batch g l =
     (l.end.system ≡ l.fn.end.system)

@@ -17,13 +17,13 @@ returns-clause-come c =
       readings = c.traffic_laws.ensures.readings;
       runs = c.connector_laws.ensures.runs;
       faithful = c.run_laws.ensures.faithful;
-      heard = c.subscriber_end_laws.ensures.hears;
-      unasked = c.subscriber_end_laws.ensures.unasked;
-      asked = c.subscriber_end_laws.ensures.asked;
+      reception = c.subscriber_actor_laws.ensures.receives;
+      unasked = c.subscriber_actor_laws.ensures.unasked;
+      asked = c.subscriber_actor_laws.ensures.asked;
     } in
     subscribers_come on
 
 pub returns-clause-books : goal.returns-clause-books
 returns-clause-books c =
     books_settle (clients_are_replied c.traffic_laws.ensures.ends.0 c.order_laws.ensures.batches) orders_are_of_clients
-    c.ledger_end_laws.ensures.finished
+    c.ledger_actor_laws.ensures.finished

@@ -3,35 +3,36 @@ use Rattle.std.specs.Prelude.{All, Some, is_none, slice_get}
 use Rattle.std.specs.List.{AllZip}
 use Rattle.std.proofs.lemmas.Bool.{and_parts}
 use Rattle.std.proofs.lemmas.List.Elements.{All-cons, All-map}
-use Rattle.cdc_ends.specs.BrokerEnds.{BrokerDesk}
-use Rattle.cdc_ends.specs.SubscriberEnds.{Intake}
-use Rattle.cdc_ends.specs.declared.consumers.Consumer.{Consumer}
-use Rattle.cdc_ends.specs.Ends.{EndState, has_finished}
+use Rattle.cdc_actors.specs.Broker.{BrokerCore}
+use Rattle.cdc_actors.specs.Subscriber.{SubscriberCore}
+use Rattle.cdc_actors.specs.declared.broker.consumers.Consumer.{Consumer}
+use Rattle.cdc_actors.specs.Ends.{ActorState, has_finished}
 use Rattle.cdc_links.specs.Links.{CanSend, Incoming, IsAccount, Outgoing}
 use Rattle.cdc_traffic.specs.Following.{FollowsToConnector}
 use Rattle.cdc_traffic.specs.declared.messages.ToBroker.{ToBroker}
 use Rattle.cdc_traffic.specs.declared.messages.ToConnector.{ToConnector}
 use Rattle.cdc_traffic.specs.declared.pasts.Past.{Past}
-use Rattle.cdc_run.specs.Accounts.{IsAccounted}
+use Rattle.cdc_run.specs.SettledLinks.{IsAccounted}
 use Rattle.cdc_run.specs.Parted.{works_of}
 use Rattle.cdc_run.specs.Streams.{AreJoined, Middle}
 use Rattle.cdc_run.specs.SubscriberMail.{AreSubscribersOf, HasFinishedWith}
-use Rattle.cdc_run.proofs.Refused.{asked_more, handed_on}
-use Rattle.cdc_run.proofs.Streamed.{all_come, through}
+use Rattle.cdc_run.proofs.Refused.{asked_more, passed_on}
+use Rattle.cdc_run.proofs.Streamed.{all_come, packets_left, through}
 use Rattle.cdc_run.proofs.Zips.{same_zip}
 use Rattle.cdc_run.proofs.streams.settle_streams.Goals as goal
 
 pub settle_link-requires-clause-ours : goal.settle_link-requires-clause-ours
 settle_link-requires-clause-ours c =
-    let b : BrokerDesk = c.args.broker.work in
+    let b : BrokerCore = c.args.broker.work in
     let m : Middle = record { inbox = c.args.inbox; replies = c.args.replies; packets = c.args.packets } in
     let is = c.in-Some.ensures.parts in
     let same : c.args.broker.system ≡ c.args.system = first_of (cc, search rules) in
     let joined : AreJoined m b c.args.subscribers.items = c.requires same c.in_ok-mail.ensures.are in
     let P : Outgoing ToBroker (Unit {0}) → Type 0 = λ end. end.link ≡ b.inbox.link in
-    let acks : All P (map (λ (s : Intake). s.acks) (works_of c.args.subscribers.items)) =
-    All-map P (λ (s : Intake). s.acks) (works_of c.args.subscribers.items)
-    (All-map (λ (s : Intake). P s.acks) (λ (s : EndState Intake). s.work) c.args.subscribers.items joined.acks) in
+    let acks : All P (map (λ (s : SubscriberCore). s.acks) (works_of c.args.subscribers.items)) =
+    All-map P (λ (s : SubscriberCore). s.acks) (works_of c.args.subscribers.items)
+    (All-map (λ (s : SubscriberCore). P s.acks)
+    (λ (s : ActorState SubscriberCore). s.work) c.args.subscribers.items joined.acks) in
     subst (λ (into : Incoming ToBroker (Unit {0})).
     All (λ end. end.link ≡ into.link) (c.args.packets ∷ c.in_ok-mail.mail.acks.items)) (sym is.inbox_is)
     (All-cons P c.args.packets c.in_ok-mail.mail.acks.items joined.packets
@@ -39,9 +40,9 @@ settle_link-requires-clause-ours c =
 
 pub returns-clause-come : goal.returns-clause-come
 returns-clause-come c d work are =
-    let b : BrokerDesk = c.args.broker.work in
+    let b : BrokerCore = c.args.broker.work in
     let m : Middle = record { inbox = c.args.inbox; replies = c.args.replies; packets = c.args.packets } in
-    let subscribers : List (EndState Intake) = c.args.subscribers.items in
+    let subscribers : List (ActorState SubscriberCore) = c.args.subscribers.items in
     let is = c.in-Some.ensures.parts in
     let over : b.finished ≡ true =
     (and_parts (is_none c.args.broker.fault) b.finished (sym c.in-Some.ensures.some)).1 in
@@ -57,9 +58,9 @@ returns-clause-come c d work are =
     let packets : IsAccount b.inbox (m.packets ∷ c.in_ok-mail.mail.acks.items) link.0 =
     subst (λ (into : Incoming ToBroker (Unit {0})).
     IsAccount into (m.packets ∷ c.in_ok-mail.mail.acks.items) link.0) is.inbox_is link.1 in
-    let accounts : AllZip IsAccounted (map (λ (s : Intake). s.inbox) (works_of subscribers))
+    let accounts : AllZip IsAccounted (map (λ (s : SubscriberCore). s.inbox) (works_of subscribers))
     (map (λ (x : Consumer). x.link) b.consumers) =
-    same_zip IsAccounted c.in_ok-mail.mail.inboxes.items (map (λ (s : Intake). s.inbox) (works_of subscribers))
+    same_zip IsAccounted c.in_ok-mail.mail.inboxes.items (map (λ (s : SubscriberCore). s.inbox) (works_of subscribers))
     c.in_ok-links.links.items (map (λ (x : Consumer). x.link) b.consumers) c.in_ok-mail.ensures.mail.inboxes
     (c.in_ok-links.ensures ∙ ap (map (λ (x : Consumer). x.link)) is.consumers_are) c.in_ok-settle_each.ensures in
     all_come c.passing_laws.ensures.come d work b
@@ -69,9 +70,23 @@ returns-clause-come c d work are =
     let same : k ≡ 0 + k = omega arith in
     subst (λ (n : ℕ). slice_get b.consumers n ≡ Some x) same found)
 
+-- what is left in the link to the broker
+pub returns-clause-packets : goal.returns-clause-packets
+returns-clause-packets c own =
+    let b : BrokerCore = c.args.broker.work in
+    let is = c.in-Some.ensures.parts in
+    let link = c.in_ok-settle_link.ensures.account in
+    let account : IsAccount b.inbox (c.args.packets ∷ c.in_ok-mail.mail.acks.items) link.0 =
+    subst (λ (into : Incoming ToBroker (Unit {0})).
+    IsAccount into (c.args.packets ∷ c.in_ok-mail.mail.acks.items) link.0) is.inbox_is link.1 in
+    record {
+      left = link.0;
+      packets = packets_left b.inbox c.args.packets c.in_ok-mail.mail.acks.items link.0 own account;
+    }
+
 pub returns-clause-finished : goal.returns-clause-finished
 returns-clause-finished c =
-    let b : BrokerDesk = c.args.broker.work in
+    let b : BrokerCore = c.args.broker.work in
     let parts = c.in-Some.parts in
     let is = c.in-Some.ensures.parts in
     let same_len : c.args.subscribers.len ≡ parts.consumers.len = first_of (omega arith, cc, search rules) in
@@ -98,8 +113,8 @@ returns-in_default-clause-refused c =
     inr (
       refl,
       λ fit.
-          let over : has_finished (λ (d : BrokerDesk). d.finished) c.args.broker ≡ true = fit.over in
-          let not_over : false ≡ has_finished (λ (d : BrokerDesk). d.finished) c.args.broker =
+          let over : has_finished (λ (d : BrokerCore). d.finished) c.args.broker ≡ true = fit.over in
+          let not_over : false ≡ has_finished (λ (d : BrokerCore). d.finished) c.args.broker =
           c.in_default.ensures.some in
           cc,
     )
@@ -122,8 +137,8 @@ returns-then-len-clause-refused c =
 -- one of them isn't as it has to be
 pub returns-in_err-mail-clause-refused : goal.returns-in_err-mail-clause-refused
 returns-in_err-mail-clause-refused c =
-    let subscribers : List (EndState Intake) = c.args.subscribers.items in
-    handed_on (HasFinishedWith c.args.system c.args.broker subscribers) c.from_residual.result
+    let subscribers : List (ActorState SubscriberCore) = c.args.subscribers.items in
+    passed_on (HasFinishedWith c.args.system c.args.broker subscribers) c.from_residual.result
     c.in_err-mail.field-0.0 c.from_residual.ensures.1
     (asked_more (AreSubscribersOf c.args.system 1 subscribers)
     (HasFinishedWith c.args.system c.args.broker subscribers) c.in_err-mail.field-0.0 (λ fit. fit.subscribers_are)

@@ -1,6 +1,6 @@
 use Rattle.cdc_run.specs.SubscriberMail.{AreSubscribersOf}
 use Rattle.cdc_run.proofs.SubscribersParted.{mail_of}
-use Rattle.cdc_run.proofs.Refused.{handed_on}
+use Rattle.cdc_run.proofs.Refused.{passed_on}
 use Rattle.cdc_run.proofs.subscribers.part_subscribers.Goals as goal
 
 -- it is what they have left
@@ -12,6 +12,6 @@ returns-clause-mail c =
 -- one of them isn't as it has to be
 pub returns-in_err-parts-clause-refused : goal.returns-in_err-parts-clause-refused
 returns-in_err-parts-clause-refused c =
-    handed_on (AreSubscribersOf c.args.system 1 c.args.subscribers.items) c.from_residual.result
+    passed_on (AreSubscribersOf c.args.system 1 c.args.subscribers.items) c.from_residual.result
     c.in_err-parts.field-0.0
     c.from_residual.ensures.1 c.in_err-parts.ensures.refused

@@ -1,10 +1,10 @@
 use Rattle.std.proofs.Common.{◌∙◌}
+use Rattle.cdc_run.proofs.Stopped.{has_met}
 use Rattle.cdc_run.proofs.turning.run_to_end.Goals as goal
 
--- the end that has met it, where it stood
-pub returns-in-Err-clause-met : goal.returns-in-Err-clause-met
-returns-in-Err-clause-met g c = (
-  c.turn.new.self,
-  c.turn.ensures.seat ∙ c.loop.invariant.1,
-  (c.in-Err.ensures.fault, c.in-Err.ensures.kind),
-)
+-- the actor that has met it, in the same seat
+pub returns-in-Err-clause-stopped : goal.returns-in-Err-clause-stopped
+returns-in-Err-clause-stopped g c =
+    has_met g.W.Work.seat g.W.Work.place g.W.Work.fails_as c.args.end c.stop.result c.turn.new.self _
+    (c.turn.ensures.seat ∙ c.loop.invariant.1) (c.turn.ensures.system ∙ c.loop.invariant.0) c.in-Err.ensures.fault
+    c.in-Err.ensures.kind c.stop.ensures

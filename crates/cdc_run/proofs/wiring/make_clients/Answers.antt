@@ -5,11 +5,11 @@ use Rattle.cdc_traffic.specs.declared.messages.ToLedger.{ToLedger}
 use Rattle.cdc_traffic.specs.declared.pasts.Past.{Past}
 use Rattle.cdc_traffic.specs.declared.requests.Reply.{Reply}
 use Rattle.cdc_run.specs.Made.{made_clients}
-use Rattle.cdc_run.proofs.EndsMade.{client_more}
+use Rattle.cdc_run.proofs.ActorsMade.{client_more}
 use Rattle.cdc_run.proofs.Paired.{all_pairs, is_over, next_pair}
 use Rattle.cdc_run.proofs.wiring.make_clients.Goals as goal
 
--- the request's end has the client's number, and neither end was used
+-- the endpoint for requests has the client's number, and neither endpoint was used
 pub new-requires : goal.new-requires
 new-requires c =
     let loop = c.loop-request in

@@ -4,11 +4,11 @@ use Rattle.cdc_links.specs.Links.{Incoming, Outgoing}
 use Rattle.cdc_traffic.specs.declared.messages.ToBroker.{ToBroker}
 use Rattle.cdc_traffic.specs.declared.messages.ToSubscriber.{ToSubscriber}
 use Rattle.cdc_run.specs.Made.{AreFreshSubscribers}
-use Rattle.cdc_run.proofs.EndsMade.{subscriber_more}
+use Rattle.cdc_run.proofs.ActorsMade.{subscriber_more}
 use Rattle.cdc_run.proofs.Paired.{all_pairs, is_over, next_pair}
 use Rattle.cdc_run.proofs.wiring.make_subscribers.Goals as goal
 
--- the acknowledgements' end has the subscriber's number, and neither end was used
+-- the endpoint for acknowledgements has the subscriber's number, and neither endpoint was used
 pub new-requires : goal.new-requires
 new-requires c =
     let loop = c.loop-ack in

@@ -33,7 +33,7 @@ make_subscribers-requires-clause-inboxes g c =
     c.in_ok-wires.ensures in
     wired.deliveries.fresh
 
--- ---- the broker's end
+-- ---- the broker actor
 
 pub new-requires-clause-fresh : goal.new-requires-clause-fresh
 new-requires-clause-fresh g c =
@@ -82,7 +82,7 @@ new-requires-clause-queues g c =
       as_many w.deliveries.items w.inboxes.items wired.deliveries,
     )
 
--- ---- the ledger's end
+-- ---- the ledger actor
 
 pub new-requires-2-clause-some : goal.new-requires-2-clause-some
 new-requires-2-clause-some g c =
@@ -130,7 +130,7 @@ new-requires-2-clause-silent g c =
     let wired : AreWired c.args.config.clients (vec_len c.args.config.bindings) w = c.in_ok-wires.ensures in
     ap (λ (o : Outgoing ToConnector (Option Past)). o.sent) wired.poll_replies
 
--- ---- the connector's end
+-- ---- the connector actor
 
 pub new-requires-3-clause-fresh : goal.new-requires-3-clause-fresh
 new-requires-3-clause-fresh g c =

@@ -6,10 +6,9 @@ use Rattle.cdc_script.specs.declared.scripts.ClientBatch.{ClientBatch}
 use Rattle.cdc_types.specs.declared.batches.Batch.{Batch}
 use Rattle.cdc_run_command.specs.ClientOrders.{IsOrderOf}
 use Rattle.cdc_run_command.specs.Runnable.{IsClient}
-use Rattle.cdc_run_command.specs.RunPrinted.{MayFailRun}
 use Rattle.cdc_run_command.specs.Runs.{client_count, entries_of, owners_of, shares_from}
-use Rattle.cdc_run_command.proofs.RunFaults.{may_fail}
-use Rattle.cdc_run_command.proofs.RunLemmas.{clients_fit, order_of_shares, subscribed_same}
+use Rattle.cdc_run_command.proofs.RunFaults.{may_fail_so}
+use Rattle.cdc_run_command.proofs.RunLemmas.{clients_fit, counted_same, order_of_shares, subscribed_same}
 use Rattle.cdc_run_command.proofs.ShareLemmas.{length-shares_from}
 use Rattle.cdc_run_command.proofs.reports.report_of_run.Goals as goal
 
@@ -40,10 +39,10 @@ run-requires-clause-scripts g c κs within =
     ∙ length-shares_from 1 (client_count batches) (entries_of batches) ∙ sym c.in_ok-clients.ensures.clients in
     omega (arith, scripts.ok.0, so_many)
 
--- a run that gives up met a fault of its ends, or lacked memory
-pub returns-in-Err-clause-fault : goal.returns-in-Err-clause-fault
-returns-in-Err-clause-fault g c =
-    subst MayFailRun (sym c.fault_of_run.ensures) (may_fail _ _ _ _ c.in-Err.fault c.in-Err.ensures.fault)
+-- a run that failed met a fault of its actors, or ran out of memory
+pub returns-in-Err-clause-failed : goal.returns-in-Err-clause-failed
+returns-in-Err-clause-failed g c =
+    may_fail_so _ _ _ _ _ c.in-Err.failure c.of.result c.in-Err.ensures.failure c.of.ensures
 
 -- what it reports is that of the script, and its replies are those to the batches in their order
 pub returns-in-Ok-clause-comes : goal.returns-in-Ok-clause-comes
@@ -55,6 +54,7 @@ returns-in-Ok-clause-comes g c =
           ∙ ap (λ (all : List ClientBatch). shares_from 1 (client_count all) (entries_of all))
           c.into_vec-batches.ensures)
           c.in-Ok.ensures.report;
+      counts = counted_same _ report.counts _ _ c.into_vec-bindings.ensures c.in-Ok.ensures.counts;
       subscribers = λ honest zero.
           let come = c.in-Ok.ensures.subscribers honest zero in (
             come.0,
@@ -65,8 +65,8 @@ returns-in-Ok-clause-comes g c =
           );
     }
 
-pub returns-in-Ok-clause-order : goal.returns-in-Ok-clause-order
-returns-in-Ok-clause-order g c = c.in_ok-clients.ensures.order ∙ ap owners_of c.into_vec-batches.ensures
+pub returns-in-Ok-clause-owners : goal.returns-in-Ok-clause-owners
+returns-in-Ok-clause-owners g c = c.in_ok-clients.ensures.order ∙ ap owners_of c.into_vec-batches.ensures
 
 pub returns-in-Ok-clause-replies : goal.returns-in-Ok-clause-replies
 returns-in-Ok-clause-replies g c =

@@ -1,14 +1,35 @@
-use Rattle.std.proofs.Common.{refl}
-use Rattle.std.proofs.lemmas.Result.{IfErr-weaker}
-use Rattle.cdc_run_command.specs.RunPrinted.{MayFailRun}
-use Rattle.cdc_commands.proofs.OutputLemmas.{writes_made}
+use Rattle.cdc_run_command.specs.RunPrinted.{RunCommandPrints}
+use Rattle.cdc_run_command.specs.Runs.{Setting, setting_of}
+use Rattle.cdc_run_command.proofs.RunLemmas.{none_ran, ran_printed, writes_failure, writes_text}
 use Rattle.cdc_run_command.proofs.run.run_command.Goals as goal
 
-pub returns-clause-writes : goal.returns-clause-writes
-returns-clause-writes g c =
-    writes_made _ _ _ c.read_run.result _ c.print_output.ensures.text c.print_output.ensures.fault
-    c.read_run.ensures.output
-    (IfErr-weaker c.read_run.result MayFailRun _ (λ why may. (may, refl)) c.read_run.ensures.fault)
+pub returns-in-Ok-clause-writes : goal.returns-in-Ok-clause-writes
+returns-in-Ok-clause-writes g c =
+    let setting : Setting = setting_of c.args.plan (g.S.ProgressStore.held c.args.store)
+    (g.S.ProgressStore.is_honest c.args.store) in
+    writes_text
+    (RunCommandPrints g.F.RunForm.prints_run g.F.Form.prints_fault setting (g.R.Read.remaining c.args.reader.now)) _ _
+    _ _ _ c.print_output.ensures.text c.in-Ok.ensures.output
 
-pub returns-clause-alone : goal.returns-clause-alone
-returns-clause-alone g c = c.lone_run_laws.ensures
+pub returns-in-Err-clause-writes : goal.returns-in-Err-clause-writes
+returns-in-Err-clause-writes g c =
+    let setting : Setting = setting_of c.args.plan (g.S.ProgressStore.held c.args.store)
+    (g.S.ProgressStore.is_honest c.args.store) in
+    writes_failure
+    (RunCommandPrints g.F.RunForm.prints_run g.F.Form.prints_fault setting (g.R.Read.remaining c.args.reader.now))
+    g.F.Form.prints_fault _ _ _ _ c.print_output-in-Err.ensures.fault
+    (λ line stated. (c.in-Err.ensures.failed.kind, stated))
+
+pub returns-in-Ok-clause-report : goal.returns-in-Ok-clause-report
+returns-in-Ok-clause-report g c =
+    let setting : Setting = setting_of c.args.plan (g.S.ProgressStore.held c.args.store)
+    (g.S.ProgressStore.is_honest c.args.store) in
+    ran_printed setting (g.R.Read.remaining c.args.reader.now) _ _ _ _ c.in-Ok.field-0.ran
+    c.print_output.ensures.text c.in-Ok.ensures.report
+
+pub returns-in-Err-clause-report : goal.returns-in-Err-clause-report
+returns-in-Err-clause-report g c =
+    let setting : Setting = setting_of c.args.plan (g.S.ProgressStore.held c.args.store)
+    (g.S.ProgressStore.is_honest c.args.store) in
+    none_ran setting (g.R.Read.remaining c.args.reader.now) _ _ g.F.Form.prints_fault c.in-Err.field-0.fault _
+    c.print_output-in-Err.ensures.fault

@@ -13,8 +13,8 @@ returns c =
     let found = c.in_ok-replies.ensures in
     let shares : map (λ v. v.items) c.as_slice-replies.result.now ≡ replies_of ran.report =
     ap (map (λ v. v.items)) c.as_slice-replies.ensures.value in
-    let merged : AreMerged ran.order.items (replies_of ran.report) found.0 =
-    subst (λ (of : List (List Reply)). AreMerged ran.order.items of found.0) shares
+    let merged : AreMerged ran.owners.items (replies_of ran.report) found.0 =
+    subst (λ (of : List (List Reply)). AreMerged ran.owners.items of found.0) shares
     (subst (λ (order : List ℕ). AreMerged order (map (λ v. v.items) c.as_slice-replies.result.now) found.0)
     c.as_slice-order.ensures.value found.1.0) in
     let lines : c.into_bytes-text.result.items ≡ reply_lines 1 found.0 =

@@ -1,8 +1,8 @@
 use Rattle.std.proofs.Common.{◌≡◌, map}
-use Rattle.cdc_ends.specs.Seats.{client_seat}
+use Rattle.cdc_actors.specs.Seats.{client_seat}
 use Rattle.cdc_run_tests.specs.Systems.{sits_at}
 use Rattle.cdc_run_tests.proofs.settle.finish_clients.Given as goal
 
--- each sits where it sat
+-- each keeps its seat
 abbrev pub invariant-loop-end : goal.invariant-loop-end
 invariant-loop-end g l = map (sits_at client_seat) l.end-items ≡ map (sits_at client_seat) l.fn.ends.items

@@ -24,15 +24,15 @@ returns-clause-ok c =
     queue_of-broker_of connection expected accepted queues i q inside c.index_mut-queue.ensures.value in
     let turn : BrokerState → BrokerState =
     λ s. with_queue i (with_delivery (next_delivery (queue_of s i)) (queue_of s i)) s in
-    on_ok_weaker c.hand_out.result
+    on_ok_weaker c.deliver.result
     (λ moved. broker_of-set connection expected accepted queues i q inside c.index_mut-queue.ensures.value
-    c.hand_out.new.self
+    c.deliver.new.self
     ∙ ap (λ (x : QueueState). with_queue i x (broker_of connection expected accepted queues)) moved
     ∙ ap (λ (x : QueueState).
     with_queue i (with_delivery (next_delivery x) x) (broker_of connection expected accepted queues))
     (sym this)
     ∙ ap turn c.self.view_is)
-    (rw c.as_slice-accepted.ensures.value at c.hand_out.ensures.ok)
+    (rw c.as_slice-accepted.ensures.value at c.deliver.ensures.ok)
 
 pub returns-clause-err : goal.returns-clause-err
 returns-clause-err c =
@@ -45,41 +45,41 @@ returns-clause-err c =
     let inside : i - 1 < length queues =
     within_queues connection expected accepted queues c.args.self.now i c.self.view_is c.requires.first
     c.requires.last in
-    on_err_weaker c.hand_out.result
+    on_err_weaker c.deliver.result
     (λ same. broker_of-set connection expected accepted queues i q inside c.index_mut-queue.ensures.value
-    c.hand_out.new.self
+    c.deliver.new.self
     ∙ ap (λ (x : QueueState). with_queue i x (broker_of connection expected accepted queues))
     (ap (queue_state accepted) same)
     ∙ with_queue-same connection expected accepted queues i q inside c.index_mut-queue.ensures.value
     ∙ c.self.view_is)
-    c.hand_out.ensures.err
+    c.deliver.ensures.err
 
 pub returns-clause-accepted : goal.returns-clause-accepted
 returns-clause-accepted c =
     let s = c.args.self.now in
     let inside : c.args.i - 1 < length s.queues = omega arith in
-    λ accepted has. either_way c.hand_out.result (returns-clause-ok c) (returns-clause-err c)
+    λ accepted has. either_way c.deliver.result (returns-clause-ok c) (returns-clause-err c)
     (λ moved. subst (λ (s : BrokerState). HasAccepted s accepted) (sym moved)
     (HasAccepted-with_delivery s c.args.i (next_delivery (queue_of s c.args.i)) accepted inside has))
     (λ same. subst (λ (s : BrokerState). HasAccepted s accepted) (sym same) has)
 
 pub invariant_of-self : goal.invariant_of-self
 invariant_of-self c =
-    All-set (IsInOrder c.self.inside.accepted.items) c.self.inside.queues.items (c.args.i - 1) c.hand_out.new.self
-    (rw c.as_slice-accepted.ensures.value at c.hand_out.ensures.in_order) c.self.invariant
+    All-set (IsInOrder c.self.inside.accepted.items) c.self.inside.queues.items (c.args.i - 1) c.deliver.new.self
+    (rw c.as_slice-accepted.ensures.value at c.deliver.ensures.in_order) c.self.invariant
 
 pub returns-clause-answer : goal.returns-clause-answer
 returns-clause-answer c =
-    subst (λ (x : QueueState). IfOk c.hand_out.result (λ delivery. delivery ≡ next_delivery x))
+    subst (λ (x : QueueState). IfOk c.deliver.result (λ delivery. delivery ≡ next_delivery x))
     (queue_seen c.self.inside.connection c.self.inside.expected c.self.inside.accepted.items
     c.as_slice-accepted.result.now c.self.inside.queues.items c.args.self.now c.args.i c.index_mut-queue.result.now
     c.self.view_is c.as_slice-accepted.ensures.value c.requires.first c.requires.last c.index_mut-queue.ensures.value)
-    c.hand_out.ensures.answer
+    c.deliver.ensures.answer
 
 pub returns-clause-memory : goal.returns-clause-memory
 returns-clause-memory c =
-    subst (λ (x : QueueState). OnErr c.hand_out.result (IsTrue (is_some (next_delivery x))))
+    subst (λ (x : QueueState). OnErr c.deliver.result (IsTrue (is_some (next_delivery x))))
     (queue_seen c.self.inside.connection c.self.inside.expected c.self.inside.accepted.items
     c.as_slice-accepted.result.now c.self.inside.queues.items c.args.self.now c.args.i c.index_mut-queue.result.now
     c.self.view_is c.as_slice-accepted.ensures.value c.requires.first c.requires.last c.index_mut-queue.ensures.value)
-    c.hand_out.ensures.memory
+    c.deliver.ensures.memory

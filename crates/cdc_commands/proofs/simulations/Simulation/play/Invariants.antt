@@ -2,13 +2,14 @@ use Rattle.std.proofs.Common.{◌≡◌, ◌≤◌, drop}
 use Rattle.std.specs.Vec.Iter.{into_iter_items}
 use Rattle.cdc_commands.specs.Private.Stages.{IsAt}
 use Rattle.cdc_commands.specs.Simulations.{Stage}
-use Rattle.cdc_commands.proofs.SimulationLemmas.{HasCome}
+use Rattle.cdc_commands.proofs.SimulationLemmas.{HasCome, SawFrom}
 use Rattle.cdc_commands.proofs.simulations.Simulation.play.Given as goal
 
 abbrev pub invariant-loop-done : goal.invariant-loop-done
-invariant-loop-done l = record {
+invariant-loop-done g l = record {
   left : into_iter_items l.left ≡ drop l.self.batches l.fn.batches.items;
   few : l.self.batches ≤ l.done;
   come : (stage : Stage) → IsAt l.fn.self stage → stage.done ≡ 0
-      → HasCome l.fn.batches.items l.acts stage l.done l.self;
+      → HasCome (SawFrom (g.O.Observer.has_seen l.fn.observer stage.seen) (g.O.Observer.has_seen l.observer))
+      l.fn.batches.items l.acts stage l.done l.self;
 }

@@ -10,7 +10,7 @@ use Rattle.cdc_expiry.proofs.InOrder.{IsKept-insert, set_of-insert}
 use Rattle.cdc_expiry.proofs.Lists.{set_of, others-set_of}
 use Rattle.cdc_expiry.proofs.index.DueIndex.add.Goals as goal
 
--- what holds after a success, where no failure can be
+-- a success's postcondition holds if failure is impossible
 not_refused : {T E : Type 0} (r : Result T E) (P Q : Type 0) → OnOk r P → OnErr r Q → (Q → ⊥) → P
 not_refused (Ok x) P Q ok err never = ok
 not_refused (Err e) P Q ok err never = absurd (never err)

@@ -1,6 +1,6 @@
 use Rattle.std.proofs.Common.{true, ◌∙◌, ap, subst, sym}
 use Rattle.cdc_ledger.specs.History.{History}
-use Rattle.cdc_ledger.specs.ToldHistory.{IsTold}
+use Rattle.cdc_ledger.specs.EmittedHistory.{IsEmitted}
 use Rattle.cdc_ledger.proofs.ledger.Ledger.close.Goals as goal
 
 pub invariant_of-self : goal.invariant_of-self
@@ -11,6 +11,6 @@ invariant_of-self c = (
     fit = c.self.invariant.0.fit;
     made = c.close.ensures ∙ ap (λ (h : History). record h { closed = true }) c.self.invariant.0.made;
   },
-  subst (λ (h : History). IsTold h c.self.inside.told) (sym c.close.ensures)
+  subst (λ (h : History). IsEmitted h c.self.inside.emitted) (sym c.close.ensures)
       (record { logged = c.self.invariant.1.logged; indexed = c.self.invariant.1.indexed }),
 )

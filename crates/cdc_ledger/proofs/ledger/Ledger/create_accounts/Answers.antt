@@ -1,7 +1,7 @@
 use Rattle.cdc_types.specs.declared.batches.Batch.TheVariants as batch
 use Rattle.cdc_types.specs.declared.batches.BatchResults.TheVariants as results
 use Rattle.cdc_ledger.proofs.KeptLaws.{IsSound-from_legal}
-use Rattle.cdc_ledger.proofs.ToldLaws.{IsTold-accounts}
+use Rattle.cdc_ledger.proofs.EmittedLaws.{IsEmitted-accounts}
 use Rattle.cdc_ledger.proofs.Legal.{IsLegal-answered}
 use Rattle.cdc_ledger.proofs.ledger.Ledger.create_accounts.Goals as goal
 
@@ -11,8 +11,8 @@ invariant_of-self c = (
       c.create_accounts.new.self.history
       (batch.Accounts c.args.now c.args.requests.now) c.create_accounts.result c.self.invariant.0
       c.create_accounts.ensures.fit c.create_accounts.ensures.answers,
-  IsTold-accounts (λ v. results.Accounts v.items) c.self.inside.tables.history
-      c.create_accounts.new.self.history c.self.inside.told c.args.now c.args.requests.now c.create_accounts.result
+  IsEmitted-accounts (λ v. results.Accounts v.items) c.self.inside.tables.history
+      c.create_accounts.new.self.history c.self.inside.emitted c.args.now c.args.requests.now c.create_accounts.result
       (IsSound-from_legal c.self.inside.tables.history c.self.invariant.0) c.self.invariant.1
       c.create_accounts.ensures.answers,
 )

@@ -9,5 +9,5 @@ invariant_of-self c = (
       c.create_transfers.new.self.history
       (batch.Transfers c.args.now c.args.requests.now) c.create_transfers.result c.self.invariant.0
       c.create_transfers.ensures.fit c.create_transfers.ensures.answers,
-  c.create_transfers.ensures.told,
+  c.create_transfers.ensures.emitted,
 )

@@ -8,5 +8,5 @@ invariant_of-self c = (
   IsLegal-answered results.Pulsed c.self.inside.tables.history c.pulse.new.self.history
       (batch.Pulse c.args.now) c.pulse.result c.self.invariant.0
       (on_ok _ c.pulse.result c.ranges.now.fits) c.pulse.ensures.answers,
-  c.pulse.ensures.told,
+  c.pulse.ensures.emitted,
 )

@@ -5,7 +5,7 @@ use Rattle.cdc_types.specs.declared.accounts.Account.{Account}
 use Rattle.cdc_ledger.specs.Accounts.{no_balances}
 use Rattle.cdc_ledger.specs.Events.{account_now, account_with, accounts_now, nobody}
 use Rattle.cdc_ledger.proofs.Found.{find-accounts_now}
-use Rattle.cdc_ledger.proofs.Judged.{unopened-no_place}
+use Rattle.cdc_ledger.proofs.Validated.{unopened-no_place}
 use Rattle.cdc_ledger.proofs.AccountPlaces.{place-find}
 use Rattle.cdc_ledger.proofs.tables.Tables.account.Goals as goal
 

@@ -25,7 +25,7 @@ loop-place-preserved c =
           c.loop-place.self.history c.first_due-pending.result.transfer c.loop-place.invariant.on
           c.first_due-pending.ensures.next
           c.loop-place.invariant.later);
-      told = c.expire.ensures.told;
+      emitted = c.expire.ensures.emitted;
       log_room = omega (arith, c.expire.ensures.log_room, c.loop-place.invariant.log_room);
       later = omega (arith, last);
       room = omega (arith, room, c.loop-place.invariant.room);

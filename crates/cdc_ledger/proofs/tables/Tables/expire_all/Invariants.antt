@@ -1,5 +1,5 @@
 use Rattle.std.proofs.Common.{◌+◌, ◌≤◌, ◌<◌}
-use Rattle.cdc_ledger.specs.ToldHistory.{IsTold}
+use Rattle.cdc_ledger.specs.EmittedHistory.{IsEmitted}
 use Rattle.cdc_ledger.proofs.Expiring.{GoesOn}
 use Rattle.cdc_ledger.proofs.tables.Tables.expire_all.Given as goal
 
@@ -8,7 +8,7 @@ abbrev pub invariant-loop-place : goal.invariant-loop-place
 invariant-loop-place l = record {
   on : GoesOn l.fn.self.history l.base l.now l.count l.place l.self.history;
   later : l.self.history.last < l.base + l.place;
-  told : IsTold l.self.history l.told;
-  log_room : l.count ≤ l.told.log.room + l.place;
+  emitted : IsEmitted l.self.history l.emitted;
+  log_room : l.count ≤ l.emitted.log.room + l.place;
   room : l.count ≤ l.self.entry_room + l.place;
 }

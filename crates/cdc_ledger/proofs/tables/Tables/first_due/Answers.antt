@@ -12,16 +12,16 @@ use Rattle.cdc_ledger.proofs.tables.Tables.first_due.Goals as goal
 
 pub unwrap-first-requires : goal.unwrap-first-requires
 unwrap-first-requires c =
-    IsSome-answer c.args.self.now.history c.args.told.now.index.triples c.args.now c.due.result
-    c.requires.told.indexed c.requires.some c.due.ensures
+    IsSome-answer c.args.self.now.history c.args.emitted.now.index.triples c.args.now c.due.result
+    c.requires.emitted.indexed c.requires.some c.due.ensures
 
 pub index-requires : goal.index-requires
 index-requires c =
     let some : c.due.result ≡ Some c.unwrap-first.result = cc in
     let next : IsNext (history_of c.self.inside) c.args.now c.unwrap-first.result =
-    IsNext-answer (history_of c.self.inside) c.args.told.now.index.triples c.args.now c.due.result
+    IsNext-answer (history_of c.self.inside) c.args.emitted.now.index.triples c.args.now c.due.result
     c.unwrap-first.result c.self.invariant.sound
-    (c.requires.told.indexed ∙ ap (λ (v : Contents). index_of v.history) (sym c.self.view_is)) c.due.ensures some in
+    (c.requires.emitted.indexed ∙ ap (λ (v : Contents). index_of v.history) (sym c.self.view_is)) c.due.ensures some in
     omega (arith, next.found.within)
 
 pub returns-clause-next : goal.returns-clause-next
@@ -29,9 +29,9 @@ returns-clause-next c =
     let h = history_of c.self.inside in
     let some : c.due.result ≡ Some c.unwrap-first.result = cc in
     let next : IsNext h c.args.now c.unwrap-first.result =
-    IsNext-answer h c.args.told.now.index.triples c.args.now c.due.result c.unwrap-first.result
+    IsNext-answer h c.args.emitted.now.index.triples c.args.now c.due.result c.unwrap-first.result
     c.self.invariant.sound
-    (c.requires.told.indexed ∙ ap (λ (v : Contents). index_of v.history) (sym c.self.view_is)) c.due.ensures some in
+    (c.requires.emitted.indexed ∙ ap (λ (v : Contents). index_of v.history) (sym c.self.view_is)) c.due.ensures some in
     let same : c.index.result.now ≡ next.found.entry = c.index.ensures ∙ next.found.at c.index.result.now in
     subst (λ (v : Contents). IsDueNext v.history c.args.now c.index.result.now.transfer) c.self.view_is
     (subst (λ (p : Transfer). IsDueNext h c.args.now p) (sym (ap (λ (e : Entry). e.transfer) same))
@@ -42,9 +42,9 @@ returns-clause-found c =
     let h = history_of c.self.inside in
     let some : c.due.result ≡ Some c.unwrap-first.result = cc in
     let next : IsNext h c.args.now c.unwrap-first.result =
-    IsNext-answer h c.args.told.now.index.triples c.args.now c.due.result c.unwrap-first.result
+    IsNext-answer h c.args.emitted.now.index.triples c.args.now c.due.result c.unwrap-first.result
     c.self.invariant.sound
-    (c.requires.told.indexed ∙ ap (λ (v : Contents). index_of v.history) (sym c.self.view_is)) c.due.ensures some in
+    (c.requires.emitted.indexed ∙ ap (λ (v : Contents). index_of v.history) (sym c.self.view_is)) c.due.ensures some in
     let same : c.index.result.now ≡ next.found.entry = c.index.ensures ∙ next.found.at c.index.result.now in
     subst (λ (v : Contents). IsStoredAt v.history c.index.result.now.transfer.id c.unwrap-first.result.slot)
     c.self.view_is

@@ -4,7 +4,6 @@ use Rattle.std.specs.List.{AllByRecursion}
 use Rattle.std.proofs.lemmas.List.{take_more}
 use Rattle.cdc_types.specs.declared.accounts.NewAccount.{NewAccount}
 use Rattle.cdc_types.specs.declared.results.AccountResult.{AccountResult}
-use Rattle.cdc_types.specs.Features.{features}
 use Rattle.cdc_ledger.specs.Changes.{with_account}
 use Rattle.cdc_ledger.specs.Fits.{NewAccountFits}
 use Rattle.cdc_ledger.specs.History.{History}
@@ -20,13 +19,13 @@ loop-place-preserved c =
     let i = c.loop-place.place in
     let g = c.loop-place.self.history in
     let a : NewAccount = get_or chain i no_account in
-    let after : c.open_for_chain.new.self.history ≡ with_account g (opened_by a (c.args.moment + i)) =
+    let after : c.open_for_chain.new.self.history ≡ with_account g (opened_by a (c.args.time + i)) =
     c.open_for_chain.ensures.history
-    ∙ ap (λ (o : Option AccountResult). if is_some o then g else with_account g (opened_by a (c.args.moment + i)))
+    ∙ ap (λ (o : Option AccountResult). if is_some o then g else with_account g (opened_by a (c.args.time + i)))
     c.in_default.is in
-    let last : c.open_for_chain.new.self.history.last ≡ c.args.moment + i = ap (λ (k : History). k.last) after in
+    let last : c.open_for_chain.new.self.history.last ≡ c.args.time + i = ap (λ (k : History). k.last) after in
     record {
-      on = IsOnItsWay_more (account_rules features) h c.args.moment chain i g c.open_for_chain.new.self.history
+      on = IsOnItsWay_more account_rules h c.args.time chain i g c.open_for_chain.new.self.history
           no_account c.loop-place-test.true c.loop-place.invariant.on
           (sym c.open_for_chain.ensures.refused ∙ c.in_default.is) after;
       later = omega (arith, last);

@@ -1,6 +1,5 @@
 use Rattle.std.proofs.Common.{◌+◌, ◌≤◌, ◌<◌, take}
 use Rattle.std.specs.List.{AllByRecursion}
-use Rattle.cdc_types.specs.Features.{features}
 use Rattle.cdc_ledger.specs.Fits.{NewAccountFits}
 use Rattle.cdc_ledger.specs.Submit.{account_rules}
 use Rattle.cdc_ledger.proofs.BatchLaws.{IsOnItsWay}
@@ -9,8 +8,8 @@ use Rattle.cdc_ledger.proofs.tables.Tables.open_chain.Given as goal
 -- those so far were opened, and there is room for the rest
 abbrev pub invariant-loop-place : goal.invariant-loop-place
 invariant-loop-place l = record {
-  on : IsOnItsWay (account_rules features) l.fn.self.history l.moment l.chain l.place l.self.history;
-  later : l.self.history.last < l.moment + l.place;
+  on : IsOnItsWay account_rules l.fn.self.history l.time l.chain l.place l.self.history;
+  later : l.self.history.last < l.time + l.place;
   room : l.fn.self.account_room ≤ l.self.account_room + l.place;
   fit : AllByRecursion NewAccountFits (take l.place l.chain);
 }

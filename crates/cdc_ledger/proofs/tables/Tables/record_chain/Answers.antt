@@ -2,7 +2,6 @@ use Rattle.std.proofs.Common.{◌≡◌, ◌+◌, ◌++◌, [], ◌∷◌, ◌�
 use Rattle.std.specs.List.{AllByRecursion}
 use Rattle.std.proofs.lemmas.List.{take_more}
 use Rattle.cdc_types.specs.declared.transfers.NewTransfer.{NewTransfer}
-use Rattle.cdc_types.specs.Features.{features}
 use Rattle.cdc_ledger.specs.declared.recording.Recorded.{Recorded}
 use Rattle.cdc_ledger.specs.Changes.{pushed}
 use Rattle.cdc_ledger.specs.Fits.{NewTransferFits}
@@ -23,18 +22,18 @@ loop-place-preserved c =
     let r : NewTransfer = get_or chain i no_transfer in
     let done : List Recorded = c.loop-place.tail.items in
     let x : Recorded = c.in-Ok.recorded in
-    let judged = c.in-Ok.ensures.judged in
-    let after : c.record_linked.new.self.history ≡ pushed g (entry_of g r (c.args.moment + i)) = judged.3 in
-    let last : c.record_linked.new.self.history.last ≡ c.args.moment + i = ap (λ (k : History). k.last) after in
+    let validated = c.in-Ok.ensures.validated in
+    let after : c.record_linked.new.self.history ≡ pushed g (entry_of g r (c.args.time + i)) = validated.3 in
+    let last : c.record_linked.new.self.history.last ≡ c.args.time + i = ap (λ (k : History). k.last) after in
     let items : c.push_reserved.new.self.items ≡ done ++ x ∷ [] = c.push_reserved.ensures.items in
     record {
-      on = IsOnItsWay_more (transfer_rules features) h c.args.moment chain i g c.record_linked.new.self.history
-          no_transfer c.loop-place-test.true c.loop-place.invariant.on judged.0 after;
-      grown = after ∙ ap₂ pushed c.loop-place.invariant.grown (sym judged.2) ∙ sym (grown_push h done x)
+      on = IsOnItsWay_more transfer_rules h c.args.time chain i g c.record_linked.new.self.history
+          no_transfer c.loop-place-test.true c.loop-place.invariant.on validated.0 after;
+      grown = after ∙ ap₂ pushed c.loop-place.invariant.grown (sym validated.2) ∙ sym (grown_push h done x)
           ∙ ap (grown h) (sym items);
       recorded = subst (AreRecorded h) (sym items)
           (AreRecorded_push h done x c.loop-place.invariant.recorded
-          (subst (λ k. IsRecorded k x) c.loop-place.invariant.grown judged.1));
+          (subst (λ k. IsRecorded k x) c.loop-place.invariant.grown validated.1));
       later = omega (arith, last);
       tail_len = search rules;
       capacity = search rules;

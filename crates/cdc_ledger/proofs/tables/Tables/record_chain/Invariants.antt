@@ -1,6 +1,5 @@
 use Rattle.std.proofs.Common.{◌≡◌, ◌+◌, ◌≤◌, ◌<◌, take, vec_len, vec_capacity}
 use Rattle.std.specs.List.{AllByRecursion}
-use Rattle.cdc_types.specs.Features.{features}
 use Rattle.cdc_ledger.specs.Fits.{NewTransferFits}
 use Rattle.cdc_ledger.specs.Recorded.{AreRecorded, grown}
 use Rattle.cdc_ledger.specs.Submit.{transfer_rules}
@@ -10,10 +9,10 @@ use Rattle.cdc_ledger.proofs.tables.Tables.record_chain.Given as goal
 -- those so far were recorded, and there is room for the rest
 abbrev pub invariant-loop-place : goal.invariant-loop-place
 invariant-loop-place l = record {
-  on : IsOnItsWay (transfer_rules features) l.fn.self.history l.moment l.chain l.place l.self.history;
+  on : IsOnItsWay transfer_rules l.fn.self.history l.time l.chain l.place l.self.history;
   grown : l.self.history ≡ grown l.fn.self.history l.tail.items;
   recorded : AreRecorded l.fn.self.history l.tail.items;
-  later : l.self.history.last < l.moment + l.place;
+  later : l.self.history.last < l.time + l.place;
   tail_len : vec_len l.tail ≡ l.place;
   capacity : vec_capacity l.tail ≡ vec_capacity l.initial.tail;
   room : l.fn.self.entry_room ≡ l.self.entry_room + l.place;

@@ -1,5 +1,5 @@
 use Rattle.std.proofs.Common.{◌∙◌, sym}
-use Rattle.cdc_ledger.proofs.Judged.{IsSome-place}
+use Rattle.cdc_ledger.proofs.Validated.{IsSome-place}
 use Rattle.cdc_ledger.proofs.tables.Tables.settling.Goals as goal
 
 pub unwrap-requires : goal.unwrap-requires

@@ -16,7 +16,7 @@ invariant_of-self c =
     let last : IsLastOpened (history_of t) c.args.last = record {
       before = c.requires.before;
       request = c.requires.request;
-      moment = c.requires.moment;
+      time = c.requires.time;
       made = ap (λ (v : Contents). v.history) c.self.view_is ∙ c.requires.made;
       sound = c.requires.sound;
       free = c.requires.free;
@@ -37,7 +37,7 @@ returns-clause-history c =
     let last : IsLastOpened (history_of t) c.args.last = record {
       before = c.requires.before;
       request = c.requires.request;
-      moment = c.requires.moment;
+      time = c.requires.time;
       made = ap (λ (v : Contents). v.history) c.self.view_is ∙ c.requires.made;
       sound = c.requires.sound;
       free = c.requires.free;
@@ -52,5 +52,5 @@ returns-clause-history c =
     (IsKept-shut t t' c.unwrap-account.result c.args.last last c.self.invariant popped c.remove.ensures.places refl refl
     refl refl refl).1
     ∙ sym (ap (λ (h : History). without_account h c.args.last) c.requires.made
-    ∙ without_account-opened c.requires.before (opened_by c.requires.request c.requires.moment) c.args.last
+    ∙ without_account-opened c.requires.before (opened_by c.requires.request c.requires.time) c.args.last
     c.requires.dated)

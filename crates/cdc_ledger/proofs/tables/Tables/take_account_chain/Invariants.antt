@@ -1,5 +1,4 @@
 use Rattle.std.proofs.Common.{◌≡◌, ◌+◌, ◌<◌, ◌≤◌, length, take}
-use Rattle.cdc_types.specs.Features.{features}
 use Rattle.cdc_ledger.specs.Stops.{AreUnrefused, taken_all}
 use Rattle.cdc_ledger.specs.Submit.{account_rules}
 use Rattle.cdc_ledger.proofs.tables.Tables.take_account_chain.Given as goal
@@ -7,8 +6,8 @@ use Rattle.cdc_ledger.proofs.tables.Tables.take_account_chain.Given as goal
 -- so many accounts of the chain are still there
 abbrev pub invariant-loop-place : goal.invariant-loop-place
 invariant-loop-place l = record {
-  made : l.self.history ≡ taken_all (account_rules features) l.fn.self.history l.moment (take l.place l.chain);
-  unrefused : AreUnrefused (account_rules features) l.fn.self.history l.moment (take l.place l.chain);
+  made : l.self.history ≡ taken_all account_rules l.fn.self.history l.time (take l.place l.chain);
+  unrefused : AreUnrefused account_rules l.fn.self.history l.time (take l.place l.chain);
   inside : l.place < length l.chain;
   room : l.fn.self.account_room ≤ l.self.account_room + length l.chain;
 }

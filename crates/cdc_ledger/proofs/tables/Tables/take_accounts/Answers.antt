@@ -1,7 +1,6 @@
 use Rattle.std.proofs.Common.{◌≡◌, ◌∙◌, ◌+◌, ◌-◌, ◌<◌, ◌≤◌, List, ap, arith, length, drop, take, refl, length-drop}
 use Rattle.std.proofs.lemmas.List.{length-take-le}
 use Rattle.cdc_types.specs.declared.accounts.NewAccount.{NewAccount}
-use Rattle.cdc_types.specs.Features.{features}
 use Rattle.cdc_ledger.specs.Chains.{history_after}
 use Rattle.cdc_ledger.specs.Fits.{NewAccountFits}
 use Rattle.cdc_ledger.specs.History.{History}
@@ -19,10 +18,8 @@ loop-place-preserved c =
     let now = c.loop-place.self.history in
     let chain : List NewAccount = take (i + n - i) (drop i all) in
     let after = c.take_account_chain.ensures.history in
-    let later : (history_after (account_rules features) now (c.args.base + i) chain).last
-    < c.args.base + i + length chain =
-    history_after-later (account_rules features) (λ g a t. refl) now (c.args.base + i) chain
-    c.loop-place.invariant.later in
+    let later : (history_after account_rules now (c.args.base + i) chain).last < c.args.base + i + length chain =
+    history_after-later account_rules (λ g a t. refl) now (c.args.base + i) chain c.loop-place.invariant.later in
     let last = ap (λ (g : History). g.last) after in
     let long = length-drop i all in
     let within = c.account_chain_len.ensures.within in
@@ -32,7 +29,7 @@ loop-place-preserved c =
     let size : length chain ≡ n =
     length-take-le (i + n - i) (drop i all) (omega (arith, long, span, inside)) ∙ span in
     record {
-      on = ItemsGoOn_chain (account_rules features) h c.args.base all i n c.loop-place.results.items
+      on = ItemsGoOn_chain account_rules h c.args.base all i n c.loop-place.results.items
           c.take_account_chain.new.results.items now c.take_account_chain.new.self.history
           c.account_chain_len.ensures.within c.account_chain_len.ensures.first
           c.take_account_chain.ensures.results after

@@ -1,6 +1,5 @@
 use Rattle.std.proofs.Common.{◌≡◌, ◌+◌, ◌-◌, ◌≤◌, ◌<◌, length, take, vec_len, vec_capacity}
 use Rattle.std.specs.List.{AllByRecursion}
-use Rattle.cdc_types.specs.Features.{features}
 use Rattle.cdc_ledger.specs.Fits.{NewAccountFits}
 use Rattle.cdc_ledger.specs.Submit.{account_rules}
 use Rattle.cdc_ledger.proofs.BatchLaws.{ItemsGoOn}
@@ -9,7 +8,7 @@ use Rattle.cdc_ledger.proofs.tables.Tables.take_accounts.Given as goal
 -- the results so far and those to the rest are the results to all, and there is room for the rest
 abbrev pub invariant-loop-place : goal.invariant-loop-place
 invariant-loop-place l = record {
-  on : ItemsGoOn (account_rules features) l.fn.self.history l.base l.requests l.place l.results.items l.self.history;
+  on : ItemsGoOn account_rules l.fn.self.history l.base l.requests l.place l.results.items l.self.history;
   later : l.self.history.last < l.base + l.place;
   inside : l.place ≤ length l.requests;
   count : vec_len l.results ≡ l.place;

@@ -1,26 +1,25 @@
 use Rattle.std.proofs.Common.{◌≡◌, ◌+◌, ◌-◌, ◌≤◌, ◌<◌, [], length, take, vec_len, vec_capacity}
 use Rattle.std.specs.List.{AllByRecursion}
-use Rattle.cdc_types.specs.Features.{features}
 use Rattle.cdc_ledger.specs.Fits.{NewTransferFits}
 use Rattle.cdc_ledger.specs.Submit.{transfer_rules}
-use Rattle.cdc_ledger.specs.ToldHistory.{IsTold}
+use Rattle.cdc_ledger.specs.EmittedHistory.{IsEmitted}
 use Rattle.cdc_ledger.proofs.BatchLaws.{ItemsGoOn}
 use Rattle.cdc_ledger.proofs.tables.Tables.take_transfers.Given as goal
 
 -- the results so far and those to the rest are the results to all, and there is room for the rest
 abbrev pub invariant-loop-place : goal.invariant-loop-place
 invariant-loop-place l = record {
-  on : ItemsGoOn (transfer_rules features) l.fn.self.history l.base l.requests l.place l.results.items l.self.history;
+  on : ItemsGoOn transfer_rules l.fn.self.history l.base l.requests l.place l.results.items l.self.history;
   later : l.self.history.last < l.base + l.place;
   inside : l.place ≤ length l.requests;
   count : vec_len l.results ≡ l.place;
   results_room : length l.requests ≤ vec_capacity l.results;
   fit : AllByRecursion NewTransferFits (take l.place l.requests);
-  told : IsTold l.self.history l.told;
+  emitted : IsEmitted l.self.history l.emitted;
   room : length l.requests ≤ l.self.entry_room + l.place;
   place_room : length l.requests ≤ l.self.place_room + l.place;
-  log_room : length l.requests ≤ l.told.log.room + l.place;
-  end_room : length l.requests ≤ l.told.index.room + l.place;
+  log_room : length l.requests ≤ l.emitted.log.room + l.place;
+  end_room : length l.requests ≤ l.emitted.index.room + l.place;
   no_tail : l.tail.items ≡ [];
   tail_room : vec_capacity l.tail ≡ vec_capacity l.fn.tail;
 }

@@ -8,7 +8,7 @@ use Rattle.cdc_log.specs.Segments.{joined, begins_by, IsKept}
 use Rattle.cdc_log.proofs.Segments.{begun-parted, filled-fits, length-joined, none-begun, place-joined, place-fits, RiseFrom-segment}
 use Rattle.cdc_log.proofs.log.EventLog.first_after.Goals as goal
 
--- a search for the segments that begin by a moment stopped behind them
+-- a search for the segments that begin by a timestamp stopped right after them
 abbrev Begun : ℕ → List (List Event) → ℕ → Type 0
 Begun t segments begun =
     IsPartitionPoint (λ s. begins_by t s ≡ true) (λ s. begins_by t s ≡ false) segments begun

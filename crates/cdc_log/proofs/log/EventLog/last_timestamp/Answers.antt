@@ -22,7 +22,7 @@ returns-in-Some-clause-last c =
     let at : length es - 1 ≡ c.in-Some.last = omega (arith, c.in-Some.ensures.1) in
     sym (last_timestamp_from-slice_get es c.event.result.now (ap (slice_get es) at ∙ c.event.ensures))
 
--- no events have the moment 0 for the last
+-- the last timestamp of an empty list is 0
 nothing_last : (es : List Event) → length es ≡ 0 → 0 ≡ last_timestamp es
 nothing_last [] none = refl
 nothing_last (e ∷ es) none = absurd (omega arith)

@@ -1,11 +1,11 @@
-use Rattle.std.proofs.Common.{string_bytes}
+use Rattle.std.proofs.Common.{refl, string_bytes}
 use Rattle.cdc_message.proofs.Parts.{event_in_is, belong}
 use Rattle.cdc_message.proofs.message.Message.of.Goals as goal
 
 pub invariant_of-result : goal.invariant_of-result
 invariant_of-result c =
     let written = c.in_ok-body.ensures in
-    belong _ _ _ c.args.event.now c.headers_of.ensures c.properties_of.ensures written.text written.reads_back
+    belong _ _ _ c.args.event.now c.headers_of.ensures refl written.text written.reads_back
 
 pub returns : goal.returns
 returns c =

@@ -29,8 +29,8 @@ invariant_of-self c =
         unsent = left;
         complete = c.args.complete;
       })) (sym unsent)
-          (subst (λ moment. HasBounds (record (kept_of inside) {
-            last = moment;
+          (subst (λ time. HasBounds (record (kept_of inside) {
+            last = time;
             unsent = inside.unsent.items ++ events;
             complete = c.args.complete;
           })) (sym c.last_of-self-inside.ensures)
@@ -52,8 +52,8 @@ returns c = λ course stands.
       unsent = left;
       complete = c.args.complete;
     }) (with_offer events c.args.complete course)) (sym unsent)
-    (subst (λ moment. StandsFor (record (kept_of inside) {
-      last = moment;
+    (subst (λ time. StandsFor (record (kept_of inside) {
+      last = time;
       unsent = inside.unsent.items ++ events;
       complete = c.args.complete;
     }) (with_offer events c.args.complete course)) (sym c.last_of-self-inside.ensures)

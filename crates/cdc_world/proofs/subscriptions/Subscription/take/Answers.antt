@@ -3,7 +3,7 @@ use Rattle.cdc_world.specs.Parts.{subscription_parts}
 use Rattle.cdc_world.proofs.SubscriberMoves.{answered_is, mapped_ok, taken_is}
 use Rattle.cdc_subscriber.specs.declared.subscriber.Taking.{Taking}
 use Rattle.cdc_subscriber.specs.declared.errors.TakeError.{TakeError}
-use Rattle.cdc_subscriber.specs.Heard.{kept_of, next}
+use Rattle.cdc_subscriber.specs.Reception.{kept_of, next}
 use Rattle.cdc_world.proofs.subscriptions.Subscription.take.Goals as goal
 
 pub returns : goal.returns
@@ -18,6 +18,6 @@ returns c =
     some c.pop_front.ensures.rest
     (answered_is c.args.self.now.subscriber delivery.item c.in_ok-taking.taking c.take.result c.take.ensures.answer is)
     (c.push_reserved.ensures.items ∙ ap (λ (xs : List ℕ). xs ++ delivery.position ∷ []) c.reserve.ensures.items)
-    (λ heard kept. subst (λ (r : Result Taking TakeError). OnOk r (c.take.new.self
-    ≡ kept_of (next heard delivery.item))) is
-    (c.take.ensures.stands heard kept))
+    (λ reception kept. subst (λ (r : Result Taking TakeError). OnOk r (c.take.new.self
+    ≡ kept_of (next reception delivery.item))) is
+    (c.take.ensures.stands reception kept))

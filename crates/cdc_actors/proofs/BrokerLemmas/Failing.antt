@@ -1,0 +1,678 @@
+-- How far the broker actor has come when a part of its turn fails.
+use Rattle.std.proofs.Common.{◌≡◌, ℕ, zero, suc, ◌+◌, ◌-◌, ◌<◌, Bool, true, false, Option, Some, None, List, [], ◌∷◌, ◌++◌, inl, inr, refl, sym, ap, ap₂, ◌∙◌, subst, length, append-nil, arith}
+use Rattle.std.specs.Prelude.{◌⊎◌, slice_get, slice_set, if◌then◌else◌, IfErr, Result, Ok, Err}
+use Rattle.std.proofs.lemmas.List.{length-set}
+use Rattle.std.proofs.lemmas.Option.{same_Some, slice_get_within}
+use Rattle.cdc_broker.specs.Broker.{BrokerState, queue_of, takes_packet, with_queue}
+use Rattle.cdc_broker.specs.Queues.{QueueState, next_delivery, with_delivery}
+use Rattle.cdc_actors.specs.Broker.Steps.{HasBecome, HasReceivedNext}
+use Rattle.cdc_actors.specs.Broker.{Dealings, BrokerCore, IsBrokerCore, IsConsumerServed, acks_at, confirm_of, dealings, dealings_of, answer_after, counted, deliveries_in, is_lost, with_packet}
+use Rattle.cdc_actors.specs.Connector.{packets_in}
+use Rattle.cdc_actors.specs.Broker.Fails.{AreStopping, DeliversSoFar, IsCutOff, IsStuck, IsUnanswered}
+use Rattle.cdc_actors.specs.Broker.SoFar.{BrokersComeSoFar, HasFailed, IsBrokerSoFar, IsServedSoFar, ReceivesAtMostOne}
+use Rattle.cdc_actors.specs.Faults.{IsTurnFault}
+use Rattle.cdc_actors.specs.Broker.Turns.{HasSameLinks, Lane, acked_if, all_served, coming_if, reception, lane_of, served_if, with_coming, with_counted, with_lane, with_next, with_stop}
+use Rattle.cdc_actors.specs.declared.broker.plans.BrokerPlan.{BrokerPlan}
+use Rattle.cdc_actors.specs.declared.broker.consumers.Consumer.{Consumer}
+use Rattle.cdc_actors.specs.declared.faults.RunFault.{RunFault}
+use Rattle.cdc_actors.specs.declared.faults.RunFault.TheVariants.{PeerGone, OutOfMemory, Store, SessionsExhausted, NotOneSystem, StartNotAllowed}
+use Rattle.cdc_actors.proofs.BrokerLemmas.Dealing.{packets_in-push}
+use Rattle.cdc_actors.proofs.BrokerLemmas.Receiving.{IsBrokerCore-packet, made_packet, served_one}
+use Rattle.cdc_actors.proofs.BrokerLemmas.Lanes.{DeliversOn, queue_of-with, with_queue-twice}
+use Rattle.cdc_actors.proofs.BrokerLemmas.Linked.{all_same, coming_same, received_same, lane_same, same_links, then_same}
+use Rattle.cdc_actors.proofs.BrokerLemmas.Places.{HoldsOfAll-set}
+use Rattle.cdc_actors.proofs.BrokerLemmas.Serving.{HasArrived-queue, HasSameItems, IsConsumerServed-stop, next_served, same_next}
+use Rattle.cdc_actors.proofs.BrokerLemmas.Subscribers.{stopped_up_to}
+use Rattle.cdc_laws.specs.Arrivals.{taken_of}
+use Rattle.cdc_laws.specs.Brokers.{HasDelivered}
+use Rattle.cdc_laws.specs.Deliveries.{deliveries}
+use Rattle.cdc_links.specs.Links.{Incoming, LinkId, Outgoing, Takes, of_sender, with_received}
+use Rattle.cdc_links.proofs.Entries.{of_sender-snoc_other, of_sender-snoc_own}
+use Rattle.cdc_message.specs.Replays.{IsReplay}
+use Rattle.cdc_message.specs.declared.items.Delivery.{Delivery}
+use Rattle.cdc_message.specs.declared.items.Item.{Item}
+use Rattle.cdc_message.specs.declared.packets.Answer.TheVariants.{Broken}
+use Rattle.cdc_message.specs.declared.packets.Confirm.{Confirm}
+use Rattle.cdc_message.specs.declared.packets.Packet.{Packet}
+use Rattle.cdc_traffic.specs.Following.{FollowsToBroker}
+use Rattle.cdc_traffic.specs.declared.messages.Ack.{Ack}
+use Rattle.cdc_traffic.specs.declared.messages.ToBroker.{ToBroker}
+use Rattle.cdc_traffic.specs.declared.messages.ToBroker.TheVariants as to_broker
+use Rattle.cdc_traffic.specs.declared.messages.ToSubscriber.{ToSubscriber}
+
+-- ---- what was sent to a subscriber
+
+served_so_far : (finished : Bool) (prefetch acks : ℕ) (q : QueueState) (c : Consumer)
+    → IsConsumerServed finished prefetch acks q c → IsServedSoFar q c
+served_so_far finished prefetch acks q c is =
+    record { broker = is.broker; stopped = finished; sent = is.sent; replay = is.delivered.replay }
+
+-- whatever its queue has done besides
+moved_so_far : (q q' : QueueState) (c c' : Consumer) → q'.items ≡ q.items → c'.link ≡ c.link → IsServedSoFar q c
+    → IsServedSoFar q' c'
+moved_so_far q q' c c' items link is =
+    subst (λ (l : Outgoing ToSubscriber (Unit {0})). IsServedSoFar q' (record c' { link = l })) (sym link)
+    (record {
+      broker = is.broker;
+      stopped = is.stopped;
+      sent = is.sent;
+      replay = subst (λ (l : List Item). IsReplay (deliveries_in c.link.sent) (deliveries l)) (sym items) is.replay;
+    })
+
+-- with its last message
+stopped_so_far : (prefetch acks : ℕ) (q : QueueState) (c : Consumer) → IsConsumerServed false prefetch acks q c
+    → IsServedSoFar q (with_stop c)
+stopped_so_far prefetch acks q c is =
+    served_so_far true prefetch acks q (with_stop c) (IsConsumerServed-stop prefetch acks q c is)
+
+-- ---- at any time
+
+core_so_far : (d : BrokerCore) → IsBrokerCore d → IsBrokerSoFar d
+core_so_far d is = record {
+  senders = is.senders;
+  own = is.own;
+  queues = is.queues;
+  come = packets_in (of_sender 0 d.inbox.received);
+  uncome = [];
+  all = sym (append-nil (packets_in (of_sender 0 d.inbox.received)));
+  confirms = (dealings_of d).confirms;
+  unsent = [];
+  answered = sym (append-nil (dealings_of d).confirms);
+  at_most_one = omega arith;
+  arrived = is.arrived;
+  confirmed = is.confirmed;
+  served = λ place c found.
+      served_so_far d.finished d.prefetch (acks_at d place) (queue_of d.broker (place + 1)) c (is.served place c found);
+}
+
+pub brokers_come_so_far : BrokersComeSoFar
+brokers_come_so_far d end = core_so_far d end.core
+
+-- ---- delivery from a queue stops
+
+-- what stays so of it while it is
+pub record StillServed (number prefetch : ℕ) (first : BrokerState) (one : Consumer) (b : BrokerState) (c : Consumer)
+    : Type 0 where
+  pub same : HasSameItems (queue_of first number) (queue_of b number)
+  pub link : c.link.link ≡ one.link.link
+  pub served : (acks : ℕ) → IsConsumerServed false prefetch acks (queue_of first number) one
+      → IsConsumerServed false prefetch acks (queue_of b number) c
+
+pub still_first : (number prefetch : ℕ) (first : BrokerState) (one : Consumer)
+    → StillServed number prefetch first one first one
+still_first number prefetch first one =
+    record { same = record { binding = refl; items = refl }; link = refl; served = λ acks is. is }
+
+next_linked : (repeats : List (ℕ × ℕ)) (number : ℕ) (found : Option Delivery) (lane : Lane)
+    → (with_next repeats number found lane).consumer.link.link ≡ lane.consumer.link.link
+next_linked repeats number None lane = refl
+next_linked repeats number (Some d) lane = refl
+
+module _ (repeats : List (ℕ × ℕ)) (number prefetch : ℕ) (first : BrokerState) (one : Consumer)
+    (b : BrokerState) (c : Consumer) (on : DeliversOn repeats number prefetch first one b c)
+    (still : StillServed number prefetch first one b c) where
+  pub still_next : (new : BrokerState) (after : Consumer)
+      → HasBecome number (with_next repeats number (next_delivery (queue_of b number)) (lane_of b number c)) b new after
+      → c.unacked < prefetch → StillServed number prefetch first one new after
+  still_next new after became few =
+      let next : Lane = with_next repeats number (next_delivery (queue_of b number)) (lane_of b number c) in
+      let queue : queue_of new number ≡ next.queue =
+      ap (λ (x : BrokerState). queue_of x number) became.broker ∙ queue_of-with b number next.queue on.inside in
+      let kept = same_next repeats number (next_delivery (queue_of b number)) (lane_of b number c) in
+      record {
+        same = subst (λ (q : QueueState). HasSameItems (queue_of first number) q) (sym queue)
+            (record { binding = kept.binding ∙ still.same.binding; items = kept.items ∙ still.same.items });
+        link = ap (λ (x : Consumer). x.link.link) became.consumer
+            ∙ next_linked repeats number (next_delivery (queue_of b number)) (lane_of b number c)
+            ∙ still.link;
+        served = λ acks is.
+            subst (λ (q : QueueState). IsConsumerServed false prefetch acks q after) (sym queue)
+            (subst (λ (x : Consumer). IsConsumerServed false prefetch acks next.queue x) (sym became.consumer)
+            (next_served prefetch acks repeats number (next_delivery (queue_of b number)) (lane_of b number c) refl few
+            (still.served acks is)));
+      }
+
+  given_items : (found : Option Delivery) → (with_delivery found (queue_of b number)).items ≡ (queue_of b number).items
+  given_items None = refl
+  given_items (Some d) = refl
+
+  given_binding : (found : Option Delivery)
+      → (with_delivery found (queue_of b number)).binding ≡ (queue_of b number).binding
+  given_binding None = refl
+  given_binding (Some d) = refl
+
+  pub stuck_so : (fault : RunFault) (new : BrokerState) (after : Consumer) → DeliversSoFar number b c fault new after
+      → IsStuck number prefetch first one fault new after
+  stuck_so PeerGone new after (some, gone, link) =
+      let queue : QueueState = with_delivery (next_delivery (queue_of b number)) (queue_of b number) in
+      record {
+        queue = queue;
+        binding = given_binding (next_delivery (queue_of b number)) ∙ still.same.binding;
+        items = given_items (next_delivery (queue_of b number)) ∙ still.same.items;
+        broker = gone
+            ∙ ap (λ (x : BrokerState). with_queue number queue x) on.broker
+            ∙ with_queue-twice first number (queue_of b number) queue;
+        link = ap (λ (l : Outgoing ToSubscriber (Unit {0})). l.link) link ∙ still.link;
+        served = λ acks is.
+            moved_so_far (queue_of b number) queue c after (given_items (next_delivery (queue_of b number))) link
+            (served_so_far false prefetch acks (queue_of b number) c (still.served acks is));
+        memory = λ short acks is. cc;
+      }
+  stuck_so OutOfMemory new after (same, same_one) = record {
+    queue = queue_of b number;
+    binding = still.same.binding;
+    items = still.same.items;
+    broker = same ∙ on.broker;
+    link = ap (λ (x : Consumer). x.link.link) same_one ∙ still.link;
+    served = λ acks is.
+        moved_so_far (queue_of b number) (queue_of b number) c after refl (ap (λ (x : Consumer). x.link) same_one)
+        (served_so_far false prefetch acks (queue_of b number) c (still.served acks is));
+    memory = λ short acks is.
+        subst (λ (x : Consumer). HasDelivered (queue_of b number) (deliveries_in x.link.sent)) (sym same_one)
+        (still.served acks is).delivered;
+  }
+  stuck_so (Store why) new after delivers = absurd delivers
+  stuck_so SessionsExhausted new after delivers = absurd delivers
+  stuck_so NotOneSystem new after delivers = absurd delivers
+  stuck_so StartNotAllowed new after delivers = absurd delivers
+
+-- so the turn is cut off there
+module _ (d : BrokerCore) (is : IsBrokerCore d) (goes : d.finished ≡ false) (place : ℕ) (c : Consumer)
+    (found : slice_get d.consumers place ≡ Some c) where
+  stuck_core : (fault : RunFault) (lane : Lane) → lane.queue.binding ≡ (queue_of d.broker (place + 1)).binding
+      → lane.queue.items ≡ (queue_of d.broker (place + 1)).items → lane.consumer.link.link ≡ c.link.link
+      → IsServedSoFar lane.queue lane.consumer
+      → (fault ≡ OutOfMemory → HasDelivered lane.queue (deliveries_in lane.consumer.link.sent))
+      → IsCutOff d fault (with_lane place lane d)
+  stuck_core fault lane binding items link served memory =
+      let inside : place < length d.consumers = slice_get_within d.consumers place c found in
+      let queued : place < length d.broker.queues = omega (arith, is.queues, inside) in
+      let queued' : place + 1 - 1 < length d.broker.queues = omega (arith, queued) in
+      let P : ℕ → QueueState → Consumer → Type 0 = λ k q x. IsConsumerServed d.finished d.prefetch (acks_at d k) q x in
+      let Q : ℕ → QueueState → Consumer → Type 0 = λ k q x. IsServedSoFar q x in
+      let H : ℕ → QueueState → Consumer → Type 0 = λ k q x. HasDelivered q (deliveries_in x.link.sent) in
+      let many : length (slice_set d.consumers place lane.consumer) ≡ length d.consumers =
+      length-set d.consumers place lane.consumer in
+      record {
+        links = lane_same d place c lane found link binding;
+        plan = refl;
+        finished = refl;
+        inbox = refl;
+        so_far = record {
+          senders = is.senders ∙ ap (λ (n : ℕ). n + 1) (sym many);
+          own = is.own;
+          queues = length-set d.broker.queues (place + 1 - 1) lane.queue ∙ is.queues ∙ sym many;
+          come = packets_in (of_sender 0 d.inbox.received);
+          uncome = [];
+          all = sym (append-nil (packets_in (of_sender 0 d.inbox.received)));
+          confirms = (dealings_of d).confirms;
+          unsent = [];
+          answered = sym (append-nil (dealings_of d).confirms);
+          at_most_one = omega arith;
+          arrived = HasArrived-queue d.broker (dealings_of d).arrived (dealings_of d).confirms (place + 1) lane.queue
+              queued' is.arrived (record { binding = binding; items = items });
+          confirmed = is.confirmed;
+          served = HoldsOfAll-set P Q d.broker d.consumers place lane.queue lane.consumer queued inside is.served
+              (λ k q x other one. served_so_far d.finished d.prefetch (acks_at d k) q x one) served;
+        };
+        memory = λ short. (
+          refl,
+          HoldsOfAll-set P H d.broker d.consumers place lane.queue lane.consumer queued inside is.served
+              (λ k q x other one. one.delivered) (memory short),
+        );
+      }
+
+  pub cut_stuck : (fault : RunFault) (b : BrokerState) (after : Consumer)
+      → IsStuck (place + 1) d.prefetch d.broker c fault b after
+      → IsCutOff d fault (record d { broker = b; consumers = slice_set d.consumers place after })
+  cut_stuck fault b after stuck =
+      subst (λ (x : BrokerState).
+      IsCutOff d fault (record d { broker = x; consumers = slice_set d.consumers place after }))
+      (sym stuck.broker)
+      (stuck_core fault (record { queue = stuck.queue; consumer = after }) stuck.binding stuck.items stuck.link
+      (stuck.served (acks_at d place) (served_one d is goes place c found))
+      (λ short. stuck.memory short (acks_at d place) (served_one d is goes place c found)))
+
+-- after queues whose deliveries were all sent
+record KeepsRest (old new : BrokerCore) : Type 0 where
+  plan : new.plan ≡ old.plan
+  finished : new.finished ≡ old.finished
+  inbox : new.inbox ≡ old.inbox
+
+keeps_served : (d : BrokerCore) (place : ℕ) (found : Option Consumer) → KeepsRest d (served_if place found d)
+keeps_served d place None = record { plan = refl; finished = refl; inbox = refl }
+keeps_served d place (Some c) = record { plan = refl; finished = refl; inbox = refl }
+
+all_keep : (n : ℕ) (d : BrokerCore) → KeepsRest d (all_served n d)
+all_keep zero d = record { plan = refl; finished = refl; inbox = refl }
+all_keep (suc n) d =
+    let one = keeps_served (all_served n d) n (slice_get (all_served n d).consumers n) in
+    let rest = all_keep n d in
+    record {
+      plan = one.plan ∙ rest.plan;
+      finished = one.finished ∙ rest.finished;
+      inbox = one.inbox ∙ rest.inbox;
+    }
+
+pub cut_served : (n : ℕ) (old mid new : BrokerCore) (fault : RunFault) → mid ≡ all_served n old → IsCutOff mid fault new
+    → IsCutOff old fault new
+cut_served n old mid new fault is cut =
+    let keep = all_keep n old in
+    record {
+      links = then_same old mid new (subst (HasSameLinks old) (sym is) (all_same n old)) cut.links;
+      plan = cut.plan ∙ ap (λ (d : BrokerCore). d.plan) is ∙ keep.plan;
+      finished = cut.finished ∙ ap (λ (d : BrokerCore). d.finished) is ∙ keep.finished;
+      inbox = cut.inbox ∙ ap (λ (d : BrokerCore). d.inbox) is ∙ keep.inbox;
+      so_far = cut.so_far;
+      memory = cut.memory;
+    }
+
+-- ---- subscribers are sent their last message
+
+stopping_later : (x c : Consumer) (old new : List Consumer) → x.link.link ≡ c.link.link → (x ≡ c) ⊎ (x ≡ with_stop c)
+    → AreStopping old new → AreStopping (c ∷ old) (x ∷ new)
+stopping_later x c old new link how rest = record {
+  many = ap suc rest.many;
+  links = ap₂ (λ (l : LinkId ToSubscriber) (ls : List (LinkId ToSubscriber)). l ∷ ls) link rest.links;
+  each = at;
+}
+  where
+    at : (place : ℕ) (y : Consumer) → slice_get (x ∷ new) place ≡ Some y
+        → (before : Consumer) × ((slice_get (c ∷ old) place ≡ Some before) × ((y ≡ before) ⊎ (y ≡ with_stop before)))
+    at zero y found =
+        let same : x ≡ y = same_Some x y found in
+        (c, (refl, subst (λ (z : Consumer). (z ≡ c) ⊎ (z ≡ with_stop c)) same how))
+    at (suc place) y found = rest.each place y found
+
+stopping_same : (old : List Consumer) → AreStopping old old
+stopping_same old = record { many = refl; links = refl; each = λ place c found. (c, (found, inl refl)) }
+
+stopping : (n : ℕ) (old : List Consumer) → AreStopping old (stopped_up_to n old)
+stopping zero old = stopping_same old
+stopping (suc n) [] = stopping_same []
+stopping (suc n) (c ∷ old) =
+    stopping_later (with_stop c) c old (stopped_up_to n old) refl (inr refl) (stopping n old)
+
+pub stopping_so : (n : ℕ) (old new : List Consumer) → new ≡ stopped_up_to n old → AreStopping old new
+stopping_so n old new is = subst (AreStopping old) (sym is) (stopping n old)
+
+module _ (d : BrokerCore) (is : IsBrokerCore d) (goes : d.finished ≡ false) (new : List Consumer)
+    (stopping : AreStopping d.consumers new) where
+  stop_served : (place : ℕ) (c : Consumer) → slice_get new place ≡ Some c
+      → IsServedSoFar (queue_of d.broker (place + 1)) c
+  stop_served place c found =
+      let from = stopping.each place c found in
+      let one : IsConsumerServed false d.prefetch (acks_at d place) (queue_of d.broker (place + 1)) from.0 =
+      served_one d is goes place from.0 from.1.0 in
+      elim from.1.1 [
+        | inl same ↦
+            subst (IsServedSoFar (queue_of d.broker (place + 1))) (sym same)
+            (served_so_far false d.prefetch (acks_at d place) (queue_of d.broker (place + 1)) from.0 one)
+        | inr stopped ↦
+            subst (IsServedSoFar (queue_of d.broker (place + 1))) (sym stopped)
+            (stopped_so_far d.prefetch (acks_at d place) (queue_of d.broker (place + 1)) from.0 one)
+      ]
+
+  pub cut_stopping : (fault : RunFault) → fault ≡ PeerGone → IsCutOff d fault (record d { consumers = new })
+  cut_stopping fault gone = record {
+    links = record { inbox = refl; confirms = refl; consumers = stopping.links; bindings = refl; plan = refl };
+    plan = refl;
+    finished = refl;
+    inbox = refl;
+    so_far = record {
+      senders = is.senders ∙ ap (λ (n : ℕ). n + 1) (sym stopping.many);
+      own = is.own;
+      queues = is.queues ∙ sym stopping.many;
+      come = packets_in (of_sender 0 d.inbox.received);
+      uncome = [];
+      all = sym (append-nil (packets_in (of_sender 0 d.inbox.received)));
+      confirms = (dealings_of d).confirms;
+      unsent = [];
+      answered = sym (append-nil (dealings_of d).confirms);
+      at_most_one = omega arith;
+      arrived = is.arrived;
+      confirmed = is.confirmed;
+      served = stop_served;
+    };
+    memory = λ short. cc;
+  }
+
+-- ---- a message couldn't be taken
+
+-- it is received
+abbrev pub with_entry : BrokerCore → ℕ × (ToBroker × Unit {0}) → BrokerCore
+with_entry d entry = record d { inbox = with_received d.inbox entry }
+
+-- the confirm of one packet more
+abbrev made_if : BrokerPlan → Dealings → Packet → Bool → Dealings
+made_if plan made packet lost = if lost
+    then record {
+      publishes = counted made.publishes packet;
+      arrived = made.arrived;
+      confirms = made.confirms ++ confirm_of packet Broken ∷ [];
+    }
+    else record {
+      publishes = counted made.publishes packet;
+      arrived = made.arrived ++ packet ∷ [];
+      confirms = made.confirms ++ confirm_of packet (answer_after plan (taken_of made.arrived) packet) ∷ [];
+    }
+
+one_confirm_if : (plan : BrokerPlan) (made : Dealings) (packet : Packet) (lost : Bool)
+    → (confirm : Confirm) × ((made_if plan made packet lost).confirms ≡ made.confirms ++ confirm ∷ [])
+one_confirm_if plan made packet true = (confirm_of packet Broken, refl)
+one_confirm_if plan made packet false =
+    (confirm_of packet (answer_after plan (taken_of made.arrived) packet), refl)
+
+one_confirm : (plan : BrokerPlan) (made : Dealings) (packet : Packet)
+    → (confirm : Confirm) × ((with_packet plan made packet).confirms ≡ made.confirms ++ confirm ∷ [])
+one_confirm plan made packet = one_confirm_if plan made packet (is_lost plan made.publishes packet)
+
+module _ (d : BrokerCore) (is : IsBrokerCore d) (packet : Packet) where
+  abbrev entry : ℕ × (ToBroker × Unit {0})
+  entry = (0, (to_broker.Packet packet, tt))
+
+  abbrev came : BrokerCore
+  came = with_entry d entry
+
+  packets_more : packets_in (of_sender 0 came.inbox.received) ≡ packets_in (of_sender 0 d.inbox.received) ++ packet ∷ []
+  packets_more =
+      ap packets_in (of_sender-snoc_own entry d.inbox.received)
+      ∙ packets_in-push (of_sender 0 d.inbox.received) entry.1
+
+  -- it hasn't come to the broker, however it was counted
+  uncome_so_far : (publishes : ℕ) → IsBrokerSoFar (record came { publishes = publishes })
+  uncome_so_far publishes = record {
+    senders = is.senders;
+    own = is.own;
+    queues = is.queues;
+    come = packets_in (of_sender 0 d.inbox.received);
+    uncome = packet ∷ [];
+    all = packets_more;
+    confirms = (dealings_of d).confirms;
+    unsent = [];
+    answered = sym (append-nil (dealings_of d).confirms);
+    at_most_one = omega arith;
+    arrived = is.arrived;
+    confirmed = is.confirmed;
+    served = λ place c found.
+        served_so_far d.finished d.prefetch (acks_at d place) (queue_of d.broker (place + 1)) c
+        (is.served place c found);
+  }
+
+  none_unsent : (publishes : ℕ) → (uncome_so_far publishes).unsent ≡ []
+  unfolding uncome_so_far
+  none_unsent publishes = refl
+
+  -- it has, and wasn't answered
+  unconfirmed : (lost takes : Bool) → IsBrokerCore (coming_if lost takes packet (with_counted packet came))
+      → IsBrokerSoFar (record (coming_if lost takes packet (with_counted packet came)) { confirms = d.confirms })
+  unconfirmed lost takes after = go lost takes after
+    where
+      one : (confirm : Confirm) × ((dealings_of came).confirms ≡ (dealings_of d).confirms ++ confirm ∷ [])
+      one =
+          let last = one_confirm d.plan (dealings_of d) packet in
+          (last.0, ap (λ (x : Dealings). x.confirms) (made_packet d is tt packet) ∙ last.1)
+
+      with_core : (m : BrokerCore) → m.inbox ≡ came.inbox → m.plan ≡ d.plan → IsBrokerCore m
+          → IsBrokerSoFar (record m { confirms = d.confirms })
+      with_core m inbox plan it =
+          let same : dealings_of m ≡ dealings_of came =
+          ap₂ (λ (p : BrokerPlan) (i : Incoming ToBroker (Unit {0})). dealings p (packets_in (of_sender 0 i.received)))
+          plan inbox in
+          record {
+            senders = it.senders;
+            own = is.own;
+            queues = it.queues;
+            come = packets_in (of_sender 0 m.inbox.received);
+            uncome = [];
+            all = sym (append-nil (packets_in (of_sender 0 m.inbox.received)));
+            confirms = (dealings_of d).confirms;
+            unsent = one.0 ∷ [];
+            answered = ap (λ (x : Dealings). x.confirms) same ∙ one.1;
+            at_most_one = omega arith;
+            arrived = it.arrived;
+            confirmed = is.confirmed;
+            served = λ place c found.
+                served_so_far m.finished m.prefetch (acks_at m place) (queue_of m.broker (place + 1)) c
+                (it.served place c found);
+          }
+
+      go : (lost takes : Bool) → IsBrokerCore (coming_if lost takes packet (with_counted packet came))
+          → IsBrokerSoFar (record (coming_if lost takes packet (with_counted packet came)) { confirms = d.confirms })
+      go true takes it = with_core (coming_if true takes packet (with_counted packet came)) refl refl it
+      go false true it = with_core (coming_if false true packet (with_counted packet came)) refl refl it
+      go false false it = with_core (coming_if false false packet (with_counted packet came)) refl refl it
+
+  unconfirmed_so_far : IsBrokerSoFar (record (with_coming packet came) { confirms = d.confirms })
+  unconfirmed_so_far =
+      unconfirmed (is_lost d.plan d.publishes packet) (takes_packet d.broker packet)
+      (IsBrokerCore-packet d is tt packet)
+
+  unconfirmed_same : (lost takes : Bool)
+      → HasSameLinks came (record (coming_if lost takes packet (with_counted packet came)) { confirms = d.confirms })
+      × KeepsRest came (coming_if lost takes packet (with_counted packet came))
+  unconfirmed_same true takes = (
+    record { inbox = refl; confirms = refl; consumers = refl; bindings = refl; plan = refl },
+    record { plan = refl; finished = refl; inbox = refl },
+  )
+  unconfirmed_same false true =
+      let with_it = coming_same false true packet came in (
+        record { inbox = refl; confirms = refl; consumers = refl; bindings = with_it.bindings; plan = refl },
+        record { plan = refl; finished = refl; inbox = refl },
+      )
+  unconfirmed_same false false = (
+    record { inbox = refl; confirms = refl; consumers = refl; bindings = refl; plan = refl },
+    record { plan = refl; finished = refl; inbox = refl },
+  )
+
+  pub cut_packet : (fault : RunFault) (new : BrokerCore) → IsUnanswered packet came fault new → IsCutOff came fault new
+  cut_packet PeerGone new (inl (full, after)) =
+      subst (IsCutOff came PeerGone) (sym after)
+      (record {
+        links = record { inbox = refl; confirms = refl; consumers = refl; bindings = refl; plan = refl };
+        plan = refl;
+        finished = refl;
+        inbox = refl;
+        so_far = uncome_so_far new.publishes;
+        memory = λ short. cc;
+      })
+  cut_packet PeerGone new (inr after) =
+      let same = unconfirmed_same (is_lost d.plan d.publishes packet) (takes_packet d.broker packet) in
+      subst (IsCutOff came PeerGone) (sym after)
+      (record {
+        links = same.0;
+        plan = same.1.plan;
+        finished = same.1.finished;
+        inbox = same.1.inbox;
+        so_far = unconfirmed_so_far;
+        memory = λ short. cc;
+      })
+  cut_packet OutOfMemory new after =
+      subst (IsCutOff came OutOfMemory) (sym after)
+      (record {
+        links = record { inbox = refl; confirms = refl; consumers = refl; bindings = refl; plan = refl };
+        plan = refl;
+        finished = refl;
+        inbox = refl;
+        so_far = uncome_so_far (with_counted packet came).publishes;
+        memory = λ short. (
+          none_unsent (with_counted packet came).publishes,
+          λ place c found. (is.served place c found).delivered,
+        );
+      })
+  cut_packet (Store why) new un = absurd un
+  cut_packet SessionsExhausted new un = absurd un
+  cut_packet NotOneSystem new un = absurd un
+  cut_packet StartNotAllowed new un = absurd un
+
+-- an acknowledgement isn't due
+pub cut_ack : (d : BrokerCore) → IsBrokerCore d → (j : ℕ) (ack : Ack) (fault : RunFault) (new : BrokerCore)
+    → fault ≡ PeerGone → 0 < j
+    → new ≡ with_entry d (j, (to_broker.Ack ack, tt)) → IsCutOff (with_entry d (j, (to_broker.Ack ack, tt))) fault new
+cut_ack d is j ack fault new gone first same =
+    let entry : ℕ × (ToBroker × Unit {0}) = (j, (to_broker.Ack ack, tt)) in
+    let packets : packets_in (of_sender 0 (d.inbox.received ++ entry ∷ []))
+    ≡ packets_in (of_sender 0 d.inbox.received) =
+    ap packets_in (of_sender-snoc_other 0 entry d.inbox.received (λ e. absurd (omega (arith, e, first)))) in
+    subst (IsCutOff (with_entry d entry) fault) (sym same)
+    (record {
+      links = record { inbox = refl; confirms = refl; consumers = refl; bindings = refl; plan = refl };
+      plan = refl;
+      finished = refl;
+      inbox = refl;
+      so_far = record {
+        senders = is.senders;
+        own = is.own;
+        queues = is.queues;
+        come = packets_in (of_sender 0 d.inbox.received);
+        uncome = [];
+        all = packets ∙ sym (append-nil (packets_in (of_sender 0 d.inbox.received)));
+        confirms = (dealings_of d).confirms;
+        unsent = [];
+        answered = sym (append-nil (dealings_of d).confirms);
+        at_most_one = omega arith;
+        arrived = is.arrived;
+        confirmed = is.confirmed;
+        served = λ place c found.
+            served_so_far d.finished d.prefetch (acks_at d place) (queue_of d.broker (place + 1)) c
+            (is.served place c found);
+      };
+      memory = λ short. cc;
+    })
+
+-- ---- a turn has failed
+
+-- if all that it received before was handled
+pub failed_of : (old mid new : BrokerCore) (fault : RunFault) → HasSameLinks old mid → mid.plan ≡ old.plan
+    → mid.finished ≡ old.finished → ReceivesAtMostOne old.inbox mid.inbox → IsTurnFault fault → IsCutOff mid fault new
+    → HasFailed old fault new
+failed_of old mid new fault links plan finished receives kind cut = record {
+  links = then_same old mid new links cut.links;
+  plan = cut.plan ∙ plan;
+  finished = cut.finished ∙ finished;
+  inbox = subst (ReceivesAtMostOne old.inbox) (sym cut.inbox) receives;
+  kind = kind;
+  so_far = cut.so_far;
+  memory = cut.memory;
+}
+
+-- nothing came
+pub failed_unheard : (old new : BrokerCore) (fault : RunFault) → IsBrokerCore old → (fault ≡ PeerGone) × (new ≡ old)
+    → HasFailed old fault new
+failed_unheard old new fault is (gone, same) =
+    subst (HasFailed old fault) (sym same)
+    (record {
+      links = same_links old;
+      plan = refl;
+      finished = refl;
+      inbox = inl refl;
+      kind = inl gone;
+      so_far = core_so_far old is;
+      memory = λ short. cc;
+    })
+
+-- a message couldn't be taken
+pub failed_message : (old new : BrokerCore) (fault : RunFault) (inbox : Incoming ToBroker (Unit {0}))
+    (message : ToBroker)
+    → Takes FollowsToBroker old.inbox message inbox → IsTurnFault fault
+    → IsCutOff (record old { inbox = inbox }) fault new
+    → HasFailed old fault new
+failed_message old new fault inbox message takes kind cut =
+    failed_of old (record old { inbox = inbox }) new fault
+    (record {
+      inbox = ap (λ (i : Incoming ToBroker (Unit {0})). i.link) takes.4;
+      confirms = refl;
+      consumers = refl;
+      bindings = refl;
+      plan = refl;
+    }) refl refl (inr (message, takes)) kind cut
+
+-- a message was received, and handling it failed
+record ReceivingKeeps (old : BrokerCore) (entry : ℕ × (ToBroker × Unit {0})) (new : BrokerCore) : Type 0 where
+  plan : new.plan ≡ old.plan
+  finished : new.finished ≡ old.finished
+  inbox : new.inbox ≡ with_received old.inbox entry
+
+received_keeps : (d : BrokerCore) (j : ℕ) (message : ToBroker) (name : Unit {0})
+    → ReceivingKeeps d (j, (message, name)) (reception (j, (message, name)) d)
+received_keeps d j (to_broker.Packet packet) name =
+    go (is_lost d.plan d.publishes packet) (takes_packet d.broker packet)
+  where
+    here : BrokerCore
+    here = with_entry d (j, (to_broker.Packet packet, name))
+
+    go : (lost takes : Bool)
+        → ReceivingKeeps d (j, (to_broker.Packet packet, name)) (coming_if lost takes packet (with_counted packet here))
+    go true takes = record { plan = refl; finished = refl; inbox = refl }
+    go false true = record { plan = refl; finished = refl; inbox = refl }
+    go false false = record { plan = refl; finished = refl; inbox = refl }
+received_keeps d j to_broker.Finish name = record { plan = refl; finished = refl; inbox = refl }
+received_keeps d j (to_broker.Ack ack) name = go (slice_get d.consumers (ack.subscriber - 1))
+  where
+    here : BrokerCore
+    here = with_entry d (j, (to_broker.Ack ack, name))
+
+    go : (found : Option Consumer)
+        → ReceivingKeeps d (j, (to_broker.Ack ack, name)) (acked_if (ack.subscriber - 1) ack.position found here)
+    go None = record { plan = refl; finished = refl; inbox = refl }
+    go (Some c) = record { plan = refl; finished = refl; inbox = refl }
+
+pub failed_then : (old mid new : BrokerCore) (fault : RunFault) → HasReceivedNext old mid → IsTurnFault fault
+    → IsCutOff mid fault new
+    → HasFailed old fault new
+failed_then old mid new fault came kind cut =
+    let keeps = received_keeps old came.entry.0 came.entry.1.0 came.entry.1.1 in
+    failed_of old mid new fault
+    (subst (HasSameLinks old) (sym came.after) (received_same old came.entry.0 came.entry.1.0 came.entry.1.1))
+    (ap (λ (d : BrokerCore). d.plan) came.after ∙ keeps.plan)
+    (ap (λ (d : BrokerCore). d.finished) came.after ∙ keeps.finished)
+    (inr (
+      came.entry.1.0,
+      (
+        came.entry.0,
+        came.entry.1.1,
+        came.sender,
+        came.follows,
+        ap (λ (d : BrokerCore). d.inbox) came.after ∙ keeps.inbox,
+      ),
+    )) kind cut
+
+-- ---- what a call that fails leaves
+
+-- the kind of the fault
+unanswered_kind : (packet : Packet) (old : BrokerCore) (fault : RunFault) (new : BrokerCore)
+    → IsUnanswered packet old fault new
+    → IsTurnFault fault
+unanswered_kind packet old PeerGone new un = inl refl
+unanswered_kind packet old OutOfMemory new un = inr refl
+unanswered_kind packet old (Store why) new un = absurd un
+unanswered_kind packet old SessionsExhausted new un = absurd un
+unanswered_kind packet old NotOneSystem new un = absurd un
+unanswered_kind packet old StartNotAllowed new un = absurd un
+
+pub packet_failed : {A : Type 0} (old new : BrokerCore) (inbox : Incoming ToBroker (Unit {0})) (packet : Packet)
+    → IsBrokerCore old
+    → Takes FollowsToBroker old.inbox (to_broker.Packet packet) inbox → (result : Result A RunFault)
+    → IfErr result (λ fault. IsUnanswered packet (record old { inbox = inbox }) fault new)
+    → IfErr result (λ fault. HasFailed old fault new)
+packet_failed old new inbox packet is takes (Ok x) un = tt
+packet_failed old new inbox packet is (j, name, below, follows, after) (Err fault) un =
+    let here : inbox ≡ with_received old.inbox (0, (to_broker.Packet packet, tt)) =
+    after ∙ ap (λ (k : ℕ). with_received old.inbox (k, (to_broker.Packet packet, tt))) follows.may.0 in
+    failed_message old new fault inbox (to_broker.Packet packet) (j, name, below, follows, after)
+    (unanswered_kind packet (record old { inbox = inbox }) fault new un)
+    (subst (λ (i : Incoming ToBroker (Unit {0})). IsCutOff (record old { inbox = i }) fault new) (sym here)
+    (cut_packet old is packet fault new
+    (subst (λ (i : Incoming ToBroker (Unit {0})). IsUnanswered packet (record old { inbox = i }) fault new) here un)))
+
+pub ack_failed : {A : Type 0} (old new : BrokerCore) (inbox : Incoming ToBroker (Unit {0})) (ack : Ack)
+    → IsBrokerCore old
+    → Takes FollowsToBroker old.inbox (to_broker.Ack ack) inbox → (result : Result A RunFault)
+    → IfErr result (λ fault. (fault ≡ PeerGone) × (new ≡ record old { inbox = inbox }))
+    → IfErr result (λ fault. HasFailed old fault new)
+ack_failed old new inbox ack is takes (Ok x) refused = tt
+ack_failed old new inbox ack is (j, name, below, follows, after) (Err fault) (gone, same) =
+    failed_message old new fault inbox (to_broker.Ack ack) (j, name, below, follows, after) (inl gone)
+    (subst (λ (i : Incoming ToBroker (Unit {0})). IsCutOff (record old { inbox = i }) fault new) (sym after)
+    (cut_ack old is j ack fault new gone follows.may.0
+    (same ∙ ap (λ (i : Incoming ToBroker (Unit {0})). record old { inbox = i }) after)))

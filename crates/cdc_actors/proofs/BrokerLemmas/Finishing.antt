@@ -1,0 +1,232 @@
+-- The broker actor in its first state, after a turn, and once it has finished.
+use Rattle.std.proofs.Common.{◌≡◌, ℕ, zero, suc, ◌+◌, ◌-◌, ◌<◌, ◌≤◌, Bool, true, false, Option, Some, None, List, [], ◌∷◌, refl, sym, ap, ap₂, ◌∙◌, subst, length, map, get_or, inl, inr, arith}
+use Rattle.std.specs.Prelude.{◌==◌, ◌&&◌, All, slice_get, unwrap_or}
+use Rattle.std.specs.List.{list_all}
+use Rattle.std.specs.Option.{option_map}
+use Rattle.std.proofs.lemmas.Bool.{cases_Bool, eqb-true}
+use Rattle.std.proofs.lemmas.List.{length-map}
+use Rattle.std.proofs.lemmas.List.Folds.{list_all-map}
+use Rattle.std.proofs.lemmas.Option.{get_or_from_slice_get, slice_get-get_or, slice_get-map, slice_get_within}
+use Rattle.cdc_broker.specs.Broker.{empty_broker, nobody, queue_of}
+use Rattle.cdc_broker.specs.Packets.{items_of}
+use Rattle.cdc_broker.specs.Queues.{QueueState, empty_queue, next_delivery}
+use Rattle.cdc_actors.specs.Broker.Steps.{HasReceivedNext, MayStop}
+use Rattle.cdc_actors.specs.Broker.{Dealings, BrokerCore, IsBrokerActor, IsBrokerCore, IsConsumerServed, IsWhole, acks_at, as_confirm, dealings, is_over, no_dealings}
+use Rattle.cdc_actors.specs.Connector.{packets_in}
+use Rattle.cdc_actors.specs.Broker.Turns.{HasTurned, IsFreshLink, all_served, first_consumer, first_broker, reception, stopped, stopped_if, with_stop}
+use Rattle.cdc_actors.specs.declared.broker.plans.BrokerPlan.{BrokerPlan}
+use Rattle.cdc_actors.specs.declared.broker.consumers.Consumer.{Consumer}
+use Rattle.cdc_actors.proofs.BrokerLemmas.Receiving.{GoesOn, GoesOn-reception, IsServedTo, IsServedTo-first, IsServedTo-next, served_one}
+use Rattle.cdc_actors.proofs.BrokerLemmas.Places.{HoldsOfAll, HoldsOfAll-consumers, slice_get_made}
+use Rattle.cdc_actors.proofs.BrokerLemmas.Serving.{IsConsumerServed-first, IsConsumerServed-stop, MayStop-served, deliveries_in-stop, whole_queue}
+use Rattle.cdc_laws.specs.Arrivals.{taken_of}
+use Rattle.cdc_laws.specs.Brokers.{HasArrived}
+use Rattle.cdc_laws.proofs.Brokers.{HasArrived-nil}
+use Rattle.cdc_links.specs.Links.{Incoming, Outgoing, of_sender}
+use Rattle.cdc_match.specs.Arguments.{Arguments}
+use Rattle.cdc_message.specs.declared.items.Delivery.{Delivery}
+use Rattle.cdc_traffic.specs.Following.{ends_to_broker, has_ended}
+use Rattle.cdc_traffic.specs.declared.messages.ToBroker.{ToBroker}
+use Rattle.cdc_traffic.specs.declared.messages.ToConnector.{ToConnector}
+use Rattle.cdc_traffic.specs.declared.messages.ToSubscriber.{ToSubscriber}
+use Rattle.cdc_traffic.specs.declared.pasts.Past.{Past}
+
+-- nothing and some more
+none_more : (n : ℕ) → 0 + n ≡ n
+none_more n = omega arith
+
+-- both of two tests
+both_of : (a b : Bool) → (a && b) ≡ true → (a ≡ true) × (b ≡ true)
+both_of true b is = (refl, is)
+both_of false b is = cc
+
+-- what each element passes, that at a place does
+passes_at : {X : Type 0} (test : X → Bool) (xs : List X) (k : ℕ) (x : X) → list_all test xs ≡ true
+    → slice_get xs k ≡ Some x → test x ≡ true
+passes_at test [] k x all found = cc
+passes_at test (y ∷ xs) zero x all found =
+    let same : y ≡ x = cc in ap test (sym same) ∙ (both_of (test y) (list_all test xs) all).0
+passes_at test (y ∷ xs) (suc k) x all found =
+    passes_at test xs k x (both_of (test y) (list_all test xs) all).1 found
+
+-- ---- the last step of a turn
+
+-- each subscriber may be sent its last message
+pub may_stop : (d : BrokerCore) → IsBrokerCore d → d.finished ≡ false → All MayStop d.consumers
+may_stop d is goes k x below =
+    let c : Consumer = get_or d.consumers k x in
+    let found : slice_get d.consumers k ≡ Some c = slice_get-get_or d.consumers k x below in
+    MayStop-served d.prefetch (acks_at d k) (queue_of d.broker (k + 1)) c (served_one d is goes k c found)
+
+-- no copy is without an acknowledgement
+abbrev has_none : Consumer → Bool
+has_none c = c.unacked == 0
+
+module _ (d : BrokerCore) (count : ℕ) (so_far : IsServedTo count count d) where
+  -- each queue has delivered as much as it may
+  eager_all : HoldsOfAll (λ k q c. c.unacked < d.prefetch → next_delivery q ≡ None) d.broker d.consumers
+  eager_all k c found few =
+      so_far.eager k c found
+      (omega (arith, slice_get_within d.consumers k c found, so_far.many)) few
+
+  -- not all is over
+  more : is_over d ≡ false → IsBrokerActor d
+  more isnt = record {
+    core = so_far.core;
+    eager = eager_all;
+    over = so_far.goes_on ∙ sym isnt;
+    whole = λ k c found done.
+        let isnt : d.finished ≡ false = so_far.goes_on in cc;
+  }
+
+  -- all is over
+  over : is_over d ≡ true → IsBrokerActor (record d { consumers = map with_stop d.consumers; finished = true })
+  over is =
+      let new : BrokerCore = record d { consumers = map with_stop d.consumers; finished = true } in
+      let both = both_of d.connector_done (list_all has_none d.consumers) is in
+      let core : IsBrokerCore d = so_far.core in
+      let eager : HoldsOfAll (λ k q c. c.unacked < d.prefetch → next_delivery q ≡ None) d.broker new.consumers =
+      HoldsOfAll-consumers (λ k q c. c.unacked < d.prefetch → next_delivery q ≡ None)
+      (λ k q c. c.unacked < d.prefetch → next_delivery q ≡ None) d.broker d.consumers with_stop eager_all
+      (λ k q c none. none) in
+      record {
+        core = record {
+          senders = core.senders ∙ ap (λ (n : ℕ). n + 1) (sym (length-map d.consumers with_stop));
+          own = core.own;
+          queues = core.queues ∙ sym (length-map d.consumers with_stop);
+          some = core.some;
+          few = core.few;
+          arrived = core.arrived;
+          confirmed = core.confirmed;
+          publishes = core.publishes;
+          accepted = core.accepted;
+          connector = core.connector;
+          served = HoldsOfAll-consumers (λ k q c. IsConsumerServed false d.prefetch (acks_at d k) q c)
+              (λ k q c. IsConsumerServed true d.prefetch (acks_at d k) q c) d.broker d.consumers with_stop
+              (λ k c found. served_one d core so_far.goes_on k c found)
+              (λ k q c one. IsConsumerServed-stop d.prefetch (acks_at d k) q c one);
+        };
+        eager = eager;
+        over = sym (ap₂ (λ (a b : Bool). a && b) both.0 (list_all-map has_none with_stop d.consumers ∙ both.1));
+        whole = λ k c found done.
+            let made = slice_get_made with_stop d.consumers k c found in
+            let x : Consumer = made.0 in
+            let zero_copies : x.unacked ≡ 0 =
+            eqb-true x.unacked 0 (passes_at has_none d.consumers k x both.1 made.1.0) in
+            let none : next_delivery (queue_of d.broker (k + 1)) ≡ None =
+            eager_all k x made.1.0 (omega (arith, zero_copies, core.some)) in
+            let one : IsConsumerServed false d.prefetch (acks_at d k) (queue_of d.broker (k + 1)) x =
+            served_one d core so_far.goes_on k x made.1.0 in
+            subst (IsWhole (acks_at d k) (queue_of d.broker (k + 1))) made.1.1
+            (record {
+              delivered = whole_queue (queue_of d.broker (k + 1)) _ one.delivered none;
+              acknowledged = ap (λ (ds : List Delivery). length ds) (deliveries_in-stop x.link.sent)
+                  ∙ one.copies
+                  ∙ ap (λ (n : ℕ). n + acks_at d k) zero_copies
+                  ∙ none_more (acks_at d k);
+            });
+      }
+
+  pub IsBrokerActor-stopped : IsBrokerActor (stopped d)
+  IsBrokerActor-stopped = elim (cases_Bool (is_over d)) [
+    | inl is ↦ subst (λ (b : Bool). IsBrokerActor (stopped_if b d)) (sym is) (over is)
+    | inr isnt ↦ subst (λ (b : Bool). IsBrokerActor (stopped_if b d)) (sym isnt) (more isnt)
+  ]
+
+-- ---- a whole turn
+
+-- the first so many queues are served
+pub served_first : (count n : ℕ) (d : BrokerCore) → GoesOn count d → n ≤ count → IsServedTo count n (all_served n d)
+served_first count zero d goes below =
+    subst (λ (k : ℕ). IsServedTo k 0 d) goes.many (IsServedTo-first d goes.core goes.goes_on)
+served_first count (suc n) d goes below =
+    IsServedTo-next count n (all_served n d) (served_first count n d goes (omega (arith, below))) (omega (arith, below))
+
+-- all of them have, after a message
+pub served_all : (old new : BrokerCore) → IsBrokerCore old → old.finished ≡ false → HasReceivedNext old new
+    → IsServedTo (length old.consumers) (length old.consumers) (all_served (length new.consumers) new)
+served_all old new is goes came =
+    let on : GoesOn (length old.consumers) new = GoesOn-reception old new is goes came in
+    subst (λ (n : ℕ). IsServedTo (length old.consumers) (length old.consumers) (all_served n new)) (sym on.many)
+    (served_first (length old.consumers) (length old.consumers) new on (omega arith))
+
+-- so an actor that has taken a turn keeps the invariant
+pub turned_is : (old new : BrokerCore) → IsBrokerActor old → old.finished ≡ false → HasTurned old new
+    → IsBrokerActor new
+turned_is old new is goes has =
+    let came : HasReceivedNext old (reception has.entry old) =
+    record { entry = has.entry; sender = has.sender; follows = has.follows; due = has.due; after = refl } in
+    let on : GoesOn (length old.consumers) (reception has.entry old) =
+    GoesOn-reception old (reception has.entry old) is.core goes came in
+    let all : IsServedTo (length old.consumers) (length old.consumers)
+    (all_served (length old.consumers) (reception has.entry old)) =
+    served_first (length old.consumers) (length old.consumers) (reception has.entry old) on (omega arith) in
+    subst IsBrokerActor (sym has.after)
+    (IsBrokerActor-stopped (all_served (length old.consumers) (reception has.entry old)) (length old.consumers) all)
+
+-- ---- the first state
+
+-- a queue of a broker that nothing has come to
+empty_at : (bindings : List Arguments) (k : ℕ)
+    → (binding : Arguments) × (queue_of (empty_broker bindings) (k + 1) ≡ empty_queue binding)
+empty_at bindings k = (
+  found_binding (slice_get bindings (k + 1 - 1)),
+  ap (λ (found : Option QueueState). unwrap_or found (empty_queue nobody))
+      (slice_get-map empty_queue bindings (k + 1 - 1))
+      ∙ is (slice_get bindings (k + 1 - 1)),
+)
+  where
+    found_binding : Option Arguments → Arguments
+    found_binding None = nobody
+    found_binding (Some binding) = binding
+
+    is : (found : Option Arguments)
+        → unwrap_or (option_map empty_queue found) (empty_queue nobody) ≡ empty_queue (found_binding found)
+    is None = refl
+    is (Some binding) = refl
+
+pub IsBrokerActor-first : (inbox : Incoming ToBroker (Unit {0})) (confirms : Outgoing ToConnector (Option Past))
+    (links : List (Outgoing ToSubscriber (Unit {0}))) (bindings : List Arguments) (plan : BrokerPlan) (prefetch : ℕ)
+    → inbox.received ≡ [] → inbox.senders ≡ length links + 1 → confirms.number ≡ 1 → confirms.sent ≡ []
+    → All IsFreshLink links → length bindings ≡ length links → 0 < prefetch → prefetch ≤ 64
+    → IsBrokerActor (first_broker inbox confirms links (empty_broker bindings) plan prefetch)
+IsBrokerActor-first inbox confirms links bindings plan prefetch fresh senders own silent fresh_links many some few =
+    record {
+      core = record {
+        senders = senders ∙ ap (λ (n : ℕ). n + 1) (sym (length-map links first_consumer));
+        own = own;
+        queues = length-map bindings empty_queue ∙ many ∙ sym (length-map links first_consumer);
+        some = some;
+        few = few;
+        arrived = subst (λ (made : Dealings). HasArrived (empty_broker bindings) made.arrived made.confirms) (sym none)
+            (HasArrived-nil bindings);
+        confirmed = silent ∙ ap (λ (made : Dealings). map as_confirm made.confirms) (sym none);
+        publishes = ap (λ (made : Dealings). made.publishes) (sym none);
+        accepted = ap (λ (made : Dealings). length (items_of (taken_of made.arrived))) (sym none);
+        connector = ap (λ (l : List (ℕ × (ToBroker × Unit {0}))). has_ended ends_to_broker (of_sender 0 l)) (sym fresh);
+        served = served;
+      };
+      eager = λ k c found few. ap next_delivery (empty_at bindings k).1;
+      over = refl;
+      whole = λ k c found done. cc;
+    }
+  where
+    none : dealings plan (packets_in (of_sender 0 inbox.received)) ≡ no_dealings
+    none = ap (λ (l : List (ℕ × (ToBroker × Unit {0}))). dealings plan (packets_in (of_sender 0 l))) fresh
+
+    served : (k : ℕ) (c : Consumer) → slice_get (map first_consumer links) k ≡ Some c
+        → IsConsumerServed false prefetch (length (of_sender (k + 1) inbox.received))
+        (queue_of (empty_broker bindings) (k + 1)) c
+    served k c found =
+        let made = slice_get_made first_consumer links k c found in
+        let link : Outgoing ToSubscriber (Unit {0}) = made.0 in
+        let inside = slice_get_within links k link made.1.0 in
+        let at = empty_at bindings k in
+        let is : IsFreshLink link =
+        subst IsFreshLink (get_or_from_slice_get links k link link made.1.0) (fresh_links k link inside) in
+        subst (λ (l : List (ℕ × (ToBroker × Unit {0}))).
+        IsConsumerServed false prefetch (length (of_sender (k + 1) l)) (queue_of (empty_broker bindings) (k + 1)) c)
+        (sym fresh)
+        (subst (λ (q : QueueState). IsConsumerServed false prefetch 0 q c) (sym at.1)
+        (subst (IsConsumerServed false prefetch 0 (empty_queue at.0)) made.1.1
+        (IsConsumerServed-first prefetch at.0 link is.0 is.1)))

@@ -1,0 +1,9 @@
+-- Lemmas on the connector as an actor of a run.
+pub mod Failing
+pub mod Histories
+pub mod Messages
+pub mod Receiving
+pub mod Rounds
+pub mod Sessions
+pub mod Steps
+pub mod Turns

@@ -1,0 +1,516 @@
+-- A whole turn of a connector.
+use Rattle.std.proofs.Common.{◌≡◌, ◌==◌, ℕ, ◌+◌, ◌<◌, ◌≤◌, Bool, true, false, true≢false, List, [], inl, inr, refl, sym, ap, ap₂, ◌∙◌, subst, length, map, ◌++◌, arith}
+use Rattle.std.specs.Prelude.{◌&&◌, Option, Some, None, is_some, if◌then◌else◌}
+use Rattle.std.proofs.lemmas.Bool.{and_parts, eqb-true}
+use Rattle.std.proofs.lemmas.Bool.Decides.{nat_tests}
+use Rattle.std.proofs.lemmas.Option.{none-some}
+use Rattle.cdc_actors.specs.Connector.{FinishedConnectorsAreDone, HasFollowed, HasSent, IsAtRest, IsConnectorActor, IsDone, IsOfSame, IsPublishing, IsWorkingTurn, ConnectorCore, RisesBy, broken_by, confirms_in, ended_by, finish_if, first_origin, first_connector, packets_in, planned_up_to, polls_in, IsAtStart, origin_of, timestamp_after, saved_by}
+use Rattle.cdc_publisher.specs.Stands.{SessionStands}
+use Rattle.cdc_actors.specs.Connector.Moves.{IsAdvanced, IsAnswerTaken, IsBegun, IsBegunOrReceived, IsBrokenOff, IsConfirmTaken, IsFollowed, IsReplyReceived, IsReplyTaken, IsSending}
+use Rattle.cdc_actors.proofs.ConnectorLemmas.Receiving.{IsPublishing-answered, IsPublishing-offered, IsPublishing-saved, IsPublishing-unused, confirm_came, number_kept, origin_saved, reply_came}
+use Rattle.cdc_actors.proofs.ConnectorLemmas.Steps.{GoesOn-begun, IsPublishing-begun, finished-begun, start_held}
+use Rattle.cdc_actors.proofs.ConnectorLemmas.Turns.{KeepsTimestamp-begun, RisesBy-begun, RisesBy-same, RisesBy-trans, same_of, same_trans}
+use Rattle.cdc_laws.specs.Connectors.{KeepsTo, held_number, held_start, held_timestamp}
+use Rattle.cdc_laws.proofs.Connectors.{KeepsTo-begin}
+use Rattle.cdc_links.specs.Links.{Incoming, Outgoing, Takes, of_sender}
+use Rattle.cdc_message.specs.declared.packets.Answer.{Answer}
+use Rattle.cdc_message.specs.declared.packets.Answer.TheVariants.{Connected, Confirmed, Ignored, Broken}
+use Rattle.cdc_message.specs.declared.packets.Confirm.{Confirm}
+use Rattle.cdc_message.specs.declared.packets.Packet.{Packet}
+use Rattle.cdc_progress.specs.Records.{Saved}
+use Rattle.cdc_progress.specs.Stores.{Risks}
+use Rattle.cdc_publisher.specs.Courses.{Course, after_answer, confirmed_timestamp, is_done, new_course, progress_of, with_confirm, with_offer}
+use Rattle.cdc_publisher.specs.SessionState.{SessionState}
+use Rattle.cdc_traffic.specs.Following.{FollowsToConnector}
+use Rattle.cdc_traffic.specs.declared.messages.ToBroker.{ToBroker}
+use Rattle.cdc_traffic.specs.declared.messages.ToBroker.TheVariants as to_broker
+use Rattle.cdc_traffic.specs.declared.messages.ToConnector.{ToConnector}
+use Rattle.cdc_traffic.specs.declared.messages.ToConnector.TheVariants as to_connector
+use Rattle.cdc_traffic.specs.declared.messages.ToLedger.{ToLedger}
+use Rattle.cdc_traffic.specs.declared.messages.ToLedger.TheVariants as to_ledger
+use Rattle.cdc_traffic.specs.declared.pasts.Past.{Past}
+use Rattle.cdc_traffic.specs.declared.polls.PollReply.{PollReply}
+use Rattle.cdc_types.specs.Windows.{IsWindow}
+
+-- what a connector's store, plan and count of publish packets imply about its sessions
+rises_as : (n : ℕ) (old new : ConnectorCore) (held : Option Saved) → new.held ≡ held
+    → held_number held ≡ held_number old.held + n → new.restarts ≡ old.restarts → new.published ≡ old.published
+    → RisesBy n old new
+rises_as n old new held is number plan published = λ gives.
+    let numbers : held_number new.held ≡ held_number old.held + n = ap held_number is ∙ number in
+    let planned : planned_up_to new.restarts new.published ≡ planned_up_to old.restarts old.published =
+    ap₂ planned_up_to plan published in
+    omega (arith, numbers, planned)
+
+add_none : (n : ℕ) → n ≡ n + 0
+add_none n = omega arith
+
+-- a session that has come no further leaves what is held
+unmoved : (held before after : ℕ) → after ≡ before → held ≡ timestamp_after held before after
+unmoved held before after same =
+    let here : (after == before) ≡ true = grind (arith, nat_tests) in
+    sym (ap (λ b. if b then held else after) here)
+
+module _ (old : ConnectorCore) (course : Course) (is : IsPublishing old (Some course))
+    (inbox : Incoming ToConnector (Option Past)) where
+  -- ---- a reply to a poll was received and taken
+  module _ (reply : PollReply) (takes : Takes FollowsToConnector old.inbox (to_connector.PollReply reply) inbox) where
+    pub received_reply : (moved : Bool) (new : ConnectorCore)
+        → IsReplyTaken (record old { inbox = inbox }) reply moved new → IsReplyReceived old course moved new
+    received_reply true new (asked, offered, after) =
+        let came = reply_came old.inbox inbox reply takes in
+        let next : Course = with_offer reply.events reply.complete course in
+        let here : new.inbox ≡ inbox = ap (λ (c : ConnectorCore). c.inbox) after in
+        record {
+          message = to_connector.PollReply reply;
+          takes = subst (Takes FollowsToConnector old.inbox (to_connector.PollReply reply)) (sym here) takes;
+          next = next;
+          publishing = subst (λ (c : ConnectorCore). IsPublishing c (Some next)) (sym after)
+              (IsPublishing-offered old course is inbox reply came asked new.session (offered course is.stands));
+          working = ap (λ (c : ConnectorCore). c.finished) after;
+          sessions = rises_as 0 old new old.held (ap (λ (c : ConnectorCore). c.held) after)
+              (add_none (held_number old.held)) (ap (λ (c : ConnectorCore). c.restarts) after)
+              (ap (λ (c : ConnectorCore). c.published) after);
+          saves = λ gives. ap (λ (c : ConnectorCore). held_timestamp c.held) after;
+          same = subst (IsOfSame old) (sym after)
+              (record {
+                polls = refl;
+                packets = refl;
+                honest = refl;
+                risks = refl;
+                origin = λ _. refl;
+                window = refl;
+                restarts = refl;
+              });
+          unasked = λ other. absurd (other asked);
+          still = λ moved. cc;
+        }
+    received_reply false new (other, after) =
+        let came = reply_came old.inbox inbox reply takes in
+        let here : new.inbox ≡ inbox = ap (λ (c : ConnectorCore). c.inbox) after in
+        record {
+          message = to_connector.PollReply reply;
+          takes = subst (Takes FollowsToConnector old.inbox (to_connector.PollReply reply)) (sym here) takes;
+          next = course;
+          publishing = subst (λ (c : ConnectorCore). IsPublishing c (Some course)) (sym after)
+              (IsPublishing-unused old course is inbox reply came);
+          working = ap (λ (c : ConnectorCore). c.finished) after;
+          sessions = rises_as 0 old new old.held (ap (λ (c : ConnectorCore). c.held) after)
+              (add_none (held_number old.held)) (ap (λ (c : ConnectorCore). c.restarts) after)
+              (ap (λ (c : ConnectorCore). c.published) after);
+          saves = λ gives. ap (λ (c : ConnectorCore). held_timestamp c.held) after;
+          same = subst (IsOfSame old) (sym after)
+              (record {
+                polls = refl;
+                packets = refl;
+                honest = refl;
+                risks = refl;
+                origin = λ _. refl;
+                window = refl;
+                restarts = refl;
+              });
+          unasked = λ _. refl;
+          still = λ _.
+              (refl, after ∙ ap (λ (i : Incoming ToConnector (Option Past)). record old { inbox = i }) (sym here));
+        }
+
+  -- ---- a confirm was received and taken
+  module _ (session : ℕ) (answer : Answer)
+      (takes : Takes FollowsToConnector old.inbox (to_connector.Confirm (record { session = session; answer = answer }))
+      inbox)
+      (unanswered : ℕ) (less : old.unanswered ≡ unanswered + 1) where
+    abbrev confirm : Confirm
+    confirm = record { session = session; answer = answer }
+
+    -- the connector with one answer more
+    abbrev counted : ConnectorCore
+    counted = record old { inbox = inbox; unanswered = unanswered }
+
+    -- so much is known of what comes of it
+    received_of : (new : ConnectorCore) (next : Course) (n : ℕ) → IsPublishing new (Some next) → new.inbox ≡ inbox
+        → new.finished ≡ old.finished → RisesBy n old new → broken_by (session == held_number old.held) answer ≡ n
+        → (old.honest ≡ true
+        → held_timestamp new.held ≡ saved_by (held_timestamp old.held) course (to_connector.Confirm confirm))
+        → IsOfSame old new → IsReplyReceived old course true new
+    received_of new next n publishing here working rises ends saves same = record {
+      message = to_connector.Confirm confirm;
+      takes = subst (Takes FollowsToConnector old.inbox (to_connector.Confirm confirm)) (sym here) takes;
+      next = next;
+      publishing = publishing;
+      working = working;
+      sessions = subst (λ m. RisesBy m old new) (sym ends) rises;
+      saves = saves;
+      same = same;
+      unasked = λ other. absurd other;
+      still = λ moved. cc;
+    }
+
+    -- its session takes it
+    answered_as : (s : Option SessionState) → SessionStands s (Some (after_answer course session answer))
+        → IsPublishing (record counted { session = s }) (Some (after_answer course session answer))
+    answered_as s stands =
+        IsPublishing-answered old course is inbox confirm (confirm_came old.inbox inbox confirm takes) unanswered less
+        s stands
+
+    -- nothing else comes of it
+    received_only : (new : ConnectorCore) → new ≡ counted → IsPublishing counted (Some course)
+        → broken_by (session == held_number old.held) answer ≡ 0 → after_answer course session answer ≡ course
+        → IsReplyReceived old course true new
+    received_only new after publishing ends same_course =
+        subst (IsReplyReceived old course true) (sym after)
+        (received_of counted course 0 publishing refl refl (RisesBy-same old counted refl refl refl) ends
+        (λ gives.
+        unmoved (held_timestamp old.held) (confirmed_timestamp course)
+        (confirmed_timestamp (after_answer course session answer)) (ap confirmed_timestamp same_course))
+        (record {
+          polls = refl;
+          packets = refl;
+          honest = refl;
+          risks = refl;
+          origin = λ _. refl;
+          window = refl;
+          restarts = refl;
+        }))
+
+module _ (old : ConnectorCore) (course : Course) (is : IsPublishing old (Some course))
+    (inbox : Incoming ToConnector (Option Past)) (session unanswered : ℕ)
+    (less : old.unanswered ≡ unanswered + 1) (new : ConnectorCore) where
+  -- the connector with one answer more
+  abbrev answered : ConnectorCore
+  answered = record old { inbox = inbox; unanswered = unanswered }
+
+  abbrev TakesAnswer : Answer → Type 0
+  TakesAnswer answer =
+      Takes FollowsToConnector old.inbox (to_connector.Confirm (record { session = session; answer = answer })) inbox
+
+  -- a tag was confirmed, and progress is saved if it has moved
+  saved_if : (next : Course) (s : Option SessionState) → IsPublishing (record answered { session = s }) (Some next)
+      → (b : Bool)
+      → IsPublishing (record answered { held = if b then old.held else Some (progress_of next); session = s })
+      (Some next)
+  saved_if next s publishing true = publishing
+  saved_if next s publishing false = IsPublishing-saved (record answered { session = s }) next publishing
+
+  origin_if : (next : Course) (s : Option SessionState) → IsPublishing (record answered { session = s }) (Some next)
+      → (b : Bool)
+      → origin_of (record answered { held = if b then old.held else Some (progress_of next); session = s })
+      ≡ origin_of old
+  origin_if next s publishing true = refl
+  origin_if next s publishing false = origin_saved (record answered { session = s }) next publishing
+
+  number_if : (next : Course) → next.number ≡ course.number → (b : Bool)
+      → held_number (if b then old.held else Some (progress_of next)) ≡ held_number old.held + 0
+  number_if next same true = add_none (held_number old.held)
+  number_if next same false = same ∙ sym is.runs.held ∙ add_none (held_number old.held)
+
+  timestamp_if : (next : Course) → (b : Bool)
+      → held_timestamp (if b then old.held else Some (progress_of next))
+      ≡ (if b then held_timestamp old.held else confirmed_timestamp next)
+  timestamp_if next true = refl
+  timestamp_if next false = refl
+
+  received_confirmed : (tag : ℕ) → TakesAnswer (Confirmed tag)
+      → IsAnswerTaken answered course session (Confirmed tag) new → IsReplyReceived old course true new
+  received_confirmed tag takes (stands, after) =
+      let next : Course = with_confirm session tag course in
+      let moved : Bool = confirmed_timestamp next == confirmed_timestamp course in
+      let held : Option Saved = if moved then old.held else Some (progress_of next) in
+      let state : ConnectorCore = record answered { held = held; session = new.session } in
+      subst (IsReplyReceived old course true) (sym after)
+      (received_of old course is inbox session (Confirmed tag) takes unanswered less state next 0
+      (saved_if next new.session
+      (answered_as old course is inbox session (Confirmed tag) takes unanswered less new.session stands) moved)
+      refl refl
+      (rises_as 0 old state held refl (number_if next (number_kept course session (Confirmed tag)) moved) refl refl)
+      refl (λ gives. timestamp_if next moved)
+      (record {
+        polls = refl;
+        packets = refl;
+        honest = refl;
+        risks = refl;
+        origin = λ _.
+            origin_if next new.session
+            (answered_as old course is inbox session (Confirmed tag) takes unanswered less new.session stands) moved;
+        window = refl;
+        restarts = refl;
+      }))
+
+  -- a packet of a session was lost
+  received_broken : TakesAnswer Broken → (b : Bool) → (session == course.number) ≡ b → IsBrokenOff b answered new
+      → IsReplyReceived old course true new
+  received_broken takes false other after =
+      received_only old course is inbox session Broken takes unanswered less new after
+      (answered_as old course is inbox session Broken takes unanswered less old.session is.stands)
+      (ap (λ n. if session == n then 1 else 0) is.runs.held ∙ ap (λ b. if b then 1 else 0) other) refl
+  received_broken takes true own begun =
+      let goes = GoesOn-begun answered new begun in
+      received_of old course is inbox session Broken takes unanswered less new (new_course begun.saved old.window) 1
+      (IsPublishing-begun answered new (Some course)
+      (answered_as old course is inbox session Broken takes unanswered less old.session is.stands) begun)
+      goes.inbox (finished-begun answered new begun) (RisesBy-begun answered new begun)
+      (ap (λ n. if session == n then 1 else 0) is.runs.held ∙ ap (λ b. if b then 1 else 0) own)
+      (λ gives.
+      (KeepsTimestamp-begun answered new begun).time gives (subst (λ n. 0 < n) (sym is.runs.held) is.runs.number)
+      ∙ unmoved (held_timestamp old.held) (confirmed_timestamp course) (confirmed_timestamp course) refl)
+      (record {
+        polls = goes.polls;
+        packets = goes.packets;
+        honest = goes.honest;
+        risks = goes.risks;
+        origin = goes.origin;
+        window = goes.window;
+        restarts = goes.restarts;
+      })
+
+  received_answer : (answer : Answer) → TakesAnswer answer → IsAnswerTaken answered course session answer new
+      → IsReplyReceived old course true new
+  received_answer (Confirmed tag) takes taken = received_confirmed tag takes taken
+  received_answer Connected takes taken =
+      received_only old course is inbox session Connected takes unanswered less new taken
+      (answered_as old course is inbox session Connected takes unanswered less old.session is.stands) refl refl
+  received_answer Ignored takes taken =
+      received_only old course is inbox session Ignored takes unanswered less new taken
+      (answered_as old course is inbox session Ignored takes unanswered less old.session is.stands) refl refl
+  received_answer Broken takes taken = received_broken takes (session == course.number) refl taken
+
+pub received_confirm : (old : ConnectorCore) (course : Course) → IsPublishing old (Some course)
+    → (inbox : Incoming ToConnector (Option Past)) (confirm : Confirm)
+    → Takes FollowsToConnector old.inbox (to_connector.Confirm confirm) inbox → (new : ConnectorCore)
+    → IsConfirmTaken (record old { inbox = inbox }) course confirm new → IsReplyReceived old course true new
+received_confirm old course is inbox confirm takes new taken =
+    received_answer old course is inbox confirm.session taken.unanswered taken.less new confirm.answer takes taken.taken
+
+-- ---- a session begins, or a message is received
+
+-- what holds between two turns
+not_none : (o : Option SessionState) → o ≡ None → is_some o ≡ true → ⊥
+not_none None is up = cc
+not_none (Some kept) is up = cc
+
+none_of : (o : Option SessionState) → is_some o ≡ false → o ≡ None
+none_of None is = refl
+none_of (Some kept) is = cc
+
+-- if a session runs, there is a course that it represents
+course_of : (s : Option SessionState) (course : Option Course) → SessionStands s course → is_some s ≡ true
+    → (c : Course) × (course ≡ Some c)
+course_of None course stands up = absurd (not_none None refl up)
+course_of (Some kept) None stands up = absurd stands
+course_of (Some kept) (Some c) stands up = (c, refl)
+
+module _ (old : ConnectorCore) (end : IsConnectorActor old) (working : old.finished ≡ false) where
+  module _ (up : is_some old.session ≡ true) where
+    runs : (c : Course) × (end.course ≡ Some c)
+    runs = course_of old.session end.course end.publishing.stands up
+
+    pub running : IsSending old
+    running = record {
+      course = runs.0;
+      publishing = subst (IsPublishing old) runs.1 end.publishing;
+      working = working;
+    }
+
+    followed : HasFollowed old running.course
+    unfolding running runs
+    followed = subst (IsAtRest old) runs.1 end.rest
+
+    -- a message was received
+    received_moves : (moved : Bool) (new : ConnectorCore) → IsReplyReceived old running.course moved new
+        → (s : Option SessionState)
+        → old.session ≡ s → IsBegunOrReceived s old moved new
+    received_moves moved new is None down = absurd (not_none old.session down up)
+    received_moves moved new is (Some kept) there = record {
+      message = is.message;
+      takes = is.takes;
+      sessions = is.sessions;
+      course = running.course;
+      stood = running.publishing.stands;
+      saves = is.saves;
+      same = is.same;
+      unasked = is.unasked;
+      still = λ quiet. (is.still quiet).1;
+    }
+
+    -- if the message had no effect, it is as before
+    stays : (new : ConnectorCore) (next : Course) → next ≡ running.course → new ≡ record old { inbox = new.inbox }
+        → HasFollowed new next
+    stays new next same after =
+        subst (λ c. HasFollowed new c) (sym same)
+        (record {
+          asked = ap (λ (c : ConnectorCore). is_some c.poll) after ∙ followed.asked;
+          sent = elim followed.sent [
+            | inl none ↦ inl none
+            | inr full ↦ inr
+                (ap (λ (c : ConnectorCore). c.unanswered) after
+                ∙ full
+                ∙ ap (λ n. n + 1) (sym (ap (λ (c : ConnectorCore). c.window) after)))
+          ];
+          finished = ap (λ (c : ConnectorCore). c.finished) after
+              ∙ followed.finished
+              ∙ ap (λ n. is_done running.course && (n == 0)) (sym (ap (λ (c : ConnectorCore). c.unanswered) after));
+        })
+
+    pub received_so : (moved : Bool) (new : ConnectorCore) → IsReplyReceived old running.course moved new
+        → IsAdvanced old moved new
+    received_so moved new is = record {
+      next = is.next;
+      publishing = is.publishing;
+      working = is.working ∙ working;
+      moves = received_moves moved new is old.session refl;
+      still = λ quiet. let same = is.still quiet in stays new is.next same.0 same.1;
+    }
+
+  -- the first session has begun
+  first_moves : (new : ConnectorCore) → IsBegun old new → (s : Option SessionState) → old.session ≡ s → s ≡ None
+      → IsBegunOrReceived s old true new
+  first_moves new begun None is down =
+      let goes = GoesOn-begun old new begun in
+      record { inbox = goes.inbox; sessions = RisesBy-begun old new begun; same = same_of old new goes }
+  first_moves new begun (Some kept) is down = cc
+
+  pub first_so : (new : ConnectorCore) → is_some old.session ≡ false → IsBegun old new → IsAdvanced old true new
+  first_so new down begun = record {
+    next = new_course begun.saved old.window;
+    publishing = IsPublishing-begun old new end.course end.publishing begun;
+    working = finished-begun old new begun ∙ working;
+    moves = first_moves new begun old.session refl (none_of old.session down);
+    still = λ quiet. cc;
+  }
+
+-- ---- a whole turn
+
+module _ (old mid new : ConnectorCore) where
+  -- all that follows was sent
+  followed_turn : (s : Option SessionState) → 0 < held_number mid.held → IsBegunOrReceived s old true mid
+      → IsFollowed mid new → IsWorkingTurn s old new
+  followed_turn None some is on = record {
+    inbox = on.goes_on.inbox ∙ is.inbox;
+    sessions = RisesBy-trans 1 0 old mid new is.same.honest is.sessions on.sessions;
+    same = same_trans old mid new is.same (same_of mid new on.goes_on);
+  }
+  followed_turn (Some kept) some is on = record {
+    message = is.message;
+    takes = subst (Takes FollowsToConnector old.inbox is.message) (sym on.goes_on.inbox) is.takes;
+    sessions =
+        let n = ended_by (held_number old.held) is.message in
+        subst (λ m. RisesBy m old new) (sym (add_none n))
+        (RisesBy-trans n 0 old mid new is.same.honest is.sessions on.sessions);
+    course = is.course;
+    stood = is.stood;
+    saves = λ gives. on.time.time (is.same.honest ∙ gives) some ∙ is.saves gives;
+    unasked = λ other. let moved = is.unasked other in cc;
+    same = same_trans old mid new is.same (same_of mid new on.goes_on);
+  }
+
+  pub turned : IsAdvanced old true mid → IsFollowed mid new → IsWorkingTurn old.session old new
+  turned is on =
+      let some : 0 < held_number mid.held =
+      subst (λ n. 0 < n) (sym is.publishing.runs.held) is.publishing.runs.number in
+      followed_turn old.session some is.moves on
+
+-- nothing followed
+module _ (old new : ConnectorCore) where
+  still_turn : (s : Option SessionState) → IsBegunOrReceived s old false new → IsWorkingTurn s old new
+  still_turn None is = is
+  still_turn (Some kept) is = record {
+    message = is.message;
+    takes = is.takes;
+    sessions = is.sessions;
+    course = is.course;
+    stood = is.stood;
+    saves = is.saves;
+    unasked = λ other. is.still refl;
+    same = is.same;
+  }
+
+  pub turned_still : IsAdvanced old false new → IsWorkingTurn old.session old new
+  turned_still is = still_turn old.session is.moves
+
+  pub rests_still : IsAdvanced old false new → IsConnectorActor new
+  rests_still is = record { course = Some is.next; publishing = is.publishing; rest = is.still refl }
+
+pub rests_then : (mid new : ConnectorCore) → IsFollowed mid new → IsConnectorActor new
+rests_then mid new is = record { course = Some is.course; publishing = is.publishing; rest = is.followed }
+
+-- what the work inside a connector received, the connector received
+pub took : (inside now new : Incoming ToConnector (Option Past)) (message other : ToConnector) → inside ≡ now
+    → message ≡ other → Takes FollowsToConnector inside message new → Takes FollowsToConnector now other new
+took inside now new message other same is takes =
+    subst (λ (i : Incoming ToConnector (Option Past)). Takes FollowsToConnector i other new) same
+    (subst (λ m. Takes FollowsToConnector inside m new) is takes)
+
+-- ---- it begins
+
+-- a store that holds nothing, or a timestamp that is its start
+at_start : (at : Option ℕ) (held : Option Saved) → IsAtStart (first_origin at held)
+    → held_timestamp held ≡ held_start held
+at_start at None same = refl
+at_start at (Some saved) same = same
+
+-- nothing has been sent yet, whatever the store holds
+pub begins : (inbox : Incoming ToConnector (Option Past)) (polls : Outgoing ToLedger (Unit {0}))
+    (packets : Outgoing ToBroker (Unit {0})) (held : Option Saved) (honest : Bool) (risks : Risks) (start : Option ℕ)
+    (window : ℕ)
+    (restarts : List ℕ) → inbox.received ≡ [] → inbox.senders ≡ 2 → polls.number ≡ 0 → polls.sent ≡ []
+    → packets.number ≡ 0
+    → packets.sent ≡ [] → IsWindow window
+    → IsConnectorActor (first_connector inbox polls packets held honest risks start window restarts)
+begins inbox polls packets held honest risks start window restarts fresh two to_ledger asked to_broker published fits =
+    let no_packets : packets_in packets.sent ≡ [] =
+    ap (λ (l : List (ToBroker × Unit {0})). packets_in l) published in
+    let no_confirms : confirms_in (of_sender 1 inbox.received) ≡ [] =
+    ap (λ (l : List (ℕ × (ToConnector × Option Past))). confirms_in (of_sender 1 l)) fresh in
+    record {
+      course = None;
+      publishing = record {
+        wired = record { two = two; polls = to_ledger; packets = to_broker; fits = fits };
+        dispatched = subst (λ (l : List (ToLedger × Unit {0})). HasSent l packets.sent 0 false) (sym asked)
+            (subst (λ (l : List (ToBroker × Unit {0})). HasSent [] l 0 false) (sym published)
+            (record { asked = refl; sent = refl; counted = refl }));
+        answers = record {
+          exact = ap (λ (cs : List Confirm). 0 + length cs) no_confirms
+              ∙ sym (ap (λ (ps : List Packet). length ps) no_packets);
+          room = zero_first (window + 1);
+        };
+        stands = tt;
+        runs = tt;
+        first = refl;
+        poll = λ poll there. absurd (none-some poll there);
+        keeps = λ gives zero h are.
+            subst (λ ps. KeepsTo h (record {
+              held = held;
+              session = None;
+              sent = ps;
+              confirms = confirms_in (of_sender 1 inbox.received);
+            })) (sym no_packets)
+            (subst (λ cs. KeepsTo h (record { held = held; session = None; sent = []; confirms = cs }))
+            (sym no_confirms) (KeepsTo-begin h held (at_start start held zero)));
+      };
+      rest = record { received = fresh; polls = asked; packets = published; working = refl };
+    }
+  where
+    zero_first : (n : ℕ) → 0 ≤ n
+    zero_first n = omega arith
+
+-- ---- it is done
+
+-- a connector that has finished isn't silent, so its session runs
+pub finished_done : FinishedConnectorsAreDone
+finished_done c end finished = go end.course end.publishing end.rest
+  where
+    go : (course : Option Course) → IsPublishing c course → IsAtRest c course → IsDone c
+    go None is rest = absurd (true≢false (sym finished ∙ rest.working))
+    go (Some course) is rest =
+        let both = and_parts (is_done course) (c.unanswered == 0) (sym rest.finished ∙ finished) in
+        let none : c.unanswered ≡ 0 = eqb-true c.unanswered 0 both.1 in
+        record {
+          course = course;
+          done = both.0;
+          answered = omega (arith, none, is.answers.exact);
+          asked = is.dispatched.asked ∙ ap (λ b. map to_ledger.Poll (polls_in c.polls.sent) ++ finish_if to_ledger.Finish b)
+              finished;
+          sent = is.dispatched.sent
+              ∙ ap (λ b. map to_broker.Packet (packets_in c.packets.sent) ++ finish_if to_broker.Finish b) finished;
+          start = sym (start_held c.start c.held (subst (λ n. 0 < n) (sym is.runs.held) is.runs.number));
+          keeps = is.keeps;
+        }

@@ -1,0 +1,57 @@
+-- How a session of a connector starts.
+use Rattle.std.proofs.Common.{◌≡◌, ℕ, Bool, Option, Some, None, subst}
+use Rattle.std.specs.Prelude.{unwrap_or}
+use Rattle.cdc_actors.specs.Connector.{ConnectorCore}
+use Rattle.cdc_publisher.specs.Stands.{SessionStands}
+use Rattle.cdc_actors.specs.Connector.Moves.{IsBegun}
+use Rattle.cdc_progress.specs.Records.{Saved}
+use Rattle.cdc_progress.specs.Stores.{Risks}
+use Rattle.cdc_publisher.specs.Courses.{Course, new_course}
+use Rattle.cdc_publisher.specs.SessionState.{SessionState}
+use Rattle.cdc_publisher.specs.Starts.{HasStarted}
+
+-- what holds of the work inside a connector holds of the connector
+pub begun_entry : (inside now new : ConnectorCore) → inside ≡ now → IsBegun inside new → IsBegun now new
+begun_entry inside now new same begun = subst (λ (c : ConnectorCore). IsBegun c new) same begun
+
+-- a session has started: the number after the one that was loaded is held, and no later session is given a start
+pub begun_so : (old : ConnectorCore) (kept : SessionState) (held : Option Saved) (honest : Bool) (risks : Risks)
+    (base failed failed' : ℕ)
+    → HasStarted (record {
+      honest = old.honest;
+      before = old.held;
+      after = held;
+      failed_before = failed;
+      failed_after = failed';
+    }) old.start old.window kept
+    → honest ≡ old.honest → risks ≡ old.risks
+    → ((course : Course) → SessionStands (Some kept) (Some course) → base ≡ unwrap_or old.first course.base)
+    → IsBegun old (record old {
+      start = None;
+      first = Some base;
+      held = held;
+      honest = honest;
+      risks = risks;
+      session = Some kept;
+      asked = 0;
+      poll = None;
+    })
+begun_so old kept held honest risks base failed failed' has same same_risks is_base =
+    let based : base ≡ unwrap_or old.first has.saved.timestamp = is_base (new_course has.saved old.window) has.stands in
+    record {
+      loaded = has.loaded;
+      saved = has.saved;
+      given = has.given;
+      begins = has.begins;
+      stands = has.stands;
+      after = λ i. record old {
+        start = None;
+        first = Some (based i);
+        held = has.held i;
+        honest = same i;
+        risks = same_risks i;
+        session = Some kept;
+        asked = 0;
+        poll = None;
+      };
+    }

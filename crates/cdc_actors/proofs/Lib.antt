@@ -1,0 +1,10 @@
+mod BrokerLemmas
+mod ClientLemmas
+mod ClientReplies
+mod ConnectorLemmas
+mod FixedOrders
+mod Keeping
+mod LedgerLemmas
+mod PassedOn
+mod Seated
+mod SubscriberLemmas

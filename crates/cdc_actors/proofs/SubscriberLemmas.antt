@@ -1,0 +1,4 @@
+-- Lemmas on a subscriber as an actor of a run.
+pub mod Closing
+pub mod Fails
+pub mod Taking

@@ -1,0 +1,109 @@
+-- How far a subscriber actor has come that has met a fault.
+use Rattle.std.proofs.Common.{◌≡◌, ℕ, false, List, [], ◌∷◌, ◌++◌, inl, inr, sym, ap, ◌∙◌, subst, append-nil, arith}
+use Rattle.std.specs.Prelude.{◌⊎◌}
+use Rattle.std.proofs.lemmas.List.Elements.{filter_map-append}
+use Rattle.std.proofs.lemmas.List.Sums.{fold-append}
+use Rattle.cdc_actors.specs.Subscriber.{SubscriberCore, IsSubscriberActor, delivery_of, received_after, received_by, taken_by}
+use Rattle.cdc_actors.specs.Subscriber.SoFar.{ComesSoFar, HasFailed, IsSubscriberSoFar, SubscribersComeSoFar, with_unacknowledged, with_untaken}
+use Rattle.cdc_actors.specs.declared.faults.RunFault.{RunFault}
+use Rattle.cdc_actors.specs.declared.faults.RunFault.TheVariants.{PeerGone, OutOfMemory, Store, SessionsExhausted, NotOneSystem, StartNotAllowed}
+use Rattle.cdc_actors.proofs.SubscriberLemmas.Taking.{came_more, of_broker_more}
+use Rattle.cdc_links.specs.Links.{Incoming, Outgoing, with_received}
+use Rattle.cdc_message.specs.declared.items.Delivery.{Delivery}
+use Rattle.cdc_subscriber.specs.Reception.{Reception, kept_of, nothing}
+use Rattle.cdc_subscriber.specs.SubscriberState.{SubscriberState}
+use Rattle.cdc_traffic.specs.declared.messages.ToBroker.{ToBroker}
+use Rattle.cdc_traffic.specs.declared.messages.ToSubscriber.{ToSubscriber}
+use Rattle.cdc_traffic.specs.declared.messages.ToSubscriber.TheVariants.{Delivery as Carries}
+
+-- one that has met none has acknowledged all that it has taken
+subscriber_so_far : (c : SubscriberCore) → IsSubscriberActor c → IsSubscriberSoFar c
+subscriber_so_far c is = record {
+  acknowledged = taken_by c.inbox;
+  rest = [];
+  own = is.own;
+  alone = is.alone;
+  of_broker = is.of_broker;
+  came = is.came;
+  all = sym (append-nil (taken_by c.inbox));
+  at_most_one = omega arith;
+  acks = is.acknowledged;
+  keeps = inl is.keeps;
+}
+
+module _ (c : SubscriberCore) (is : IsSubscriberActor c) (goes_on : c.finished ≡ false) (d : Delivery) where
+  abbrev brought : Incoming ToSubscriber (Unit {0})
+  brought = with_received c.inbox (0, (Carries d, tt))
+
+  more : taken_by brought ≡ taken_by c.inbox ++ d ∷ []
+  more = filter_map-append (λ (e : ℕ × (ToSubscriber × Unit {0})). delivery_of e.1.0) c.inbox.received
+      ((0, (Carries d, tt)) ∷ [])
+
+  -- one more delivery was received, whether its subscriber has taken it or not
+  with_one_more : (subscriber : SubscriberState)
+      → (subscriber ≡ kept_of (received_by c.close_after (taken_by c.inbox)))
+      ⊎ (subscriber ≡ kept_of (received_by c.close_after (taken_by brought)))
+      → IsSubscriberSoFar (record c { inbox = brought; subscriber = subscriber })
+  with_one_more subscriber keeps = record {
+    acknowledged = taken_by c.inbox;
+    rest = d ∷ [];
+    own = is.own;
+    alone = is.alone;
+    of_broker = of_broker_more c is goes_on (Carries d);
+    came = came_more c is goes_on d;
+    all = more;
+    at_most_one = omega arith;
+    acks = is.acknowledged;
+    keeps = keeps;
+  }
+
+  untaken_so_far : IsSubscriberSoFar (with_untaken d c)
+  untaken_so_far = with_one_more c.subscriber (inl is.keeps)
+
+  unacknowledged_so_far : IsSubscriberSoFar (with_unacknowledged d c)
+  unacknowledged_so_far =
+      with_one_more (kept_of (received_by c.close_after (taken_by c.inbox ++ d ∷ [])))
+      (inr (ap (λ (l : List Delivery). kept_of (received_by c.close_after l)) (sym more)))
+
+comes_so_far : (old : SubscriberCore) (fault : RunFault) (new : SubscriberCore) → IsSubscriberActor old → old.finished
+    ≡ false
+    → ComesSoFar old fault new → IsSubscriberSoFar new
+comes_so_far old PeerGone new is goes_on (inl same) = subst IsSubscriberSoFar (sym same) (subscriber_so_far old is)
+comes_so_far old PeerGone new is goes_on (inr (d, (came, after))) =
+    subst IsSubscriberSoFar (sym after) (unacknowledged_so_far old is goes_on d)
+comes_so_far old OutOfMemory new is goes_on (d, (came, after)) =
+    subst IsSubscriberSoFar (sym after) (untaken_so_far old is goes_on d)
+comes_so_far old (Store why) new is goes_on comes = absurd comes
+comes_so_far old SessionsExhausted new is goes_on comes = absurd comes
+comes_so_far old NotOneSystem new is goes_on comes = absurd comes
+comes_so_far old StartNotAllowed new is goes_on comes = absurd comes
+
+-- one whose turn fails all but the last delivery
+failed_so_far : (old : SubscriberCore) (fault : RunFault) (new : SubscriberCore) → IsSubscriberActor old
+    → HasFailed old fault new
+    → IsSubscriberSoFar new
+failed_so_far old fault new is failed = comes_so_far old fault new is failed.working failed.comes
+
+pub subscribers_come_so_far : SubscribersComeSoFar
+subscribers_come_so_far = record { between = subscriber_so_far; failed = failed_so_far }
+
+-- the work inside a subscriber actor, once it has taken a delivery and couldn't acknowledge it
+pub unacknowledged_so : (inside now : SubscriberCore) → inside ≡ now → (inbox : Incoming ToSubscriber (Unit {0}))
+    (subscriber : SubscriberState) (acks : Outgoing ToBroker (Unit {0})) (d : Delivery)
+    → inbox ≡ with_received now.inbox (0, (Carries d, tt))
+    → now.subscriber ≡ kept_of (received_by now.close_after (taken_by now.inbox))
+    → ((reception : Reception) → inside.subscriber ≡ kept_of reception
+    → subscriber ≡ kept_of (received_after inside.close_after reception d))
+    → acks ≡ inside.acks
+    → record inside { inbox = inbox; acks = acks; subscriber = subscriber } ≡ with_unacknowledged d now
+unacknowledged_so inside now same inbox subscriber acks d received keeps took unsent =
+    let reception : Reception = received_by now.close_after (taken_by now.inbox) in
+    let receives : subscriber ≡ kept_of (received_by now.close_after (taken_by now.inbox ++ d ∷ [])) =
+    took reception (ap (λ (c : SubscriberCore). c.subscriber) same ∙ keeps)
+    ∙ ap (λ (c : SubscriberCore). kept_of (received_after c.close_after reception d)) same
+    ∙ ap kept_of (sym (fold-append (received_after now.close_after) nothing (taken_by now.inbox) (d ∷ []))) in
+    (λ i. record inside { inbox = received i; acks = unsent i; subscriber = receives i })
+    ∙ ap (λ (c : SubscriberCore). record c {
+      inbox = with_received now.inbox (0, (Carries d, tt));
+      subscriber = kept_of (received_by now.close_after (taken_by now.inbox ++ d ∷ []));
+    }) same

@@ -1,0 +1,11 @@
+use Rattle.std.proofs.Common.{◌≡◌, ◌≤◌, length, map, take}
+use Rattle.std.proofs.Common.{vec_len, vec_capacity}
+use Rattle.cdc_actors.proofs.broker.consumers.delivered_of.Given as goal
+
+-- those so far, with room for all
+abbrev pub invariant-loop-consumer : goal.invariant-loop-consumer
+invariant-loop-consumer l = record {
+  read : l.delivered.items ≡ map (λ c. c.delivered) (take l.consumer-index l.consumers);
+  count : vec_len l.delivered ≡ l.consumer-index;
+  room : length l.consumers ≤ vec_capacity l.delivered;
+}

@@ -1,0 +1,17 @@
+use Rattle.std.proofs.lemmas.Result.{IfOk-weaker}
+use Rattle.cdc_actors.proofs.Seated.{failed_subscriber_seat, received_seat, stays_by}
+use Rattle.cdc_actors.proofs.SubscriberLemmas.Taking.{turned_is}
+use Rattle.cdc_actors.proofs.subscriber.cores.SubscriberCoreTurns.take_turn.Goals as goal
+
+pub returns-clause-kept : goal.returns-clause-kept
+returns-clause-kept g c =
+    IfOk-weaker c.turn.result _ _
+    (λ x has. turned_is c.args.self.now c.turn.new.self c.requires.kept c.requires.goes_on has) c.turn.ensures.turned
+
+pub returns-clause-seat : goal.returns-clause-seat
+returns-clause-seat g c =
+    let old = c.args.self.now in
+    let new = c.turn.new.self in
+    stays_by c.turn.result _ _ (λ x has. received_seat old new has)
+    (λ fault has. failed_subscriber_seat old fault new has)
+    c.turn.ensures.turned c.turn.ensures.failed

@@ -1,0 +1,10 @@
+pub mod Broker
+pub mod Client
+pub mod Connector
+pub mod Ends
+pub mod Faults
+pub mod Ledger
+pub mod Orders
+pub mod Seats
+pub mod Stops
+pub mod Subscriber

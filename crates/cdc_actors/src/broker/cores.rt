@@ -1,0 +1,529 @@
+//! The broker actor's core: its state, and what it does in a turn.
+
+ghost use Rattle.std.specs.Prelude.{◌≡◌, ◌<◌, ◌≤◌, ◌+◌, All, IfErr, IfOk, OnErr, false, length, map};
+ghost use Rattle.cdc_broker.specs.Broker.{empty_broker, takes_packet};
+ghost use Rattle.cdc_actors.specs.Broker.Steps.{HasCome, HasReceivedNext, MayStop};
+ghost use Rattle.cdc_actors.specs.Broker.{IsBrokerActor, IsBrokerCore, as_confirm, is_over};
+ghost use Rattle.cdc_actors.specs.Broker.Fails.{AreStopping, IsCutOff, IsUnanswered, IsUnpublished};
+ghost use Rattle.cdc_actors.specs.Broker.SoFar.{HasFailed};
+ghost use Rattle.cdc_actors.specs.Broker.Turns.{ArePartsOf, HasTurned, MayAck, admitted, all_served, answer_if, first_consumer, first_broker, stopped, with_ack, with_coming, with_served, with_stop};
+ghost use Rattle.cdc_actors.specs.Faults.{IsTurnFault};
+ghost use Rattle.cdc_actors.specs.declared.faults.RunFault.TheVariants.{PeerGone};
+ghost use Rattle.cdc_links.specs.Links.{Takes, with_sent};
+ghost use Rattle.cdc_message.specs.declared.packets.Packet.TheVariants.{Connect as ConnectOf, Publish as PublishOf};
+ghost use Rattle.cdc_traffic.specs.Following.{FollowsToBroker, IsConfirm, IsPacket};
+ghost use Rattle.cdc_types.specs.Widths.{max_64};
+
+use crate::broker::consumers::{Consumer, abort_all, deliver, delivered_of};
+use crate::broker::plans::BrokerPlan;
+use crate::ends::{Noted, Turns, Work};
+use crate::faults::RunFault;
+use crate::peers::{receive_from, send_to};
+use crate::places::Place;
+use crate::stories::{Fate, Story};
+use cdc_broker::{Broker, Taken};
+use cdc_links::{LinkIn, LinkOut, Naming};
+use cdc_match::Binding;
+use cdc_message::{Answer, Confirm, Item, Packet};
+use cdc_traffic::{Ack, Past, ToBroker, ToConnector, ToSubscriber};
+use std::alloc::{AllocError, Global};
+use std::marker::Model;
+use std::mem;
+use std::sync::Wait;
+
+/// What a finished broker actor leaves behind.
+#[derive(Drop)]
+pub struct BrokerParts {
+    pub inbox: LinkIn<ToBroker>,
+    pub confirms: LinkOut<ToConnector>,
+    /// One for each queue, at the queue's place.
+    pub consumers: Vec<Consumer>,
+    pub broker: Broker,
+}
+
+/// The state of the broker actor.
+pub struct BrokerCore {
+    inbox: LinkIn<ToBroker>,
+    confirms: LinkOut<ToConnector>,
+    /// One for each queue, at the queue's place.
+    consumers: Vec<Consumer>,
+    broker: Broker,
+    /// The planned faults.
+    plan: BrokerPlan,
+    /// The limit of copies of a queue without an acknowledgement, from 1 to 64.
+    prefetch: u64,
+    /// How many publishes have reached it, including lost ones.
+    publishes: u64,
+    accepted: u64,
+    /// Whether the connector has sent its last message.
+    connector_done: bool,
+    /// Whether each subscriber was sent its last message.
+    finished: bool,
+    /// A trace of what it saw. No contract mentions it.
+    story: Story,
+}
+
+// Written by hand, so that dropping one calls this function and doesn't take it apart again.
+impl Drop for BrokerCore {
+    fn drop(self) {
+        let Self {
+            inbox: _,
+            confirms: _,
+            consumers: _,
+            broker: _,
+            plan: _,
+            prefetch: _,
+            publishes: _,
+            accepted: _,
+            connector_done: _,
+            finished: _,
+            story: _,
+        } = self;
+    }
+}
+
+impl Model for BrokerCore {
+    ghost use Rattle.cdc_actors.specs.Broker.{BrokerCore};
+
+    ghost Value = { BrokerCore };
+
+    ghost view = { λ c. record {
+      inbox = c.inbox;
+      confirms = c.confirms;
+      consumers = c.consumers.items;
+      broker = c.broker;
+      plan = c.plan;
+      prefetch = c.prefetch;
+      publishes = c.publishes;
+      accepted = c.accepted;
+      connector_done = c.connector_done;
+      finished = c.finished;
+    } };
+}
+
+// Names a message that names no past.
+struct NoPast;
+
+impl Naming<Option<Past>> for NoPast {
+    ghost use Rattle.std.specs.Prelude.{None};
+
+    ghost name = { None };
+}
+
+fn confirm<R: Wait>(
+    confirms: &mut LinkOut<ToConnector>,
+    rt: &R,
+    session: u64,
+    answer: Answer,
+) -> Result<(), RunFault>
+    requires own { confirms.old.number ≡ 1 }
+    requires is_one { IsConfirm (record { session = session; answer = answer }) }
+    ensures after { IfOk result (λ _. confirms.new
+        ≡ with_sent confirms.old (as_confirm (record { session = session; answer = answer }))) }
+    ensures refused { IfErr result (λ fault. (fault ≡ PeerGone) × (confirms.new ≡ confirms.old)) }
+{
+    let confirm = ToConnector::Confirm(Confirm { session, answer });
+    send_to::<NoPast, ToConnector, R>(confirms, rt, confirm)
+}
+
+// Fails with `PeerGone` at the greatest number.
+fn one_more(count: u64) -> Result<u64, RunFault>
+    ensures after { IfOk result (λ next. next ≡ count + 1) }
+    ensures full { IfErr result (λ fault. (fault ≡ PeerGone) × (count ≡ max_64)) }
+{
+    match count.checked_add(1) {
+        Some(next) => Ok(next),
+        None => Err(RunFault::PeerGone),
+    }
+}
+
+fn receive<R: Wait>(inbox: &mut LinkIn<ToBroker>, rt: &R) -> Result<ToBroker, RunFault>
+    ensures after { IfOk result (λ message. Takes FollowsToBroker inbox.old message inbox.new) }
+    ensures refused { IfErr result (λ fault. (fault ≡ PeerGone) × (inbox.new ≡ inbox.old)) }
+{
+    receive_from(inbox, rt)
+}
+
+fn first_consumers(
+    alloc: Global,
+    links: Vec<LinkOut<ToSubscriber>>,
+) -> Result<Vec<Consumer>, AllocError>
+    ensures { IfOk result (λ consumers. consumers.items ≡ map first_consumer links.items) }
+{
+    let mut consumers = Vec::with_capacity(alloc, links.len())?;
+    for link in links {
+        consumers.push_reserved(Consumer {
+            link,
+            unacked: 0,
+            delivered: 0,
+        });
+    }
+    Ok(consumers)
+}
+
+// If a link refuses, the subscribers before it were sent their last message.
+fn stop_all<R: Wait>(consumers: &mut [Consumer], rt: &R) -> Result<(), RunFault>
+    requires { All MayStop consumers.old }
+    ensures after { IfOk result (λ _. consumers.new ≡ map with_stop consumers.old) }
+    ensures failed { IfErr result (λ fault.
+        (fault ≡ PeerGone) × AreStopping consumers.old consumers.new) }
+    ensures kind { IfErr result IsTurnFault }
+{
+    for i in 0..consumers.len() {
+        let consumer = &mut consumers[i];
+        consumer.send_stop(rt)?;
+    }
+    Ok(())
+}
+
+impl BrokerCore {
+    /// How many publishes have come, including lost ones.
+    pub(crate) fn publishes(&self) -> u64
+        ensures { result ≡ self.now.publishes }
+    {
+        self.publishes
+    }
+
+    pub(crate) fn accepted(&self) -> u64
+        ensures { result ≡ self.now.accepted }
+    {
+        self.accepted
+    }
+
+    /// How many positions of each queue were delivered, by place. Fails if it is out of memory.
+    pub(crate) fn delivered(&self, alloc: Global) -> Result<Vec<u64>, AllocError>
+        ensures { IfOk result (λ delivered. delivered.items
+            ≡ map (λ c. c.delivered) self.now.consumers) }
+    {
+        delivered_of(alloc, self.consumers.as_slice())
+    }
+
+    pub(crate) fn new(
+        alloc: Global,
+        inbox: LinkIn<ToBroker>,
+        confirms: LinkOut<ToConnector>,
+        links: Vec<LinkOut<ToSubscriber>>,
+        bindings: Vec<Binding>,
+        prefetch: u64,
+        plan: BrokerPlan,
+    ) -> Result<BrokerCore, AllocError>
+        ensures { IfOk result (λ core. core
+            ≡ first_broker inbox confirms links.items (empty_broker bindings.items) plan prefetch) }
+    {
+        Ok(BrokerCore {
+            inbox,
+            confirms,
+            consumers: first_consumers(alloc, links)?,
+            broker: Broker::new(alloc, bindings)?,
+            plan,
+            prefetch,
+            publishes: 0,
+            accepted: 0,
+            connector_done: false,
+            finished: false,
+            story: Story::new(alloc),
+        })
+    }
+
+    /// Connects a session, or ignores it.
+    fn connect(&mut self, session: u64) -> Answer
+        ensures { HasCome (ConnectOf session) self.old result self.new }
+    {
+        if self.broker.connect(session) {
+            Answer::Connected
+        } else {
+            Answer::Ignored
+        }
+    }
+
+    /// Takes or ignores a publish that isn't lost.
+    fn publish(
+        &mut self,
+        alloc: Global,
+        session: u64,
+        tag: u64,
+        item: Item,
+    ) -> Result<Answer, RunFault>
+        ensures after { IfOk result (λ answer.
+            HasCome (PublishOf session tag item) self.old answer self.new) }
+        ensures failed { IfErr result (λ fault.
+            IsUnpublished self.old fault self.new) }
+        ensures kind { IfErr result IsTurnFault }
+    {
+        let accepted = one_more(self.accepted)?;
+        match self.broker.publish(alloc, session, tag, item)? {
+            Taken::Accepted => {
+                self.accepted = accepted;
+                if self.plan.loses_confirm(self.accepted) {
+                    Ok(Answer::Broken)
+                } else {
+                    Ok(Answer::Confirmed(tag))
+                }
+            }
+            Taken::Ignored(_) => Ok(Answer::Ignored),
+        }
+    }
+
+    /// Takes, ignores or loses a publish, and answers it.
+    fn take_publish<R: Wait>(
+        &mut self,
+        rt: &R,
+        alloc: Global,
+        session: u64,
+        tag: u64,
+        item: Item,
+    ) -> Result<(), RunFault>
+        requires own { self.old.confirms.number ≡ 1 }
+        requires is_one { IsPacket (PublishOf session tag item) }
+        ensures after { IfOk result (λ _. self.new
+            ≡ with_coming (PublishOf session tag item) self.old) }
+        ensures failed { IfErr result (λ fault.
+            IsUnanswered (PublishOf session tag item) self.old fault self.new) }
+    {
+        self.publishes = one_more(self.publishes)?;
+        self.story.receive_next(alloc, session, &item);
+        let answer = if self.plan.loses_publish(self.publishes) {
+            self.story.validate(alloc, session, tag, Fate::Lost);
+            Answer::Broken
+        } else {
+            let answer = self.publish(alloc, session, tag, item)?;
+            self.story.validate(alloc, session, tag, Fate::of(answer));
+            answer
+        };
+        confirm(&mut self.confirms, rt, session, answer)
+    }
+
+    /// Takes, ignores or loses a packet, and answers it.
+    fn take_packet<R: Wait>(
+        &mut self,
+        rt: &R,
+        alloc: Global,
+        packet: Packet,
+    ) -> Result<(), RunFault>
+        requires own { self.old.confirms.number ≡ 1 }
+        requires is_one { IsPacket packet }
+        ensures after { IfOk result (λ _.
+            self.new ≡ with_coming packet self.old) }
+        ensures failed { IfErr result (λ fault.
+            IsUnanswered packet self.old fault self.new) }
+    {
+        match packet {
+            Packet::Connect { session } => {
+                let answer = self.connect(session);
+                confirm(&mut self.confirms, rt, session, answer)
+            }
+            Packet::Publish { session, tag, item } => {
+                self.take_publish(rt, alloc, session, tag, item)
+            }
+        }
+    }
+
+    /// A subscriber acknowledges a position of its queue. If the position wasn't delivered, or no copy is without an
+    /// acknowledgement, the fault is `PeerGone`.
+    fn take_ack(&mut self, ack: Ack) -> Result<(), RunFault>
+        requires first { 0 < ack.subscriber }
+        requires last { ack.subscriber ≤ length self.old.consumers }
+        requires queues { length self.old.broker.queues ≡ length self.old.consumers }
+        ensures may { IfOk result (λ _. MayAck ack self.old) }
+        ensures after { IfOk result (λ _. self.new ≡ with_ack ack self.old) }
+        ensures refused { IfErr result (λ fault.
+            (fault ≡ PeerGone) × (self.new ≡ self.old)) }
+    {
+        let number = ack.subscriber as usize;
+        let consumer = &mut self.consumers[number - 1];
+        if consumer.unacked == 0 || !self.broker.ack(number, ack.position) {
+            return Err(RunFault::PeerGone);
+        }
+        consumer.unacked -= 1;
+        Ok(())
+    }
+
+    /// Receives the next message and handles it.
+    fn receive_next<R: Wait>(&mut self, rt: &R, alloc: Global) -> Result<(), RunFault>
+        requires { IsBrokerCore self.old }
+        ensures after { IfOk result (λ _. HasReceivedNext self.old self.new) }
+        ensures failed { IfErr result (λ fault.
+            HasFailed self.old fault self.new) }
+    {
+        match receive(&mut self.inbox, rt)? {
+            ToBroker::Packet(packet) => self.take_packet(rt, alloc, packet),
+            ToBroker::Finish => {
+                self.connector_done = true;
+                Ok(())
+            }
+            ToBroker::Ack(ack) => self.take_ack(ack),
+        }
+    }
+
+    /// Delivers from the queue at a place while it may.
+    fn serve<R: Wait>(&mut self, rt: &R, alloc: Global, place: usize) -> Result<(), RunFault>
+        requires core { IsBrokerCore self.old }
+        requires goes_on { self.old.finished ≡ false }
+        requires inside { place < length self.old.consumers }
+        ensures after { IfOk result (λ _. self.new ≡ with_served place self.old) }
+        ensures failed { IfErr result (λ fault.
+            IsCutOff self.old fault self.new) }
+        ensures kind { IfErr result IsTurnFault }
+    {
+        let repeat = self.plan.repeat.as_slice();
+        let consumer = &mut self.consumers[place];
+        deliver(
+            rt,
+            alloc,
+            &mut self.broker,
+            consumer,
+            repeat,
+            place + 1,
+            self.prefetch,
+        )?;
+        Ok(())
+    }
+
+    /// How many queues there are, one for each subscriber.
+    fn queues(&self) -> usize
+        ensures { result ≡ length self.now.consumers }
+    {
+        self.consumers.len()
+    }
+
+    /// Delivers from each queue while it may, in order.
+    fn serve_all<R: Wait>(&mut self, rt: &R, alloc: Global) -> Result<(), RunFault>
+        requires core { IsBrokerCore self.old }
+        requires goes_on { self.old.finished ≡ false }
+        ensures after { IfOk result (λ _. self.new
+            ≡ all_served (length self.old.consumers) self.old) }
+        ensures failed { IfErr result (λ fault.
+            IsCutOff self.old fault self.new) }
+        ensures kind { IfErr result IsTurnFault }
+    {
+        for place in 0..self.queues() {
+            self.serve(rt, alloc, place)?;
+        }
+        Ok(())
+    }
+
+    fn is_drained(&self) -> bool
+        ensures { result ≡ is_over self.now }
+    {
+        self.connector_done
+            && self
+                .consumers
+                .as_slice()
+                .iter()
+                .all(|consumer| consumer.unacked == 0)
+    }
+
+    /// If all is over, sends each subscriber its last message.
+    fn stop<R: Wait>(&mut self, rt: &R) -> Result<(), RunFault>
+        requires core { IsBrokerCore self.old }
+        requires goes_on { self.old.finished ≡ false }
+        ensures after { IfOk result (λ _. self.new ≡ stopped self.old) }
+        ensures failed { IfErr result (λ fault.
+            IsCutOff self.old fault self.new) }
+        ensures kind { IfErr result IsTurnFault }
+    {
+        if !self.is_drained() {
+            return Ok(());
+        }
+        stop_all(self.consumers.as_mut_slice(), rt)?;
+        self.finished = true;
+        Ok(())
+    }
+
+    /// One turn: receives the next message, delivers from each queue while it may, and sends each subscriber its last
+    /// message if all is over.
+    fn turn<R: Wait>(&mut self, rt: &R, alloc: Global) -> Result<(), RunFault>
+        requires kept { IsBrokerActor self.old }
+        requires goes_on { self.old.finished ≡ false }
+        ensures turned { IfOk result (λ _. HasTurned self.old self.new) }
+        ensures failed { IfErr result (λ fault.
+            HasFailed self.old fault self.new) }
+        ensures kind { IfErr result IsTurnFault }
+    {
+        self.receive_next(rt, alloc)?;
+        self.serve_all(rt, alloc)?;
+        self.stop(rt)?;
+        Ok(())
+    }
+}
+
+impl Work for BrokerCore {
+    ghost use Rattle.cdc_actors.specs.Broker.{IsBrokerActor};
+    ghost use Rattle.cdc_actors.specs.Broker.Turns.{ArePartsOf};
+    ghost use Rattle.cdc_actors.specs.Faults.{IsTurnFault};
+    ghost use Rattle.cdc_actors.specs.Seats.{BrokerSeat, broker_seat};
+    ghost use Rattle.cdc_actors.specs.declared.places.Place.TheVariants.{Broker};
+
+    type Parts = BrokerParts;
+
+    ghost place = { λ _. Broker };
+
+    ghost Seat = { BrokerSeat };
+
+    ghost seat = { broker_seat };
+
+    ghost keeps = { IsBrokerActor };
+
+    ghost is_over = { λ d. d.finished };
+
+    ghost fails_as = { λ _ fault. IsTurnFault fault };
+
+    ghost leaves = { λ d parts.
+        ArePartsOf d parts.inbox parts.confirms parts.consumers.items parts.broker };
+
+    fn place(&self) -> Place {
+        Place::Broker
+    }
+
+    fn is_over(&self) -> bool {
+        self.finished
+    }
+
+    fn abort<R: Wait>(&mut self, rt: &R) {
+        self.confirms.abort(rt);
+        abort_all(self.consumers.as_mut_slice(), rt);
+    }
+
+    fn into_parts(self) -> BrokerParts {
+        let Self {
+            inbox,
+            confirms,
+            consumers,
+            broker,
+            plan: _,
+            prefetch: _,
+            publishes: _,
+            accepted: _,
+            connector_done: _,
+            finished: _,
+            story: _,
+        } = self;
+        BrokerParts {
+            inbox,
+            confirms,
+            consumers,
+            broker,
+        }
+    }
+}
+
+impl Turns for BrokerCore {
+    ghost use Rattle.cdc_actors.specs.Broker.SoFar.{HasFailed};
+    ghost use Rattle.cdc_actors.specs.Broker.Turns.{HasTurned};
+
+    ghost turns = { HasTurned };
+
+    ghost fails = { HasFailed };
+
+    fn take_turn<R: Wait>(&mut self, rt: &R, alloc: Global) -> Result<(), RunFault> {
+        self.turn(rt, alloc)
+    }
+}
+
+impl Noted for BrokerCore {
+    type Notes = Story;
+
+    fn take_notes(&mut self, alloc: Global) -> Story {
+        mem::replace(&mut self.story, Story::new(alloc))
+    }
+}

@@ -1,0 +1,14 @@
+use Rattle.std.proofs.Common.{◌∙◌, ap}
+use Rattle.std.proofs.lemmas.Result.{IfOk-weaker}
+use Rattle.cdc_commands.specs.Simulations.{simulation_text}
+use Rattle.cdc_commands.proofs.SimulationReached.{simulates}
+use Rattle.cdc_commands.proofs.text.TextForm.simulation.Goals as goal
+
+pub returns : goal.returns
+returns c = λ plan so_many come.
+    let simulated = c.args.simulated.now in
+    IfOk-weaker c.print_simulated.result _ _
+    (λ text is.
+    simulates plan simulated text.items come
+    (is ∙ ap (λ n. simulation_text n simulated.played.refusal come.end) so_many))
+    (c.print_simulated.ensures come.end come.report)

@@ -1,0 +1,120 @@
+//! Texts that are built piece by piece.
+
+ghost use Rattle.std.specs.Prelude.{◌≡◌, ◌++◌, if◌then◌else◌, Err, IsFalse, IsTrue, Ok, [], alloc_error, string_bytes};
+
+use crate::letters::is_printable;
+use crate::sentences::Sentence;
+use itoa::Buffer;
+use std::alloc::{AllocError, Global};
+use std::str;
+
+/// How many bytes of a word of a file are shown.
+const MOST_SHOWN: usize = 60;
+
+/// A text so far. If memory runs out for a piece, nothing more is added, and `finish` fails. So code that adds to it
+/// needn't check each time.
+#[derive(Drop)]
+pub(crate) struct Text {
+    /// Its pieces, up to the one that memory ran out for.
+    pieces: String,
+    is_out_of_memory: bool,
+}
+
+impl Text {
+    pub(crate) fn new(alloc: Global) -> Text
+        ensures empty { string_bytes result.pieces ≡ [] }
+        ensures memory { IsFalse result.is_out_of_memory }
+    {
+        Text {
+            pieces: String::new(alloc),
+            is_out_of_memory: false,
+        }
+    }
+
+    pub(crate) fn push(&mut self, words: &str)
+        ensures added { IsFalse self.new.is_out_of_memory
+            → string_bytes self.new.pieces ≡ string_bytes self.old.pieces ++ words.now }
+        ensures kept { IsTrue self.old.is_out_of_memory → self.new ≡ self.old }
+    {
+        if self.is_out_of_memory {
+            return;
+        }
+        if self.pieces.push_str(words).is_err() {
+            self.is_out_of_memory = true;
+        }
+    }
+
+    /// Adds a number in decimal digits.
+    pub(crate) fn push_number(&mut self, number: u128) {
+        let mut buffer = Buffer::new();
+        self.push(buffer.format(number));
+    }
+
+    /// Adds a name or a word of a file, between grave accents. A long one is cut, and a byte that isn't printable
+    /// ASCII is a question mark.
+    pub(crate) fn push_name(&mut self, name: &str) {
+        self.push("`");
+        self.push_bytes(name.as_bytes());
+        self.push("`");
+    }
+
+    /// Adds a word of a file, without grave accents. A long one is cut.
+    pub(crate) fn push_bytes(&mut self, bytes: &[u8]) {
+        for byte in bytes.iter().take(MOST_SHOWN) {
+            let shown = if is_printable(*byte) { *byte } else { b'?' };
+            self.push(str::from_utf8(&[shown]).unwrap_or("?"));
+        }
+        if bytes.len() > MOST_SHOWN {
+            self.push("..");
+        }
+    }
+
+    pub(crate) fn push_sentence(&mut self, sentence: Sentence) {
+        match sentence {
+            Sentence::Plain(words) => self.push(words),
+            Sentence::One(before, number, after) => self.push_between(before, number, after),
+            Sentence::Two(before, first, between, second, after) => {
+                self.push_between(before, first, between);
+                self.push_between("", second, after);
+            }
+            Sentence::Three(a, first, b, second, c, third, d) => {
+                self.push_between(a, first, b);
+                self.push_between("", second, c);
+                self.push_between("", third, d);
+            }
+            Sentence::Four(a, first, b, second, c, third, d, fourth) => {
+                self.push_between(a, first, b);
+                self.push_between("", second, c);
+                self.push_between("", third, d);
+                self.push_number(fourth);
+            }
+        }
+    }
+
+    fn push_between(&mut self, before: &str, number: u128, after: &str) {
+        self.push(before);
+        self.push_number(number);
+        self.push(after);
+    }
+
+    /// Makes the text fail, since memory ran out for what was to be added.
+    pub(crate) fn abort(&mut self)
+        ensures { IsTrue self.new.is_out_of_memory }
+    {
+        self.is_out_of_memory = true;
+    }
+
+    /// The whole text. Fails if memory ran out for a piece.
+    pub(crate) fn finish(self) -> Result<String, AllocError>
+        ensures { result ≡ (if self.is_out_of_memory then Err alloc_error else Ok self.pieces) }
+    {
+        let Text {
+            pieces,
+            is_out_of_memory,
+        } = self;
+        if is_out_of_memory {
+            return Err(AllocError);
+        }
+        Ok(pieces)
+    }
+}

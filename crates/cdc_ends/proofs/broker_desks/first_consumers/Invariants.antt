@@ -1,8 +1,0 @@
-use Rattle.std.proofs.Common.{vec_len, vec_capacity}
-use Rattle.cdc_ends.proofs.Subscribers.{AreFirst}
-use Rattle.cdc_ends.proofs.broker_desks.first_consumers.Given as goal
-
-abbrev pub invariant-loop-link : goal.invariant-loop-link
-invariant-loop-link l =
-    AreFirst l.fn.links.items l.yielded l.link-iterator.rest.items l.consumers.items (vec_len l.consumers)
-    (vec_capacity l.consumers)

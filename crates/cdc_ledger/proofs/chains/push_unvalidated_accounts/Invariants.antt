@@ -1,0 +1,16 @@
+use Rattle.std.proofs.Common.{◌≡◌, ◌+◌, ◌++◌, drop, take, vec_len, vec_capacity}
+use Rattle.std.specs.List.{AllByRecursion}
+use Rattle.cdc_ledger.specs.Chains.{unvalidated}
+use Rattle.cdc_ledger.specs.Fits.{NewAccountFits}
+use Rattle.cdc_ledger.specs.Submit.{account_rules}
+use Rattle.cdc_ledger.proofs.chains.push_unvalidated_accounts.Given as goal
+
+-- the results so far and those of the rest are the results of all
+abbrev pub invariant-loop-place : goal.invariant-loop-place
+invariant-loop-place l = record {
+  on : l.results.items ++ unvalidated account_rules (drop l.place l.requests)
+      ≡ l.initial.results.items ++ unvalidated account_rules l.requests;
+  len : vec_len l.results ≡ vec_len l.initial.results + l.place;
+  capacity : vec_capacity l.results ≡ vec_capacity l.initial.results;
+  fit : AllByRecursion NewAccountFits (take l.place l.requests);
+}

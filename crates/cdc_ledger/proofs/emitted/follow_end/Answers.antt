@@ -1,0 +1,13 @@
+use Rattle.std.proofs.Common.{◌∙◌, Option, ap, sym}
+use Rattle.std.specs.Prelude.{option_map}
+use Rattle.cdc_expiry.specs.Triples.{without}
+use Rattle.cdc_ledger.specs.declared.movements.Pending.{Pending}
+use Rattle.cdc_ledger.specs.OpenTriples.{ends_after}
+use Rattle.cdc_ledger.proofs.emitted.follow_end.Goals as goal
+
+pub returns-in-Some-clause-triples : goal.returns-in-Some-clause-triples
+returns-in-Some-clause-triples c =
+    c.remove-had_an_end.ensures.triples
+    ∙ ap (λ n. without c.args.index.now.triples n c.in-Some.pending.transfer.timestamp) c.expires_at.ensures
+    ∙ ap (λ (o : Option Pending). ends_after (option_map (λ p. p.transfer) o) c.args.movement.now.entry c.args.place
+    c.args.index.now.triples) (sym c.in-Some.is)

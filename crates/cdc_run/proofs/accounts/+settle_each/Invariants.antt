@@ -1,6 +1,0 @@
-use Rattle.std.proofs.Common.{vec_len}
-use Rattle.cdc_run.proofs.accounts.+settle_each.Given as goal
-
--- each call has a link less
-abbrev pub decreases-settle_each : goal.decreases-settle_each
-decreases-settle_each g l = vec_len l.ins

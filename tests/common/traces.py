@@ -1,0 +1,71 @@
+"""The trace of a run, compared with its plan and with what it printed: for tests/checks/stress.py."""
+import re
+
+ITEM = re.compile(r'(?:event (?P<timestamp>\d+), transfer \d+.*?|end mark): sent by session (?P<sent>.*)')
+SENT = re.compile(r'(\d+), (taken|taken, its confirm lost|lost|ignored)')
+AGAIN = re.compile(r'again (\d+): position (\d+), (?:event (\d+), transfer \d+.*|end mark)')
+SUBSCRIBER = re.compile(
+    r'subscriber (\d+): (\d+) deliver(?:y|ies), (\d+) applied, each once; (\d+) redelivered, applied no second time'
+    r'(?:; the other (?:(one) is an end mark, or|(\d+) are end marks, or) came after a close)?'
+)
+BEYOND = 2**64  # the end mark's place behind all events
+
+
+def given(plan, option):
+    """The numbers that a plan has for an option, each once."""
+    return {int(value) for argument, value in zip(plan, plan[1:]) if argument == option}
+
+
+def complaints(plan, printed, trace):
+    """What is wrong with a trace, a text each."""
+    wrong, places, sendings, again, lines = [], [], [], {}, {}
+    for line in trace.splitlines():
+        if line.startswith('relayplum: ') or ': note: ' in line:
+            continue
+        item, redelivery, subscriber = ITEM.fullmatch(line), AGAIN.fullmatch(line), SUBSCRIBER.fullmatch(line)
+        if item:
+            if again or lines:
+                wrong.append(f'out of its place: {line}')
+            places.append(int(item['timestamp'] or BEYOND))
+            parts = [SENT.fullmatch(part) for part in item['sent'].split('; sent again by session ')]
+            if None in parts:
+                wrong.append(f'no sending: {line}')
+                continue
+            sessions, fates = [int(part[1]) for part in parts], [part[2] for part in parts]
+            if sessions != sorted(set(sessions)):
+                wrong.append(f'not by later sessions: {line}')
+            if fates[-1] != 'taken' or (len(fates) == 1):
+                wrong.append(f'not taken at last: {line}')
+            sendings.append(fates)
+        elif redelivery:
+            again.setdefault(int(redelivery[1]), []).append(int(redelivery[2]))
+        elif subscriber:
+            lines[int(subscriber[1])] = [int(number) for number in subscriber.group(2, 3, 4)]
+            others = 1 if subscriber[5] else int(subscriber[6] or 0)
+            deliveries, applied, duplicates = lines[int(subscriber[1])]
+            if deliveries != applied + duplicates + others:
+                wrong.append(f'not all reported: {line}')
+            if others != 1 and '--close' not in plan:
+                wrong.append(f'not one end mark: {line}')
+        else:
+            wrong.append(f'not understood: {line}')
+    if places != sorted(set(places)):
+        wrong.append(f'not in the order of the ledger: {places}')
+    applied = {int(a): int(b) for a, b in re.findall(r'(?m)^subscriber (\d+) applied (\d+) ', printed)}
+    if {number: line[1] for number, line in lines.items()} != applied:
+        wrong.append(f'applied {lines}, printed {applied}')
+    for number, (deliveries, _, duplicates) in lines.items():
+        if len(again.get(number, [])) != duplicates or any(it > deliveries for it in again.get(number, [])):
+            wrong.append(f'duplicates of subscriber {number}: {again.get(number)}')
+    # The first subscriber applies every event, so its count and the end mark are the items that are published.
+    fates = [fate for item in sendings for fate in item]
+    publishes = applied.get(1, 0) + 1 + len(fates) - len(sendings)
+    accepted = publishes - fates.count('lost') - fates.count('ignored')
+    for option, fate, most in (
+        ('--lose-publish', 'lost', publishes),
+        ('--lose-confirm', 'taken, its confirm lost', accepted),
+    ):
+        wanted = len([number for number in given(plan, option) if 0 < number <= most])
+        if fates.count(fate) != wanted:
+            wrong.append(f'{fate}: {fates.count(fate)}, where {option} asks for {wanted} of {most}')
+    return wrong
