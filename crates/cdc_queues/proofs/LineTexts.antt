@@ -7,7 +7,7 @@ use Rattle.cdc_message.specs.Bodies.{in_quotes, member_text, object_text}
 use Rattle.cdc_message.proofs.Members.{object_text-append}
 use Rattle.cdc_match.specs.Arguments.{Arguments}
 use Rattle.cdc_match.specs.Queue.{feed}
-use Rattle.cdc_queues.specs.Lines.{end_line, ended, lines_after, queue_text}
+use Rattle.cdc_queues.specs.Lines.{end_line, ended, lines_after}
 
 -- a piece, and what follows it
 pub pieces : (old mid new piece rest : List ℕ) → mid ≡ old ++ piece → new ≡ mid ++ rest → new ≡ old ++ (piece ++ rest)

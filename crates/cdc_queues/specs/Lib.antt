@@ -1,3 +1,4 @@
 pub mod Lines
 pub mod Predecessors
+pub mod Reading
 pub mod Steps

@@ -2,8 +2,10 @@
 //! by itself that nothing is missing.
 #![tactic(auto)]
 
+mod laws;
 mod lines;
 pub mod predecessors;
 
+pub use laws::line_laws;
 pub use lines::queue_lines;
 pub use predecessors::{Predecessor, Predecessors};

@@ -15,11 +15,7 @@ use std::alloc::{AllocError, Global};
 /// The JSON lines of the queue of a binding: one for each event of the log that the binding takes, in order, and then
 /// one for the end of the queue. Each line has the timestamp of the event before it in this queue, in nanoseconds, or 0
 /// if there is none. An error means out of memory.
-pub fn queue_lines(
-    alloc: Global,
-    log: &EventLog,
-    binding: &Binding,
-) -> Result<Vec<u8>, AllocError>
+pub fn queue_lines(alloc: Global, log: &EventLog, binding: &Binding) -> Result<Vec<u8>, AllocError>
     ensures { IfOk result (λ text. text.items ≡ queue_text binding.now log.now.events) }
 {
     let mut text = String::new(alloc);
@@ -84,7 +80,11 @@ fn push_headers(text: &mut String, headers: Headers) -> Result<(), AllocError>
     push_field(text, "\",\"ledger\":", headers.ledger)?;
     push_field(text, ",\"transfer_code\":", headers.transfer_code)?;
     push_field(text, ",\"debit_account_code\":", headers.debit_account_code)?;
-    push_field(text, ",\"credit_account_code\":", headers.credit_account_code)?;
+    push_field(
+        text,
+        ",\"credit_account_code\":",
+        headers.credit_account_code,
+    )?;
     text.push_str("}")?;
     Ok(())
 }
