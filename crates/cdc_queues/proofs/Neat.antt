@@ -36,8 +36,8 @@ both a b p q = rw (p, q) refl
 printable_ascii : (text : List ℕ) → list_all is_printable text ≡ true → are_ascii text ≡ true
 printable_ascii [] plain = refl
 printable_ascii (b ∷ text) plain =
-    let parts = and_parts _ _ plain in
-    let small = leb-true b 126 (and_parts _ _ parts.0).1 in
+    let parts = and_parts (is_printable b) (list_all is_printable text) plain in
+    let small = leb-true b 126 (and_parts (nat_le 32 b) (nat_le b 126) parts.0).1 in
     both _ _ (lt-ltb b 128 (omega (arith, small))) (printable_ascii text parts.1)
 
 -- such a text is UTF-8

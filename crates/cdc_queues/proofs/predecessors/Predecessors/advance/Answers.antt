@@ -32,3 +32,10 @@ returns-clause-found c = λ before is.
     let was : c.self.inside.last.items ≡ c.args.self.now.last = ap (λ (s : PredecessorState). s.last) c.self.view_is in
     c.take_event.ensures.found ∙ ap (found_after c.args.event.now 1 c.args.bindings.now) (was ∙ is)
     ∙ found_after-predecessors c.args.event.now 1 c.args.bindings.now before
+
+pub returns-clause-many : goal.returns-clause-many
+returns-clause-many c =
+    let was : c.self.inside.last.items ≡ c.args.self.now.last = ap (λ (s : PredecessorState). s.last) c.self.view_is in
+    let many : length c.self.inside.last.items ≡ length c.args.bindings.now = ap length was ∙ c.requires in
+    ap length c.take_event.ensures.last
+    ∙ length-last_after c.args.event.now c.args.bindings.now c.self.inside.last.items many ∙ ap length was
