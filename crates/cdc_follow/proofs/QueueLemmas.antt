@@ -1,0 +1,284 @@
+-- A follower of a chained queue keeps a prefix of it.
+use Rattle.std.proofs.Common.{◌≡◌, ◌⊎◌, inl, inr, ℕ, ◌<◌, ◌≤◌, List, [], ◌∷◌, ◌++◌, Bool, true, false, cond, Some, None, Option, refl, sym, ap, ◌∙◌, arith, subst, append-nil, append_assoc, false≢true, leb-false, ltb-false}
+use Rattle.std.specs.Prelude.{◌||◌, nat_le, nat_lt, is_none, filter, fold}
+use Rattle.std.specs.List.{AllByRecursion}
+use Rattle.std.proofs.lemmas.List.Sums.{fold-append}
+use Rattle.std.proofs.lemmas.List.Elements.{filter-append}
+use Rattle.cdc_types.specs.declared.events.Event.{Event}
+use Rattle.cdc_types.specs.Timestamps.{RiseFrom, last_timestamp, last_timestamp_from}
+use Rattle.cdc_types.proofs.Rising.{last_timestamp_from-push}
+use Rattle.cdc_message.specs.declared.items.Item.TheVariants as item
+use Rattle.cdc_message.specs.Headers.{headers_of_event}
+use Rattle.cdc_match.specs.Arguments.{Arguments}
+use Rattle.cdc_match.specs.Matching.{matches}
+use Rattle.cdc_subscriber.specs.Answers.{listens}
+use Rattle.cdc_subscriber.specs.Reception.{kept_of, nothing}
+use Rattle.cdc_subscriber.specs.Steps.{next_state, with_event}
+use Rattle.cdc_subscriber.specs.SubscriberState.{SubscriberState}
+use Rattle.cdc_follow.specs.declared.entries.Content.{Content}
+use Rattle.cdc_follow.specs.declared.entries.Content.TheVariants as content
+use Rattle.cdc_follow.specs.declared.entries.Entry.{Entry}
+use Rattle.cdc_follow.specs.Following.{FollowState, comes_early, content_outcome, follow_all, next_follow, next_outcome, outcome_of, state_by}
+use Rattle.cdc_follow.specs.Laws.{ChainedFollowersGoOn, ChainedFollowersKeepAPrefix, IsContentOf, IsOfQueue, KeepsPrefix, after_event, begins, received, taken_by, with_end}
+use Rattle.cdc_follow.proofs.StepLemmas.{next-closed, next-open}
+
+-- ---- where an event stands in a queue, against a prefix of it
+
+-- the event is in the prefix
+abbrev IsWithin : List Event → List Event → Event → Type 0
+IsWithin before first e = (rest : List Event) × (before ≡ first ++ e ∷ rest)
+
+-- it is the next one
+abbrev IsNext : List Event → List Event → List Event → List Event → Event → Type 0
+IsNext before after first last e = (before ≡ first) × (after ≡ e ∷ last)
+
+-- others are between
+abbrev IsBeyond : List Event → List Event → Type 0
+IsBeyond before first = (x : Event) × (rest : List Event) × (first ≡ before ++ x ∷ rest)
+
+abbrev Place : List Event → List Event → List Event → List Event → Event → Type 0
+Place before after first last e = IsWithin before first e ⊎ (IsNext before after first last e ⊎ IsBeyond before first)
+
+-- one more event in front of both
+cons_place : (x : Event) (before after first last : List Event) (e : Event) → Place before after first last e
+    → Place (x ∷ before) after (x ∷ first) last e
+cons_place x before after first last e (inl within) = inl (within.0, ap (λ es. x ∷ es) within.1)
+cons_place x before after first last e (inr (inl next)) = inr (inl (ap (λ es. x ∷ es) next.0, next.1))
+cons_place x before after first last e (inr (inr beyond)) = inr (inr (beyond.0, beyond.1, ap (λ es. x ∷ es) beyond.2))
+
+head_is : (x y : Event) (xs ys : List Event) → x ∷ xs ≡ y ∷ ys → x ≡ y
+head_is x y xs ys is = cc
+
+tail_is : (x y : Event) (xs ys : List Event) → x ∷ xs ≡ y ∷ ys → xs ≡ ys
+tail_is x y xs ys is = cc
+
+place_of : (before after first last : List Event) (e : Event) → before ++ after ≡ first ++ e ∷ last
+    → Place before after first last e
+place_of [] after [] last e is = inr (inl (refl, is))
+place_of [] after (x ∷ first) last e is = inr (inr (x, first, refl))
+place_of (x ∷ before) after [] last e is =
+    inl (before, ap (λ y. y ∷ before) (head_is x e (before ++ after) last is))
+place_of (x ∷ before) after (y ∷ first) last e is =
+    let same = head_is x y (before ++ after) (first ++ e ∷ last) is in
+    subst (λ z. Place (x ∷ before) after (z ∷ first) last e) same
+    (cons_place x before after first last e
+      (place_of before after first last e (tail_is x y (before ++ after) (first ++ e ∷ last) is)))
+
+-- ---- timestamps of a list that rises
+
+last-append : (t : ℕ) (xs ys : List Event)
+    → last_timestamp_from t (xs ++ ys) ≡ last_timestamp_from (last_timestamp_from t xs) ys
+last-append t [] ys = refl
+last-append t (x ∷ xs) ys = last-append x.timestamp xs ys
+
+rise_after : (t : ℕ) (xs ys : List Event) → RiseFrom t (xs ++ ys) → RiseFrom (last_timestamp_from t xs) ys
+rise_after t [] ys rising = rising
+rise_after t (x ∷ xs) ys rising = rise_after x.timestamp xs ys rising.1
+
+last-rises : (t : ℕ) (xs : List Event) → RiseFrom t xs → t ≤ last_timestamp_from t xs
+last-rises t [] rising = omega arith
+last-rises t (x ∷ xs) rising = omega (arith, rising.0, last-rises x.timestamp xs rising.1)
+
+rise_before : (t : ℕ) (xs ys : List Event) → RiseFrom t (xs ++ ys) → RiseFrom t xs
+rise_before t [] ys rising = tt
+rise_before t (x ∷ xs) ys rising = (rising.0, rise_before x.timestamp xs ys rising.1)
+
+-- an event of a list isn't later than the list's last one
+last-within : (t : ℕ) (first rest : List Event) (e : Event) → RiseFrom t (first ++ e ∷ rest)
+    → e.timestamp ≤ last_timestamp_from t (first ++ e ∷ rest)
+last-within t first rest e rising =
+    let after = rise_after t first (e ∷ rest) rising in
+    omega (arith, last-append t first (e ∷ rest), last-rises e.timestamp rest after.1)
+
+-- what comes behind a list is later than its last one
+last-beyond : (t : ℕ) (before rest : List Event) (x : Event) → RiseFrom t (before ++ x ∷ rest)
+    → last_timestamp_from t before < last_timestamp_from t (before ++ x ∷ rest)
+last-beyond t before rest x rising =
+    let after = rise_after t before (x ∷ rest) rising in
+    omega (arith, after.0, last-append t before (x ∷ rest), last-rises x.timestamp rest after.1)
+
+-- ---- states of a subscriber
+
+-- a subscriber that listens hasn't the end
+open_is : (kept : SubscriberState) → listens kept ≡ true → kept.ended ≡ false
+open_is kept listening = case_of kept.closed kept.ended refl refl
+  where
+    case_of : (closed ended : Bool) → kept.closed ≡ closed → kept.ended ≡ ended → kept.ended ≡ false
+    case_of true ended c e = absurd (false≢true (rw c at listening))
+    case_of false true c e = absurd (false≢true (rw (c, e) at listening))
+    case_of false false c e = e
+
+-- an event ends nothing
+ended-event : (kept : SubscriberState) (e : Event) → (after_event kept e).ended ≡ kept.ended
+ended-event kept e = case_of (listens kept) (nat_le e.timestamp kept.last)
+  where
+    case_of : (listening late : Bool)
+        → (cond listening (cond late kept (with_event kept e)) kept).ended ≡ kept.ended
+    case_of false late = refl
+    case_of true true = refl
+    case_of true false = refl
+
+-- the end ends a subscriber that listens
+ended-end : (kept : SubscriberState) → listens kept ≡ true → (next_state kept item.EndMark).ended ≡ true
+ended-end kept listening = ap (λ b. (cond b (record kept { ended = true }) kept).ended) listening
+
+-- ---- one entry
+
+-- the next event of the queue, that the binding takes
+taken_by-push : (binding : Arguments) (before : List Event) (e : Event) (takes : Bool)
+    → matches binding (headers_of_event e) ≡ takes
+    → received (taken_by binding (before ++ e ∷ []))
+    ≡ cond takes (after_event (received (taken_by binding before)) e) (received (taken_by binding before))
+taken_by-push binding before e takes is =
+    ap received (filter-append (λ e. matches binding (headers_of_event e)) before (e ∷ [])) ∙ case_of takes is
+  where
+    case_of : (takes : Bool) → matches binding (headers_of_event e) ≡ takes
+        → received (taken_by binding before ++ taken_by binding (e ∷ []))
+        ≡ cond takes (after_event (received (taken_by binding before)) e) (received (taken_by binding before))
+    case_of true is = rw is (fold-append after_event (kept_of nothing) (taken_by binding before) (e ∷ []))
+    case_of false is = rw is (ap received (append-nil (taken_by binding before)))
+
+module _ (binding : Arguments) (queue : List Event) (rising : RiseFrom 0 queue) where
+  -- the next event is applied or passed by
+  keeps-next : (state : FollowState) (before last : List Event) (e : Event) (previous : ℕ) (takes : Bool)
+      → queue ≡ before ++ e ∷ last → state.kept ≡ received (taken_by binding before) → state.kept.ended ≡ false
+      → matches binding (headers_of_event e) ≡ takes
+      → KeepsPrefix binding queue (state_by (next_outcome binding e) state (Some previous)
+      (content.Event e))
+  keeps-next state before last e previous true whole kept listening is =
+      rw is (record {
+        before = before ++ e ∷ [];
+        after = last;
+        whole = whole ∙ sym (append_assoc before (e ∷ []) last);
+        seen = sym (last_timestamp_from-push 0 before e);
+        kept = ap (λ k. after_event k e) kept ∙ sym (taken_by-push binding before e true is)
+          ∙ ap (λ b. with_end b (received (taken_by binding (before ++ e ∷ []))))
+            (sym (ended-event state.kept e ∙ listening));
+        complete = λ ended. absurd (false≢true (sym (ended-event state.kept e ∙ listening) ∙ ended));
+      })
+  keeps-next state before last e previous false whole kept listening is =
+      rw is (record {
+        before = before ++ e ∷ [];
+        after = last;
+        whole = whole ∙ sym (append_assoc before (e ∷ []) last);
+        seen = sym (last_timestamp_from-push 0 before e);
+        kept = kept ∙ sym (taken_by-push binding before e false is)
+          ∙ ap (λ b. with_end b (received (taken_by binding (before ++ e ∷ [])))) (sym listening);
+        complete = λ ended. absurd (false≢true (sym listening ∙ ended));
+      })
+
+  -- an event of the queue that is later than the last one seen, and before which there is no gap, is the next one
+  keeps-new : (state : FollowState) (keeps : KeepsPrefix binding queue state) (e : Event) (first last : List Event)
+      → queue ≡ first ++ e ∷ last → listens state.kept ≡ true → nat_le e.timestamp state.seen ≡ false
+      → nat_lt state.seen (last_timestamp first) ≡ false
+      → KeepsPrefix binding queue (state_by (next_outcome binding e) state
+      (Some (last_timestamp first)) (content.Event e))
+  keeps-new state keeps e first last whole listening late early =
+      case_of (place_of keeps.before keeps.after first last e (sym keeps.whole ∙ whole))
+    where
+      ended : state.kept.ended ≡ false
+      ended = open_is state.kept listening
+
+      case_of : Place keeps.before keeps.after first last e
+          → KeepsPrefix binding queue (state_by (next_outcome binding e) state
+          (Some (last_timestamp first)) (content.Event e))
+      case_of (inl within) =
+          let rest = within.0 in
+          let is = within.1 in
+          let rises : RiseFrom 0 keeps.before = rise_before 0 keeps.before keeps.after (subst (RiseFrom 0) keeps.whole rising) in
+          let bound = last-within 0 first rest e (subst (RiseFrom 0) is rises) in
+          let seen : state.seen ≡ last_timestamp (first ++ e ∷ rest) = keeps.seen ∙ ap last_timestamp is in
+          absurd (omega (arith, leb-false e.timestamp state.seen late, bound, seen))
+      case_of (inr (inl next)) =
+          keeps-next state keeps.before last e (last_timestamp first) _
+          (keeps.whole ∙ ap (λ es. keeps.before ++ es) next.1)
+          (keeps.kept ∙ ap (λ b. with_end b (received (taken_by binding keeps.before))) ended) ended refl
+      case_of (inr (inr place)) =
+          let x = place.0 in
+          let rest = place.1 in
+          let is = place.2 in
+          let rises : RiseFrom 0 first = rise_before 0 first (e ∷ last) (subst (RiseFrom 0) whole rising) in
+          let beyond = last-beyond 0 keeps.before rest x (subst (RiseFrom 0) is rises) in
+          let front : last_timestamp first ≡ last_timestamp (keeps.before ++ x ∷ rest) = ap last_timestamp is in
+          absurd (omega (arith, ltb-false state.seen (last_timestamp first) early, beyond, front, keeps.seen))
+
+  keeps-event : (state : FollowState) → KeepsPrefix binding queue state → (e : Event) (first last : List Event)
+      (late early : Bool) → queue ≡ first ++ e ∷ last → listens state.kept ≡ true
+      → nat_le e.timestamp state.seen ≡ late → nat_lt state.seen (last_timestamp first) ≡ early
+      → KeepsPrefix binding queue (state_by (content_outcome binding state.seen (Some (last_timestamp first))
+      (content.Event e)) state (Some (last_timestamp first)) (content.Event e))
+  keeps-event state keeps e first last true early whole listening l a = rw l keeps
+  keeps-event state keeps e first last false true whole listening l a = rw (l, a) keeps
+  keeps-event state keeps e first last false false whole listening l a =
+      rw (l, a) (keeps-new state keeps e first last whole listening l a)
+
+  -- the end is received behind the last event of the queue alone
+  keeps-end : (state : FollowState) → KeepsPrefix binding queue state → (early : Bool) → listens state.kept ≡ true
+      → nat_lt state.seen (last_timestamp queue) ≡ early
+      → KeepsPrefix binding queue (state_by (content_outcome binding state.seen (Some (last_timestamp queue)) content.End)
+      state (Some (last_timestamp queue)) content.End)
+  keeps-end state keeps true listening a = rw a keeps
+  keeps-end state keeps false listening a =
+      rw a (record {
+        before = keeps.before;
+        after = keeps.after;
+        whole = keeps.whole;
+        seen = keeps.seen;
+        kept = ap (λ k. next_state k item.EndMark)
+          (keeps.kept ∙ ap (λ b. with_end b (received (taken_by binding keeps.before))) (open_is state.kept listening))
+          ∙ ap (λ b. with_end b (received (taken_by binding keeps.before))) (sym (ended-end state.kept listening));
+        complete = λ _. nothing_after keeps.after refl;
+      })
+    where
+      nothing_after : (after : List Event) → keeps.after ≡ after → keeps.after ≡ []
+      nothing_after [] is = is
+      nothing_after (x ∷ rest) is =
+          let all : queue ≡ keeps.before ++ x ∷ rest = keeps.whole ∙ ap (λ es. keeps.before ++ es) is in
+          let beyond = last-beyond 0 keeps.before rest x (subst (RiseFrom 0) all rising) in
+          let last : last_timestamp queue ≡ last_timestamp (keeps.before ++ x ∷ rest) = ap last_timestamp all in
+          absurd (omega (arith, ltb-false state.seen (last_timestamp queue) a, beyond, last, keeps.seen))
+
+  keeps-content : (state : FollowState) → KeepsPrefix binding queue state → listens state.kept ≡ true
+      → (previous : Option ℕ) (content : Content) → IsContentOf queue previous content
+      → KeepsPrefix binding queue (state_by (content_outcome binding state.seen previous content) state previous content)
+  keeps-content state keeps listening previous (content.Event e) among =
+      subst (λ p. KeepsPrefix binding queue (state_by (content_outcome binding state.seen p (content.Event e)) state p
+        (content.Event e))) (sym among.3)
+      (keeps-event state keeps e among.0 among.1 _ _ among.2 listening refl refl)
+  keeps-content state keeps listening previous content.End among =
+      subst (λ p. KeepsPrefix binding queue (state_by (content_outcome binding state.seen p content.End) state p content.End))
+      (sym among) (keeps-end state keeps _ listening refl)
+
+  keeps-entry : (state : FollowState) → KeepsPrefix binding queue state → (entry : Entry) → IsOfQueue queue entry
+      → KeepsPrefix binding queue (next_follow binding state entry)
+  keeps-entry state keeps entry among = case_of (listens state.kept) refl
+    where
+      case_of : (listening : Bool) → listens state.kept ≡ listening → KeepsPrefix binding queue (next_follow binding state entry)
+      case_of false is = subst (KeepsPrefix binding queue) (sym (next-closed binding state entry is)) keeps
+      case_of true is =
+          subst (KeepsPrefix binding queue) (sym (next-open binding state entry is))
+          (keeps-content state keeps is entry.previous entry.content among)
+
+  keeps-all : (state : FollowState) (entries : List Entry) → KeepsPrefix binding queue state
+      → AllByRecursion (IsOfQueue queue) entries → KeepsPrefix binding queue (follow_all binding state entries)
+  keeps-all state [] keeps are = keeps
+  keeps-all state (entry ∷ entries) keeps are =
+      keeps-all (next_follow binding state entry) entries (keeps-entry state keeps entry are.0) are.1
+
+pub goes_on : ChainedFollowersGoOn
+goes_on binding queue state entries rising keeps are = keeps-all binding queue rising state entries keeps are
+
+-- a follower that begins keeps the empty prefix
+keeps-begins : (binding : Arguments) (queue : List Event) → KeepsPrefix binding queue begins
+keeps-begins binding queue = record {
+  before = [];
+  after = queue;
+  whole = refl;
+  seen = refl;
+  kept = refl;
+  complete = λ ended. absurd (false≢true ended);
+}
+
+pub keeps_a_prefix : ChainedFollowersKeepAPrefix
+keeps_a_prefix binding queue entries rising are =
+    keeps-all binding queue rising begins entries (keeps-begins binding queue) are
