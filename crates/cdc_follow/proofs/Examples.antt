@@ -1,6 +1,7 @@
 -- The definitions at work, beside what the rules say in words.
 use Rattle.std.specs.Prelude.{ℕ, ◌≡◌, true, false, List, [], ◌∷◌, codes, Some, None, Ok, Err}
 use Rattle.std.proofs.Common.{refl}
+use Rattle.std.specs.Str.{is_utf8, chars}
 use Rattle.serde_json.proofs.OnLiterals.{serde_json_on_literals}
 use Rattle.cdc_message.specs.declared.errors.DecodeError.TheVariants.{NotJson}
 use Rattle.cdc_types.specs.declared.events.Event.{Event}
@@ -30,20 +31,20 @@ says_end : (line_entry true (codes "{\"end\":true,\"previous\":\"2000\"}")
     ≡ Ok (Some (record { content = content.End; previous = Some 2000 })))
     × (line_entry false (codes "{\"end\":true}") ≡ Ok (Some (record { content = content.End; previous = None })))
     × (line_entry true (codes "{\"end\":true}") ≡ Err PreviousMissing)
-unfolding line_entry, serde_json_on_literals
+unfolding line_entry serde_json_on_literals is_utf8 chars
 says_end = (refl, refl, refl)
 
 -- lines that say nothing, and one that is no JSON text
 says_nothing : (line_entry true [] ≡ Ok None) × (line_entry true (codes "\r") ≡ Ok None)
     × (line_entry true (codes "event_type=single_phase ledger=1") ≡ Ok None)
     × (line_entry true (codes "hello") ≡ Err (Decode NotJson))
-unfolding line_entry, serde_json_on_literals
+unfolding line_entry serde_json_on_literals is_utf8 chars
 says_nothing = (refl, refl, refl, refl)
 
 -- what comes after a bad line is not read
 stops_at_bad : bytes_tell false (codes "\nhello\n{\"end\":true}\n")
     ≡ record { entries = []; bad = Some (record { line = 2; error = Decode NotJson }) }
-unfolding line_entry, lines_of, lines_tell, serde_json_on_literals
+unfolding line_entry lines_of lines_tell serde_json_on_literals is_utf8 chars
 stops_at_bad = refl
 
 -- an account as an event shows it

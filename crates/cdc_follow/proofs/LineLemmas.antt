@@ -8,7 +8,9 @@ use Rattle.std.proofs.lemmas.List.Elements.{All-head, All-tail, All-append, All-
 use Rattle.memchr.specs.Find.{Nowhere, Passes, is_byte}
 use Rattle.cdc_follow.specs.declared.entries.TheConstants.{LONGEST_LINE}
 use Rattle.cdc_follow.specs.declared.lines.Part.{Part}
-use Rattle.cdc_follow.specs.LineParts.{HasNoFeed, IsPart, PartIsLong}
+use Rattle.cdc_follow.specs.declared.lines.PartEnd.{PartEnd}
+use Rattle.cdc_follow.specs.declared.lines.PartEnd.TheVariants.{Feed, Stream}
+use Rattle.cdc_follow.specs.LineParts.{AddsPart, HasNoFeed, IsPart, PartIsLong, feed_of}
 use Rattle.cdc_follow.specs.Lines.{FirstLineIsLong, TakesLine, join_first, lines_of}
 
 -- a byte that is no line feed joins the first line
@@ -145,3 +147,20 @@ long_part (Some bytes) available before part front is long =
       ∙ ap (λ l. l ++ rest) (sym (take-append-drop part.length available))
       ∙ append_assoc (take part.length available) (drop part.length available) rest,
       is.clean, omega (arith, long, length-take-le part.length available is.inside))
+
+-- ---- a part that was added to what was read of a line
+
+-- with the line feed
+pub fed : (old mid new : Option (List ℕ)) (line after : List ℕ) (end : PartEnd) → end ≡ Feed → Consumes old mid line
+    → HasNoFeed line → AddsPart mid new line after end → IfSome old (λ bytes. TakesLine true bytes after new)
+fed old mid new line after end is first clean adds =
+    line_fed old mid new line adds.part after first clean adds.added adds.clean
+    (subst (λ e. Consumes mid new (adds.part ++ feed_of e)) is adds.reads)
+
+-- at the end of the stream
+pub ended : (old mid new : Option (List ℕ)) (line after : List ℕ) (end : PartEnd) (more : Bool) → end ≡ Stream
+    → Consumes old mid line → HasNoFeed line → AddsPart mid new line after end → more ≡ not (length after == 0)
+    → IfSome old (λ bytes. TakesLine more bytes after new)
+ended old mid new line after end more is first clean adds tells =
+    line_last old mid new line adds.part after more first clean adds.added (adds.last is).0 (adds.last is).1
+    (subst (λ e. Consumes mid new (adds.part ++ feed_of e)) is adds.reads) tells

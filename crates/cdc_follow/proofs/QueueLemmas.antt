@@ -1,25 +1,28 @@
 -- A follower of a chained queue keeps a prefix of it.
-use Rattle.std.proofs.Common.{◌≡◌, ◌⊎◌, inl, inr, ℕ, ◌<◌, ◌≤◌, List, [], ◌∷◌, ◌++◌, Bool, true, false, cond, Some, None, Option, refl, sym, ap, ◌∙◌, arith, subst, append-nil, append_assoc, false≢true, leb-false, ltb-false}
-use Rattle.std.specs.Prelude.{◌||◌, nat_le, nat_lt, is_none, filter, fold}
+use Rattle.std.proofs.Common.{◌≡◌, ◌⊎◌, inl, inr, ℕ, ◌+◌, ◌<◌, ◌≤◌, length, length-append, min, List, [], ◌∷◌, ◌++◌, Bool, true, false, cond, Some, None, Option, refl, sym, ap, ◌∙◌, arith, subst, append-nil, append_assoc, leb-false, ltb-false}
+use Rattle.std.specs.Prelude.{nat_le, nat_lt, filter}
 use Rattle.std.specs.List.{AllByRecursion}
-use Rattle.std.proofs.lemmas.List.Sums.{fold-append}
 use Rattle.std.proofs.lemmas.List.Elements.{filter-append}
+use Rattle.std.proofs.lemmas.Bool.{false≢true, lt-leb}
 use Rattle.cdc_types.specs.declared.events.Event.{Event}
 use Rattle.cdc_types.specs.Timestamps.{RiseFrom, last_timestamp, last_timestamp_from}
+use Rattle.cdc_types.specs.Widths.{max_64}
 use Rattle.cdc_types.proofs.Rising.{last_timestamp_from-push}
 use Rattle.cdc_message.specs.declared.items.Item.TheVariants as item
 use Rattle.cdc_message.specs.Headers.{headers_of_event}
 use Rattle.cdc_match.specs.Arguments.{Arguments}
 use Rattle.cdc_match.specs.Matching.{matches}
+use Rattle.cdc_subscriber.specs.declared.book.BookEntry.{BookEntry}
 use Rattle.cdc_subscriber.specs.Answers.{listens}
-use Rattle.cdc_subscriber.specs.Reception.{kept_of, nothing}
+use Rattle.cdc_subscriber.specs.Book.{book_of}
 use Rattle.cdc_subscriber.specs.Steps.{next_state, with_event}
 use Rattle.cdc_subscriber.specs.SubscriberState.{SubscriberState}
+use Rattle.cdc_subscriber.proofs.BookLemmas.{book_of-push}
 use Rattle.cdc_follow.specs.declared.entries.Content.{Content}
 use Rattle.cdc_follow.specs.declared.entries.Content.TheVariants as content
 use Rattle.cdc_follow.specs.declared.entries.Entry.{Entry}
 use Rattle.cdc_follow.specs.Following.{FollowState, comes_early, content_outcome, follow_all, next_follow, next_outcome, outcome_of, state_by}
-use Rattle.cdc_follow.specs.Laws.{ChainedFollowersGoOn, ChainedFollowersKeepAPrefix, IsContentOf, IsOfQueue, KeepsPrefix, after_event, begins, received, taken_by, with_end}
+use Rattle.cdc_follow.specs.Laws.{ChainedFollowersGoOn, ChainedFollowersKeepAPrefix, IsContentOf, IsOfQueue, KeepsPrefix, begins, kept_after, taken_by}
 use Rattle.cdc_follow.proofs.StepLemmas.{next-closed, next-open}
 
 -- ---- where an event stands in a queue, against a prefix of it
@@ -108,15 +111,50 @@ open_is kept listening = case_of kept.closed kept.ended refl refl
     case_of false true c e = absurd (false≢true (rw (c, e) at listening))
     case_of false false c e = e
 
--- an event ends nothing
-ended-event : (kept : SubscriberState) (e : Event) → (after_event kept e).ended ≡ kept.ended
-ended-event kept e = case_of (listens kept) (nat_le e.timestamp kept.last)
+-- the count after one more
+counted : (n most : ℕ) → min (min n most + 1) most ≡ min (n + 1) most
+counted n most = omega arith
+
+-- a subscriber that has applied events applies one that is later than all of them
+kept_after-push : (events : List Event) (e : Event) → last_timestamp events < e.timestamp
+    → next_state (kept_after events false) (item.Event e) ≡ kept_after (events ++ e ∷ []) false
+kept_after-push events e later =
+    let new : nat_le e.timestamp (last_timestamp events) ≡ false = lt-leb e.timestamp (last_timestamp events) later in
+    ap (λ b. cond b (kept_after events false) (with_event (kept_after events false) e)) new ∙ same
   where
-    case_of : (listening late : Bool)
-        → (cond listening (cond late kept (with_event kept e)) kept).ended ≡ kept.ended
-    case_of false late = refl
-    case_of true true = refl
-    case_of true false = refl
+    all : List Event
+    all = events ++ e ∷ []
+
+    with_book : List BookEntry → SubscriberState
+    with_book book = record {
+      book = book;
+      last = e.timestamp;
+      applied = min (min (length events) max_64 + 1) max_64;
+      ended = false;
+      closed = false;
+    }
+
+    with_last : ℕ → SubscriberState
+    with_last last = record {
+      book = book_of all;
+      last = last;
+      applied = min (min (length events) max_64 + 1) max_64;
+      ended = false;
+      closed = false;
+    }
+
+    with_count : ℕ → SubscriberState
+    with_count count = record {
+      book = book_of all;
+      last = last_timestamp all;
+      applied = count;
+      ended = false;
+      closed = false;
+    }
+
+    same : with_event (kept_after events false) e ≡ kept_after all false
+    same = ap with_book (sym (book_of-push events e)) ∙ ap with_last (sym (last_timestamp_from-push 0 events e))
+      ∙ ap with_count (counted (length events) max_64 ∙ ap (λ n. min n max_64) (sym (length-append events (e ∷ []))))
 
 -- the end ends a subscriber that listens
 ended-end : (kept : SubscriberState) → listens kept ≡ true → (next_state kept item.EndMark).ended ≡ true
@@ -124,48 +162,80 @@ ended-end kept listening = ap (λ b. (cond b (record kept { ended = true }) kept
 
 -- ---- one entry
 
--- the next event of the queue, that the binding takes
+-- the last timestamp of events is later if they begin later
+last-later : (s t : ℕ) (es : List Event) → s ≤ t → last_timestamp_from s es ≤ last_timestamp_from t es
+last-later s t [] later = later
+last-later s t (x ∷ es) later = omega arith
+
+-- the last of those that a binding takes isn't later than the last of all
+last-taken : (p : Event → Bool) (t : ℕ) (es : List Event) → RiseFrom t es
+    → last_timestamp_from t (filter p es) ≤ last_timestamp_from t es
+last-taken p t [] rising = omega arith
+last-taken p t (x ∷ es) rising = case_of (p x) (last-taken p x.timestamp es rising.1)
+  where
+    case_of : (taken : Bool) → last_timestamp_from x.timestamp (filter p es) ≤ last_timestamp_from x.timestamp es
+        → last_timestamp_from t (cond taken (x ∷ filter p es) (filter p es)) ≤ last_timestamp_from x.timestamp es
+    case_of true rest = rest
+    case_of false rest = omega (arith, rest, last-later t x.timestamp (filter p es) (omega (arith, rising.0)))
+
+-- the next event of the queue, if the binding takes it
 taken_by-push : (binding : Arguments) (before : List Event) (e : Event) (takes : Bool)
     → matches binding (headers_of_event e) ≡ takes
-    → received (taken_by binding (before ++ e ∷ []))
-    ≡ cond takes (after_event (received (taken_by binding before)) e) (received (taken_by binding before))
+    → taken_by binding (before ++ e ∷ []) ≡ cond takes (taken_by binding before ++ e ∷ []) (taken_by binding before)
 taken_by-push binding before e takes is =
-    ap received (filter-append (λ e. matches binding (headers_of_event e)) before (e ∷ [])) ∙ case_of takes is
+    filter-append (λ e. matches binding (headers_of_event e)) before (e ∷ []) ∙ case_of takes is
   where
     case_of : (takes : Bool) → matches binding (headers_of_event e) ≡ takes
-        → received (taken_by binding before ++ taken_by binding (e ∷ []))
-        ≡ cond takes (after_event (received (taken_by binding before)) e) (received (taken_by binding before))
-    case_of true is = rw is (fold-append after_event (kept_of nothing) (taken_by binding before) (e ∷ []))
-    case_of false is = rw is (ap received (append-nil (taken_by binding before)))
+        → taken_by binding before ++ taken_by binding (e ∷ [])
+        ≡ cond takes (taken_by binding before ++ e ∷ []) (taken_by binding before)
+    case_of true is = rw is refl
+    case_of false is = rw is (append-nil (taken_by binding before))
+
+-- what is kept, said with what it has of the end
+kept_as : (kept : SubscriberState) (events : List Event) (ended : Bool) → kept ≡ kept_after events ended
+    → kept ≡ kept_after events kept.ended
+kept_as kept events ended is = is ∙ ap (kept_after events) (sym (ap (λ (k : SubscriberState). k.ended) is))
 
 module _ (binding : Arguments) (queue : List Event) (rising : RiseFrom 0 queue) where
   -- the next event is applied or passed by
   keeps-next : (state : FollowState) (before last : List Event) (e : Event) (previous : ℕ) (takes : Bool)
-      → queue ≡ before ++ e ∷ last → state.kept ≡ received (taken_by binding before) → state.kept.ended ≡ false
+      → queue ≡ before ++ e ∷ last → state.kept ≡ kept_after (taken_by binding before) false
       → matches binding (headers_of_event e) ≡ takes
       → KeepsPrefix binding queue (state_by (next_outcome binding e) state (Some previous)
       (content.Event e))
-  keeps-next state before last e previous true whole kept listening is =
+  keeps-next state before last e previous true whole kept is =
       rw is (record {
         before = before ++ e ∷ [];
         after = last;
         whole = whole ∙ sym (append_assoc before (e ∷ []) last);
         seen = sym (last_timestamp_from-push 0 before e);
-        kept = ap (λ k. after_event k e) kept ∙ sym (taken_by-push binding before e true is)
-          ∙ ap (λ b. with_end b (received (taken_by binding (before ++ e ∷ []))))
-            (sym (ended-event state.kept e ∙ listening));
-        complete = λ ended. absurd (false≢true (sym (ended-event state.kept e ∙ listening) ∙ ended));
+        kept = kept_as (next_state state.kept (item.Event e)) (taken_by binding (before ++ e ∷ [])) false applied;
+        complete = λ ended. absurd (false≢true (sym (ap (λ (k : SubscriberState). k.ended) applied) ∙ ended));
       })
-  keeps-next state before last e previous false whole kept listening is =
+    where
+      rises : RiseFrom 0 (before ++ e ∷ last)
+      rises = subst (RiseFrom 0) whole rising
+
+      later : last_timestamp (taken_by binding before) < e.timestamp
+      later =
+          omega (arith, last-taken (λ e. matches binding (headers_of_event e)) 0 before (rise_before 0 before (e ∷ last) rises),
+            (rise_after 0 before (e ∷ last) rises).0)
+
+      applied : next_state state.kept (item.Event e) ≡ kept_after (taken_by binding (before ++ e ∷ [])) false
+      applied = ap (λ k. next_state k (item.Event e)) kept ∙ kept_after-push (taken_by binding before) e later
+        ∙ ap (λ es. kept_after es false) (sym (taken_by-push binding before e true is))
+  keeps-next state before last e previous false whole kept is =
       rw is (record {
         before = before ++ e ∷ [];
         after = last;
         whole = whole ∙ sym (append_assoc before (e ∷ []) last);
         seen = sym (last_timestamp_from-push 0 before e);
-        kept = kept ∙ sym (taken_by-push binding before e false is)
-          ∙ ap (λ b. with_end b (received (taken_by binding (before ++ e ∷ [])))) (sym listening);
-        complete = λ ended. absurd (false≢true (sym listening ∙ ended));
+        kept = kept_as state.kept (taken_by binding (before ++ e ∷ [])) false passed;
+        complete = λ ended. absurd (false≢true (sym (ap (λ (k : SubscriberState). k.ended) passed) ∙ ended));
       })
+    where
+      passed : state.kept ≡ kept_after (taken_by binding (before ++ e ∷ [])) false
+      passed = kept ∙ ap (λ es. kept_after es false) (sym (taken_by-push binding before e false is))
 
   -- an event of the queue that is later than the last one seen, and before which there is no gap, is the next one
   keeps-new : (state : FollowState) (keeps : KeepsPrefix binding queue state) (e : Event) (first last : List Event)
@@ -192,7 +262,7 @@ module _ (binding : Arguments) (queue : List Event) (rising : RiseFrom 0 queue) 
       case_of (inr (inl next)) =
           keeps-next state keeps.before last e (last_timestamp first) _
           (keeps.whole ∙ ap (λ es. keeps.before ++ es) next.1)
-          (keeps.kept ∙ ap (λ b. with_end b (received (taken_by binding keeps.before))) ended) ended refl
+          (keeps.kept ∙ ap (kept_after (taken_by binding keeps.before)) ended) refl
       case_of (inr (inr place)) =
           let x = place.0 in
           let rest = place.1 in
@@ -225,8 +295,8 @@ module _ (binding : Arguments) (queue : List Event) (rising : RiseFrom 0 queue) 
         whole = keeps.whole;
         seen = keeps.seen;
         kept = ap (λ k. next_state k item.EndMark)
-          (keeps.kept ∙ ap (λ b. with_end b (received (taken_by binding keeps.before))) (open_is state.kept listening))
-          ∙ ap (λ b. with_end b (received (taken_by binding keeps.before))) (sym (ended-end state.kept listening));
+          (keeps.kept ∙ ap (kept_after (taken_by binding keeps.before)) (open_is state.kept listening))
+          ∙ ap (kept_after (taken_by binding keeps.before)) (sym (ended-end state.kept listening));
         complete = λ _. nothing_after keeps.after refl;
       })
     where

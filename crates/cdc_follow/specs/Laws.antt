@@ -1,26 +1,46 @@
 -- Laws of following: what a follower has applied of entries that come again, and of the entries of a chained queue.
-use Rattle.std.specs.Prelude.{◌≡◌, ℕ, List, [], ◌∷◌, ◌++◌, Bool, true, false, Option, Some, None, Contains, filter, fold, map}
+use Rattle.std.specs.Prelude.{◌≡◌, ℕ, List, [], ◌∷◌, ◌++◌, Bool, true, false, if◌then◌else◌, Option, Some, None, Contains, filter, fold, length, map, min}
 use Rattle.std.specs.List.{AllByRecursion}
 use Rattle.cdc_types.specs.declared.events.Event.{Event}
 use Rattle.cdc_types.specs.Timestamps.{RiseFrom, last_timestamp}
+use Rattle.cdc_types.specs.Widths.{max_64}
 use Rattle.cdc_message.specs.declared.items.Item.{Item}
 use Rattle.cdc_message.specs.declared.items.Item.TheVariants as item
 use Rattle.cdc_message.specs.Headers.{headers_of_event}
 use Rattle.cdc_match.specs.Arguments.{Arguments}
 use Rattle.cdc_match.specs.Matching.{matches}
-use Rattle.cdc_subscriber.specs.Reception.{kept_of, nothing}
+use Rattle.cdc_subscriber.specs.Book.{book_of}
+use Rattle.cdc_subscriber.specs.Reception.{Reception, kept_of, nothing}
 use Rattle.cdc_subscriber.specs.Steps.{next_state}
 use Rattle.cdc_subscriber.specs.SubscriberState.{SubscriberState}
 use Rattle.cdc_follow.specs.declared.entries.Content.{Content}
 use Rattle.cdc_follow.specs.declared.entries.Content.TheVariants as content
 use Rattle.cdc_follow.specs.declared.entries.Entry.{Entry}
-use Rattle.cdc_follow.specs.Following.{FollowState, follow_all, is_gap, next_follow, outcome_of}
+use Rattle.cdc_follow.specs.Following.{FollowState, Followed, follow, follow_all, is_gap, next_follow, outcome_of}
+use Rattle.cdc_follow.specs.Streams.{NumberedEntry}
 
 -- a follower meets no gap in these entries
 abbrev pub HasNoGap : Arguments → FollowState → List Entry → Type 0
 HasNoGap binding state [] = Unit {0}
 HasNoGap binding state (entry ∷ entries) =
     (is_gap (outcome_of binding state entry) ≡ false) × HasNoGap binding (next_follow binding state entry) entries
+
+-- the entries, without the numbers of their lines
+abbrev pub entries_in : List NumberedEntry → List Entry
+entries_in numbered = map (λ n. n.entry) numbered
+
+-- following folds entries: those before the first gap at which it stops, or all
+pub record FoldsTo (binding : Arguments) (state : FollowState) (numbered : List NumberedEntry) (done : Followed)
+    : Type 0 where
+  pub before : List NumberedEntry
+  pub after : List NumberedEntry
+  pub whole : numbered ≡ before ++ after
+  pub folds : done.state ≡ follow_all binding state (entries_in before)
+  pub complete : done.gap ≡ None → after ≡ []
+
+abbrev pub FollowingFolds : Type 0
+FollowingFolds = (binding : Arguments) (skips : Bool) (state : FollowState) (numbered : List NumberedEntry)
+    → FoldsTo binding state numbered (follow binding skips state numbered)
 
 -- going on once: a follower that kept its state after some entries, and is handed any of them again, in any order and
 -- number, ends where it would have ended without a stop
@@ -53,18 +73,26 @@ PlainFollowersAreSubscribers = (binding : Arguments) (state : FollowState) (entr
 abbrev pub taken_by : Arguments → List Event → List Event
 taken_by binding events = filter (λ e. matches binding (headers_of_event e)) events
 
--- a subscriber takes an event
-abbrev pub after_event : SubscriberState → Event → SubscriberState
-after_event kept e = next_state kept (item.Event e)
+-- what a subscriber keeps that has applied just these events, and perhaps received the end: their book, the timestamp
+-- of the last one, and how many they are
+abbrev pub kept_after : List Event → Bool → SubscriberState
+kept_after events ended = record {
+  book = book_of events;
+  last = last_timestamp events;
+  applied = min (length events) max_64;
+  ended = ended;
+  closed = false;
+}
 
--- what a new subscriber keeps after these events, each received once and in order
-abbrev pub received : List Event → SubscriberState
-received events = fold after_event (kept_of nothing) events
+-- what a subscriber receives that receives these events, each once and in order, and perhaps the end mark
+abbrev pub reception_of : List Event → Bool → Reception
+reception_of events ended =
+    record { items = map item.Event events ++ (if ended then item.EndMark ∷ [] else []); closed = false }
 
--- and after the end mark, if that was received too
-abbrev pub with_end : Bool → SubscriberState → SubscriberState
-with_end false kept = kept
-with_end true kept = next_state kept item.EndMark
+-- and of events that rise it has applied just these
+abbrev pub ReceivedOnceIsApplied : Type 0
+ReceivedOnceIsApplied = (events : List Event) (ended : Bool) → RiseFrom 0 events
+    → kept_of (reception_of events ended) ≡ kept_after events ended
 
 -- an entry of a chained queue: an event of it with the timestamp of the event before it in the queue, or the end with
 -- that of the last one; 0 stands for no event
@@ -76,14 +104,14 @@ IsContentOf queue previous content.End = previous ≡ Some (last_timestamp queue
 abbrev pub IsOfQueue : List Event → Entry → Type 0
 IsOfQueue queue entry = IsContentOf queue entry.previous entry.content
 
--- a follower has applied, of a prefix of the queue's events, those that its binding takes, in order and each once;
--- the prefix is all of them once the end is received
+-- a follower has applied just those events of a prefix of the queue that its binding takes, each once and in order; the
+-- prefix is the whole queue once the end is received
 pub record KeepsPrefix (binding : Arguments) (queue : List Event) (state : FollowState) : Type 0 where
   pub before : List Event
   pub after : List Event
   pub whole : queue ≡ before ++ after
   pub seen : state.seen ≡ last_timestamp before
-  pub kept : state.kept ≡ with_end state.kept.ended (received (taken_by binding before))
+  pub kept : state.kept ≡ kept_after (taken_by binding before) state.kept.ended
   pub complete : state.kept.ended ≡ true → after ≡ []
 
 -- a follower that begins

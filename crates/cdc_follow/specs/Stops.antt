@@ -1,5 +1,5 @@
 -- Following a stream: what is kept in the end, and why following stops.
-use Rattle.std.specs.Prelude.{◌≡◌, ℕ, ◌+◌, List, ◌∷◌, Bool, Option, Some, None}
+use Rattle.std.specs.Prelude.{◌≡◌, ℕ, ◌+◌, List, ◌∷◌, take, Bool, Option, Some, None}
 use Rattle.cdc_match.specs.Arguments.{Arguments}
 use Rattle.cdc_follow.specs.declared.streams.Rules.{Rules}
 use Rattle.cdc_follow.specs.declared.streams.Stop.{Stop}
@@ -7,7 +7,7 @@ use Rattle.cdc_follow.specs.declared.streams.Stop.TheVariants.{AtEnd, Gap, BadLi
 use Rattle.cdc_follow.specs.Following.{FollowState, Followed, follow}
 use Rattle.cdc_follow.specs.Lines.{lines_of}
 use Rattle.cdc_follow.specs.Streams as streams
-use Rattle.cdc_follow.specs.Streams.{Diagnostics, NumberedEntry, lines_tell}
+use Rattle.cdc_follow.specs.Streams.{Diagnostics, NumberedEntry, bytes_tell, lines_tell}
 
 -- what is kept, and why following stops
 pub record Stopped : Type 0 where
@@ -36,6 +36,11 @@ lines_followed binding rules state number lines =
 abbrev pub bytes_followed : Arguments → Rules → FollowState → List ℕ → Stopped
 bytes_followed binding rules state bytes = lines_followed binding rules state 1 (lines_of bytes)
 
+-- what is kept is what following makes of some number of the first entries that bytes tell, and of no others
+abbrev pub KeepsFirst : Arguments → Rules → FollowState → List ℕ → FollowState → Type 0
+KeepsFirst binding rules old bytes new = (count : ℕ)
+    × (new ≡ (follow binding rules.skips_gaps old (take count (bytes_tell rules.chained bytes).entries)).state)
+
 -- the line of this number leads from one state to the next, whatever lines come after it; or following stops at it
 abbrev pub LineLeadsTo : Arguments → Rules → ℕ → List ℕ → FollowState → Option Stop → FollowState → Type 0
 LineLeadsTo binding rules number line old None new = (rest : List (List ℕ))
@@ -49,7 +54,6 @@ abbrev pub StepLeadsTo : Arguments → Rules → ℕ → FollowState → List �
     → Type 0
 StepLeadsTo binding rules number old bytes None new left =
     (line : List ℕ) × (rest : List ℕ) × (left ≡ Some rest) × (lines_of bytes ≡ line ∷ lines_of rest)
-    × (lines_followed binding rules old number (lines_of bytes)
-    ≡ lines_followed binding rules new (number + 1) (lines_of rest))
+    × LineLeadsTo binding rules number line old None new
 StepLeadsTo binding rules number old bytes (Some stop) new left =
     lines_followed binding rules old number (lines_of bytes) ≡ record { state = new; stop = stop }

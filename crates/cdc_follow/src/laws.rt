@@ -1,7 +1,14 @@
 //! Laws of following. They are the postconditions of functions that do nothing.
 
 ghost use Rattle.cdc_follow.specs.Laws.{ChainedFollowersGoOn, ChainedFollowersKeepAPrefix};
-ghost use Rattle.cdc_follow.specs.Laws.{GoingOnIsOnce, PlainFollowersAreSubscribers};
+ghost use Rattle.cdc_follow.specs.Laws.{FollowingFolds, GoingOnIsOnce};
+ghost use Rattle.cdc_follow.specs.Laws.{PlainFollowersAreSubscribers, ReceivedOnceIsApplied};
+
+/// Does nothing. Following the entries of a stream is a fold of those before the gap at which it stops, or of all, so
+/// that the other laws hold of what a follower keeps then.
+pub fn following_folds()
+    ensures { FollowingFolds }
+{}
 
 /// Does nothing. A follower that kept its state after some entries, without a gap, and is handed any of them again, in
 /// any order and number, ends where it would have ended without a stop. So a book that is kept makes of a delivery that
@@ -26,4 +33,10 @@ pub fn chained_followers_keep_a_prefix()
 /// Does nothing. The same holds of a follower that resumes from such a state.
 pub fn chained_followers_go_on()
     ensures { ChainedFollowersGoOn }
+{}
+
+/// Does nothing. A subscriber that receives events whose timestamps rise, each once and in order, has applied just
+/// these: as many as they are, up to the last one's timestamp, with their book.
+pub fn received_once_is_applied()
+    ensures { ReceivedOnceIsApplied }
 {}

@@ -1,8 +1,8 @@
 //! Following a reader: its lines one after another, up to a gap, a line that is no entry, or the end.
 
-ghost use Rattle.std.specs.Prelude.{◌≡◌, IfOk, IfSome, OnErr};
+ghost use Rattle.std.specs.Prelude.{◌≡◌, ◌≢◌, ◌&&◌, not, Some, IfOk, IfSome, OnErr};
 ghost use Rattle.cdc_follow.specs.Following.{is_gap as is_behind_gap};
-ghost use Rattle.cdc_follow.specs.Stops.{LineLeadsTo, StepLeadsTo, bytes_followed};
+ghost use Rattle.cdc_follow.specs.Stops.{KeepsFirst, LineLeadsTo, StepLeadsTo, bytes_followed};
 
 use crate::entries::{Entry, read_entry};
 use crate::errors::LineError;
@@ -66,6 +66,23 @@ fn is_gap(following: Following) -> bool
     }
 }
 
+// Whether following stops at an entry of which this became.
+fn stops_at(following: Following, rules: Rules) -> bool
+    ensures { result ≡ (is_behind_gap following && not rules.skips_gaps) }
+{
+    is_gap(following) && !rules.skips_gaps
+}
+
+// Stops at the line of this number, which isn't read for this reason.
+fn stop_at_line(number: u64, error: LineError) -> Result<Option<Stop>, FollowError>
+    ensures { IfOk result (λ stop. (stop ≡ Some (Stop.BadLine number error)) × (error ≢ LineError.OutOfMemory)) }
+{
+    match error {
+        LineError::OutOfMemory => Err(FollowError::OutOfMemory),
+        _ => Ok(Some(Stop::BadLine(number, error))),
+    }
+}
+
 // Follows the line of this number. `None`: what comes after it is to be followed too.
 fn follow_bytes(
     alloc: Global,
@@ -82,11 +99,10 @@ fn follow_bytes(
     let entry = match read_entry(alloc, line, rules.chained) {
         Ok(Some(entry)) => entry,
         Ok(None) => return Ok(None),
-        Err(LineError::OutOfMemory) => return Err(FollowError::OutOfMemory),
-        Err(error) => return Ok(Some(Stop::BadLine(number, error))),
+        Err(error) => return stop_at_line(number, error),
     };
     let following = follower.take(binding, &entry)?;
-    if is_gap(following) && !rules.skips_gaps {
+    if stops_at(following, rules) {
         return Ok(Some(Stop::Gap(number, entry)));
     }
     Ok(None)
@@ -116,7 +132,8 @@ pub fn follow_line<B: BufRead>(
     }
 }
 
-/// Follows the lines of a reader, numbered from 1.
+/// Follows the lines of a reader, numbered from 1. After an error the follower keeps what some number of the first
+/// entries make; an entry is never half taken.
 pub fn follow<B: BufRead>(
     alloc: Global,
     reader: &mut B,
@@ -126,11 +143,13 @@ pub fn follow<B: BufRead>(
 ) -> Result<Stop, FollowError>
     ensures stops { IfOk result (λ stop. IfSome (B.remaining reader.old) (λ bytes.
         bytes_followed binding.now rules follower.old bytes ≡ record { state = follower.new; stop = stop })) }
+    ensures err { OnErr result (IfSome (B.remaining reader.old) (λ bytes.
+        KeepsFirst binding.now rules follower.old bytes follower.new)) }
 {
     let mut line = Vec::new(alloc);
     for number in 1..u64::MAX {
-        let stop = follow_line(alloc, reader, &mut line, number, binding, rules, follower)?;
-        if let Some(stop) = stop {
+        let next = follow_line(alloc, reader, &mut line, number, binding, rules, follower)?;
+        if let Some(stop) = next {
             return Ok(stop);
         }
     }
