@@ -4,7 +4,8 @@ use Rattle.std.proofs.lemmas.List.{drop_all, drop_more, drop-set-lt, get_or_defa
 use Rattle.std.proofs.lemmas.List.Elements.{filter-append}
 use Rattle.cdc_types.specs.declared.events.Event.{Event}
 use Rattle.cdc_types.specs.declared.events.Headers.{Headers}
-use Rattle.cdc_types.specs.Timestamps.{last_timestamp, last_timestamp_from}
+use Rattle.cdc_types.specs.Timestamps.{last_timestamp}
+use Rattle.cdc_types.proofs.Rising.{last_timestamp_from-push}
 use Rattle.cdc_message.specs.Headers.{headers_of_event}
 use Rattle.cdc_match.specs.Arguments.{Arguments}
 use Rattle.cdc_match.specs.Matching.{matches}
@@ -147,16 +148,10 @@ length-last_after event (binding ∷ rest) (t ∷ others) same =
 
 -- ---- one event after another
 
--- the last event of a list
-last_pushed : (t : ℕ) (events : List Event) (event : Event)
-    → last_timestamp_from t (events ++ event ∷ []) ≡ event.timestamp
-last_pushed t [] event = refl
-last_pushed t (first ∷ events) event = last_pushed first.timestamp events event
-
 -- the last timestamp of a queue, if its binding takes one more event or not
 last_by : (takes : Bool) (fed : List Event) (event : Event)
     → cond takes event.timestamp (last_timestamp fed) ≡ last_timestamp (fed ++ cond takes (event ∷ []) [])
-last_by true fed event = sym (last_pushed 0 fed event)
+last_by true fed event = sym (last_timestamp_from-push 0 fed event)
 last_by false fed event = ap last_timestamp (sym (append-nil fed))
 
 last_fed : (binding : Arguments) (before : List Event) (event : Event)

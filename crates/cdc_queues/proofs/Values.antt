@@ -6,7 +6,7 @@ use Rattle.std.proofs.lemmas.Str.{is_utf8-from_IsUtf8}
 use Rattle.std.proofs.lemmas.Str.Parse.{digit_from_value}
 use Rattle.std.specs.Prelude.{IsUtf8}
 use Rattle.std.specs.Char.{is_ascii_digit}
-use Rattle.std.specs.List.{list_all}
+use Rattle.std.specs.List.{join_with_byte, list_all}
 use Rattle.std.specs.Str.Parse.{AllDigits}
 use Rattle.json.specs.Json as json
 use Rattle.json.specs.Lex.{tokens}
@@ -43,6 +43,7 @@ use Rattle.cdc_message.specs.Widths.{AccountFits, TransferFits, EventFits}
 use Rattle.cdc_message.proofs.Back.{event_of-event_value}
 use Rattle.cdc_message.proofs.DecimalTexts.{own_digits}
 use Rattle.cdc_message.proofs.Texts.{HasPlainKeys, compact_text-event, compact_text-object}
+use Rattle.cdc_queues.specs.Lines as lines
 use Rattle.cdc_queues.specs.Lines.{end_line, headers_text, message_line, seconds_of}
 use Rattle.cdc_queues.specs.Reading.{EndsRead, MessagesRead}
 use Rattle.cdc_queues.proofs.Neat.{neat_clean, neat_end, neat_message, neat_utf8, seconds_fit}
@@ -390,6 +391,18 @@ message_no_event previous seconds headers body fits =
     let within : seconds ≤ 2 ^ 64 - 1 = omega arith in
     rw (le-leb seconds (2 ^ 64 - 1) within)
 
+-- an object begins with a brace
+object_begins : (members : List (List ℕ)) → (rest : List ℕ) × (object_text members ≡ 123 ∷ rest)
+object_begins members = (join_with_byte 44 members ++ codes "}", refl)
+
+message_begins : (previous : ℕ) (event : Event) → (rest : List ℕ) × (message_line previous event ≡ 123 ∷ rest)
+unfolding message_line
+message_begins previous event = object_begins (lines.message_members previous event)
+
+end_begins : (previous : ℕ) → (rest : List ℕ) × (end_line previous ≡ 123 ∷ rest)
+unfolding end_line
+end_begins previous = object_begins (lines.end_members previous)
+
 -- the line of each event reads as its message
 pub messages_read : MessagesRead
 messages_read previous event before fits =
@@ -399,6 +412,8 @@ messages_read previous event before fits =
     record {
       value = message_found previous seconds headers (event_value event);
       is_line = record {
+        rest = (message_begins previous event).0;
+        begins = (message_begins previous event).1;
         clean = neat_clean 65536 (message_line previous event) neat;
         short = neat.short;
         read = line_value (message_line previous event) (message_value previous event) _
@@ -425,6 +440,8 @@ ends_read previous before =
     record {
       value = end_found previous;
       is_line = record {
+        rest = (end_begins previous).0;
+        begins = (end_begins previous).1;
         clean = neat_clean 65536 (end_line previous) neat;
         short = neat.short;
         read = line_value (end_line previous) (object (end_members previous)) _ (end_written previous before)

@@ -1,5 +1,5 @@
 -- How the lines of a queue are read.
-use Rattle.std.specs.Prelude.{◌≡◌, ◌≢◌, ◌<◌, ◌≤◌, ◌^◌, ℕ, List, All, codes, true, Some, None, Ok, Err, length}
+use Rattle.std.specs.Prelude.{◌≡◌, ◌≢◌, ◌<◌, ◌≤◌, ◌^◌, ℕ, List, ◌∷◌, All, codes, true, Some, None, Ok, Err, length}
 use Rattle.serde_json.specs.Data.{Data, boolean}
 use Rattle.serde_json.specs.Find.{get}
 use Rattle.cdc_types.specs.declared.events.Event.{Event}
@@ -8,9 +8,11 @@ use Rattle.cdc_message.specs.Reading.{event_of, value_of, whole_number}
 use Rattle.cdc_message.specs.Widths.{EventFits}
 use Rattle.cdc_queues.specs.Lines.{end_line, message_line}
 
--- the bytes have no line feed and are at most 65,536, and this JSON value is read from them, which is no event by
--- itself and names this timestamp as its predecessor
+-- the bytes begin with a brace, have no line feed and are at most 65,536, and this JSON value is read from them, which
+-- is no event by itself and names this timestamp as its predecessor
 pub record IsLine (previous : ℕ) (line : List ℕ) (value : Data) : Type 0 where
+  pub rest : List ℕ
+  pub begins : line ≡ 123 ∷ rest
   pub clean : All (λ b. b ≢ 10) line
   pub short : length line ≤ 65536
   pub read : value_of line ≡ Some value
