@@ -2,6 +2,7 @@ mod Examples
 pub mod HeldLaws
 pub mod FeedLemmas
 pub mod OutputLemmas
+pub mod QueueLemmas
 pub mod FoundElements
 pub mod SimulationLemmas
 pub mod SimulationReached
