@@ -2,7 +2,6 @@ mod Examples
 pub mod HeldLaws
 pub mod FeedLemmas
 pub mod OutputLemmas
-pub mod QueueLemmas
 pub mod FoundElements
 pub mod SimulationLemmas
 pub mod SimulationReached

@@ -20,12 +20,12 @@ use Rattle.cdc_follow.specs.LineParts.{HasNoFeed}
 use Rattle.cdc_follow.specs.Lines.{lines_of}
 use Rattle.cdc_follow.specs.Stops.{bytes_followed}
 use Rattle.cdc_follow.specs.Streams.{Diagnostics, NumberedEntry, lines_tell, tells_first}
-use Rattle.cdc_follow.proofs.FoldLemmas.{folds}
+use Rattle.cdc_follow.proofs.FoldLemmas.{followed_keep_a_prefix}
 use Rattle.cdc_follow.proofs.LineLemmas.{lines_of-feed, lines_of-none}
 use Rattle.cdc_follow.proofs.QueueLemmas.{keeps_a_prefix}
 use Rattle.cdc_queues.specs.Lines.{end_line, ended, lines_after, lines_of_queue, message_line, queue_text}
 use Rattle.cdc_queues.proofs.Values.{ends_read, messages_read}
-use Rattle.cdc_queue_laws.specs.Laws.{AreLedgerEvents, HasLinesOf, IsLineOfQueue, QueueTextsAreOfQueues, WhateverArrivesIsAPrefix}
+use Rattle.cdc_queue_laws.specs.Laws.{AreLedgerEvents, HasLinesOf, IsLineOfQueue, QueueTextsAreOfQueues, WhateverArrivesIsAPrefix, WhateverArrivesLaterToo}
 use Rattle.cdc_queue_laws.proofs.EntryLemmas.{chained, end_entry, message_entry}
 
 -- ---- the lines
@@ -117,24 +117,22 @@ among queue all (line ∷ rest) are within = (
   among queue all rest are within.1,
 )
 
--- so are the first ones of numbered entries
-first_ones : (queue : List Event) (before after : List NumberedEntry)
-    → AllByRecursion (IsOfQueue queue) (entries_in (before ++ after)) → AllByRecursion (IsOfQueue queue) (entries_in before)
-first_ones queue [] after are = tt
-first_ones queue (n ∷ before) after are = (are.0, first_ones queue before after are.1)
-
--- a follower of whatever arrives keeps a prefix of the queue
-pub whatever_arrives : WhateverArrivesIsAPrefix
-whatever_arrives binding own events bytes rules are within chains =
+-- a follower that keeps a prefix of the queue keeps one after whatever arrives
+pub arrives_later : WhateverArrivesLaterToo
+arrives_later binding own events rules state bytes are keeps within chains =
     let queue = taken_by binding events in
     let rising : RiseFrom 0 (taken_by binding events) = RiseFrom-filter (takes_event binding) 0 events are.rising in
     let lines = among queue (lines_of (queue_text binding events)) (lines_of bytes)
     (texts_are_of_queues binding events are) within in
-    let told = arrived queue 1 (lines_of bytes) lines in
-    let chained_told : AllByRecursion (IsOfQueue queue) (entries_in (lines_tell rules.chained 1 (lines_of bytes)).entries) =
+    let told : AllByRecursion (IsOfQueue queue) (entries_in (lines_tell rules.chained 1 (lines_of bytes)).entries) =
     subst (λ (b : Bool). AllByRecursion (IsOfQueue queue) (entries_in (lines_tell b 1 (lines_of bytes)).entries))
-    (sym chains) told in
-    let folded = folds own rules.skips_gaps begins (lines_tell rules.chained 1 (lines_of bytes)).entries in
-    let first = first_ones queue folded.before folded.after
-    (subst (λ (ns : List NumberedEntry). AllByRecursion (IsOfQueue queue) (entries_in ns)) folded.whole chained_told) in
-    subst (KeepsPrefix own queue) (sym folded.folds) (keeps_a_prefix own queue (entries_in folded.before) rising first)
+    (sym chains) (arrived queue 1 (lines_of bytes) lines) in
+    followed_keep_a_prefix own rules.skips_gaps queue state (lines_tell rules.chained 1 (lines_of bytes)).entries
+    rising keeps told
+
+-- and so does one that begins, with the empty prefix
+pub whatever_arrives : WhateverArrivesIsAPrefix
+whatever_arrives binding own events rules bytes are within chains =
+    let rising : RiseFrom 0 (taken_by binding events) = RiseFrom-filter (takes_event binding) 0 events are.rising in
+    arrives_later binding own events rules begins bytes are
+    (keeps_a_prefix own (taken_by binding events) [] rising tt) within chains

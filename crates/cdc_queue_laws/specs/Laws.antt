@@ -8,6 +8,7 @@ use Rattle.cdc_match.specs.Arguments.{Arguments}
 use Rattle.cdc_follow.specs.declared.entries.Entry.{Entry}
 use Rattle.cdc_follow.specs.declared.streams.Rules.{Rules}
 use Rattle.cdc_follow.specs.Entries.{line_entry}
+use Rattle.cdc_follow.specs.Following.{FollowState}
 use Rattle.cdc_follow.specs.Laws.{IsOfQueue, KeepsPrefix, begins, taken_by}
 use Rattle.cdc_follow.specs.Lines.{lines_of}
 use Rattle.cdc_follow.specs.Stops.{bytes_followed}
@@ -34,6 +35,13 @@ HasLinesOf text bytes = AllByRecursion (Contains (lines_of text)) (lines_of byte
 -- whatever lines of the text of a queue reach a follower, with a binding of its own: it has applied just those events
 -- of a prefix of the queue that its binding takes, and the prefix is the whole queue once it has received the end
 abbrev pub WhateverArrivesIsAPrefix : Type 0
-WhateverArrivesIsAPrefix = (binding own : Arguments) (events : List Event) (bytes : List ℕ) (rules : Rules)
+WhateverArrivesIsAPrefix = (binding own : Arguments) (events : List Event) (rules : Rules) (bytes : List ℕ)
     → AreLedgerEvents events → HasLinesOf (queue_text binding events) bytes → rules.chained ≡ true
     → KeepsPrefix own (taken_by binding events) (bytes_followed own rules begins bytes).state
+
+-- the same of one that resumes from such a state
+abbrev pub WhateverArrivesLaterToo : Type 0
+WhateverArrivesLaterToo = (binding own : Arguments) (events : List Event) (rules : Rules) (state : FollowState)
+    (bytes : List ℕ) → AreLedgerEvents events → KeepsPrefix own (taken_by binding events) state
+    → HasLinesOf (queue_text binding events) bytes → rules.chained ≡ true
+    → KeepsPrefix own (taken_by binding events) (bytes_followed own rules state bytes).state

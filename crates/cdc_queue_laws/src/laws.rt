@@ -1,6 +1,7 @@
 //! Laws of the lines of queues and of those who follow them. They are the postconditions of functions that do nothing.
 
 ghost use Rattle.cdc_queue_laws.specs.Laws.{QueueTextsAreOfQueues, WhateverArrivesIsAPrefix};
+ghost use Rattle.cdc_queue_laws.specs.Laws.{WhateverArrivesLaterToo};
 
 /// Does nothing. Each line of the text of a queue is an entry of that queue: its event, or the end, with the timestamp
 /// of the event before it.
@@ -9,7 +10,10 @@ pub fn queue_texts_are_of_queues()
 {}
 
 /// Does nothing. Whatever lines of the text of a queue reach a follower, in whatever order, number and choice: it has
-/// applied a prefix of the queue's events, in order and each once, and all of them once it has received the end.
+/// applied a prefix of the queue's events, in order and each once, and all of them once it has received the end. Of
+/// these events it applies those that its own binding takes. The same holds of a follower that resumes from what one
+/// has kept.
 pub fn whatever_arrives_is_a_prefix()
-    ensures { WhateverArrivesIsAPrefix }
+    ensures begins { WhateverArrivesIsAPrefix }
+    ensures resumes { WhateverArrivesLaterToo }
 {}
