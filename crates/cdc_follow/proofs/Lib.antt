@@ -1,0 +1,10 @@
+pub mod EntryLemmas
+mod Examples
+pub mod FoldLemmas
+pub mod LineLemmas
+pub mod OnceLemmas
+pub mod PlainLemmas
+pub mod QueueLemmas
+pub mod ReceivedLemmas
+pub mod StepLemmas
+pub mod StopLemmas

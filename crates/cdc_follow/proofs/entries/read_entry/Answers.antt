@@ -1,0 +1,28 @@
+use Rattle.std.proofs.Common.{◌∙◌, arith, inl, subst, sym, Option, Result, ap}
+use Rattle.cdc_follow.specs.declared.entries.Entry.{Entry}
+use Rattle.cdc_follow.specs.declared.errors.LineError.{LineError}
+use Rattle.cdc_follow.specs.Entries.{value_entry}
+use Rattle.cdc_follow.specs.LineErrors.{GivesUnlessMemory}
+use Rattle.cdc_message.specs.Reading.{value_of}
+use Rattle.cdc_follow.proofs.EntryLemmas.{line-event, line-nothing, line-value}
+use Rattle.cdc_follow.proofs.StopLemmas.{long_entry}
+use Rattle.cdc_follow.proofs.entries.read_entry.Goals as goal
+
+pub returns-then-line-gt-LONGEST_LINE : goal.returns-then-line-gt-LONGEST_LINE
+returns-then-line-gt-LONGEST_LINE c = inl (sym (long_entry c.args.chained c.args.line.now (omega arith)))
+
+pub returns-then-says_nothing : goal.returns-then-says_nothing
+returns-then-says_nothing c =
+    inl (sym (line-nothing c.args.chained c.args.line.now (omega arith) (sym c.if-says_nothing.ensures)))
+
+pub returns-in-Some : goal.returns-in-Some
+returns-in-Some c =
+    inl (sym (line-value c.args.chained c.args.line.now (omega arith) (sym c.if-says_nothing.ensures)
+      ∙ ap (λ chained. value_entry chained (value_of c.args.line.now)) c.if-not-chained.true
+      ∙ line-event c.args.line.now c.in-Some.event c.in-Some.ensures))
+
+pub returns : goal.returns
+returns c =
+    subst (λ (said : Result (Option Entry) LineError). GivesUnlessMemory c.value_entry.result said)
+    (sym (line-value c.args.chained c.args.line.now (omega arith) (sym c.if-says_nothing.ensures)))
+    c.value_entry.ensures

@@ -1,0 +1,59 @@
+-- Following a stream: what is kept in the end, and why following stops.
+use Rattle.std.specs.Prelude.{◌≡◌, ℕ, ◌+◌, List, ◌∷◌, take, Bool, Option, Some, None}
+use Rattle.cdc_match.specs.Arguments.{Arguments}
+use Rattle.cdc_follow.specs.declared.streams.Rules.{Rules}
+use Rattle.cdc_follow.specs.declared.streams.Stop.{Stop}
+use Rattle.cdc_follow.specs.declared.streams.Stop.TheVariants.{AtEnd, Gap, BadLine}
+use Rattle.cdc_follow.specs.Following.{FollowState, Followed, follow}
+use Rattle.cdc_follow.specs.Lines.{lines_of}
+use Rattle.cdc_follow.specs.Streams as streams
+use Rattle.cdc_follow.specs.Streams.{Diagnostics, NumberedEntry, bytes_tell, lines_tell}
+
+-- what is kept, and why following stops
+pub record Stopped : Type 0 where
+  pub state : FollowState
+  pub stop : Stop
+
+-- following stops at the first gap, else at the line that is no entry, else at the end
+abbrev pub stop_at : Option NumberedEntry → Option streams.BadLine → Stop
+stop_at (Some early) bad = Gap early.line early.entry
+stop_at None (Some bad) = BadLine bad.line bad.error
+stop_at None None = AtEnd
+
+abbrev pub stopped : Followed → Option streams.BadLine → Stopped
+stopped done bad = record { state = done.state; stop = stop_at done.gap bad }
+
+-- what a follower makes of what a stream tells
+abbrev pub followed : Arguments → Bool → FollowState → Diagnostics → Stopped
+followed binding skips state told = stopped (follow binding skips state told.entries) told.bad
+
+-- what a follower makes of lines, numbered from this one on
+abbrev pub lines_followed : Arguments → Rules → FollowState → ℕ → List (List ℕ) → Stopped
+lines_followed binding rules state number lines =
+    followed binding rules.skips_gaps state (lines_tell rules.chained number lines)
+
+-- what a follower makes of bytes
+abbrev pub bytes_followed : Arguments → Rules → FollowState → List ℕ → Stopped
+bytes_followed binding rules state bytes = lines_followed binding rules state 1 (lines_of bytes)
+
+-- what is kept is what following makes of some number of the first entries that bytes tell, and of no others
+abbrev pub KeepsFirst : Arguments → Rules → FollowState → List ℕ → FollowState → Type 0
+KeepsFirst binding rules old bytes new = (count : ℕ)
+    × (new ≡ (follow binding rules.skips_gaps old (take count (bytes_tell rules.chained bytes).entries)).state)
+
+-- the line of this number leads from one state to the next, whatever lines come after it; or following stops at it
+abbrev pub LineLeadsTo : Arguments → Rules → ℕ → List ℕ → FollowState → Option Stop → FollowState → Type 0
+LineLeadsTo binding rules number line old None new = (rest : List (List ℕ))
+    → lines_followed binding rules old number (line ∷ rest) ≡ lines_followed binding rules new (number + 1) rest
+LineLeadsTo binding rules number line old (Some stop) new = (rest : List (List ℕ))
+    → lines_followed binding rules old number (line ∷ rest) ≡ record { state = new; stop = stop }
+
+-- the first line of bytes, which has this number, leads from one state to the next, and is taken off; or following
+-- stops
+abbrev pub StepLeadsTo : Arguments → Rules → ℕ → FollowState → List ℕ → Option Stop → FollowState → Option (List ℕ)
+    → Type 0
+StepLeadsTo binding rules number old bytes None new left =
+    (line : List ℕ) × (rest : List ℕ) × (left ≡ Some rest) × (lines_of bytes ≡ line ∷ lines_of rest)
+    × LineLeadsTo binding rules number line old None new
+StepLeadsTo binding rules number old bytes (Some stop) new left =
+    lines_followed binding rules old number (lines_of bytes) ≡ record { state = new; stop = stop }

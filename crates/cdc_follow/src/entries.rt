@@ -1,0 +1,157 @@
+//! What a line of a stream says.
+
+ghost use Rattle.std.specs.Prelude.{◌≡◌, codes};
+ghost use Rattle.std.specs.List.{list_all};
+ghost use Rattle.serde_json.specs.Find.{get};
+ghost use Rattle.serde_json.specs.View.{view};
+ghost use Rattle.cdc_message.specs.Reading.{value_of, whole_number};
+ghost use Rattle.cdc_follow.specs.Entries as spec;
+ghost use Rattle.cdc_follow.specs.LineErrors.{GivesUnlessMemory};
+
+use crate::errors::LineError;
+use cdc_message::{DecodeError, decimal_up_to, event_of, is_decimal, own_event};
+use cdc_types::Event;
+use serde_json::Value;
+use std::alloc::Global;
+
+/// The bytes of a line, at most, without its line feed.
+pub const LONGEST_LINE: usize = 65_536;
+
+/// What an entry carries.
+#[derive(Clone, Copy, Debug, PartialEq, Eq)]
+pub enum Content {
+    /// An event.
+    Event(Event),
+    /// The end-of-stream marker: no further event follows.
+    End,
+}
+
+/// An entry of a stream.
+#[derive(Clone, Copy, Debug, PartialEq, Eq)]
+pub struct Entry {
+    /// What it carries.
+    pub content: Content,
+    /// The timestamp of the event before it in its queue, 0 before the first; `None` in a stream that isn't chained.
+    pub previous: Option<u64>,
+}
+
+// The number that a decimal string or a JSON number gives.
+fn number_of(value: &Value) -> Result<u64, LineError>
+    ensures { result ≡ spec.up_to_64 (whole_number (view value.now)) }
+{
+    if let Some(text) = value.as_str() {
+        let digits = text.as_bytes();
+        if !is_decimal(digits) {
+            return Err(LineError::PreviousWrongType);
+        }
+        return match decimal_up_to(digits, u128::from(u64::MAX)) {
+            Some(number) => Ok(number as u64),
+            None => Err(LineError::PreviousOutOfRange),
+        };
+    }
+    value.as_u64().ok_or(LineError::PreviousWrongType)
+}
+
+// The timestamp of the event before, in a chained stream.
+fn previous_of(value: &Value, chained: bool) -> Result<Option<u64>, LineError>
+    ensures { result ≡ spec.previous_of chained (view value.now) }
+{
+    if !chained {
+        return Ok(None);
+    }
+    match value.get("previous") {
+        Some(previous) => Ok(Some(number_of(previous)?)),
+        None => Err(LineError::PreviousMissing),
+    }
+}
+
+// Whether a value says that the stream ends.
+fn is_end(value: &Value) -> bool
+    ensures { result ≡ spec.is_true (get (codes "end") (view value.now)) }
+{
+    match value.get("end") {
+        Some(end) => end.as_bool() == Some(true),
+        None => false,
+    }
+}
+
+// The event of a body or an envelope, or the end.
+fn content_of(value: &Value) -> Result<Content, LineError>
+    ensures { result ≡ spec.content_of (view value.now) }
+{
+    let error = match event_of(value) {
+        Ok(event) => return Ok(Content::Event(event)),
+        Err(error) => error,
+    };
+    if let Some(body) = value.get("body") {
+        return Ok(Content::Event(event_of(body)?));
+    }
+    if is_end(value) {
+        Ok(Content::End)
+    } else {
+        Err(LineError::from(error))
+    }
+}
+
+// What a value says.
+fn entry_of(value: &Value, chained: bool) -> Result<Entry, LineError>
+    ensures { result ≡ spec.entry_of chained (view value.now) }
+{
+    let content = content_of(value)?;
+    let previous = previous_of(value, chained)?;
+    Ok(Entry { content, previous })
+}
+
+// Whether a byte is white space within a line.
+fn is_space(byte: u8) -> bool
+    ensures { result ≡ spec.is_space byte }
+{
+    byte == b' ' || byte == b'\t' || byte == b'\r'
+}
+
+// Whether a line has white space alone.
+fn is_blank(line: &[u8]) -> bool
+    ensures { result ≡ list_all spec.is_space line.now }
+{
+    line.iter().all(|byte| is_space(*byte))
+}
+
+// Whether a line says nothing.
+fn says_nothing(line: &[u8]) -> bool
+    ensures { result ≡ spec.says_nothing line.now }
+{
+    is_blank(line) || line.starts_with(b"event_type=")
+}
+
+// What a JSON text says.
+fn value_entry(alloc: Global, line: &[u8], chained: bool) -> Result<Option<Entry>, LineError>
+    ensures { GivesUnlessMemory result (spec.value_entry chained (value_of line.now)) }
+{
+    match Value::from_slice(alloc, line) {
+        Ok(value) => Ok(Some(entry_of(&value, chained)?)),
+        Err(error) if error.is_memory() => Err(LineError::OutOfMemory),
+        Err(_) => Err(LineError::Decode(DecodeError::NotJson)),
+    }
+}
+
+/// What a line says, if it says anything: an event, by its body or by an envelope round that, or the end. In a chained
+/// stream each entry has to say what came before it in its queue.
+pub fn read_entry(alloc: Global, line: &[u8], chained: bool) -> Result<Option<Entry>, LineError>
+    ensures { GivesUnlessMemory result (spec.line_entry chained line.now) }
+{
+    if line.len() > LONGEST_LINE {
+        return Err(LineError::TooLong);
+    }
+    if says_nothing(line) {
+        return Ok(None);
+    }
+    if !chained {
+        if let Some(event) = own_event(line) {
+            return Ok(Some(Entry {
+                content: Content::Event(event),
+                previous: None,
+            }));
+        }
+    }
+    value_entry(alloc, line, chained)
+}

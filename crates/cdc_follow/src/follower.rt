@@ -1,0 +1,147 @@
+//! A follower: it applies each event of a stream once, and reports a gap.
+
+ghost use Rattle.cdc_subscriber.specs.Answers.{listens};
+ghost use Rattle.std.specs.Prelude.{◌≡◌, true, OnOk, OnErr, IfOk};
+ghost use Rattle.cdc_follow.specs.Following.{comes_early as early, content_outcome, end_outcome, next_follow, outcome_of, state_by};
+
+use crate::entries::{Content, Entry};
+use cdc_match::Binding;
+use cdc_message::headers_of;
+use cdc_subscriber::Subscriber;
+use cdc_types::Event;
+use std::alloc::AllocError;
+use std::marker::Model;
+
+/// What became of an entry.
+#[derive(Clone, Copy, Debug, PartialEq, Eq)]
+pub enum Following {
+    /// The event is applied.
+    Applied,
+    /// The event is new, but the binding doesn't take it.
+    PassedBy,
+    /// Nothing changes: the event isn't later than the last one seen, or the end was received before.
+    Duplicate,
+    /// Nothing changes: the entry's predecessor is later than the last event seen, so events are missing before it.
+    Gap,
+    /// The end is received: no further event follows.
+    Ended,
+}
+
+/// A follower: a subscriber, and the timestamp of the last event seen. In a chained stream this is the last one that was
+/// applied or passed by, in any other one the last one applied.
+pub struct Follower {
+    subscriber: Subscriber,
+    seen: u64,
+}
+
+impl Drop for Follower {
+    fn drop(self) {
+        let Follower {
+            subscriber: _,
+            seen: _,
+        } = self;
+    }
+}
+
+impl Model for Follower {
+    ghost use Rattle.cdc_follow.specs.Following.{FollowState};
+
+    ghost Value = { FollowState };
+
+    ghost view = { λ f. record { kept = f.subscriber; seen = f.seen } };
+}
+
+impl Follower {
+    /// A follower with this subscriber that has seen the events up to this timestamp.
+    pub fn new(subscriber: Subscriber, seen: u64) -> Follower
+        ensures { result ≡ record { kept = subscriber; seen = seen } }
+    {
+        Follower { subscriber, seen }
+    }
+
+    /// Takes an entry. The one error is that memory ran out, and then nothing changes.
+    pub fn take(&mut self, binding: &Binding, entry: &Entry) -> Result<Following, AllocError>
+        ensures answer { IfOk result (λ answer. answer ≡ outcome_of binding.now self.old entry.now) }
+        ensures state { OnOk result (self.new ≡ next_follow binding.now self.old entry.now) }
+        ensures err { OnErr result (self.new ≡ self.old) }
+    {
+        if self.subscriber.ended() || self.subscriber.closed() {
+            return Ok(Following::Duplicate);
+        }
+        match &entry.content {
+            Content::Event(event) => self.take_event(binding, event, entry.previous),
+            Content::End => Ok(self.take_end(entry.previous)),
+        }
+    }
+
+    /// The subscriber, with its book.
+    pub fn subscriber(&self) -> &Subscriber
+        ensures { result.now ≡ self.now.kept }
+    {
+        &self.subscriber
+    }
+
+    /// The timestamp of the last event seen.
+    pub fn seen(&self) -> u64
+        ensures { result ≡ self.now.seen }
+    {
+        self.seen
+    }
+
+    /// Takes an event of an open stream.
+    fn take_event(
+        &mut self,
+        binding: &Binding,
+        event: &Event,
+        previous: Option<u64>,
+    ) -> Result<Following, AllocError>
+        requires { listens self.old.kept ≡ true }
+        ensures answer { IfOk result (λ answer. answer
+            ≡ content_outcome binding.now self.old.seen previous (Content.Event event.now)) }
+        ensures state { OnOk result (self.new ≡ state_by
+            (content_outcome binding.now self.old.seen previous (Content.Event event.now))
+            self.old previous (Content.Event event.now)) }
+        ensures err { OnErr result (self.new ≡ self.old) }
+    {
+        if event.timestamp <= self.seen {
+            return Ok(Following::Duplicate);
+        }
+        if comes_early(self.seen, previous) {
+            return Ok(Following::Gap);
+        }
+        if !binding.matches(&headers_of(event)) {
+            if previous.is_some() {
+                self.seen = event.timestamp;
+            }
+            return Ok(Following::PassedBy);
+        }
+        if self.subscriber.take_event(event).is_err() {
+            return Err(AllocError);
+        }
+        self.seen = event.timestamp;
+        Ok(Following::Applied)
+    }
+
+    /// Takes the end of an open stream.
+    fn take_end(&mut self, previous: Option<u64>) -> Following
+        requires { listens self.old.kept ≡ true }
+        ensures answer { result ≡ end_outcome self.old.seen previous }
+        ensures state { self.new ≡ state_by (end_outcome self.old.seen previous) self.old previous Content.End }
+    {
+        if comes_early(self.seen, previous) {
+            return Following::Gap;
+        }
+        let _taking = self.subscriber.take_end();
+        Following::Ended
+    }
+}
+
+/// Whether an entry's predecessor, if it names one, is later than the last event seen.
+fn comes_early(seen: u64, previous: Option<u64>) -> bool
+    ensures { result ≡ early seen previous }
+{
+    match previous {
+        Some(previous) => seen < previous,
+        None => false,
+    }
+}

@@ -1,0 +1,15 @@
+//! A consumer of any stream of messages: it reads lines, applies each event once, and keeps a book.
+#![tactic(auto)]
+
+pub mod entries;
+pub mod errors;
+pub mod follower;
+pub mod laws;
+pub mod lines;
+pub mod streams;
+
+pub use entries::{Content, Entry, read_entry};
+pub use errors::LineError;
+pub use follower::{Follower, Following};
+pub use lines::{ReadError, read_line};
+pub use streams::{FollowError, Rules, Stop, follow, follow_line};

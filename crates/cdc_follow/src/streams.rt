@@ -1,0 +1,157 @@
+//! Following a reader: its lines one after another, up to a gap, a line that is no entry, or the end.
+
+ghost use Rattle.std.specs.Prelude.{◌≡◌, ◌≢◌, ◌&&◌, not, Some, IfOk, IfSome, OnErr};
+ghost use Rattle.cdc_follow.specs.Following.{is_gap as is_behind_gap};
+ghost use Rattle.cdc_follow.specs.Stops.{KeepsFirst, LineLeadsTo, StepLeadsTo, bytes_followed};
+
+use crate::entries::{Entry, read_entry};
+use crate::errors::LineError;
+use crate::follower::{Follower, Following};
+use crate::lines::{ReadError, read_line};
+use cdc_match::Binding;
+use std::alloc::{AllocError, Global};
+use std::io;
+use std::io::{BufRead, ErrorKind};
+use thiserror::Error;
+
+/// How a stream is read and followed.
+#[derive(Clone, Copy, Debug, PartialEq, Eq)]
+pub struct Rules {
+    /// Each entry has to name its predecessor.
+    pub chained: bool,
+    /// An entry that comes too early is skipped; otherwise following stops at it.
+    pub skips_gaps: bool,
+}
+
+/// Why following stops.
+#[derive(Clone, Copy, Debug, PartialEq, Eq)]
+pub enum Stop {
+    /// The reader has no more lines.
+    AtEnd,
+    /// The line of this number has this entry, which comes too early: events are missing before it.
+    Gap(u64, Entry),
+    /// The line of this number is no entry, for this reason.
+    BadLine(u64, LineError),
+}
+
+/// Why following failed.
+#[derive(Debug, Drop, Error)]
+pub enum FollowError {
+    /// The reader failed.
+    #[error("{0}")]
+    Read(io::Error),
+    /// Memory ran out.
+    #[error("out of memory")]
+    OutOfMemory,
+}
+
+impl From<AllocError> for FollowError {
+    ghost use Rattle.std.specs.Prelude.{◌≡◌};
+    ghost use Rattle.cdc_follow.specs.declared.streams.FollowError.TheVariants.{OutOfMemory};
+
+    ghost from_gives = { λ _ e. e ≡ OutOfMemory };
+
+    fn from(_error: AllocError) -> FollowError {
+        FollowError::OutOfMemory
+    }
+}
+
+// Whether an entry came too early.
+fn is_gap(following: Following) -> bool
+    ensures { result ≡ is_behind_gap following }
+{
+    match following {
+        Following::Gap => true,
+        Following::Applied | Following::PassedBy | Following::Duplicate | Following::Ended => false,
+    }
+}
+
+// Whether following stops at an entry of which this became.
+fn stops_at(following: Following, rules: Rules) -> bool
+    ensures { result ≡ (is_behind_gap following && not rules.skips_gaps) }
+{
+    is_gap(following) && !rules.skips_gaps
+}
+
+// Stops at the line of this number, which isn't read for this reason.
+fn stop_at_line(number: u64, error: LineError) -> Result<Option<Stop>, FollowError>
+    ensures { IfOk result (λ stop. (stop ≡ Some (Stop.BadLine number error)) × (error ≢ LineError.OutOfMemory)) }
+{
+    match error {
+        LineError::OutOfMemory => Err(FollowError::OutOfMemory),
+        _ => Ok(Some(Stop::BadLine(number, error))),
+    }
+}
+
+// Follows the line of this number. `None`: what comes after it is to be followed too.
+fn follow_bytes(
+    alloc: Global,
+    line: &[u8],
+    number: u64,
+    binding: &Binding,
+    rules: Rules,
+    follower: &mut Follower,
+) -> Result<Option<Stop>, FollowError>
+    ensures leads { IfOk result (λ stop.
+        LineLeadsTo binding.now rules number line.now follower.old stop follower.new) }
+    ensures err { OnErr result (follower.new ≡ follower.old) }
+{
+    let entry = match read_entry(alloc, line, rules.chained) {
+        Ok(Some(entry)) => entry,
+        Ok(None) => return Ok(None),
+        Err(error) => return stop_at_line(number, error),
+    };
+    let following = follower.take(binding, &entry)?;
+    if stops_at(following, rules) {
+        return Ok(Some(Stop::Gap(number, entry)));
+    }
+    Ok(None)
+}
+
+/// Reads the line of this number into the buffer and follows it. `None`: the lines after it are to be followed too.
+/// After an error the follower is as it was.
+pub fn follow_line<B: BufRead>(
+    alloc: Global,
+    reader: &mut B,
+    line: &mut Vec<u8>,
+    number: u64,
+    binding: &Binding,
+    rules: Rules,
+    follower: &mut Follower,
+) -> Result<Option<Stop>, FollowError>
+    ensures leads { IfOk result (λ stop. IfSome (B.remaining reader.old) (λ bytes. StepLeadsTo binding.now rules number
+        follower.old bytes stop follower.new (B.remaining reader.new))) }
+    ensures err { OnErr result (follower.new ≡ follower.old) }
+{
+    match read_line(reader, line) {
+        Ok(true) => follow_bytes(alloc, line, number, binding, rules, follower),
+        Ok(false) => Ok(Some(Stop::AtEnd)),
+        Err(ReadError::TooLong) => Ok(Some(Stop::BadLine(number, LineError::TooLong))),
+        Err(ReadError::Read(error)) => Err(FollowError::Read(error)),
+        Err(ReadError::OutOfMemory) => Err(FollowError::OutOfMemory),
+    }
+}
+
+/// Follows the lines of a reader, numbered from 1. After an error the follower keeps what some number of the first
+/// entries make; an entry is never half taken.
+pub fn follow<B: BufRead>(
+    alloc: Global,
+    reader: &mut B,
+    binding: &Binding,
+    rules: Rules,
+    follower: &mut Follower,
+) -> Result<Stop, FollowError>
+    ensures stops { IfOk result (λ stop. IfSome (B.remaining reader.old) (λ bytes.
+        bytes_followed binding.now rules follower.old bytes ≡ record { state = follower.new; stop = stop })) }
+    ensures err { OnErr result (IfSome (B.remaining reader.old) (λ bytes.
+        KeepsFirst binding.now rules follower.old bytes follower.new)) }
+{
+    let mut line = Vec::new(alloc);
+    for number in 1..u64::MAX {
+        let next = follow_line(alloc, reader, &mut line, number, binding, rules, follower)?;
+        if let Some(stop) = next {
+            return Ok(stop);
+        }
+    }
+    Err(FollowError::Read(io::Error::from(ErrorKind::Other)))
+}
