@@ -13,9 +13,11 @@ use Rattle.cdc_subscriber.specs.declared.book.BookEntry.{BookEntry}
 use Rattle.cdc_subscriber.specs.Book.{are_distinct, ids_of, is_among}
 use Rattle.cdc_subscriber.specs.Lines.{account_line, spaced}
 use Rattle.cdc_subscriber.proofs.BookLemmas.{eqb_swap, neither}
+use Rattle.cdc_subscriber.specs.SubscriberState.{SubscriberState}
+use Rattle.cdc_follow.specs.declared.saved.Front.{Front}
 use Rattle.cdc_follow.specs.Following.{FollowState}
 use Rattle.cdc_follow.specs.Saved.{AreBook, CanBeSaved, EntryFits, book_text, heading}
-use Rattle.cdc_follow.specs.SavedParts.{FrontParts, Part, account_at, digits_at, flag_at, front_at, number_at, small}
+use Rattle.cdc_follow.specs.SavedParts.{FrontParts, IsFront, Part, account_at, digits_at, flag_at, front_at, number_at, small}
 
 both_left : (a b : Bool) → (a && b) ≡ true → a ≡ true
 both_left true b is = refl
@@ -234,6 +236,17 @@ not_true : (b : Bool) → not b ≡ true → b ≡ false
 not_true true is = sym is
 not_true false is = refl
 
+-- text is left, or not
+pub some_left : (rest : List ℕ) (empty : Bool) → empty ≡ (length rest == 0) → empty ≡ false → rest ≢ []
+some_left [] empty is more = λ none. false≢true (sym more ∙ is)
+some_left (b ∷ rest) empty is more = λ none. cc
+
+pub none_left : (rest : List ℕ) (empty : Bool) → empty ≡ (length rest == 0) → empty ≡ true → rest ≡ []
+none_left [] empty is end = refl
+none_left (b ∷ rest) empty is end =
+    let some : not (length (b ∷ rest) == 0) ≡ true = grind arith in
+    absurd (false≢true (ap (λ t. not t) (sym end ∙ is) ∙ some))
+
 -- an account that comes later isn't in the book yet
 not_yet : (book left : List BookEntry) (entry : BookEntry) → are_distinct (ids_of (book ++ entry ∷ left)) ≡ true
     → is_among entry.id (ids_of book) ≡ false
@@ -305,6 +318,19 @@ follower_of parts book = record {
   };
   seen = parts.seen;
 }
+
+-- a follower that is made of the parts
+pub restores : (parts : FrontParts) (front : Front) (book : List BookEntry) (kept : SubscriberState)
+    (follower : FollowState) → IsFront parts front
+    → kept ≡ record {
+      book = book;
+      last = front.last;
+      applied = front.applied;
+      ended = front.ended;
+      closed = front.closed;
+    }
+    → follower ≡ record { kept = kept; seen = front.seen } → follower ≡ follower_of parts book
+restores parts front book kept follower is keeps has = cc
 
 -- what was saved is what is read
 pub record IsSaved (parts : FrontParts) (book : List BookEntry) (chained : Bool) (state : FollowState) : Type 0 where
