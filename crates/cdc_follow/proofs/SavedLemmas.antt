@@ -16,8 +16,8 @@ use Rattle.cdc_subscriber.proofs.BookLemmas.{eqb_swap, neither}
 use Rattle.cdc_subscriber.specs.SubscriberState.{SubscriberState}
 use Rattle.cdc_follow.specs.declared.saved.Front.{Front}
 use Rattle.cdc_follow.specs.Following.{FollowState}
-use Rattle.cdc_follow.specs.Saved.{AreBook, CanBeSaved, EntryFits, book_text, heading}
-use Rattle.cdc_follow.specs.SavedParts.{FrontParts, IsFront, Part, account_at, digits_at, flag_at, front_at, number_at, small}
+use Rattle.cdc_follow.specs.Saved.{AreBook, CanBeSaved, EntryFits, book_text, heading, is_in_line}
+use Rattle.cdc_follow.specs.SavedParts.{FrontParts, IsFront, Part, account_at, flag_at, front_at, line_at, number_at, small}
 
 both_left : (a b : Bool) → (a && b) ≡ true → a ≡ true
 both_left true b is = refl
@@ -88,6 +88,16 @@ unfolding flag_at
 flag_first true rest = refl
 flag_first false rest = refl
 
+-- ---- the binding
+
+line_first : (line rest : List ℕ) → list_all is_in_line line ≡ true → line_at (line ++ 10 ∷ rest) ≡ part line (10 ∷ rest)
+unfolding line_at
+line_first line rest all =
+    let text : List ℕ = line ++ 10 ∷ rest in
+    let len : prefix_len is_in_line text ≡ length line = prefix_end is_in_line line 10 rest all refl in
+    same_part _ _ _ _ (ap (λ k. take k text) len ∙ take-append_seam line (10 ∷ rest))
+    (ap (λ k. drop k text) len ∙ drop-append_seam line (10 ∷ rest))
+
 -- ---- the line of an account
 
 -- the line with what follows it, number by number
@@ -137,74 +147,84 @@ account_first entry rest fits =
 -- ---- what precedes the accounts
 
 -- a book's text, part by part
-abbrev text_from : Bool → FollowState → List ℕ → List ℕ
-text_from chained state lines =
+abbrev text_from : Bool → List ℕ → FollowState → List ℕ → List ℕ
+text_from chained binding state lines =
     codes "book 1 chained" ++ (word_of chained ++ (codes " seen" ++ (spaced state.seen
-    ++ (codes "\nsubscriber" ++ (spaced 1 ++ (codes " applied" ++ (spaced state.kept.applied
-    ++ (codes " last" ++ (spaced state.kept.last ++ (codes " ended" ++ (word_of state.kept.ended
-    ++ (codes " closed" ++ (word_of state.kept.closed ++ 10 ∷ lines)))))))))))))
+    ++ (codes "\nbinding " ++ (binding ++ (codes "\nsubscriber" ++ (spaced 1
+    ++ (codes " applied" ++ (spaced state.kept.applied ++ (codes " last" ++ (spaced state.kept.last
+    ++ (codes " ended" ++ (word_of state.kept.ended
+    ++ (codes " closed" ++ (word_of state.kept.closed ++ 10 ∷ lines)))))))))))))))
 
 -- four texts, the first two of which belong together
 regroup : (a b c d : List ℕ) → ((a ++ b) ++ c) ++ d ≡ a ++ (b ++ (c ++ d))
 regroup a b c d = append_assoc (a ++ b) c d ∙ append_assoc a b (c ++ d)
 
 -- the text of a book is such a text
-book_text-parts : (chained : Bool) (state : FollowState)
-    → book_text chained state ≡ text_from chained state (flat_map account_line state.kept.book)
+book_text-parts : (chained : Bool) (binding : List ℕ) (state : FollowState)
+    → book_text chained binding state ≡ text_from chained binding state (flat_map account_line state.kept.book)
 unfolding book_text heading
-book_text-parts chained state =
+book_text-parts chained binding state =
     let kept = state.kept in
     let lines = flat_map account_line kept.book in
     let y0 = word_of chained in
     let y1 = word_of kept.ended in
     let y2 = word_of kept.closed in
     let end = codes "\n" in
+    let b = codes "\nbinding " in
     let r4 = (codes " closed" ++ y2) ++ end in
     let r3 = (codes " ended" ++ y1) ++ r4 in
     let r2 = (codes " last" ++ spaced kept.last) ++ r3 in
     let r1 = (codes " applied" ++ spaced kept.applied) ++ r2 in
     let l = ((codes "subscriber" ++ spaced 1) ++ r1) ++ lines in
-    regroup (codes "book 1 chained") y0 ((codes " seen" ++ spaced state.seen) ++ end) l
-    ∙ ap (λ t. codes "book 1 chained" ++ (y0 ++ t)) (regroup (codes " seen") (spaced state.seen) end l
-      ∙ ap (λ t. codes " seen" ++ (spaced state.seen ++ (end ++ t))) (regroup (codes "subscriber") (spaced 1) r1 lines
-        ∙ ap (λ t. codes "subscriber" ++ (spaced 1 ++ t)) (regroup (codes " applied") (spaced kept.applied) r2 lines
-          ∙ ap (λ t. codes " applied" ++ (spaced kept.applied ++ t)) (regroup (codes " last") (spaced kept.last) r3 lines
-            ∙ ap (λ t. codes " last" ++ (spaced kept.last ++ t)) (regroup (codes " ended") y1 r4 lines
-              ∙ ap (λ t. codes " ended" ++ (y1 ++ t)) (regroup (codes " closed") y2 end lines))))))
+    regroup (codes "book 1 chained") y0 ((codes " seen" ++ spaced state.seen) ++ (b ++ (binding ++ end))) l
+    ∙ ap (λ t. codes "book 1 chained" ++ (y0 ++ t)) (regroup (codes " seen") (spaced state.seen) (b ++ (binding ++ end)) l
+      ∙ ap (λ t. codes " seen" ++ (spaced state.seen ++ (b ++ t))) (append_assoc binding end l
+        ∙ ap (λ t. binding ++ (end ++ t)) (regroup (codes "subscriber") (spaced 1) r1 lines
+          ∙ ap (λ t. codes "subscriber" ++ (spaced 1 ++ t)) (regroup (codes " applied") (spaced kept.applied) r2 lines
+            ∙ ap (λ t. codes " applied" ++ (spaced kept.applied ++ t)) (regroup (codes " last") (spaced kept.last) r3 lines
+              ∙ ap (λ t. codes " last" ++ (spaced kept.last ++ t)) (regroup (codes " ended") y1 r4 lines
+                ∙ ap (λ t. codes " ended" ++ (y1 ++ t)) (regroup (codes " closed") y2 end lines)))))))
+
+-- what a follower's text is read as
+abbrev parts_of : Bool → List ℕ → FollowState → List ℕ → FrontParts
+parts_of chained binding state lines = record {
+  chained = chained;
+  seen = state.seen;
+  binding = binding;
+  applied = state.kept.applied;
+  last = state.kept.last;
+  ended = state.kept.ended;
+  closed = state.kept.closed;
+  accounts = lines;
+}
 
 -- what precedes the accounts is read back
-front_first : (chained : Bool) (state : FollowState) (lines : List ℕ) → CanBeSaved state
-    → front_at (text_from chained state lines) ≡ record {
-      chained = chained;
-      seen = state.seen;
-      applied = state.kept.applied;
-      last = state.kept.last;
-      ended = state.kept.ended;
-      closed = state.kept.closed;
-      accounts = lines;
-    }
+front_first : (chained : Bool) (binding : List ℕ) (state : FollowState) (lines : List ℕ) → CanBeSaved binding state
+    → front_at (text_from chained binding state lines) ≡ parts_of chained binding state lines
 unfolding front_at
-front_first chained state lines fits =
+front_first chained binding state lines fits =
     let kept = state.kept in
-    let t7 = 10 ∷ lines in
-    let t6 = codes " closed" ++ (word_of kept.closed ++ t7) in
-    let t5 = codes " ended" ++ (word_of kept.ended ++ t6) in
-    let t4 = codes " last" ++ (spaced kept.last ++ t5) in
-    let t3 = codes " applied" ++ (spaced kept.applied ++ t4) in
-    let t2 = codes "\nsubscriber" ++ (spaced 1 ++ t3) in
+    let t8 = 10 ∷ lines in
+    let t7 = codes " closed" ++ (word_of kept.closed ++ t8) in
+    let t6 = codes " ended" ++ (word_of kept.ended ++ t7) in
+    let t5 = codes " last" ++ (spaced kept.last ++ t6) in
+    let t4 = codes " applied" ++ (spaced kept.applied ++ t5) in
+    let t3 = codes "\nsubscriber" ++ (spaced 1 ++ t4) in
+    let t2 = codes "\nbinding " ++ (binding ++ t3) in
     let t1 = codes " seen" ++ (spaced state.seen ++ t2) in
     let wide : (n : ℕ) → n < 2 ^ 64 → n < 2 ^ 128 = λ n h. omega (arith, h) in
     let f1 = flag_first chained t1 in
     let n1 : number_at (spaced state.seen ++ t2) ≡ part state.seen t2 =
       number_first state.seen 10 (drop 1 t2) (wide _ fits.seen) refl in
-    let n2 : number_at (spaced 1 ++ t3) ≡ part 1 t3 = number_first 1 32 (drop 1 t3) (omega arith) refl in
-    let n3 : number_at (spaced kept.applied ++ t4) ≡ part kept.applied t4 =
-      number_first kept.applied 32 (drop 1 t4) (wide _ fits.applied) refl in
-    let n4 : number_at (spaced kept.last ++ t5) ≡ part kept.last t5 =
-      number_first kept.last 32 (drop 1 t5) (wide _ fits.last) refl in
-    let f2 = flag_first kept.ended t6 in
-    let f3 = flag_first kept.closed t7 in
-    rw (f1, n1, n2, n3, n4, f2, f3, small_is state.seen fits.seen, small_is kept.applied fits.applied,
+    let b : line_at (binding ++ t3) ≡ part binding t3 = line_first binding (drop 1 t3) fits.line in
+    let n2 : number_at (spaced 1 ++ t4) ≡ part 1 t4 = number_first 1 32 (drop 1 t4) (omega arith) refl in
+    let n3 : number_at (spaced kept.applied ++ t5) ≡ part kept.applied t5 =
+      number_first kept.applied 32 (drop 1 t5) (wide _ fits.applied) refl in
+    let n4 : number_at (spaced kept.last ++ t6) ≡ part kept.last t6 =
+      number_first kept.last 32 (drop 1 t6) (wide _ fits.last) refl in
+    let f2 = flag_first kept.ended t7 in
+    let f3 = flag_first kept.closed t8 in
+    rw (f1, n1, b, n2, n3, n4, f2, f3, small_is state.seen fits.seen, small_is kept.applied fits.applied,
       small_is kept.last fits.last) refl
 
 -- ---- the accounts, one line after another
@@ -333,29 +353,25 @@ pub restores : (parts : FrontParts) (front : Front) (book : List BookEntry) (kep
 restores parts front book kept follower is keeps has = cc
 
 -- what was saved is what is read
-pub record IsSaved (parts : FrontParts) (book : List BookEntry) (chained : Bool) (state : FollowState) : Type 0 where
+pub record IsSaved (parts : FrontParts) (book : List BookEntry) (chained : Bool) (binding : List ℕ)
+    (state : FollowState) : Type 0 where
   pub chained_is : parts.chained ≡ chained
+  pub binding_is : parts.binding ≡ binding
   pub state_is : follower_of parts book ≡ state
 
-pub reads_back : (text : List ℕ) (book : List BookEntry) (chained : Bool) (state : FollowState)
+pub reads_back : (text : List ℕ) (book : List BookEntry) (chained : Bool) (binding : List ℕ) (state : FollowState)
     → ((entries : List BookEntry) → AreBook entries → (front_at text).accounts ≡ flat_map account_line entries
     → book ≡ entries)
-    → CanBeSaved state → text ≡ book_text chained state → IsSaved (front_at text) book chained state
-reads_back text book chained state reads fits is =
+    → CanBeSaved binding state → text ≡ book_text chained binding state
+    → IsSaved (front_at text) book chained binding state
+reads_back text book chained binding state reads fits is =
     let lines = flat_map account_line state.kept.book in
-    let parts : FrontParts = record {
-      chained = chained;
-      seen = state.seen;
-      applied = state.kept.applied;
-      last = state.kept.last;
-      ended = state.kept.ended;
-      closed = state.kept.closed;
-      accounts = lines;
-    } in
+    let parts = parts_of chained binding state lines in
     let front : front_at text ≡ parts =
-      ap front_at (is ∙ book_text-parts chained state) ∙ front_first chained state lines fits in
+      ap front_at (is ∙ book_text-parts chained binding state) ∙ front_first chained binding state lines fits in
     let same : book ≡ state.kept.book = reads state.kept.book fits.book (ap (λ (p : FrontParts). p.accounts) front) in
     record {
       chained_is = ap (λ (p : FrontParts). p.chained) front;
+      binding_is = ap (λ (p : FrontParts). p.binding) front;
       state_is = ap (λ (p : FrontParts). follower_of p book) front ∙ ap (follower_of parts) same;
     }

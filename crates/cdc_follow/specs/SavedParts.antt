@@ -6,6 +6,7 @@ use Rattle.cdc_types.specs.Widths.{max_64, max_128}
 use Rattle.cdc_message.specs.Decimals.{decimal_up_to}
 use Rattle.cdc_subscriber.specs.declared.book.BookEntry.{BookEntry}
 use Rattle.cdc_follow.specs.declared.saved.Front.{Front}
+use Rattle.cdc_follow.specs.Saved.{is_in_line}
 
 -- what was read, and the bytes after it
 pub record Part (T : Type 0) : Type 0 where
@@ -33,6 +34,13 @@ flag_at text =
     if starts_with nat_eq text (codes " yes") then record { value = true; rest = drop 4 text }
     else record { value = false; rest = drop 3 text }
 
+-- the bytes before the first line feed
+unfoldable pub line_at : List ℕ → Part (List ℕ)
+line_at text = record {
+  value = take (prefix_len is_in_line text) text;
+  rest = drop (prefix_len is_in_line text) text;
+}
+
 -- the line of an account
 unfoldable pub account_at : List ℕ → Part BookEntry
 account_at text =
@@ -58,6 +66,7 @@ account_at text =
 pub record FrontParts : Type 0 where
   pub chained : Bool
   pub seen : ℕ
+  pub binding : List ℕ
   pub applied : ℕ
   pub last : ℕ
   pub ended : Bool
@@ -69,7 +78,8 @@ unfoldable pub front_at : List ℕ → FrontParts
 front_at text =
     let chained = flag_at (drop 14 text) in
     let seen = number_at (drop 5 chained.rest) in
-    let number = number_at (drop 11 seen.rest) in
+    let binding = line_at (drop 9 seen.rest) in
+    let number = number_at (drop 11 binding.rest) in
     let applied = number_at (drop 8 number.rest) in
     let last = number_at (drop 5 applied.rest) in
     let ended = flag_at (drop 6 last.rest) in
@@ -77,6 +87,7 @@ front_at text =
     record {
       chained = chained.value;
       seen = small seen.value;
+      binding = binding.value;
       applied = small applied.value;
       last = small last.value;
       ended = ended.value;
@@ -88,6 +99,7 @@ front_at text =
 pub record IsFront (parts : FrontParts) (front : Front) : Type 0 where
   pub chained : front.chained ≡ parts.chained
   pub seen : front.seen ≡ parts.seen
+  pub binding : front.binding.now ≡ parts.binding
   pub applied : front.applied ≡ parts.applied
   pub last : front.last ≡ parts.last
   pub ended : front.ended ≡ parts.ended

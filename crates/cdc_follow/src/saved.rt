@@ -1,13 +1,13 @@
 //! The text of a saved book, and how it is read back.
 
-ghost use Rattle.std.specs.Prelude.{◌≡◌, ◌↔◌, ◌≤◌, ◌-◌, Bool, IsTrue, List, codes, drop, if◌then◌else◌, length, OnOk, IfOk, IfSome, Some};
+ghost use Rattle.std.specs.Prelude.{◌≡◌, ◌↔◌, ◌≤◌, ◌-◌, ℕ, Bool, IsSomeAnd, IsTrue, List, codes, drop, if◌then◌else◌, length, OnOk, IfOk, IfSome};
 ghost use Rattle.std.specs.Char.{is_ascii_digit as is_digit};
 ghost use Rattle.std.specs.List.{prefix_len, flat_map};
 ghost use Rattle.std.specs.Io.KnownBytes.{Appends};
 ghost use Rattle.cdc_subscriber.specs.Lines.{account_line};
 ghost use Rattle.cdc_subscriber.specs.declared.book.BookEntry.{BookEntry as Shown};
 ghost use Rattle.cdc_follow.specs.Following.{FollowState};
-ghost use Rattle.cdc_follow.specs.Saved.{AreBook, CanBeSaved, book_text, heading};
+ghost use Rattle.cdc_follow.specs.Saved.{AreBook, CanBeSaved, IsBook, book_text, heading, is_in_line};
 ghost use Rattle.cdc_follow.specs.SavedParts as spec;
 
 use crate::follower::Follower;
@@ -24,28 +24,43 @@ use std::io::Write;
 pub struct SavedBook {
     /// Whether the stream is chained.
     pub chained: bool,
+    /// The text of the follower's binding.
+    pub binding: Vec<u8>,
     /// The follower as it was when its book was saved.
     pub follower: Follower,
 }
 
-/// Writes a follower's book. After an error, a prefix of the text may have been written.
-pub fn write_book<W: Write>(writer: &mut W, chained: bool, follower: &Follower) -> io::Result<()>
+/// Writes a follower's book, with the text of its binding. A book is only read back if that text has no line feed.
+/// After an error, a prefix of the book's text may have been written.
+pub fn write_book<W: Write>(
+    writer: &mut W,
+    chained: bool,
+    binding: &[u8],
+    follower: &Follower,
+) -> io::Result<()>
     ensures { OnOk result (Appends (W.contents writer.old) (W.contents writer.new)
-        (book_text chained follower.now)) }
+        (book_text chained binding.now follower.now)) }
 {
-    write_heading(writer, chained, follower.seen())?;
+    write_heading(writer, chained, binding, follower.seen())?;
     follower.subscriber().print(writer, 1)
 }
 
-// Writes the version, whether the stream is chained, and the timestamp of the last event seen.
-fn write_heading<W: Write>(writer: &mut W, chained: bool, seen: u64) -> io::Result<()>
+// Writes the version, whether the stream is chained, the timestamp of the last event seen, and the binding.
+fn write_heading<W: Write>(
+    writer: &mut W,
+    chained: bool,
+    binding: &[u8],
+    seen: u64,
+) -> io::Result<()>
     ensures { OnOk result (Appends (W.contents writer.old) (W.contents writer.new)
-        (heading chained seen)) }
+        (heading chained binding.now seen)) }
 {
     write_text(writer, "book 1 chained")?;
     write_text(writer, yes_or_no(chained))?;
     write_text(writer, " seen ")?;
     write_text(writer, Buffer::new().format(seen))?;
+    write_text(writer, "\nbinding ")?;
+    writer.write_all(binding)?;
     write_text(writer, "\n")
 }
 
@@ -101,6 +116,24 @@ fn small_number(text: &[u8]) -> (u64, &[u8])
     (u64::try_from(value).unwrap_or(0), rest)
 }
 
+// How many bytes precede the first line feed.
+fn line_length(text: &[u8]) -> usize
+    ensures count { result ≡ prefix_len is_in_line text.now }
+    ensures within { result ≤ length text.now }
+{
+    text.iter().take_while(|byte| **byte != b'\n').count()
+}
+
+// The bytes before the first line feed, and the bytes after them.
+fn line(text: &[u8]) -> (&[u8], &[u8])
+    ensures value { result.0.now ≡ (spec.line_at text.now).value }
+    ensures rest { result.1.now ≡ (spec.line_at text.now).rest }
+{
+    let length = line_length(text);
+    let first = &text[..length];
+    (first, &text[length..])
+}
+
 // Whether a text begins with " yes", and the bytes after that or after " no".
 fn flag(text: &[u8]) -> (bool, &[u8])
     ensures value { result.0 ≡ (spec.flag_at text.now).value }
@@ -152,6 +185,7 @@ fn read_accounts(alloc: Global, text: &[u8]) -> Result<Book, AllocError>
 struct Front<'a> {
     chained: bool,
     seen: u64,
+    binding: &'a [u8],
     applied: u64,
     last: u64,
     ended: bool,
@@ -165,6 +199,7 @@ fn read_front(text: &[u8]) -> Front<'_>
 {
     let (chained, rest) = flag(skip(text, 14));
     let (seen, rest) = small_number(skip(rest, 5));
+    let (binding, rest) = line(skip(rest, 9));
     let (_, rest) = number(skip(rest, 11));
     let (applied, rest) = small_number(skip(rest, 8));
     let (last, rest) = small_number(skip(rest, 5));
@@ -173,6 +208,7 @@ fn read_front(text: &[u8]) -> Front<'_>
     Front {
         chained,
         seen,
+        binding,
         applied,
         last,
         ended,
@@ -203,12 +239,14 @@ fn is_text_of(
     alloc: Global,
     text: &[u8],
     chained: bool,
+    binding: &[u8],
     follower: &Follower,
 ) -> Result<bool, AllocError>
-    ensures { IfOk result (λ same. IsTrue same ↔ (text.now ≡ book_text chained follower.now)) }
+    ensures { IfOk result (λ same.
+        IsTrue same ↔ (text.now ≡ book_text chained binding.now follower.now)) }
 {
     let mut printed = Vec::new(alloc);
-    match write_book(&mut printed, chained, follower) {
+    match write_book(&mut printed, chained, binding, follower) {
         Ok(()) => Ok(printed.as_slice() == text),
         Err(_) => Err(AllocError),
     }
@@ -217,14 +255,15 @@ fn is_text_of(
 /// Reads a saved book. `None`: the text isn't the one of a book. The only error is that memory ran out.
 pub fn read_book(alloc: Global, text: &[u8]) -> Result<Option<SavedBook>, AllocError>
     ensures exact { IfOk result (λ saved. IfSome saved (λ book.
-        text.now ≡ book_text book.chained book.follower)) }
-    ensures all { (chained : Bool) (state : FollowState) → CanBeSaved state
-        → text.now ≡ book_text chained state
-        → IfOk result (λ saved. saved ≡ Some (record { chained = chained; follower = state })) }
+        text.now ≡ book_text book.chained book.binding.items book.follower)) }
+    ensures all { (chained : Bool) (binding : List ℕ) (state : FollowState) → CanBeSaved binding state
+        → text.now ≡ book_text chained binding state
+        → IfOk result (λ saved. IsSomeAnd saved (λ book. IsBook book chained binding state)) }
 {
     let Front {
         chained,
         seen,
+        binding,
         applied,
         last,
         ended,
@@ -233,8 +272,13 @@ pub fn read_book(alloc: Global, text: &[u8]) -> Result<Option<SavedBook>, AllocE
     } = read_front(text);
     let book = read_accounts(alloc, accounts)?;
     let follower = Follower::new(resume(book, last, applied, ended, closed), seen);
-    if is_text_of(alloc, text, chained, &follower)? {
-        Ok(Some(SavedBook { chained, follower }))
+    if is_text_of(alloc, text, chained, binding, &follower)? {
+        let binding = Vec::from_slice(alloc, binding)?;
+        Ok(Some(SavedBook {
+            chained,
+            binding,
+            follower,
+        }))
     } else {
         Ok(None)
     }
