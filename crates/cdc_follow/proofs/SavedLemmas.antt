@@ -1,13 +1,13 @@
 -- What was printed of a book is read back.
 use Rattle.std.proofs.Common.{◌≡◌, ◌≢◌, ℕ, ◌+◌, ◌-◌, ◌<◌, ◌≤◌, ◌^◌, List, [], ◌∷◌, ◌++◌, length, take, drop, Bool, true, false, cond, Some, refl, sym, ap, ◌∙◌, arith, subst, append_assoc, append-nil, le-leb}
-use Rattle.std.specs.Prelude.{◌&&◌, ◌||◌, ◌==◌, not, nat_le, codes, decimal, unwrap_or}
+use Rattle.std.specs.Prelude.{◌&&◌, ◌==◌, not, codes, decimal, unwrap_or}
 use Rattle.std.specs.Char.{is_ascii_digit}
 use Rattle.std.specs.List.{AllByRecursion, flat_map, list_all, prefix_len}
 use Rattle.std.proofs.Math.Seq.{take-append_seam, drop-append_seam}
 use Rattle.std.proofs.lemmas.Bool.{false≢true}
 use Rattle.std.proofs.lemmas.Fmt.{decimal_is_IsNumeral_wide}
 use Rattle.cdc_types.specs.Widths.{max_64, max_128}
-use Rattle.cdc_message.specs.Decimals.{decimal_up_to, is_decimal}
+use Rattle.cdc_message.specs.Decimals.{decimal_up_to}
 use Rattle.cdc_message.proofs.DecimalTexts.{own_digits}
 use Rattle.cdc_subscriber.specs.declared.book.BookEntry.{BookEntry}
 use Rattle.cdc_subscriber.specs.Book.{are_distinct, ids_of, is_among}
@@ -67,13 +67,14 @@ unfolding number_at
 number_first n end rest fits other =
     let text : List ℕ = decimal n ++ end ∷ rest in
     let len : prefix_len is_ascii_digit text ≡ length (decimal n) =
-      prefix_end is_ascii_digit (decimal n) end rest (printed_digits n fits) other in
+    prefix_end is_ascii_digit (decimal n) end rest (printed_digits n fits) other in
     let cut : take (prefix_len is_ascii_digit text) text ≡ decimal n =
-      ap (λ k. take k text) len ∙ take-append_seam (decimal n) (end ∷ rest) in
+    ap (λ k. take k text) len ∙ take-append_seam (decimal n) (end ∷ rest) in
     let left : drop (prefix_len is_ascii_digit text) text ≡ end ∷ rest =
-      ap (λ k. drop k text) len ∙ drop-append_seam (decimal n) (end ∷ rest) in
+    ap (λ k. drop k text) len ∙ drop-append_seam (decimal n) (end ∷ rest) in
     same_part _ _ _ _
-    (ap (λ digits. unwrap_or (decimal_up_to max_128 digits) 0) cut ∙ ap (λ v. unwrap_or v 0) (printed_value n fits)) left
+    (ap (λ digits. unwrap_or (decimal_up_to max_128 digits) 0) cut ∙ ap (λ v. unwrap_or v 0) (printed_value n fits))
+    left
 
 small_is : (n : ℕ) → n < 2 ^ 64 → small n ≡ n
 small_is n fits = let within : n ≤ max_64 = omega (arith, fits) in rw (le-leb n max_64 within) refl
@@ -90,7 +91,8 @@ flag_first false rest = refl
 
 -- ---- the binding
 
-line_first : (line rest : List ℕ) → list_all is_in_line line ≡ true → line_at (line ++ 10 ∷ rest) ≡ part line (10 ∷ rest)
+line_first : (line rest : List ℕ) → list_all is_in_line line ≡ true
+    → line_at (line ++ 10 ∷ rest) ≡ part line (10 ∷ rest)
 unfolding line_at
 line_first line rest all =
     let text : List ℕ = line ++ 10 ∷ rest in
@@ -106,7 +108,8 @@ account_text entry rest =
     spaced entry.id ++ (spaced entry.balances.debits_pending ++ (spaced entry.balances.debits_posted
     ++ (spaced entry.balances.credits_pending ++ (spaced entry.balances.credits_posted ++ 10 ∷ rest))))
 
-line_text : (entry : BookEntry) (rest : List ℕ) → account_line entry ++ rest ≡ codes "account" ++ account_text entry rest
+line_text : (entry : BookEntry) (rest : List ℕ)
+    → account_line entry ++ rest ≡ codes "account" ++ account_text entry rest
 line_text entry rest =
     let name = codes "account" in
     let id = spaced entry.id in
@@ -118,8 +121,8 @@ line_text entry rest =
     append_assoc (name ++ id) (a ++ (b ++ (c ++ (d ++ end)))) rest
     ∙ append_assoc name id ((a ++ (b ++ (c ++ (d ++ end)))) ++ rest)
     ∙ ap (λ l. name ++ (id ++ l)) (append_assoc a (b ++ (c ++ (d ++ end))) rest
-      ∙ ap (λ l. a ++ l) (append_assoc b (c ++ (d ++ end)) rest
-        ∙ ap (λ l. b ++ l) (append_assoc c (d ++ end) rest ∙ ap (λ l. c ++ l) (append_assoc d end rest))))
+    ∙ ap (λ l. a ++ l) (append_assoc b (c ++ (d ++ end)) rest
+    ∙ ap (λ l. b ++ l) (append_assoc c (d ++ end) rest ∙ ap (λ l. c ++ l) (append_assoc d end rest))))
 
 -- it is read back
 pub account_first : (entry : BookEntry) (rest : List ℕ) → EntryFits entry
@@ -133,15 +136,15 @@ account_first entry rest fits =
     let t2 = spaced b.debits_posted ++ t3 in
     let t1 = spaced b.debits_pending ++ t2 in
     let one : number_at (spaced entry.id ++ t1) ≡ part entry.id t1 =
-      number_first entry.id 32 (decimal b.debits_pending ++ t2) fits.id refl in
+    number_first entry.id 32 (decimal b.debits_pending ++ t2) fits.id refl in
     let two : number_at t1 ≡ part b.debits_pending t2 =
-      number_first b.debits_pending 32 (decimal b.debits_posted ++ t3) fits.debits_pending refl in
+    number_first b.debits_pending 32 (decimal b.debits_posted ++ t3) fits.debits_pending refl in
     let three : number_at t2 ≡ part b.debits_posted t3 =
-      number_first b.debits_posted 32 (decimal b.credits_pending ++ t4) fits.debits_posted refl in
+    number_first b.debits_posted 32 (decimal b.credits_pending ++ t4) fits.debits_posted refl in
     let four : number_at t3 ≡ part b.credits_pending t4 =
-      number_first b.credits_pending 32 (decimal b.credits_posted ++ t5) fits.credits_pending refl in
+    number_first b.credits_pending 32 (decimal b.credits_posted ++ t5) fits.credits_pending refl in
     let five : number_at t4 ≡ part b.credits_posted t5 =
-      number_first b.credits_posted 10 rest fits.credits_posted refl in
+    number_first b.credits_posted 10 rest fits.credits_posted refl in
     ap account_at (line_text entry rest) ∙ rw (one, two, three, four, five) refl
 
 -- ---- what precedes the accounts
@@ -171,19 +174,20 @@ book_text-parts chained binding state =
     let y2 = word_of kept.closed in
     let end = codes "\n" in
     let b = codes "\nbinding " in
+    let named = b ++ (binding ++ end) in
     let r4 = (codes " closed" ++ y2) ++ end in
     let r3 = (codes " ended" ++ y1) ++ r4 in
     let r2 = (codes " last" ++ spaced kept.last) ++ r3 in
     let r1 = (codes " applied" ++ spaced kept.applied) ++ r2 in
     let l = ((codes "subscriber" ++ spaced 1) ++ r1) ++ lines in
-    regroup (codes "book 1 chained") y0 ((codes " seen" ++ spaced state.seen) ++ (b ++ (binding ++ end))) l
-    ∙ ap (λ t. codes "book 1 chained" ++ (y0 ++ t)) (regroup (codes " seen") (spaced state.seen) (b ++ (binding ++ end)) l
-      ∙ ap (λ t. codes " seen" ++ (spaced state.seen ++ (b ++ t))) (append_assoc binding end l
-        ∙ ap (λ t. binding ++ (end ++ t)) (regroup (codes "subscriber") (spaced 1) r1 lines
-          ∙ ap (λ t. codes "subscriber" ++ (spaced 1 ++ t)) (regroup (codes " applied") (spaced kept.applied) r2 lines
-            ∙ ap (λ t. codes " applied" ++ (spaced kept.applied ++ t)) (regroup (codes " last") (spaced kept.last) r3 lines
-              ∙ ap (λ t. codes " last" ++ (spaced kept.last ++ t)) (regroup (codes " ended") y1 r4 lines
-                ∙ ap (λ t. codes " ended" ++ (y1 ++ t)) (regroup (codes " closed") y2 end lines)))))))
+    regroup (codes "book 1 chained") y0 ((codes " seen" ++ spaced state.seen) ++ named) l
+    ∙ ap (λ t. codes "book 1 chained" ++ (y0 ++ t)) (regroup (codes " seen") (spaced state.seen) named l
+    ∙ ap (λ t. codes " seen" ++ (spaced state.seen ++ (b ++ t))) (append_assoc binding end l
+    ∙ ap (λ t. binding ++ (end ++ t)) (regroup (codes "subscriber") (spaced 1) r1 lines
+    ∙ ap (λ t. codes "subscriber" ++ (spaced 1 ++ t)) (regroup (codes " applied") (spaced kept.applied) r2 lines
+    ∙ ap (λ t. codes " applied" ++ (spaced kept.applied ++ t)) (regroup (codes " last") (spaced kept.last) r3 lines
+    ∙ ap (λ t. codes " last" ++ (spaced kept.last ++ t)) (regroup (codes " ended") y1 r4 lines
+    ∙ ap (λ t. codes " ended" ++ (y1 ++ t)) (regroup (codes " closed") y2 end lines)))))))
 
 -- what a follower's text is read as
 abbrev parts_of : Bool → List ℕ → FollowState → List ℕ → FrontParts
@@ -215,17 +219,28 @@ front_first chained binding state lines fits =
     let wide : (n : ℕ) → n < 2 ^ 64 → n < 2 ^ 128 = λ n h. omega (arith, h) in
     let f1 = flag_first chained t1 in
     let n1 : number_at (spaced state.seen ++ t2) ≡ part state.seen t2 =
-      number_first state.seen 10 (drop 1 t2) (wide _ fits.seen) refl in
+    number_first state.seen 10 (drop 1 t2) (wide _ fits.seen) refl in
     let b : line_at (binding ++ t3) ≡ part binding t3 = line_first binding (drop 1 t3) fits.line in
     let n2 : number_at (spaced 1 ++ t4) ≡ part 1 t4 = number_first 1 32 (drop 1 t4) (omega arith) refl in
     let n3 : number_at (spaced kept.applied ++ t5) ≡ part kept.applied t5 =
-      number_first kept.applied 32 (drop 1 t5) (wide _ fits.applied) refl in
+    number_first kept.applied 32 (drop 1 t5) (wide _ fits.applied) refl in
     let n4 : number_at (spaced kept.last ++ t6) ≡ part kept.last t6 =
-      number_first kept.last 32 (drop 1 t6) (wide _ fits.last) refl in
+    number_first kept.last 32 (drop 1 t6) (wide _ fits.last) refl in
     let f2 = flag_first kept.ended t7 in
     let f3 = flag_first kept.closed t8 in
-    rw (f1, n1, b, n2, n3, n4, f2, f3, small_is state.seen fits.seen, small_is kept.applied fits.applied,
-      small_is kept.last fits.last) refl
+    rw (
+      f1,
+      n1,
+      b,
+      n2,
+      n3,
+      n4,
+      f2,
+      f3,
+      small_is state.seen fits.seen,
+      small_is kept.applied fits.applied,
+      small_is kept.last fits.last,
+    ) refl
 
 -- ---- the accounts, one line after another
 
@@ -299,12 +314,12 @@ reads-more text book new rest after entry added before some value next adds push
         let fits = fits_later book left e (subst (AllByRecursion EntryFits) parted are.fit) in
         let absent = not_yet book left e (sym (ap (λ es. are_distinct (ids_of es)) parted) ∙ are.distinct) in
         let read : account_at rest ≡ part e (flat_map account_line left) =
-          ap account_at lines ∙ account_first e (flat_map account_line left) fits in
+        ap account_at lines ∙ account_first e (flat_map account_line left) fits in
         let same : entry ≡ e = value ∙ ap (λ p. p.value) read in
         let is_new : added ≡ true =
-          adds ∙ ap (λ (x : BookEntry). not (is_among x.id (ids_of book))) same ∙ ap (λ b. not b) absent in
+        adds ∙ ap (λ (x : BookEntry). not (is_among x.id (ids_of book))) same ∙ ap (λ b. not b) absent in
         let grown : new ≡ book ++ e ∷ [] =
-          pushed ∙ ap (λ b. cond b (book ++ entry ∷ []) book) is_new ∙ ap (λ x. book ++ x ∷ []) same in
+        pushed ∙ ap (λ b. cond b (book ++ entry ∷ []) book) is_new ∙ ap (λ x. book ++ x ∷ []) same in
         record {
           left = left;
           parted = parted ∙ sym (append_assoc book (e ∷ []) left) ∙ ap (λ es. es ++ left) (sym grown);
@@ -368,7 +383,7 @@ reads_back text book chained binding state reads fits is =
     let lines = flat_map account_line state.kept.book in
     let parts = parts_of chained binding state lines in
     let front : front_at text ≡ parts =
-      ap front_at (is ∙ book_text-parts chained binding state) ∙ front_first chained binding state lines fits in
+    ap front_at (is ∙ book_text-parts chained binding state) ∙ front_first chained binding state lines fits in
     let same : book ≡ state.kept.book = reads state.kept.book fits.book (ap (λ (p : FrontParts). p.accounts) front) in
     record {
       chained_is = ap (λ (p : FrontParts). p.chained) front;

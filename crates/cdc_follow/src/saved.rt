@@ -1,13 +1,16 @@
 //! The text of a saved book, and how it is read back.
 
-ghost use Rattle.std.specs.Prelude.{◌≡◌, ◌↔◌, ◌≤◌, ◌-◌, ℕ, Bool, IsSomeAnd, IsTrue, List, codes, drop, if◌then◌else◌, length, OnOk, IfOk, IfSome};
+ghost use Rattle.std.specs.Prelude.{◌≡◌, ◌↔◌, ◌≤◌, ◌-◌, ℕ, Bool, IsTrue, List};
+ghost use Rattle.std.specs.Prelude.{IfOk, IfSome, IsSomeAnd, OnOk};
+ghost use Rattle.std.specs.Prelude.{codes, drop, if◌then◌else◌, length};
 ghost use Rattle.std.specs.Char.{is_ascii_digit as is_digit};
 ghost use Rattle.std.specs.List.{prefix_len, flat_map};
 ghost use Rattle.std.specs.Io.KnownBytes.{Appends};
 ghost use Rattle.cdc_subscriber.specs.Lines.{account_line};
 ghost use Rattle.cdc_subscriber.specs.declared.book.BookEntry.{BookEntry as Shown};
 ghost use Rattle.cdc_follow.specs.Following.{FollowState};
-ghost use Rattle.cdc_follow.specs.Saved.{AreBook, CanBeSaved, IsBook, book_text, heading, is_in_line};
+ghost use Rattle.cdc_follow.specs.Saved.{AreBook, CanBeSaved, IsBook};
+ghost use Rattle.cdc_follow.specs.Saved.{book_text, heading, is_in_line};
 ghost use Rattle.cdc_follow.specs.SavedParts as spec;
 
 use crate::follower::Follower;
@@ -30,8 +33,8 @@ pub struct SavedBook {
     pub follower: Follower,
 }
 
-/// Writes a follower's book, with the text of its binding. A book is only read back if that text has no line feed.
-/// After an error, a prefix of the book's text may have been written.
+/// Writes a follower's book, with the text of its binding, which has to be without a line feed for
+/// the book to be read back. After an error, a prefix of the book's text may have been written.
 pub fn write_book<W: Write>(
     writer: &mut W,
     chained: bool,
@@ -45,7 +48,8 @@ pub fn write_book<W: Write>(
     follower.subscriber().print(writer, 1)
 }
 
-// Writes the version, whether the stream is chained, the timestamp of the last event seen, and the binding.
+// Writes the version, whether the stream is chained, the timestamp of the last event seen, and the
+// binding.
 fn write_heading<W: Write>(
     writer: &mut W,
     chained: bool,
@@ -252,12 +256,13 @@ fn is_text_of(
     }
 }
 
-/// Reads a saved book. `None`: the text isn't the one of a book. The only error is that memory ran out.
+/// Reads the text of a saved book. `None`: it is the text of no book that can be saved. The only
+/// error is that memory ran out.
 pub fn read_book(alloc: Global, text: &[u8]) -> Result<Option<SavedBook>, AllocError>
     ensures exact { IfOk result (λ saved. IfSome saved (λ book.
         text.now ≡ book_text book.chained book.binding.items book.follower)) }
-    ensures all { (chained : Bool) (binding : List ℕ) (state : FollowState) → CanBeSaved binding state
-        → text.now ≡ book_text chained binding state
+    ensures all { (chained : Bool) (binding : List ℕ) (state : FollowState)
+        → CanBeSaved binding state → text.now ≡ book_text chained binding state
         → IfOk result (λ saved. IsSomeAnd saved (λ book. IsBook book chained binding state)) }
 {
     let Front {

@@ -13,5 +13,5 @@ returns-clause-rest c =
     let text = c.args.text.now in
     let n = c.line_length-length.result in
     let whole : take (length text - n) (drop n text) ≡ drop n text =
-      take_all (length text - n) (drop n text) (omega (arith, length-drop n text)) in
+    take_all (length text - n) (drop n text) (omega (arith, length-drop n text)) in
     whole ∙ ap (λ k. drop k text) c.line_length-length.ensures.count

@@ -15,6 +15,6 @@ returns-clause-rest c =
     let text = c.skip-text.result.now in
     let n = c.count_digits-length.result in
     let whole : take (length text - n) (drop n text) ≡ drop n text =
-      take_all (length text - n) (drop n text) (omega (arith, length-drop n text)) in
+    take_all (length text - n) (drop n text) (omega (arith, length-drop n text)) in
     whole ∙ ap (λ k. drop k text) c.count_digits-length.ensures
     ∙ ap (λ t. drop (prefix_len is_ascii_digit t) t) c.skip-text.ensures

@@ -28,6 +28,6 @@ returns-else-branch-clause-all c = λ chained binding state fits is.
     let words = parts.binding ∙ saved.binding_is in
     let same = follower ∙ saved.state_is in
     let text_is : c.args.text.now
-        ≡ book_text c.read_front-chained.result.chained c.read_front-chained.result.binding.now c.new-follower.result =
-      rw (flag, words, same) is in
+    ≡ book_text c.read_front-chained.result.chained c.read_front-chained.result.binding.now c.new-follower.result =
+    rw (flag, words, same) is in
     absurd (false≢true (rw c.if-branch.false at (c.in_ok-is_text_of.ensures.1 text_is)))
