@@ -4,6 +4,7 @@ use crate::advice::{advise_on_failure, shown_name};
 use cdc_commands::ProgramFault;
 use cdc_follow::{Entry, Follower, LineError, Stop};
 use cdc_follow_command::FollowEnding;
+use cdc_message::{DecodeError, Field, Part};
 use cdc_progress::StoreError;
 use std::fs;
 use std::io;
@@ -59,7 +60,40 @@ fn advise_on_gap(
 /// Reports why the line of this number is no entry of a stream.
 fn advise_on_line(rt: &HostRuntime, place: &str, line: u64, error: LineError) -> io::Result<()> {
     let name = error.name();
-    eprintln!(rt; "{place}:{line}: {name}: {error}")
+    match error {
+        LineError::Decode(why) => match field_of(why) {
+            Some((field, trouble)) => {
+                let part = part_of(field);
+                let key = field.name.key();
+                eprintln!(rt; "{place}:{line}: {name}: {part}{key} {trouble}")
+            }
+            None => eprintln!(rt; "{place}:{line}: {name}: {why}"),
+        },
+        _ => eprintln!(rt; "{place}:{line}: {name}: {error}"),
+    }
+}
+
+/// The field that an error names, and what is wrong with it.
+fn field_of(error: DecodeError) -> Option<(Field, &'static str)> {
+    match error {
+        DecodeError::Missing(field) => Some((field, "is missing")),
+        DecodeError::WrongType(field) => Some((field, "has the wrong type")),
+        DecodeError::OutOfRange(field) => Some((field, "is too large")),
+        DecodeError::NotJson
+        | DecodeError::NotAnObject
+        | DecodeError::UnknownKind
+        | DecodeError::OutOfMemory => None,
+    }
+}
+
+/// The member that a field stands in, with a dot; nothing for a field of the event itself.
+fn part_of(field: Field) -> &'static str {
+    match field.part {
+        Part::Top => "",
+        Part::Transfer => "transfer.",
+        Part::Debit => "debit_account.",
+        Part::Credit => "credit_account.",
+    }
 }
 
 /// What is wrong with the file of a book, for which its store has reported this error, and what to do.

@@ -4,5 +4,6 @@ pub mod LineLemmas
 pub mod OnceLemmas
 pub mod PlainLemmas
 pub mod QueueLemmas
+pub mod SavedLemmas
 pub mod StepLemmas
 pub mod StopLemmas
