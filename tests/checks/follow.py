@@ -4,7 +4,7 @@
   tests/checks/follow.py [PROGRAM]    PROGRAM: crates/cdc_app/out/cdc_app
 
 By hand: each kind of line, each fault, each status, and where a line ends. Random streams of a queue are lost, repeated,
-shuffled and merged from two publishers; what is printed has to be what a model of some twenty lines says, which reads JSON by Python's
+shuffled and merged from two publishers; what is printed has to be what a small model prints, which reads JSON by Python's
 own parser. Killed: the program ends at each read, write, sync and rename of a stream with a book, and is started again with
 the lines from an earlier `saved` on; it has to come to the book of a run without a stop. Refused: each allocation, read, write,
 open, sync and rename is refused in turn; the book has to be the old one or a later one, and whole.
@@ -205,8 +205,8 @@ def rows():
     yield "further members", [], lines(json.dumps({**FIRST, "more": [1, {"a": None}]})), ONE, 0, ""
     yield "an envelope", [], lines(json.dumps({"x": 1, "body": FIRST})), ONE, 0, ""
     yield "the end", [], lines(first, end()), ONE.replace("ended no", "ended yes"), 0, ""
-    yield "two ends, and an event between", [], lines(first, end(), second, end()), ONE.replace("ended no", "ended yes"), 0, ""
-    yield "no end, since it says false", [], lines('{"end":false}'), NOTHING + "fault: line 1: missing\n", 2, "missing"
+    yield "the end twice, and an event between", [], lines(first, end(), second, end()), ONE.replace("ended no", "ended yes"), 0, ""
+    yield "no end, since its member is false", [], lines('{"end":false}'), NOTHING + "fault: line 1: missing\n", 2, "missing"
     yield "blank lines and headers", [], lines("", " \t", "event_type=x", first), ONE, 0, ""
     yield "carriage returns", [], (first + "\r\n\r\n").encode(), ONE, 0, ""
     mark = b"\xef\xbb\xbf" + lines(first)
@@ -239,7 +239,7 @@ def rows():
     yield "a gap", chain, lines(chained(0, FIRST), chained(15, SECOND)), (
         ONE + "gap: line 2: after 15, expected after 10\n"
     ), 1, ":2: gap: "
-    yield "a gap at the beginning", chain, lines(chained(10, SECOND)), NOTHING + "gap: line 1: after 10, expected after 0\n", 1, "gap"
+    yield "a gap before the first event", chain, lines(chained(10, SECOND)), NOTHING + "gap: line 1: after 10, expected after 0\n", 1, "gap"
     yield "a gap before the end", chain, lines(chained(0, FIRST), end(20)), (
         ONE + "gap: line 2: after 20, expected after 10\n"
     ), 1, "gap"

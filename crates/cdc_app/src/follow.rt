@@ -62,7 +62,7 @@ pub fn run_follow(rt: &HostRuntime, file: &str, plan: FollowPlan<'_>, form: Form
 }
 
 /// Opens the book at this path, if there is one, and returns it with the follower that it holds. A book that isn't
-/// there yet is made at once, so that the file is locked from the beginning.
+/// there yet is made at once, so that the file is locked from the start.
 fn open_book<'a>(
     rt: &'a HostRuntime,
     book: Option<&str>,

@@ -50,7 +50,7 @@ fn chained_flag<'a>(alloc: Global) -> Arg<'a> {
     Arg::new(alloc, "chained")
         .long("chained")
         .action(ArgAction::SetTrue)
-        .help("Apply an event only if it follows the last one of its queue, as its member previous says")
+        .help("Apply an event only if it follows the last one of its queue, by its member previous")
 }
 
 fn gaps_flag<'a>(alloc: Global) -> Arg<'a> {
@@ -108,10 +108,10 @@ pub fn follow_plan<'a>(
     })
 }
 
-/// The binding that the words of a text represent.
+/// The binding that a text represents: its parts are separated by white space.
 fn asked_binding(alloc: Global, text: &str) -> Result<Binding, OptionsFault> {
-    let words: Vec<&str> = text.split_ascii_whitespace().collect(alloc)?;
-    match Binding::parse(alloc, words.as_slice()) {
+    let parts: Vec<&str> = text.split_ascii_whitespace().collect(alloc)?;
+    match Binding::parse(alloc, parts.as_slice()) {
         Ok(binding) => Ok(binding),
         Err(BindError::OutOfMemory) => Err(OptionsFault::OutOfMemory),
         Err(_) => Err(usage_error(

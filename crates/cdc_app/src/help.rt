@@ -74,7 +74,7 @@ Exit status:
 pub const FOLLOW: &str = "\
 FILE is a stream of messages, one JSON object in each line, and - is standard input. A line is the body of a message,
 as the command messages prints it; or an object with a member body, which is such a body; or the end of the stream, an
-object with the member end, which is true. Empty lines and lines that begin with event_type= say nothing.
+object with the member end, which is true. Empty lines and lines that begin with event_type= are ignored.
 
 Each event that is later than the last one is applied to the book, and any other one is a duplicate. With --chained,
 each line has a member previous, the timestamp of the message before it in its queue (0 before the first), and an event
@@ -84,7 +84,7 @@ following stops. So no event is lost or applied twice, whatever the broker does.
 With --book, the book is saved after every N lines, each time that no whole line is waiting, and at the end. After each
 save a line with saved and the timestamp of the last event is printed: events up to there may be acknowledged, and none
 later. If following is stopped at any time and started again with that book, it goes on where the book was saved, and
-events that come again are duplicates.
+what was applied before is a duplicate.
 
 The output is these lines, and at the end how far the stream was applied and its book: for each account its pending
 debits, posted debits, pending credits and posted credits.

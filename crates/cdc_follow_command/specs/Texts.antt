@@ -11,7 +11,7 @@ use Rattle.cdc_follow.specs.declared.streams.Stop.TheVariants.{AtEnd, Gap, BadLi
 abbrev pub saved_line : ℕ → List ℕ
 saved_line timestamp = (codes "saved " ++ decimal timestamp) ++ codes "\n"
 
--- the line that says why following stopped, where the last event seen has this timestamp; none at the end
+-- the line of why following stopped, where the last event seen has this timestamp; none at the end
 abbrev pub stop_line : ℕ → Stop → List ℕ
 stop_line seen AtEnd = []
 stop_line seen (Gap line entry) =

@@ -21,7 +21,7 @@ use std::io::Write;
 pub struct Saver<K> {
     /// Where the book is kept; `None` if it isn't.
     store: Option<K>,
-    /// Whether the stream is chained, which the book says.
+    /// Whether the stream is chained, which the book states.
     chained: bool,
     /// How many lines are followed, at most, before the book is saved.
     every: u64,

@@ -25,7 +25,7 @@ pub fn push_saved(alloc: Global, lines: &mut Lines, timestamp: u64) -> Result<()
     )
 }
 
-/// Adds the line that says why following stopped, where the last event seen has this timestamp; none at the end.
+/// Adds the line of why following stopped, where the last event seen has this timestamp; none at the end.
 pub fn push_stop(
     alloc: Global,
     lines: &mut Lines,
