@@ -1,4 +1,5 @@
 pub mod EntryLemmas
+mod Examples
 pub mod FoldLemmas
 pub mod LineLemmas
 pub mod OnceLemmas

@@ -22,6 +22,9 @@ use std::alloc::{AllocError, Global};
 use std::io;
 use std::io::Write;
 
+/// The first bytes of the text of each saved book, whatever its version.
+pub const BOOK_MARK: &[u8] = b"book ";
+
 /// A book that was saved.
 #[derive(Drop)]
 pub struct SavedBook {
