@@ -389,6 +389,8 @@ def books(folder):
     before = open(book, "rb").read()
     found = run(["--book", book], text(lines))
     check("a book of a chained stream", found[:2] == (1, "fault: store\n") and "store" in found[2], found)
+    found = run(["--chained", "--binding", "all ledger=700", "--book", book], text(lines))
+    check("a book of another binding", found[:2] == (1, "fault: store\n") and "store" in found[2], found)
     check("it stays", open(book, "rb").read() == before, before)
     for name, content in [
         ("empty", b""),

@@ -21,10 +21,12 @@ pub fn run_follow(rt: &HostRuntime, file: &str, plan: FollowPlan<'_>, form: Form
     let FollowPlan {
         rules,
         binding,
+        binding_text,
         book,
         every,
     } = plan;
-    let (store, follower) = match open_book(rt, book, rules.chained) {
+    let opened = open_book(rt, book, rules.chained, binding_text.as_slice());
+    let (store, follower) = match opened {
         Ok(opened) => opened,
         Err(error) => return refuse_book(rt, file, book, error, form),
     };
@@ -32,7 +34,7 @@ pub fn run_follow(rt: &HostRuntime, file: &str, plan: FollowPlan<'_>, form: Form
     let Ok(mut reader) = BufReader::with_capacity(rt.alloc(), BUFFER_BYTES, source) else {
         return refuse_book(rt, file, book, StoreError::OutOfMemory, form);
     };
-    let mut saver = Saver::new(store, rules.chained, every);
+    let mut saver = Saver::new(store, rules.chained, binding_text, every);
     let mut follower = follower;
     let mut writer = io::writer(rt);
     let ending = match form {
@@ -67,14 +69,15 @@ fn open_book<'a>(
     rt: &'a HostRuntime,
     book: Option<&str>,
     chained: bool,
+    binding: &[u8],
 ) -> Result<(Option<FileBook<'a, HostRuntime>>, Follower), StoreError> {
     let Some(path) = book else {
-        return Ok((None, resume(rt.alloc(), None, chained)?));
+        return Ok((None, resume(rt.alloc(), None, chained, binding)?));
     };
     let mut store = FileBook::open(rt, path)?;
-    let follower = resume(rt.alloc(), store.text(), chained)?;
+    let follower = resume(rt.alloc(), store.text(), chained, binding)?;
     if store.text().is_none() {
-        begin_book(rt.alloc(), &mut store, chained, &follower)?;
+        begin_book(rt.alloc(), &mut store, chained, binding, &follower)?;
     }
     Ok((Some(store), follower))
 }

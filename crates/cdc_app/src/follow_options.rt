@@ -19,6 +19,8 @@ pub struct FollowPlan<'a> {
     pub rules: Rules,
     /// Which events are applied.
     pub binding: Binding,
+    /// The binding's text, with a space between its parts.
+    pub binding_text: Vec<u8>,
     /// The file of the book; `None` if it isn't kept.
     pub book: Option<&'a str>,
     /// How many lines are followed, at most, before the book is saved.
@@ -100,18 +102,23 @@ pub fn follow_plan<'a>(
             "error: --skip-gaps needs --chained\n\nFor more information, try '--help'.\n",
         )?);
     }
+    let parts: Vec<&str> = arguments
+        .get_str("binding")
+        .unwrap_or("all")
+        .split_ascii_whitespace()
+        .collect(alloc)?;
     Ok(FollowPlan {
         rules,
-        binding: asked_binding(alloc, arguments.get_str("binding").unwrap_or("all"))?,
+        binding: asked_binding(alloc, parts.as_slice())?,
+        binding_text: joined(alloc, parts.as_slice())?,
         book: arguments.get_str("book"),
         every: asked_every(alloc, arguments)?,
     })
 }
 
-/// The binding that a text represents: its parts are separated by white space.
-fn asked_binding(alloc: Global, text: &str) -> Result<Binding, OptionsFault> {
-    let parts: Vec<&str> = text.split_ascii_whitespace().collect(alloc)?;
-    match Binding::parse(alloc, parts.as_slice()) {
+/// The binding that these parts represent.
+fn asked_binding(alloc: Global, parts: &[&str]) -> Result<Binding, OptionsFault> {
+    match Binding::parse(alloc, parts) {
         Ok(binding) => Ok(binding),
         Err(BindError::OutOfMemory) => Err(OptionsFault::OutOfMemory),
         Err(_) => Err(usage_error(
@@ -120,6 +127,18 @@ fn asked_binding(alloc: Global, text: &str) -> Result<Binding, OptionsFault> {
              'all ledger=700'\n\nFor more information, try '--help'.\n",
         )?),
     }
+}
+
+/// The parts with a space between them.
+fn joined(alloc: Global, parts: &[&str]) -> Result<Vec<u8>, AllocError> {
+    let mut text = Vec::new(alloc);
+    for part in parts {
+        if !text.is_empty() {
+            text.push(b' ')?;
+        }
+        text.extend_from_slice(part.as_bytes())?;
+    }
+    Ok(text)
 }
 
 /// After how many lines a book is saved.

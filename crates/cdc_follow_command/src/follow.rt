@@ -33,7 +33,8 @@ pub fn follow_stream<F: FollowForm, B: LineReader, W: Write, K: BookStore>(
         bytes_followed binding.now rules follower.old bytes
         ≡ record { state = follower.new; stop = stop })) }
     ensures saved { OnOk result (IfSome saver.new.store (λ store.
-        K.held store ≡ Some (book_text saver.old.chained follower.new))) }
+        K.held store
+        ≡ Some (book_text saver.old.chained saver.old.binding.items follower.new))) }
     ensures printed { UnlessWriteFails result
         (PrintsSaves F.prints_saved (W.contents writer.old) (W.contents writer.new)) }
 {
