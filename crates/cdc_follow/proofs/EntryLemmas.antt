@@ -66,8 +66,8 @@ value-event : (value : Data) (e : Event) → event_of value ≡ Ok e
     → value_entry false (Some value) ≡ Ok (Some (record { content = content.Event e; previous = None }))
 value-event value e is =
     ap (λ (read : Result Event DecodeError). (content_from value read >>= λ content.
-      (previous_of false value >>= λ previous. Ok (record { content = content; previous = previous })))
-      >>= λ entry. Ok (Some entry)) is
+    (previous_of false value >>= λ previous. Ok (record { content = content; previous = previous })))
+    >>= λ entry. Ok (Some entry)) is
 
 pub line-event : (line : List ℕ) (e : Event) → read line ≡ Ok e
     → value_entry false (value_of line) ≡ Ok (Some (record { content = content.Event e; previous = None }))

@@ -1,5 +1,5 @@
 -- The definitions at work, beside what the rules say in words.
-use Rattle.std.specs.Prelude.{ℕ, ◌≡◌, true, false, List, [], ◌∷◌, codes, Some, None, Ok, Err}
+use Rattle.std.specs.Prelude.{ℕ, ◌≡◌, true, false, [], ◌∷◌, codes, Some, None, Ok, Err}
 use Rattle.std.proofs.Common.{refl}
 use Rattle.std.specs.Str.{is_utf8, chars}
 use Rattle.serde_json.proofs.OnLiterals.{serde_json_on_literals}
@@ -13,7 +13,7 @@ use Rattle.cdc_match.specs.declared.pairs.Pair.TheVariants.{Ledger}
 use Rattle.cdc_subscriber.specs.Reception.{kept_of, nothing}
 use Rattle.cdc_follow.specs.declared.entries.Content.TheVariants as content
 use Rattle.cdc_follow.specs.declared.entries.Entry.{Entry}
-use Rattle.cdc_follow.specs.declared.errors.LineError.TheVariants.{TooLong, Decode, PreviousMissing}
+use Rattle.cdc_follow.specs.declared.errors.LineError.TheVariants.{Decode, PreviousMissing}
 use Rattle.cdc_follow.specs.declared.follower.Following.TheVariants.{Applied, PassedBy, Duplicate, Gap, Ended}
 use Rattle.cdc_follow.specs.Entries.{line_entry}
 use Rattle.cdc_follow.specs.Following.{FollowState, follow, follow_all, outcome_of}

@@ -1,8 +1,7 @@
 -- Going through entries is a fold of those before a gap.
-use Rattle.std.proofs.Common.{◌≡◌, List, [], ◌∷◌, ◌++◌, Bool, true, false, cond, Some, None, Option, refl, sym, ap, ◌∙◌, subst}
-use Rattle.std.specs.Prelude.{◌&&◌, not}
+use Rattle.std.proofs.Common.{List, [], ◌∷◌, Bool, true, false, cond, Some, refl, sym, ap, subst}
 use Rattle.cdc_match.specs.Arguments.{Arguments}
-use Rattle.cdc_follow.specs.Following.{FollowState, Followed, follow, is_gap, next_follow, outcome_of}
+use Rattle.cdc_follow.specs.Following.{FollowState, Followed, follow, next_follow}
 use Rattle.cdc_follow.specs.Laws.{FoldsTo, FollowingFolds}
 use Rattle.cdc_follow.specs.Streams.{NumberedEntry}
 use Rattle.cdc_follow.proofs.StopLemmas.{follow-first, follow-none}
@@ -28,4 +27,4 @@ folds binding skips state [] =
 folds binding skips state (numbered ∷ rest) =
     subst (FoldsTo binding state (numbered ∷ rest)) (sym (follow-first binding skips state numbered rest _ refl))
     (folds-first binding state numbered rest (follow binding skips (next_follow binding state numbered.entry) rest) _
-      (folds binding skips (next_follow binding state numbered.entry) rest))
+    (folds binding skips (next_follow binding state numbered.entry) rest))

@@ -1,5 +1,5 @@
 -- Lines, where their first one is known up to its line feed, up to the end, or in part.
-use Rattle.std.proofs.Common.{◌≡◌, ◌≢◌, ℕ, ◌<◌, ◌≤◌, ◌+◌, List, [], ◌∷◌, ◌++◌, All, length, take, drop, refl, sym, ap, subst, ◌∙◌, arith, cond, ne_eqb, eq-eqb, zero-le, get_or-take, length-take-le, take-append-drop, append_assoc, append-nil, length-append, true, false, Bool, None, Some, Option}
+use Rattle.std.proofs.Common.{◌≡◌, ◌≢◌, ℕ, ◌<◌, ◌≤◌, ◌+◌, List, [], ◌∷◌, ◌++◌, length, take, drop, refl, sym, ap, subst, ◌∙◌, arith, ne_eqb, eq-eqb, zero-le, get_or-take, length-take-le, take-append-drop, append_assoc, append-nil, length-append, true, Bool, None, Some, Option}
 use Rattle.std.specs.Prelude.{◌==◌, IfSome, not}
 use Rattle.std.specs.Io.{StartsWith}
 use Rattle.std.specs.Io.KnownBytes.{Consumes, IsAtEnd}
@@ -66,17 +66,20 @@ lines_of-front byte (next ∷ front) rest clean =
 pub too_long : (front rest : List ℕ) → HasNoFeed front → LONGEST_LINE < length front → FirstLineIsLong (front ++ rest)
 too_long [] rest clean long = absurd (omega (arith, long))
 too_long (byte ∷ front) rest clean long =
-    let begins = lines_of-front byte front rest clean in
-    ((byte ∷ front) ++ begins.more, begins.others, begins.is,
-      omega (arith, long, length-append (byte ∷ front) begins.more))
+    let begins = lines_of-front byte front rest clean in (
+      (byte ∷ front) ++ begins.more,
+      begins.others,
+      begins.is,
+      omega (arith, long, length-append (byte ∷ front) begins.more),
+    )
 
 -- before the first line feed there is none
 pub clean_before : (bytes : List ℕ) (n : ℕ) → n ≤ length bytes → Nowhere (Passes (is_byte 10) bytes) 0 n
     → HasNoFeed (take n bytes)
 clean_before bytes n within nowhere =
     All-from_get_or (λ b. b ≢ 10) (take n bytes) 0 (λ i below.
-      let short : i < n = omega (arith, below, length-take-le n bytes within) in
-      λ same. nowhere i zero-le short (eq-eqb _ _ (sym (get_or-take n bytes i 0 short) ∙ same)))
+    let short : i < n = omega (arith, below, length-take-le n bytes within) in
+    λ same. nowhere i zero-le short (eq-eqb _ _ (sym (get_or-take n bytes i 0 short) ∙ same)))
 
 -- parts of a line that follow each other
 clean_both : (line part after : List ℕ) → after ≡ line ++ part → HasNoFeed line → HasNoFeed part → HasNoFeed after
@@ -92,8 +95,8 @@ line_fed (Some x) None new line part after first clean added more second = absur
 line_fed (Some x) (Some y) None line part after first clean added more second = absurd second
 line_fed (Some x) (Some y) (Some z) line part after first clean added more second =
     let whole : x ≡ after ++ 10 ∷ z =
-      first ∙ ap (λ l. line ++ l) (second ∙ append_assoc part (10 ∷ []) z) ∙ sym (append_assoc line part (10 ∷ z))
-      ∙ ap (λ l. l ++ 10 ∷ z) (sym added) in
+    first ∙ ap (λ l. line ++ l) (second ∙ append_assoc part (10 ∷ []) z) ∙ sym (append_assoc line part (10 ∷ z))
+    ∙ ap (λ l. l ++ 10 ∷ z) (sym added) in
     (z, refl, ap lines_of whole ∙ lines_of-feed after z (clean_both line part after added clean more))
 
 -- no line is in no bytes
@@ -130,10 +133,10 @@ line_long (Some x) (Some y) line first clean long =
     let part = long.0 in
     let rest = long.1 in
     let whole : x ≡ (line ++ part) ++ rest =
-      first ∙ ap (λ l. line ++ l) long.2 ∙ sym (append_assoc line part rest) in
+    first ∙ ap (λ l. line ++ l) long.2 ∙ sym (append_assoc line part rest) in
     subst FirstLineIsLong (sym whole) (too_long (line ++ part) rest
-      (All-append (λ b. b ≢ 10) line part clean long.3)
-      (omega (arith, long.4, length-append line part)))
+    (All-append (λ b. b ≢ 10) line part clean long.3)
+    (omega (arith, long.4, length-append line part)))
 
 -- bytes in a reader's buffer that are too many for a line
 pub long_part : (old : Option (List ℕ)) (available before : List ℕ) (part : Part)
@@ -141,12 +144,15 @@ pub long_part : (old : Option (List ℕ)) (available before : List ℕ) (part : 
     → LONGEST_LINE < length before + part.length → PartIsLong old before
 long_part None available before part front is long = tt
 long_part (Some bytes) available before part front is long =
-    let rest = drop (length available) bytes in
-    (take part.length available, drop part.length available ++ rest,
+    let rest = drop (length available) bytes in (
+      take part.length available,
+      drop part.length available ++ rest,
       starts_with_rest bytes available front
-      ∙ ap (λ l. l ++ rest) (sym (take-append-drop part.length available))
-      ∙ append_assoc (take part.length available) (drop part.length available) rest,
-      is.clean, omega (arith, long, length-take-le part.length available is.inside))
+          ∙ ap (λ l. l ++ rest) (sym (take-append-drop part.length available))
+          ∙ append_assoc (take part.length available) (drop part.length available) rest,
+      is.clean,
+      omega (arith, long, length-take-le part.length available is.inside),
+    )
 
 -- ---- a part that was added to what was read of a line
 

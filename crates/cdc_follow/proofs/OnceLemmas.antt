@@ -1,7 +1,7 @@
 -- A follower that is handed entries again changes nothing.
-use Rattle.std.proofs.Common.{◌≡◌, ◌⊎◌, inl, inr, ℕ, zero, suc, ◌<◌, ◌≤◌, List, [], ◌∷◌, ◌++◌, length, Bool, true, false, cond, Some, None, Option, refl, sym, ap, ◌∙◌, arith, subst, le-leb, leb-false}
+use Rattle.std.proofs.Common.{◌≡◌, ℕ, zero, suc, ◌<◌, ◌≤◌, List, [], ◌∷◌, length, Bool, true, false, cond, Some, None, Option, refl, sym, ap, ◌∙◌, arith, subst, le-leb, leb-false}
 use Rattle.std.proofs.lemmas.Bool.{false≢true}
-use Rattle.std.specs.Prelude.{◌&&◌, ◌||◌, not, nat_le, is_none, fold, Contains, slice_index_or}
+use Rattle.std.specs.Prelude.{◌&&◌, ◌||◌, not, nat_le, is_none, Contains, slice_index_or}
 use Rattle.std.specs.List.{AllByRecursion}
 use Rattle.std.proofs.lemmas.List.Sums.{fold-append}
 use Rattle.cdc_types.specs.declared.events.Event.{Event}
@@ -16,8 +16,7 @@ use Rattle.cdc_subscriber.specs.SubscriberState.{SubscriberState}
 use Rattle.cdc_follow.specs.declared.entries.Content.{Content}
 use Rattle.cdc_follow.specs.declared.entries.Content.TheVariants as content
 use Rattle.cdc_follow.specs.declared.entries.Entry.{Entry}
-use Rattle.cdc_follow.specs.declared.follower.Following.TheVariants as following
-use Rattle.cdc_follow.specs.Following.{FollowState, comes_early, content_outcome, follow_all, is_gap, next_follow, next_outcome, outcome_of, seen_past, state_by}
+use Rattle.cdc_follow.specs.Following.{FollowState, comes_early, content_outcome, follow_all, is_gap, next_follow, outcome_of, state_by}
 use Rattle.cdc_follow.specs.Laws.{GoingOnIsOnce, HasNoGap}
 use Rattle.cdc_follow.proofs.StepLemmas.{le_longer, next-closed, next-open, outcome-open}
 
@@ -181,7 +180,7 @@ taken_settles binding state entry none = case_of (listens state.kept) refl
     case_of true is =
         subst (λ s. is_settled binding s entry ≡ true) (sym (next-open binding state entry is))
         (settles-content binding state entry entry.content refl is
-          (sym (ap is_gap (outcome-open binding state entry is)) ∙ none))
+        (sym (ap is_gap (outcome-open binding state entry is)) ∙ none))
 
 -- ---- going on
 
@@ -192,7 +191,7 @@ taken_are_settled binding state [] entry k none below is = absurd (omega (arith,
 taken_are_settled binding state (first ∷ taken) entry zero none below is =
     all_settled binding (next_follow binding state first) taken entry
     (subst (λ e. is_settled binding (next_follow binding state first) e ≡ true) is
-      (taken_settles binding state first none.0))
+    (taken_settles binding state first none.0))
 taken_are_settled binding state (first ∷ taken) entry (suc k) none below is =
     taken_are_settled binding (next_follow binding state first) taken entry k none.1 (omega (arith, below)) is
 
@@ -202,7 +201,7 @@ again_keeps : (binding : Arguments) (state : FollowState) (taken again : List En
 again_keeps binding state taken [] none are = refl
 again_keeps binding state taken (entry ∷ again) none are =
     let kept = settled_keeps binding (follow_all binding state taken) entry
-      (taken_are_settled binding state taken entry are.0.0 none are.0.1 are.0.2) in
+    (taken_are_settled binding state taken entry are.0.0 none are.0.1 are.0.2) in
     ap (λ s. follow_all binding s again) kept ∙ again_keeps binding state taken again none are.1
 
 pub goes_on_once : GoingOnIsOnce

@@ -1,9 +1,7 @@
 -- A follower of entries without predecessors is a subscriber of what its binding takes.
-use Rattle.std.proofs.Common.{◌≡◌, ℕ, List, [], ◌∷◌, Bool, true, false, cond, Some, None, Option, refl, sym, ap, ◌∙◌, subst}
+use Rattle.std.proofs.Common.{◌≡◌, List, [], ◌∷◌, Bool, true, false, cond, None, refl, sym, ap, ◌∙◌, subst}
 use Rattle.std.specs.Prelude.{nat_le, filter, fold, map}
-use Rattle.std.specs.List.{AllByRecursion}
 use Rattle.cdc_types.specs.declared.events.Event.{Event}
-use Rattle.cdc_message.specs.declared.items.Item.{Item}
 use Rattle.cdc_message.specs.declared.items.Item.TheVariants as item
 use Rattle.cdc_message.specs.Headers.{headers_of_event}
 use Rattle.cdc_match.specs.Arguments.{Arguments}
@@ -14,7 +12,7 @@ use Rattle.cdc_subscriber.specs.SubscriberState.{SubscriberState}
 use Rattle.cdc_follow.specs.declared.entries.Content.{Content}
 use Rattle.cdc_follow.specs.declared.entries.Content.TheVariants as content
 use Rattle.cdc_follow.specs.declared.entries.Entry.{Entry}
-use Rattle.cdc_follow.specs.Following.{FollowState, content_outcome, follow_all, next_follow, state_by}
+use Rattle.cdc_follow.specs.Following.{FollowState, content_outcome, next_follow, state_by}
 use Rattle.cdc_follow.specs.Laws.{PlainFollowersAreSubscribers, is_taken, item_of, items_taken}
 use Rattle.cdc_follow.proofs.StepLemmas.{next-closed, next-open}
 
@@ -75,8 +73,8 @@ plain-entry binding state entry last none = case_of (listens state.kept) refl
     case_of true is =
         let plain : next_follow binding state entry
         ≡ state_by (content_outcome binding state.seen None entry.content) state None entry.content =
-          next-open binding state entry is
-          ∙ ap (λ p. state_by (content_outcome binding state.seen p entry.content) state p entry.content) none in
+        next-open binding state entry is
+        ∙ ap (λ p. state_by (content_outcome binding state.seen p entry.content) state p entry.content) none in
         subst (GoesTo (cond (is_taken binding entry.content) (next_state state.kept (item_of entry.content)) state.kept))
         (sym plain) (plain-content binding state entry.content last is)
 
@@ -94,4 +92,4 @@ plain_followers binding state (entry ∷ entries) last none =
     let step = plain-entry binding state entry last none.0 in
     plain_followers binding (next_follow binding state entry) entries step.last none.1
     ∙ (ap (λ kept. fold next_state kept (items_taken binding entries)) step.is
-      ∙ fold-taken binding state.kept entry.content (map (λ entry. entry.content) entries) _ refl)
+    ∙ fold-taken binding state.kept entry.content (map (λ entry. entry.content) entries) _ refl)

@@ -1,5 +1,5 @@
 -- A follower of a chained queue keeps a prefix of it.
-use Rattle.std.proofs.Common.{◌≡◌, ◌⊎◌, inl, inr, ℕ, ◌+◌, ◌<◌, ◌≤◌, length, length-append, min, List, [], ◌∷◌, ◌++◌, Bool, true, false, cond, Some, None, Option, refl, sym, ap, ◌∙◌, arith, subst, append-nil, append_assoc, leb-false, ltb-false}
+use Rattle.std.proofs.Common.{◌≡◌, ◌⊎◌, inl, inr, ℕ, ◌+◌, ◌<◌, ◌≤◌, length, length-append, min, List, [], ◌∷◌, ◌++◌, Bool, true, false, cond, Some, Option, refl, sym, ap, ◌∙◌, arith, subst, append-nil, append_assoc, leb-false, ltb-false}
 use Rattle.std.specs.Prelude.{nat_le, nat_lt, filter}
 use Rattle.std.specs.List.{AllByRecursion}
 use Rattle.std.proofs.lemmas.List.Elements.{filter-append}
@@ -21,7 +21,7 @@ use Rattle.cdc_subscriber.proofs.BookLemmas.{book_of-push}
 use Rattle.cdc_follow.specs.declared.entries.Content.{Content}
 use Rattle.cdc_follow.specs.declared.entries.Content.TheVariants as content
 use Rattle.cdc_follow.specs.declared.entries.Entry.{Entry}
-use Rattle.cdc_follow.specs.Following.{FollowState, comes_early, content_outcome, follow_all, next_follow, next_outcome, outcome_of, state_by}
+use Rattle.cdc_follow.specs.Following.{FollowState, content_outcome, follow_all, next_follow, next_outcome, state_by}
 use Rattle.cdc_follow.specs.Laws.{ChainedFollowersGoOn, ChainedFollowersKeepAPrefix, IsContentOf, IsOfQueue, KeepsPrefix, begins, kept_after, taken_by}
 use Rattle.cdc_follow.proofs.StepLemmas.{next-closed, next-open}
 
@@ -65,7 +65,7 @@ place_of (x ∷ before) after (y ∷ first) last e is =
     let same = head_is x y (before ++ after) (first ++ e ∷ last) is in
     subst (λ z. Place (x ∷ before) after (z ∷ first) last e) same
     (cons_place x before after first last e
-      (place_of before after first last e (tail_is x y (before ++ after) (first ++ e ∷ last) is)))
+    (place_of before after first last e (tail_is x y (before ++ after) (first ++ e ∷ last) is)))
 
 -- ---- timestamps of a list that rises
 
@@ -154,7 +154,7 @@ kept_after-push events e later =
 
     same : with_event (kept_after events false) e ≡ kept_after all false
     same = ap with_book (sym (book_of-push events e)) ∙ ap with_last (sym (last_timestamp_from-push 0 events e))
-      ∙ ap with_count (counted (length events) max_64 ∙ ap (λ n. min n max_64) (sym (length-append events (e ∷ []))))
+        ∙ ap with_count (counted (length events) max_64 ∙ ap (λ n. min n max_64) (sym (length-append events (e ∷ []))))
 
 -- the end ends a subscriber that listens
 ended-end : (kept : SubscriberState) → listens kept ≡ true → (next_state kept item.EndMark).ended ≡ true
@@ -218,12 +218,15 @@ module _ (binding : Arguments) (queue : List Event) (rising : RiseFrom 0 queue) 
 
       later : last_timestamp (taken_by binding before) < e.timestamp
       later =
-          omega (arith, last-taken (λ e. matches binding (headers_of_event e)) 0 before (rise_before 0 before (e ∷ last) rises),
-            (rise_after 0 before (e ∷ last) rises).0)
+          omega (
+            arith,
+            last-taken (λ e. matches binding (headers_of_event e)) 0 before (rise_before 0 before (e ∷ last) rises),
+            (rise_after 0 before (e ∷ last) rises).0,
+          )
 
       applied : next_state state.kept (item.Event e) ≡ kept_after (taken_by binding (before ++ e ∷ [])) false
       applied = ap (λ k. next_state k (item.Event e)) kept ∙ kept_after-push (taken_by binding before) e later
-        ∙ ap (λ es. kept_after es false) (sym (taken_by-push binding before e true is))
+          ∙ ap (λ es. kept_after es false) (sym (taken_by-push binding before e true is))
   keeps-next state before last e previous false whole kept is =
       rw is (record {
         before = before ++ e ∷ [];
@@ -295,8 +298,8 @@ module _ (binding : Arguments) (queue : List Event) (rising : RiseFrom 0 queue) 
         whole = keeps.whole;
         seen = keeps.seen;
         kept = ap (λ k. next_state k item.EndMark)
-          (keeps.kept ∙ ap (kept_after (taken_by binding keeps.before)) (open_is state.kept listening))
-          ∙ ap (kept_after (taken_by binding keeps.before)) (sym (ended-end state.kept listening));
+            (keeps.kept ∙ ap (kept_after (taken_by binding keeps.before)) (open_is state.kept listening))
+            ∙ ap (kept_after (taken_by binding keeps.before)) (sym (ended-end state.kept listening));
         complete = λ _. nothing_after keeps.after refl;
       })
     where
@@ -313,7 +316,7 @@ module _ (binding : Arguments) (queue : List Event) (rising : RiseFrom 0 queue) 
       → KeepsPrefix binding queue (state_by (content_outcome binding state.seen previous content) state previous content)
   keeps-content state keeps listening previous (content.Event e) among =
       subst (λ p. KeepsPrefix binding queue (state_by (content_outcome binding state.seen p (content.Event e)) state p
-        (content.Event e))) (sym among.3)
+      (content.Event e))) (sym among.3)
       (keeps-event state keeps e among.0 among.1 _ _ among.2 listening refl refl)
   keeps-content state keeps listening previous content.End among =
       subst (λ p. KeepsPrefix binding queue (state_by (content_outcome binding state.seen p content.End) state p content.End))

@@ -1,6 +1,6 @@
 -- A subscriber that receives events that rise, each once and in order, has applied just these.
-use Rattle.std.proofs.Common.{◌≡◌, ◌<◌, List, [], ◌∷◌, ◌++◌, Bool, true, false, cond, map, refl, sym, ap, ◌∙◌, subst, append-nil, append_assoc, length, min}
-use Rattle.std.specs.Prelude.{nat_lt, if◌then◌else◌}
+use Rattle.std.proofs.Common.{◌≡◌, List, [], ◌∷◌, ◌++◌, Bool, true, false, cond, map, refl, sym, ap, ◌∙◌, subst, append-nil, append_assoc, length, min}
+use Rattle.std.specs.Prelude.{nat_lt}
 use Rattle.std.specs.List.{list_any}
 use Rattle.std.proofs.lemmas.Bool.{lt-ltb}
 use Rattle.cdc_types.specs.declared.events.Event.{Event}
@@ -12,9 +12,9 @@ use Rattle.cdc_message.specs.declared.items.Item.TheVariants as item
 use Rattle.cdc_message.specs.Items.{events_of, rises}
 use Rattle.cdc_message.proofs.RisesLaws.{rises-push}
 use Rattle.cdc_subscriber.specs.Book.{book_of}
-use Rattle.cdc_subscriber.specs.Reception.{is_end, kept_of}
+use Rattle.cdc_subscriber.specs.Reception.{is_end}
 use Rattle.cdc_subscriber.specs.SubscriberState.{SubscriberState}
-use Rattle.cdc_follow.specs.Laws.{ReceivedOnceIsApplied, kept_after, reception_of}
+use Rattle.cdc_follow.specs.Laws.{ReceivedOnceIsApplied}
 
 -- events that rise from the last one so far all rise
 rises-on : (before es : List Event) → rises before ≡ before → RiseFrom (last_timestamp before) es
@@ -30,7 +30,7 @@ rises-on before (e ∷ es) so_far rising =
 
     joins : rises (before ++ e ∷ []) ≡ before ++ e ∷ []
     joins = rises-push before e ∙ ap (λ b. cond b (rises before ++ e ∷ []) (rises before)) newer
-      ∙ ap (λ es. es ++ e ∷ []) so_far
+        ∙ ap (λ es. es ++ e ∷ []) so_far
 
 -- the items after events
 abbrev ending : Bool → List Item
@@ -51,7 +51,7 @@ ended-received (e ∷ events) ended = ended-received events ended
 pub received_once : ReceivedOnceIsApplied
 received_once events ended rising =
     ap (λ es. with_events es (list_any is_end (map item.Event events ++ ending ended)))
-      (ap rises (events_of-received events ended) ∙ rises-on [] events refl rising)
+    (ap rises (events_of-received events ended) ∙ rises-on [] events refl rising)
     ∙ ap (with_events events) (ended-received events ended)
   where
     with_events : List Event → Bool → SubscriberState

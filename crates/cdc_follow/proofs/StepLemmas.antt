@@ -1,5 +1,5 @@
 -- A follower's step, by whether it is open.
-use Rattle.std.proofs.Common.{◌≡◌, ℕ, ◌≤◌, Bool, true, false, cond, ap, arith, le-leb, leb-true}
+use Rattle.std.proofs.Common.{◌≡◌, ℕ, ◌≤◌, true, false, cond, ap, arith, le-leb, leb-true}
 use Rattle.std.specs.Prelude.{nat_le}
 use Rattle.cdc_match.specs.Arguments.{Arguments}
 use Rattle.cdc_subscriber.specs.Answers.{listens}

@@ -1,5 +1,5 @@
 -- What a first line makes of a stream.
-use Rattle.std.proofs.Common.{◌≡◌, ◌≢◌, inl, inr, ℕ, suc, ◌+◌, ◌<◌, List, [], ◌∷◌, ◌++◌, length, take, append-nil, append_assoc, Bool, true, false, Some, None, Option, Result, Ok, Err, refl, sym, ap, ◌∙◌, cond, arith, subst}
+use Rattle.std.proofs.Common.{◌≡◌, ◌≢◌, inl, inr, ℕ, suc, ◌+◌, ◌<◌, List, [], ◌∷◌, ◌++◌, length, take, append-nil, append_assoc, Bool, true, false, Some, None, Option, Result, Ok, Err, refl, sym, ap, ◌∙◌, cond, subst}
 use Rattle.std.specs.Prelude.{◌&&◌, not, IfOk, IfSome, OnErr}
 use Rattle.std.proofs.lemmas.Bool.{lt-ltb}
 use Rattle.cdc_match.specs.Arguments.{Arguments}
@@ -35,7 +35,7 @@ pub leads_past : (binding : Arguments) (rules : Rules) (number : ℕ) (line : Li
 leads_past binding rules number line state is rest =
     ap (followed binding rules.skips_gaps state)
     (tells rules.chained number line rest
-      ∙ ap (λ entry. tells_first number entry (lines_tell rules.chained (number + 1) rest)) is)
+    ∙ ap (λ entry. tells_first number entry (lines_tell rules.chained (number + 1) rest)) is)
 
 -- nothing is followed of no entries
 pub follow-none : (binding : Arguments) (skips : Bool) (state : FollowState)
@@ -50,7 +50,7 @@ pub leads_to_bad : (binding : Arguments) (rules : Rules) (number : ℕ) (line : 
 leads_to_bad binding rules number line state error is rest =
     ap (followed binding rules.skips_gaps state)
     (tells rules.chained number line rest
-      ∙ ap (λ entry. tells_first number entry (lines_tell rules.chained (number + 1) rest)) is)
+    ∙ ap (λ entry. tells_first number entry (lines_tell rules.chained (number + 1) rest)) is)
     ∙ bad_alone
   where
     bad_alone : followed binding rules.skips_gaps state
@@ -77,7 +77,7 @@ leads_on binding rules number line state entry is goes rest =
     ap (followed binding rules.skips_gaps state)
     (tells rules.chained number line rest ∙ ap (λ entry. tells_first number entry later) is)
     ∙ ap (λ done. stopped done later.bad)
-      (follow-first binding rules.skips_gaps state (record { line = number; entry = entry }) later.entries false goes)
+    (follow-first binding rules.skips_gaps state (record { line = number; entry = entry }) later.entries false goes)
 
 -- a line that has an entry, at which following stops
 pub leads_to_gap : (binding : Arguments) (rules : Rules) (number : ℕ) (line : List ℕ) (state : FollowState)
@@ -89,7 +89,7 @@ leads_to_gap binding rules number line state entry is stops rest =
     ap (followed binding rules.skips_gaps state)
     (tells rules.chained number line rest ∙ ap (λ entry. tells_first number entry later) is)
     ∙ ap (λ done. stopped done later.bad)
-      (follow-first binding rules.skips_gaps state (record { line = number; entry = entry }) later.entries true stops)
+    (follow-first binding rules.skips_gaps state (record { line = number; entry = entry }) later.entries true stops)
 
 -- a gap changes nothing
 gap_keeps : (made : Following) (state : FollowState) (previous : Option ℕ) (content : Content)
@@ -185,7 +185,7 @@ follows_line binding rules start old new number bytes mid line rest follows is l
   front = follows.front ++ line ∷ [];
   whole = follows.whole ∙ ap (λ ls. follows.front ++ ls) is ∙ sym (append_assoc follows.front (line ∷ []) (lines_of rest));
   leads = λ others. ap (lines_followed binding rules start 1) (append_assoc follows.front (line ∷ []) others)
-    ∙ follows.leads (line ∷ others) ∙ leads others;
+      ∙ follows.leads (line ∷ others) ∙ leads others;
 }
 
 follows_more : (binding : Arguments) (rules : Rules) (start old new : FollowState) (number : ℕ)
@@ -231,9 +231,11 @@ KeepsSome binding rules start number front rest = (count : ℕ) × ((lines_follo
 keeps_none : (binding : Arguments) (rules : Rules) (start : FollowState) (number : ℕ) (stop : Stop)
     (front rest : List (List ℕ)) → lines_followed binding rules start number front ≡ record { state = start; stop = stop }
     → KeepsSome binding rules start number front rest
-keeps_none binding rules start number stop front rest is =
-    (0, ap (λ (s : Stopped). s.state) is
-      ∙ sym (ap (λ (done : Followed). done.state) (follow-none binding rules.skips_gaps start)))
+keeps_none binding rules start number stop front rest is = (
+  0,
+  ap (λ (s : Stopped). s.state) is
+      ∙ sym (ap (λ (done : Followed). done.state) (follow-none binding rules.skips_gaps start)),
+)
 
 -- what the first line tells, in front of what the others tell
 entries_first : (chained : Bool) (number : ℕ) (line : List ℕ) (rest : List (List ℕ))
@@ -243,7 +245,7 @@ entries_first : (chained : Bool) (number : ℕ) (line : List ℕ) (rest : List (
 entries_first chained number line rest read is =
     ap (λ (all : Diagnostics). all.entries) (tells chained number line rest)
     ∙ ap (λ (read : Result (Option Entry) LineError).
-      (tells_first number read (lines_tell chained (number + 1) rest)).entries) is
+    (tells_first number read (lines_tell chained (number + 1) rest)).entries) is
 
 -- one line in front of others, by what it says
 keeps_line : (binding : Arguments) (rules : Rules) (start : FollowState) (number : ℕ) (line : List ℕ)
@@ -251,10 +253,12 @@ keeps_line : (binding : Arguments) (rules : Rules) (start : FollowState) (number
     → ((state : FollowState) → KeepsSome binding rules state (number + 1) front rest)
     → KeepsSome binding rules start number (line ∷ front) rest
 keeps_line binding rules start number line front rest (Ok None) is later =
-    let others = later start in
-    (others.0, ap (λ (s : Stopped). s.state) (leads_past binding rules number line start is front) ∙ others.1
-      ∙ sym (ap (kept_first binding rules.skips_gaps start others.0)
-        (entries_first rules.chained number line (front ++ rest) (Ok None) is)))
+    let others = later start in (
+      others.0,
+      ap (λ (s : Stopped). s.state) (leads_past binding rules number line start is front) ∙ others.1
+          ∙ sym (ap (kept_first binding rules.skips_gaps start others.0)
+          (entries_first rules.chained number line (front ++ rest) (Ok None) is)),
+    )
 keeps_line binding rules start number line front rest (Ok (Some entry)) is later = by_gap _ refl
   where
     by_gap : (stops : Bool) → (is_gap (outcome_of binding start entry) && not rules.skips_gaps) ≡ stops
@@ -265,13 +269,14 @@ keeps_line binding rules start number line front rest (Ok (Some entry)) is later
     by_gap false gap =
         let numbered : NumberedEntry = record { line = number; entry = entry } in
         let others = later (next_follow binding start entry) in
-        let entries = (lines_tell rules.chained (number + 1) (front ++ rest)).entries in
-        (suc others.0,
+        let entries = (lines_tell rules.chained (number + 1) (front ++ rest)).entries in (
+          suc others.0,
           ap (λ (s : Stopped). s.state) (leads_on binding rules number line start entry is gap front) ∙ others.1
-          ∙ sym (ap (λ (done : Followed). done.state)
-            (follow-first binding rules.skips_gaps start numbered (take others.0 entries) false gap))
-          ∙ sym (ap (kept_first binding rules.skips_gaps start (suc others.0))
-            (entries_first rules.chained number line (front ++ rest) (Ok (Some entry)) is)))
+              ∙ sym (ap (λ (done : Followed). done.state)
+              (follow-first binding rules.skips_gaps start numbered (take others.0 entries) false gap))
+              ∙ sym (ap (kept_first binding rules.skips_gaps start (suc others.0))
+              (entries_first rules.chained number line (front ++ rest) (Ok (Some entry)) is)),
+        )
 keeps_line binding rules start number line front rest (Err error) is later =
     keeps_none binding rules start number (stop.BadLine number error) (line ∷ front) rest
     (leads_to_bad binding rules number line start error is front)
@@ -293,11 +298,13 @@ follows_keeps binding rules start state number (Some bytes) None follows = absur
 follows_keeps binding rules start state number (Some bytes) (Some left) follows =
     let some = keeps_some binding rules start 1 follows.front (lines_of left) in
     let all : lines_followed binding rules start 1 follows.front ≡ record { state = state; stop = stop.AtEnd } =
-      ap (lines_followed binding rules start 1) (sym (append-nil follows.front)) ∙ follows.leads []
-      ∙ none_told binding rules state number in
-    (some.0, sym (ap (λ (s : Stopped). s.state) all) ∙ some.1
-      ∙ ap (λ lines. kept_first binding rules.skips_gaps start some.0 (lines_tell rules.chained 1 lines).entries)
-        (sym follows.whole))
+    ap (lines_followed binding rules start 1) (sym (append-nil follows.front)) ∙ follows.leads []
+    ∙ none_told binding rules state number in (
+      some.0,
+      sym (ap (λ (s : Stopped). s.state) all) ∙ some.1
+          ∙ ap (λ lines. kept_first binding rules.skips_gaps start some.0 (lines_tell rules.chained 1 lines).entries)
+          (sym follows.whole),
+    )
 
 -- so it does after an error
 pub keeps_on_error : (binding : Arguments) (rules : Rules) (start old new : FollowState) (number : ℕ)
@@ -328,7 +335,7 @@ module _ (binding : Arguments) (rules : Rules) (number : ℕ) (line : List ℕ) 
   leads_when_none read gives is =
       leads_past binding rules number line old
       (gives_ok read (line_entry rules.chained line) gives
-        ∙ ap (λ (read : Option Entry). let answer : Result (Option Entry) LineError = Ok read in answer) is)
+      ∙ ap (λ (read : Option Entry). let answer : Result (Option Entry) LineError = Ok read in answer) is)
 
   pub leads_when_bad : (error : LineError) → GivesUnlessMemory (Err error) (line_entry rules.chained line)
       → (answer : Result (Option Stop) FollowError)
@@ -337,7 +344,7 @@ module _ (binding : Arguments) (rules : Rules) (number : ℕ) (line : List ℕ) 
   leads_when_bad error gives (Ok stops) is =
       subst (λ stops. LineLeadsTo binding rules number line old stops old) (sym is.0)
       (leads_to_bad binding rules number line old error
-        (gives_err error (line_entry rules.chained line) gives is.1))
+      (gives_err error (line_entry rules.chained line) gives is.1))
   leads_when_bad error gives (Err failed) is = tt
 
   -- what the line has
@@ -354,7 +361,7 @@ module _ (binding : Arguments) (rules : Rules) (number : ℕ) (line : List ℕ) 
       → LineLeadsTo binding rules number line old (Some (stop.Gap number entry)) new
   leads_when_gap read entry made new gives is becomes next stops =
       let gap : (is_gap (outcome_of binding old entry) && not rules.skips_gaps) ≡ true =
-        sym (stops ∙ ap (λ made. is_gap made && not rules.skips_gaps) becomes) in
+      sym (stops ∙ ap (λ made. is_gap made && not rules.skips_gaps) becomes) in
       subst (λ state. LineLeadsTo binding rules number line old (Some (stop.Gap number entry)) state)
       (sym (next ∙ next-gap binding old entry (not rules.skips_gaps) gap))
       (leads_to_gap binding rules number line old entry (entry_read read entry gives is) gap)
@@ -366,6 +373,6 @@ module _ (binding : Arguments) (rules : Rules) (number : ℕ) (line : List ℕ) 
       → LineLeadsTo binding rules number line old None new
   leads_when_on read entry made new gives is becomes next stops =
       let goes : (is_gap (outcome_of binding old entry) && not rules.skips_gaps) ≡ false =
-        sym (stops ∙ ap (λ made. is_gap made && not rules.skips_gaps) becomes) in
+      sym (stops ∙ ap (λ made. is_gap made && not rules.skips_gaps) becomes) in
       subst (λ state. LineLeadsTo binding rules number line old None state) (sym next)
       (leads_on binding rules number line old entry (entry_read read entry gives is) goes)

@@ -6,7 +6,7 @@ pub returns-in_err-add_part-clause-long : goal.returns-in_err-add_part-clause-lo
 returns-in_err-add_part-clause-long g c =
     let exit = err_from_is_err_and c.from_residual.result c.from_residual.ensures.1 in
     rw (exit.1, exit.2) (λ long. line_long (g.B.Read.remaining c.args.reader.now) (g.B.Read.remaining c.loop.reader)
-      c.loop.line.items c.loop.invariant.reads c.loop.invariant.clean (c.in_err-add_part.ensures.long long))
+    c.loop.line.items c.loop.invariant.reads c.loop.invariant.clean (c.in_err-add_part.ensures.long long))
 
 pub returns-in-Feed-clause-line : goal.returns-in-Feed-clause-line
 returns-in-Feed-clause-line g c =
