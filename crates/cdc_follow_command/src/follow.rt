@@ -40,20 +40,17 @@ pub fn follow_stream<F: FollowForm, B: LineReader, W: Write, K: BookStore>(
 {
     let mut line = Vec::new(alloc);
     for number in 1..u64::MAX {
-        if saver.is_due(!reader.has_line()) {
-            saver.save(form, alloc, writer, follower)?;
-        }
-        let followed = follow_line(alloc, reader, &mut line, number, binding, rules, follower);
-        if let Ok(None) = followed {
-            saver.count_line();
-            continue;
-        }
+        saver.save_if_due(form, alloc, writer, follower, !reader.has_line())?;
+        let ended = match follow_line(alloc, reader, &mut line, number, binding, rules, follower) {
+            Ok(None) => {
+                saver.count_line();
+                continue;
+            }
+            Ok(Some(stop)) => Ok(stop),
+            Err(error) => Err(fault_of(error)),
+        };
         saver.save(form, alloc, writer, follower)?;
-        match followed {
-            Ok(Some(stop)) => return Ok(stop),
-            Ok(None) => {}
-            Err(error) => return Err(fault_of(error)),
-        }
+        return ended;
     }
     Err(ProgramFault::ReadFault(io::Error::from(ErrorKind::Other)))
 }

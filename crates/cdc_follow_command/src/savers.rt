@@ -48,8 +48,29 @@ impl<K: BookStore> Saver<K> {
     }
 
     /// Whether the book is to be saved before the next line is read. `waits`: no whole line has come yet.
-    pub(crate) fn is_due(&self, waits: bool) -> bool {
+    fn is_due(&self, waits: bool) -> bool {
         self.unsaved >= self.every || waits && self.unsaved > 0
+    }
+
+    /// Saves the book if it is to be saved before the next line is read. `waits`: no whole line has come yet.
+    pub(crate) fn save_if_due<F: FollowForm, W: Write>(
+        &mut self,
+        form: &F,
+        alloc: Global,
+        writer: &mut W,
+        follower: &Follower,
+        waits: bool,
+    ) -> Result<(), ProgramFault>
+        ensures chained { self.new.chained ≡ self.old.chained }
+        ensures binding { self.new.binding.items ≡ self.old.binding.items }
+        ensures printed { UnlessWriteFails result
+            (PrintsSaves F.prints_saved (W.contents writer.old) (W.contents writer.new)) }
+    {
+        if self.is_due(waits) {
+            self.save(form, alloc, writer, follower)
+        } else {
+            Ok(())
+        }
     }
 
     /// Saves the book, if it is kept, and reports the save.
