@@ -21,7 +21,7 @@ pub record IsDefaultPlan (plan : RunPlan) : Type 0 where
 -- and without further diagnostics
 abbrev pub IsRun : List ℕ → Options → Type 0
 IsRun name (Books file explain form) = ⊥
-IsRun name (Messages file form) = ⊥
+IsRun name (Messages file queue form) = ⊥
 IsRun name (Simulate file steps window diagnostics form) = ⊥
 IsRun name (Random file window chances diagnostics form) = ⊥
 IsRun name (Run file plan progress diagnostics form) =
@@ -34,7 +34,7 @@ IsRun name (Explain text) = ⊥
 -- the numbers that are asked for are within their limits
 abbrev pub IsWithinLimits : Options → Type 0
 IsWithinLimits (Books file explain form) = Unit {0}
-IsWithinLimits (Messages file form) = Unit {0}
+IsWithinLimits (Messages file queue form) = Unit {0}
 IsWithinLimits (Simulate file steps window diagnostics form) = IsWindow window
 IsWithinLimits (Random file window chances diagnostics form) = IsWindow window
 IsWithinLimits (Run file plan progress diagnostics form) = IsPlan plan

@@ -22,6 +22,8 @@ pub enum Options<'a> {
     /// The messages of the events of the script in this file; `-` is standard input.
     Messages {
         file: &'a str,
+        /// The number of the subscriber, from 1, whose queue alone is printed, if one is named.
+        queue: Option<usize>,
         form: Form,
     },
     /// The world that the steps of the second file lead to, over the batches of the script in the first; `-` as the

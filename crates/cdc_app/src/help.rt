@@ -29,8 +29,13 @@ FILE is a script, and - is standard input. Its batches go to a ledger in the ord
 is, for each event that it makes, a line with the message's headers and its timestamp in seconds, and a line with its
 body, which is JSON.
 
-Example:
+With --queue I the output is the queue of subscriber I: a JSON object for each of its messages, and one for its end.
+Each has a member previous: the timestamp in nanoseconds of the message before it in this queue, or 0 if it is the
+first. A consumer that applies a message only if it has applied the one before misses nothing, whatever lies between.
+
+Examples:
   relayplum messages examples/first-transfer.script
+  relayplum messages examples/two-phase.script --queue 1
 
 Exit status:
   0  all was done

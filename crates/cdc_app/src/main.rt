@@ -28,6 +28,7 @@ use advice::{advise, advise_on_run, advise_on_script, advise_on_steps, shown_nam
 use cdc_commands::books::{BooksEnded, books};
 use cdc_commands::check::{check, check_files};
 use cdc_commands::messages::messages;
+use cdc_commands::queues::queue;
 use cdc_commands::simulate::simulate;
 use cdc_commands::{
     Ended, Ending, ParsedBatches, ProgramFault, Tally, Text, print_fault, print_text,
@@ -94,7 +95,20 @@ fn run_arguments<T: Threads + Wait + Sync>(rt: &HostRuntime, threads: &T, args: 
                 form,
             },
         ) => run_books(rt, file, explain, form),
-        Ok(Options::Messages { file, form }) => run_messages(rt, file, form),
+        Ok(
+            Options::Messages {
+                file,
+                queue: None,
+                form,
+            },
+        ) => run_messages(rt, file, form),
+        Ok(
+            Options::Messages {
+                file,
+                queue: Some(number),
+                form,
+            },
+        ) => run_queue(rt, file, number, form),
         Ok(
             Options::Simulate {
                 file,
@@ -192,6 +206,27 @@ fn run_messages(rt: &HostRuntime, file: &str, form: Form) -> Ending {
     let seen = script.seen(file);
     if let Ending::Done = ending {
         note(rt, file, notes, true);
+    }
+    advise_on_script(rt, seen, ending);
+    ending
+}
+
+/// Runs `messages` over the script of this name, for the queue of the subscriber of this number, and reports on
+/// standard error if the script has no such subscriber, or why the command failed.
+fn run_queue(rt: &HostRuntime, file: &str, number: usize, form: Form) -> Ending {
+    let mut script = Kept::new(rt.alloc(), Source::of_script(rt, file));
+    let mut writer = io::writer(rt);
+    let Ended { ending, notes, .. } = match form {
+        Form::Text => queue(&Text, rt.alloc(), &mut script, &mut writer, number),
+        Form::Json => queue(&Json, rt.alloc(), &mut script, &mut writer, number),
+    };
+    let seen = script.seen(file);
+    match ending {
+        Ending::Done => note(rt, file, notes, true),
+        Ending::BadWords => {
+            let _ = eprintln!(rt; "relayplum: --queue {number}: the script has no such subscriber");
+        }
+        _ => {}
     }
     advise_on_script(rt, seen, ending);
     ending

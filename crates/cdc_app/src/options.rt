@@ -126,6 +126,7 @@ fn messages_arguments<'a>(alloc: Global) -> Result<Command<'a>, AllocError> {
         )
         .after_help(help::MESSAGES)
         .arg(script_argument(alloc))?
+        .arg(queue_option(alloc))?
         .arg(json_flag(alloc))?
         .arg(check_flag(alloc))
 }
@@ -174,6 +175,16 @@ pub fn explain_flag<'a>(alloc: Global) -> Arg<'a> {
         .long("explain")
         .action(ArgAction::SetTrue)
         .help("Print on standard error why each item was not accepted")
+}
+
+fn queue_option<'a>(alloc: Global) -> Arg<'a> {
+    Arg::new(alloc, "queue")
+        .long("queue")
+        .value_name("I")
+        .action(ArgAction::Set)
+        .help(
+            "Print only the queue of subscriber I, as JSON lines that each name the message before [1-8]",
+        )
 }
 
 fn check_flag<'a>(alloc: Global) -> Arg<'a> {
@@ -256,7 +267,11 @@ fn asked_of<'a>(
             explain: arguments.get_flag("explain"),
             form,
         }),
-        ("messages", _) => Ok(Options::Messages { file, form }),
+        ("messages", _) => Ok(Options::Messages {
+            file,
+            queue: asked_queue(alloc, arguments)?,
+            form,
+        }),
         ("run", _) => Ok(Options::Run {
             file,
             plan: run_plan(alloc, arguments)?,
@@ -320,6 +335,20 @@ fn random_simulation<'a>(
         diagnostics: asked_diagnostics(arguments),
         form: asked_form(arguments),
     })
+}
+
+/// The number of a subscriber that the arguments give, if they give one. A usage error if no script can have it.
+fn asked_queue(alloc: Global, arguments: &ArgMatches<'_>) -> Result<Option<usize>, OptionsFault> {
+    let Some(word) = arguments.get_str("queue") else {
+        return Ok(None);
+    };
+    match decimal_up_to(word.as_bytes(), Limits::SUBSCRIBERS as u128) {
+        Some(number) if number > 0 => Ok(Some(number as usize)),
+        _ => Err(usage_error(
+            alloc,
+            "error: a queue is the number of its subscriber, 1 to 8\n\nFor more information, try '--help'.\n",
+        )?),
+    }
 }
 
 /// What the arguments ask standard error to report of a simulation.

@@ -7,6 +7,7 @@ pub mod Messages
 pub mod Outcomes
 pub mod Printed
 pub mod Private
+pub mod QueuePrinted
 pub mod Queues
 pub mod Report
 pub mod Seen

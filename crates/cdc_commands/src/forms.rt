@@ -15,6 +15,7 @@ use crate::book_reports::BooksReport;
 use crate::faults::ProgramFault;
 use crate::simulations::Simulated;
 use cdc_log::EventLog;
+use cdc_match::Binding;
 use cdc_script::ScriptFault;
 use std::alloc::{AllocError, Global};
 
@@ -38,8 +39,14 @@ pub trait Form {
         ensures { (script : Parsed) → IsBooksOf script report
             → IfOk result (λ text. prints_books script text.items) };
 
-    /// Prints the events of a ledger for `messages`. Without events this needs no memory.
-    fn messages(&self, alloc: Global, log: &EventLog) -> Result<Vec<u8>, AllocError>
+    /// Prints the events of a ledger for `messages`, of a script with these bindings. Without events this needs no
+    /// memory.
+    fn messages(
+        &self,
+        alloc: Global,
+        log: &EventLog,
+        bindings: &[Binding],
+    ) -> Result<Vec<u8>, AllocError>
         ensures text { (script : Parsed) → log.now.events ≡ events (history_of script)
             → IfOk result (λ text. prints_messages script text.items) }
         ensures memory { OnErr result (0 < length log.now.events) };

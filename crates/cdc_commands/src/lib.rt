@@ -16,6 +16,7 @@ pub mod messages;
 mod notes;
 pub mod observers;
 pub mod output;
+pub mod queues;
 mod report;
 pub mod simulate;
 mod simulation_report;

@@ -45,7 +45,7 @@ fn print_messages<F: Form>(form: &F, alloc: Global, script: &Script) -> Result<V
     ensures memory { OnErr result (0 < length script.now.batches) }
 {
     let taken = take_batches(alloc, script)?;
-    form.messages(alloc, taken.ledger.log())
+    form.messages(alloc, taken.ledger.log(), script.bindings.as_slice())
 }
 
 /// Reads a script, and prints what `messages_of` makes of its bytes. A command that fails prints why, and nothing else;

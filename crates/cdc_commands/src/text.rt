@@ -17,6 +17,7 @@ use crate::report::{push_answers, push_file_fault};
 use crate::simulation_report::print_simulated;
 use crate::simulations::Simulated;
 use cdc_log::EventLog;
+use cdc_match::Binding;
 use cdc_script::ScriptFault;
 use std::alloc::{AllocError, Global};
 
@@ -42,7 +43,12 @@ impl Form for Text {
         print_books(alloc, report)
     }
 
-    fn messages(&self, alloc: Global, log: &EventLog) -> Result<Vec<u8>, AllocError> {
+    fn messages(
+        &self,
+        alloc: Global,
+        log: &EventLog,
+        _bindings: &[Binding],
+    ) -> Result<Vec<u8>, AllocError> {
         Ok(event_lines(alloc, log)?.into_bytes())
     }
 

@@ -4,7 +4,9 @@ ghost use Rattle.std.specs.Prelude.{◌<◌, OnErr, length};
 
 use crate::lines::{Lines, push_value};
 use cdc_log::EventLog;
+use cdc_match::Binding;
 use cdc_message::{Message, kind_text};
+use cdc_queues::{Predecessor, Predecessors};
 use cdc_types::Event;
 use serde::Serialize;
 use serde_json::Value;
@@ -12,12 +14,14 @@ use std::alloc::{AllocError, Global};
 
 /// The line of the message of an event.
 #[derive(Drop, Serialize)]
-struct MessageLine {
+struct MessageLine<'a> {
     kind: &'static str,
     /// The message's routing headers.
     headers: HeaderLine,
     /// The event's timestamp, in seconds.
     timestamp: u64,
+    /// The queues that take the message, each with the timestamp of the message before it there.
+    queues: &'a [Predecessor],
     body: Value,
 }
 
@@ -31,29 +35,45 @@ struct HeaderLine {
     credit_account_code: u16,
 }
 
-/// The lines of a ledger's events. Without events this needs no memory.
-pub(crate) fn message_lines(alloc: Global, log: &EventLog) -> Result<Lines, AllocError>
+/// The lines of the events of a ledger, for a script with these bindings. Without events this needs no memory.
+pub(crate) fn message_lines(
+    alloc: Global,
+    log: &EventLog,
+    bindings: &[Binding],
+) -> Result<Lines, AllocError>
     ensures { OnErr result (0 < length log.now.events) }
 {
     let mut lines = Lines::new(alloc);
-    push_log(alloc, &mut lines, log)?;
+    if !log.is_empty() {
+        push_log(alloc, &mut lines, log, bindings)?;
+    }
     Ok(lines)
 }
 
 /// Adds a line for each event of a ledger.
-fn push_log(alloc: Global, lines: &mut Lines, log: &EventLog) -> Result<(), AllocError>
-    ensures { OnErr result (0 < length log.now.events) }
-{
+fn push_log(
+    alloc: Global,
+    lines: &mut Lines,
+    log: &EventLog,
+    bindings: &[Binding],
+) -> Result<(), AllocError> {
+    let mut predecessors = Predecessors::new(alloc, bindings)?;
     for place in 0..log.len() {
         if let Some(event) = log.get(place) {
-            push_message(alloc, lines, event)?;
+            predecessors.advance(bindings, event);
+            push_message(alloc, lines, event, predecessors.found())?;
         }
     }
     Ok(())
 }
 
-/// Adds the line of an event.
-fn push_message(alloc: Global, lines: &mut Lines, event: &Event) -> Result<(), AllocError> {
+/// Adds the line of an event that these queues take.
+fn push_message(
+    alloc: Global,
+    lines: &mut Lines,
+    event: &Event,
+    queues: &[Predecessor],
+) -> Result<(), AllocError> {
     let message = Message::of(alloc, event)?;
     let headers = message.headers();
     // (a body is a JSON text, so the only possible error is that memory runs out)
@@ -71,6 +91,7 @@ fn push_message(alloc: Global, lines: &mut Lines, event: &Event) -> Result<(), A
                 credit_account_code: headers.credit_account_code,
             },
             timestamp: message.properties().timestamp,
+            queues,
             body,
         },
     )

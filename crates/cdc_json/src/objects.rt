@@ -6,6 +6,7 @@ use crate::messages::message_lines;
 use crate::simulations::simulation_lines;
 use cdc_commands::{BooksReport, Form, ProgramFault, Simulated};
 use cdc_log::EventLog;
+use cdc_match::Binding;
 use cdc_script::ScriptFault;
 use std::alloc::{AllocError, Global};
 
@@ -28,8 +29,13 @@ impl Form for Json {
         Ok(books_lines(alloc, report)?.into_text())
     }
 
-    fn messages(&self, alloc: Global, log: &EventLog) -> Result<Vec<u8>, AllocError> {
-        Ok(message_lines(alloc, log)?.into_text())
+    fn messages(
+        &self,
+        alloc: Global,
+        log: &EventLog,
+        bindings: &[Binding],
+    ) -> Result<Vec<u8>, AllocError> {
+        Ok(message_lines(alloc, log, bindings)?.into_text())
     }
 
     fn simulation(

@@ -1,0 +1,4 @@
+pub mod LineTexts
+pub mod Neat
+pub mod StepLemmas
+pub mod Values

@@ -1,0 +1,11 @@
+//! Queues as streams: each message with the timestamp of the message before it in its queue, so that a consumer can tell
+//! by itself that nothing is missing.
+#![tactic(auto)]
+
+mod laws;
+mod lines;
+pub mod predecessors;
+
+pub use laws::line_laws;
+pub use lines::queue_lines;
+pub use predecessors::{Predecessor, Predecessors};
