@@ -255,7 +255,7 @@ abbrev pub ReadSoFar : List ℕ → List BookEntry → List ℕ → Type 0
 ReadSoFar text book rest = (entries : List BookEntry) → AreBook entries → text ≡ flat_map account_line entries
     → Split entries book rest
 
--- at the beginning the book is empty
+-- at the start the book is empty
 pub reads-begins : (text : List ℕ) → ReadSoFar text [] text
 reads-begins text entries are is = record { left = entries; parted = refl; lines = is }
 

@@ -19,7 +19,7 @@ use Rattle.cdc_follow.specs.Laws.{IsOfQueue, KeepsPrefix, begins, entries_in, ta
 use Rattle.cdc_follow.specs.LineParts.{HasNoFeed}
 use Rattle.cdc_follow.specs.Lines.{lines_of}
 use Rattle.cdc_follow.specs.Stops.{bytes_followed}
-use Rattle.cdc_follow.specs.Streams.{Diagnostics, NumberedEntry, lines_tell, tells_first}
+use Rattle.cdc_follow.specs.Streams.{Stream, NumberedEntry, stream_of_lines, stream_with}
 use Rattle.cdc_follow.proofs.FoldLemmas.{folds}
 use Rattle.cdc_follow.proofs.LineLemmas.{lines_of-feed, lines_of-none}
 use Rattle.cdc_follow.proofs.QueueLemmas.{keeps_a_prefix}
@@ -98,14 +98,14 @@ texts_are_of_queues binding events are =
 
 -- ---- what arrives
 
--- whatever lines of a queue arrive, each says an entry of the queue, and none is bad
+-- whatever lines of a queue arrive, each has an entry of the queue, and none is bad
 arrived : (queue : List Event) (number : ℕ) (lines : List (List ℕ)) → AllByRecursion (IsLineOfQueue queue) lines
-    → AllByRecursion (IsOfQueue queue) (entries_in (lines_tell true number lines).entries)
-unfolding lines_tell
+    → AllByRecursion (IsOfQueue queue) (entries_in (stream_of_lines true number lines).entries)
+unfolding stream_of_lines
 arrived queue number [] are = tt
 arrived queue number (line ∷ rest) are =
     subst (λ (read : Result (Option Entry) LineError). AllByRecursion (IsOfQueue queue)
-    (entries_in (tells_first number read (lines_tell true (number + 1) rest)).entries)) (sym are.0.1)
+    (entries_in (stream_with number read (stream_of_lines true (number + 1) rest)).entries)) (sym are.0.1)
     (are.0.2, arrived queue (number + 1) rest are.1)
 
 -- each line that is among lines of a queue is one
@@ -130,11 +130,11 @@ whatever_arrives binding own events bytes rules are within chains =
     let rising : RiseFrom 0 (taken_by binding events) = RiseFrom-filter (takes_event binding) 0 events are.rising in
     let lines = among queue (lines_of (queue_text binding events)) (lines_of bytes)
     (texts_are_of_queues binding events are) within in
-    let told = arrived queue 1 (lines_of bytes) lines in
-    let chained_told : AllByRecursion (IsOfQueue queue) (entries_in (lines_tell rules.chained 1 (lines_of bytes)).entries) =
-    subst (λ (b : Bool). AllByRecursion (IsOfQueue queue) (entries_in (lines_tell b 1 (lines_of bytes)).entries))
-    (sym chains) told in
-    let folded = folds own rules.skips_gaps begins (lines_tell rules.chained 1 (lines_of bytes)).entries in
+    let listed = arrived queue 1 (lines_of bytes) lines in
+    let chained_listed : AllByRecursion (IsOfQueue queue) (entries_in (stream_of_lines rules.chained 1 (lines_of bytes)).entries) =
+    subst (λ (b : Bool). AllByRecursion (IsOfQueue queue) (entries_in (stream_of_lines b 1 (lines_of bytes)).entries))
+    (sym chains) listed in
+    let folded = folds own rules.skips_gaps begins (stream_of_lines rules.chained 1 (lines_of bytes)).entries in
     let first = first_ones queue folded.before folded.after
-    (subst (λ (ns : List NumberedEntry). AllByRecursion (IsOfQueue queue) (entries_in ns)) folded.whole chained_told) in
+    (subst (λ (ns : List NumberedEntry). AllByRecursion (IsOfQueue queue) (entries_in ns)) folded.whole chained_listed) in
     subst (KeepsPrefix own queue) (sym folded.folds) (keeps_a_prefix own queue (entries_in folded.before) rising first)

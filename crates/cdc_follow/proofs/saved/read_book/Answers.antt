@@ -25,9 +25,9 @@ returns-else-branch-clause-all c = λ chained binding state fits is.
     let follower = restores _ _ c.in_ok-book.book c.resume.result c.new-follower.result parts c.resume.ensures
     c.new-follower.ensures in
     let flag = parts.chained ∙ saved.chained_is in
-    let words = parts.binding ∙ saved.binding_is in
+    let binding_same = parts.binding ∙ saved.binding_is in
     let same = follower ∙ saved.state_is in
     let text_is : c.args.text.now
     ≡ book_text c.read_front-chained.result.chained c.read_front-chained.result.binding.now c.new-follower.result =
-    rw (flag, words, same) is in
+    rw (flag, binding_same, same) is in
     absurd (false≢true (rw c.if-branch.false at (c.in_ok-is_text_of.ensures.1 text_is)))
