@@ -11,6 +11,7 @@ complete -c relayplum -n '__fish_seen_subcommand_from help' -f -a 'books message
 complete -c relayplum -n '__fish_seen_subcommand_from books simulate run' -l explain -d 'Print on standard error why each item was not accepted'
 complete -c relayplum -n '__fish_seen_subcommand_from books messages simulate run follow' -l json -d 'Print a JSON object in each line'
 complete -c relayplum -n '__fish_seen_subcommand_from books messages simulate' -l check -d 'Validate the files only'
+complete -c relayplum -n '__fish_seen_subcommand_from messages' -l queue -x -a '1 2 3 4 5 6 7 8' -d 'Print only the queue of this subscriber'
 complete -c relayplum -n '__fish_seen_subcommand_from simulate' -l trace -d 'Print on standard error what each step did'
 complete -c relayplum -n '__fish_seen_subcommand_from run' -l trace -d 'Print on standard error what was lost or sent again, and what each subscriber received'
 complete -c relayplum -n '__fish_seen_subcommand_from simulate' -l diagram -d 'Draw the steps for Mermaid, on standard error or, as --diagram=FILE, in a file'

@@ -24,7 +24,7 @@ MEMBERS = {
     "refused_batch": ("batch", "number", "name"),
     "subscriber": ("subscriber", "applied", "last", "ended", "closed"),
     "account": ("subscriber", "id", "debits_pending", "debits_posted", "credits_pending", "credits_posted"),
-    "message": ("headers", "timestamp", "body"),
+    "message": ("headers", "timestamp", "queues", "body"),
     "steps": ("done", "of"),
     "refused_step": ("step", "name"),
     "progress": ("session", "timestamp"),
@@ -78,15 +78,25 @@ def text_of(line, current):
     return f"fault: {line['name']}"
 
 
+def check_queues(message, last):
+    """Checks the queues of a message, by the timestamp of the last event of each queue, and moves these."""
+    for it in message["queues"]:
+        if tuple(it) != ("queue", "previous") or it["previous"] != last.get(it["queue"], "0"):
+            raise ValueError(f"the queues of {message}, after {last}")
+        last[it["queue"]] = message["body"]["timestamp"]
+
+
 def rendered(printed):
     """Returns the text that printed objects stand for."""
-    text, current = "", None
+    text, current, last = "", None, {}
     for line in printed.decode().splitlines():
         said = json.loads(line)
         if short(said) != line:
             raise ValueError(f"{line} has another form than {short(said)}")
         if said["kind"] == "subscriber":
             current = said["subscriber"]
+        if said["kind"] == "message":
+            check_queues(said, last)
         text += text_of(said, current) + "\n"
     return text.encode()
 

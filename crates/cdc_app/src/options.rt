@@ -342,12 +342,22 @@ fn asked_queue(alloc: Global, arguments: &ArgMatches<'_>) -> Result<Option<usize
     let Some(word) = arguments.get_str("queue") else {
         return Ok(None);
     };
-    match decimal_up_to(word.as_bytes(), Limits::SUBSCRIBERS as u128) {
-        Some(number) if number > 0 => Ok(Some(number as usize)),
-        _ => Err(usage_error(
+    match read_subscriber(word) {
+        Some(number) => Ok(Some(number)),
+        None => Err(usage_error(
             alloc,
             "error: a queue is the number of its subscriber, 1 to 8\n\nFor more information, try '--help'.\n",
         )?),
+    }
+}
+
+/// The number of a subscriber, from 1. None if no script can have it.
+fn read_subscriber(word: &str) -> Option<usize> {
+    let number = decimal_up_to(word.as_bytes(), Limits::SUBSCRIBERS as u128)?;
+    if number == 0 {
+        None
+    } else {
+        Some(number as usize)
     }
 }
 
