@@ -60,7 +60,8 @@ lines_of-front byte [] rest clean =
     rw (lines_of-byte byte rest (All-head (λ b. b ≢ 10) byte [] clean)) (begins-join byte (lines_of rest))
 lines_of-front byte (next ∷ front) rest clean =
     rw (lines_of-byte byte (next ∷ (front ++ rest)) (All-head (λ b. b ≢ 10) byte (next ∷ front) clean))
-    (begins-byte byte (next ∷ front) _ (lines_of-front next front rest (All-tail (λ b. b ≢ 10) byte (next ∷ front) clean)))
+    (begins-byte byte (next ∷ front) _
+    (lines_of-front next front rest (All-tail (λ b. b ≢ 10) byte (next ∷ front) clean)))
 
 -- so a line of which too many bytes are known is too long
 pub too_long : (front rest : List ℕ) → HasNoFeed front → LONGEST_LINE < length front → FirstLineIsLong (front ++ rest)

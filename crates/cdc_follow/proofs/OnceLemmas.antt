@@ -48,14 +48,16 @@ past_keeps binding state previous (content.Event e) past = late (nat_le e.timest
   where
     let_pass : (taken : Bool) (previous : Option ℕ) → matches binding (headers_of_event e) ≡ taken
         → nat_le e.timestamp state.seen ≡ false → (is_none previous && not taken) ≡ true
-        → state_by (content_outcome binding state.seen previous (content.Event e)) state previous (content.Event e) ≡ state
+        → state_by (content_outcome binding state.seen previous (content.Event e)) state previous (content.Event e)
+        ≡ state
     let_pass true None takes later is = cc
     let_pass true (Some p) takes later is = cc
     let_pass false None takes later is = rw (later, takes) refl
     let_pass false (Some p) takes later is = cc
 
     late : (t : Bool) → nat_le e.timestamp state.seen ≡ t
-        → state_by (content_outcome binding state.seen previous (content.Event e)) state previous (content.Event e) ≡ state
+        → state_by (content_outcome binding state.seen previous (content.Event e)) state previous (content.Event e)
+        ≡ state
     late true is = rw is refl
     late false is = let_pass (matches binding (headers_of_event e)) previous refl is (rw is at past)
 past_keeps binding state previous content.End past = cc
@@ -90,7 +92,8 @@ rises-content binding state previous (content.Event e) = rises-event binding sta
 rises-content binding state previous content.End = case_of (comes_early state.seen previous) refl
   where
     case_of : (early : Bool) → comes_early state.seen previous ≡ early
-        → state.seen ≤ (state_by (content_outcome binding state.seen previous content.End) state previous content.End).seen
+        → state.seen
+        ≤ (state_by (content_outcome binding state.seen previous content.End) state previous content.End).seen
     case_of true is = rw is (omega arith)
     case_of false is = rw is (omega arith)
 
@@ -114,17 +117,20 @@ settled_stays : (binding : Arguments) (state : FollowState) (entry other : Entry
     → is_settled binding state entry ≡ true → is_settled binding (next_follow binding state other) entry ≡ true
 settled_stays binding state entry other settled = case_of (listens state.kept) refl
   where
-    case_of : (listening : Bool) → listens state.kept ≡ listening → is_settled binding (next_follow binding state other) entry ≡ true
+    case_of : (listening : Bool) → listens state.kept ≡ listening
+        → is_settled binding (next_follow binding state other) entry ≡ true
     case_of false is =
         subst (λ s. is_settled binding s entry ≡ true) (sym (next-closed binding state other is)) settled
     case_of true is = or_right _ _
-        (past_later binding state.seen _ entry.previous entry.content (seen_rises binding state other is) (rw is at settled))
+        (past_later binding state.seen _ entry.previous entry.content (seen_rises binding state other is)
+        (rw is at settled))
 
 all_settled : (binding : Arguments) (state : FollowState) (entries : List Entry) (entry : Entry)
     → is_settled binding state entry ≡ true → is_settled binding (follow_all binding state entries) entry ≡ true
 all_settled binding state [] entry settled = settled
 all_settled binding state (other ∷ entries) entry settled =
-    all_settled binding (next_follow binding state other) entries entry (settled_stays binding state entry other settled)
+    all_settled binding (next_follow binding state other) entries entry
+    (settled_stays binding state entry other settled)
 
 -- ---- an entry before which there is no gap is settled afterwards
 
@@ -144,7 +150,8 @@ settles-event : (binding : Arguments) (state : FollowState) (previous : Option �
     → is_past binding (state_by (content_outcome binding state.seen previous (content.Event e)) state previous
     (content.Event e)).seen previous (content.Event e) ≡ true
 settles-event binding state previous e true early takes listening l a t none = rw l (or_left _ _ l)
-settles-event binding state previous e false true takes listening l a t none = absurd (false≢true (sym (rw (l, a) at none)))
+settles-event binding state previous e false true takes listening l a t none =
+    absurd (false≢true (sym (rw (l, a) at none)))
 settles-event binding state previous e false false true listening l a t none =
     rw (l, a, t) (or_left _ _ (le-leb e.timestamp e.timestamp (omega arith)))
 settles-event binding state None e false false false listening l a t none = rw (l, t) (or_right _ _ refl)
@@ -154,8 +161,10 @@ settles-event binding state (Some p) e false false false listening l a t none =
 settles-content : (binding : Arguments) (state : FollowState) (entry : Entry) (content : Content)
     → entry.content ≡ content → listens state.kept ≡ true
     → is_gap (content_outcome binding state.seen entry.previous content) ≡ false
-    → (not (listens (state_by (content_outcome binding state.seen entry.previous content) state entry.previous content).kept)
-    || is_past binding (state_by (content_outcome binding state.seen entry.previous content) state entry.previous content).seen
+    → (not (listens (state_by (content_outcome binding state.seen entry.previous content) state entry.previous
+    content).kept)
+    || is_past binding (state_by (content_outcome binding state.seen entry.previous content) state entry.previous
+    content).seen
     entry.previous content) ≡ true
 settles-content binding state entry (content.Event e) is listening none =
     or_right _ _ (settles-event binding state entry.previous e _ _ _ listening refl refl refl none)
@@ -173,7 +182,8 @@ taken_settles : (binding : Arguments) (state : FollowState) (entry : Entry)
     → is_settled binding (next_follow binding state entry) entry ≡ true
 taken_settles binding state entry none = case_of (listens state.kept) refl
   where
-    case_of : (listening : Bool) → listens state.kept ≡ listening → is_settled binding (next_follow binding state entry) entry ≡ true
+    case_of : (listening : Bool) → listens state.kept ≡ listening
+        → is_settled binding (next_follow binding state entry) entry ≡ true
     case_of false is =
         subst (λ s. is_settled binding s entry ≡ true) (sym (next-closed binding state entry is))
         (or_left _ _ (ap not is))

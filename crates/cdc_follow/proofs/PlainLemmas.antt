@@ -29,7 +29,8 @@ plain-event : (binding : Arguments) (state : FollowState) (e : Event) (late take
 plain-event binding state e true true last listening l t =
     let old : nat_le e.timestamp state.kept.last ≡ true = ap (nat_le e.timestamp) (sym last) ∙ l in
     rw l (record {
-      is = sym (ap (λ b. cond b (cond (nat_le e.timestamp state.kept.last) state.kept (with_event state.kept e)) state.kept)
+      is = sym (ap (λ b. cond b (cond (nat_le e.timestamp state.kept.last) state.kept (with_event state.kept e))
+          state.kept)
           listening ∙ ap (λ b. cond b state.kept (with_event state.kept e)) old);
       last = last;
     })
@@ -49,7 +50,10 @@ plain-content : (binding : Arguments) (state : FollowState) (content : Content) 
     (state_by (content_outcome binding state.seen None content) state None content)
 plain-content binding state (content.Event e) last listening = plain-event binding state e _ _ last listening refl refl
 plain-content binding state content.End last listening =
-    record { is = refl; last = last ∙ sym (ap (λ b. (cond b (record state.kept { ended = true }) state.kept).last) listening) }
+    record {
+      is = refl;
+      last = last ∙ sym (ap (λ b. (cond b (record state.kept { ended = true }) state.kept).last) listening);
+    }
 
 -- a subscriber that doesn't listen keeps what it has
 deaf : (binding : Arguments) (kept : SubscriberState) (content : Content) (takes : Bool) → listens kept ≡ false
@@ -67,7 +71,8 @@ plain-entry binding state entry last none = case_of (listens state.kept) refl
         → GoesTo (cond (is_taken binding entry.content) (next_state state.kept (item_of entry.content)) state.kept)
         (next_follow binding state entry)
     case_of false is =
-        subst (GoesTo (cond (is_taken binding entry.content) (next_state state.kept (item_of entry.content)) state.kept))
+        subst
+        (GoesTo (cond (is_taken binding entry.content) (next_state state.kept (item_of entry.content)) state.kept))
         (sym (next-closed binding state entry is))
         (record { is = deaf binding state.kept entry.content (is_taken binding entry.content) is; last = last })
     case_of true is =
@@ -75,13 +80,15 @@ plain-entry binding state entry last none = case_of (listens state.kept) refl
         ≡ state_by (content_outcome binding state.seen None entry.content) state None entry.content =
         next-open binding state entry is
         ∙ ap (λ p. state_by (content_outcome binding state.seen p entry.content) state p entry.content) none in
-        subst (GoesTo (cond (is_taken binding entry.content) (next_state state.kept (item_of entry.content)) state.kept))
+        subst
+        (GoesTo (cond (is_taken binding entry.content) (next_state state.kept (item_of entry.content)) state.kept))
         (sym plain) (plain-content binding state entry.content last is)
 
 -- what is handed on of an entry
 fold-taken : (binding : Arguments) (kept : SubscriberState) (content : Content) (contents : List Content) (takes : Bool)
     → is_taken binding content ≡ takes
-    → fold next_state (cond takes (next_state kept (item_of content)) kept) (map item_of (filter (is_taken binding) contents))
+    → fold next_state (cond takes (next_state kept (item_of content)) kept)
+    (map item_of (filter (is_taken binding) contents))
     ≡ fold next_state kept (map item_of (filter (is_taken binding) (content ∷ contents)))
 fold-taken binding kept content contents true is = rw is refl
 fold-taken binding kept content contents false is = rw is refl

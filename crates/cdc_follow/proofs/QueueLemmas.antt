@@ -258,7 +258,8 @@ module _ (binding : Arguments) (queue : List Event) (rising : RiseFrom 0 queue) 
       case_of (inl within) =
           let rest = within.0 in
           let is = within.1 in
-          let rises : RiseFrom 0 keeps.before = rise_before 0 keeps.before keeps.after (subst (RiseFrom 0) keeps.whole rising) in
+          let rises : RiseFrom 0 keeps.before =
+          rise_before 0 keeps.before keeps.after (subst (RiseFrom 0) keeps.whole rising) in
           let bound = last-within 0 first rest e (subst (RiseFrom 0) is rises) in
           let seen : state.seen ≡ last_timestamp (first ++ e ∷ rest) = keeps.seen ∙ ap last_timestamp is in
           absurd (omega (arith, leb-false e.timestamp state.seen late, bound, seen))
@@ -288,7 +289,8 @@ module _ (binding : Arguments) (queue : List Event) (rising : RiseFrom 0 queue) 
   -- the end is received behind the last event of the queue alone
   keeps-end : (state : FollowState) → KeepsPrefix binding queue state → (early : Bool) → listens state.kept ≡ true
       → nat_lt state.seen (last_timestamp queue) ≡ early
-      → KeepsPrefix binding queue (state_by (content_outcome binding state.seen (Some (last_timestamp queue)) content.End)
+      → KeepsPrefix binding queue
+      (state_by (content_outcome binding state.seen (Some (last_timestamp queue)) content.End)
       state (Some (last_timestamp queue)) content.End)
   keeps-end state keeps true listening a = rw a keeps
   keeps-end state keeps false listening a =
@@ -313,20 +315,23 @@ module _ (binding : Arguments) (queue : List Event) (rising : RiseFrom 0 queue) 
 
   keeps-content : (state : FollowState) → KeepsPrefix binding queue state → listens state.kept ≡ true
       → (previous : Option ℕ) (content : Content) → IsContentOf queue previous content
-      → KeepsPrefix binding queue (state_by (content_outcome binding state.seen previous content) state previous content)
+      → KeepsPrefix binding queue
+      (state_by (content_outcome binding state.seen previous content) state previous content)
   keeps-content state keeps listening previous (content.Event e) among =
       subst (λ p. KeepsPrefix binding queue (state_by (content_outcome binding state.seen p (content.Event e)) state p
       (content.Event e))) (sym among.3)
       (keeps-event state keeps e among.0 among.1 _ _ among.2 listening refl refl)
   keeps-content state keeps listening previous content.End among =
-      subst (λ p. KeepsPrefix binding queue (state_by (content_outcome binding state.seen p content.End) state p content.End))
+      subst
+      (λ p. KeepsPrefix binding queue (state_by (content_outcome binding state.seen p content.End) state p content.End))
       (sym among) (keeps-end state keeps _ listening refl)
 
   keeps-entry : (state : FollowState) → KeepsPrefix binding queue state → (entry : Entry) → IsOfQueue queue entry
       → KeepsPrefix binding queue (next_follow binding state entry)
   keeps-entry state keeps entry among = case_of (listens state.kept) refl
     where
-      case_of : (listening : Bool) → listens state.kept ≡ listening → KeepsPrefix binding queue (next_follow binding state entry)
+      case_of : (listening : Bool) → listens state.kept ≡ listening
+          → KeepsPrefix binding queue (next_follow binding state entry)
       case_of false is = subst (KeepsPrefix binding queue) (sym (next-closed binding state entry is)) keeps
       case_of true is =
           subst (KeepsPrefix binding queue) (sym (next-open binding state entry is))

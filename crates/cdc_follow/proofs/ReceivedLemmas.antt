@@ -23,7 +23,8 @@ rises-on before [] so_far rising =
     ap rises (append-nil before) ∙ so_far ∙ sym (append-nil before)
 rises-on before (e ∷ es) so_far rising =
     subst (λ all. rises all ≡ all) (append_assoc before (e ∷ []) es)
-    (rises-on (before ++ e ∷ []) es joins (subst (λ t. RiseFrom t es) (sym (last_timestamp_from-push 0 before e)) rising.1))
+    (rises-on (before ++ e ∷ []) es joins
+    (subst (λ t. RiseFrom t es) (sym (last_timestamp_from-push 0 before e)) rising.1))
   where
     newer : nat_lt (last_timestamp (rises before)) e.timestamp ≡ true
     newer = ap (λ b. nat_lt (last_timestamp b) e.timestamp) so_far ∙ lt-ltb (last_timestamp before) e.timestamp rising.0

@@ -110,8 +110,9 @@ next-gap binding state entry b is =
     gap_keeps (outcome_of binding state entry) state entry.previous entry.content (and_first _ b is)
 
 -- a line that was read, by what it leads to
-pub step_leads : (binding : Arguments) (rules : Rules) (number : ℕ) (old new : FollowState) (known left : Option (List ℕ))
-    (line : List ℕ) (stops : Option Stop) → IfSome known (λ bytes. TakesLine true bytes line left)
+pub step_leads : (binding : Arguments) (rules : Rules) (number : ℕ) (old new : FollowState)
+    (known left : Option (List ℕ)) (line : List ℕ) (stops : Option Stop)
+    → IfSome known (λ bytes. TakesLine true bytes line left)
     → LineLeadsTo binding rules number line old stops new
     → IfSome known (λ bytes. StepLeadsTo binding rules number old bytes stops new left)
 step_leads binding rules number old new None left line to taken leads = tt
@@ -149,7 +150,8 @@ long_entry chained line long = rw (lt-ltb LONGEST_LINE (length line) long) refl
 
 pub step_long : (binding : Arguments) (rules : Rules) (number : ℕ) (state : FollowState) (known left : Option (List ℕ))
     → IfSome known FirstLineIsLong
-    → IfSome known (λ bytes. StepLeadsTo binding rules number state bytes (Some (stop.BadLine number TooLong)) state left)
+    → IfSome known
+    (λ bytes. StepLeadsTo binding rules number state bytes (Some (stop.BadLine number TooLong)) state left)
 step_long binding rules number state None left long = tt
 step_long binding rules number state (Some bytes) left long =
     ap (lines_followed binding rules state number) long.2
@@ -169,7 +171,8 @@ pub record FollowsTo (binding : Arguments) (rules : Rules) (start : FollowState)
 abbrev pub Follows : Arguments → Rules → FollowState → Option (List ℕ) → FollowState → ℕ → Option (List ℕ) → Type 0
 Follows binding rules start None state number left = Unit {0}
 Follows binding rules start (Some bytes) state number None = ⊥
-Follows binding rules start (Some bytes) state number (Some left) = FollowsTo binding rules start bytes state number left
+Follows binding rules start (Some bytes) state number (Some left) =
+    FollowsTo binding rules start bytes state number left
 
 pub follows_begins : (binding : Arguments) (rules : Rules) (state : FollowState) (known : Option (List ℕ))
     → Follows binding rules state known state 1 known
@@ -183,7 +186,8 @@ follows_line : (binding : Arguments) (rules : Rules) (start old new : FollowStat
     → FollowsTo binding rules start bytes new (number + 1) rest
 follows_line binding rules start old new number bytes mid line rest follows is leads = record {
   front = follows.front ++ line ∷ [];
-  whole = follows.whole ∙ ap (λ ls. follows.front ++ ls) is ∙ sym (append_assoc follows.front (line ∷ []) (lines_of rest));
+  whole = follows.whole ∙ ap (λ ls. follows.front ++ ls) is
+      ∙ sym (append_assoc follows.front (line ∷ []) (lines_of rest));
   leads = λ others. ap (lines_followed binding rules start 1) (append_assoc follows.front (line ∷ []) others)
       ∙ follows.leads (line ∷ others) ∙ leads others;
 }
@@ -229,7 +233,8 @@ KeepsSome binding rules start number front rest = (count : ℕ) × ((lines_follo
 
 -- following that stops at once keeps what no entries make
 keeps_none : (binding : Arguments) (rules : Rules) (start : FollowState) (number : ℕ) (stop : Stop)
-    (front rest : List (List ℕ)) → lines_followed binding rules start number front ≡ record { state = start; stop = stop }
+    (front rest : List (List ℕ))
+    → lines_followed binding rules start number front ≡ record { state = start; stop = stop }
     → KeepsSome binding rules start number front rest
 keeps_none binding rules start number stop front rest is = (
   0,

@@ -46,7 +46,7 @@ abbrev pub outcome_of : Arguments → FollowState → Entry → Following
 outcome_of binding state entry =
     if listens state.kept then content_outcome binding state.seen entry.previous entry.content else Duplicate
 
--- the last event seen, after one that is passed by: where no predecessors are named it doesn't count, so that a follower
+-- the last event seen, after one that is passed by: if it names no predecessor it doesn't count, so that a follower
 -- keeps what a subscriber keeps that receives only the events that the binding takes
 abbrev pub seen_past : ℕ → Option ℕ → ℕ → ℕ
 seen_past seen None timestamp = seen

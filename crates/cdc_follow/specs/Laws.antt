@@ -29,6 +29,11 @@ HasNoGap binding state (entry ∷ entries) =
 abbrev pub entries_in : List NumberedEntry → List Entry
 entries_in numbered = map (λ n. n.entry) numbered
 
+-- what is left after following: nothing, or the entries from the gap on at which it stops
+abbrev pub IsLeft : Option NumberedEntry → List NumberedEntry → Type 0
+IsLeft None after = after ≡ []
+IsLeft (Some early) after = (later : List NumberedEntry) × (after ≡ early ∷ later)
+
 -- following folds entries: those before the first gap at which it stops, or all
 pub record FoldsTo (binding : Arguments) (state : FollowState) (numbered : List NumberedEntry) (done : Followed)
     : Type 0 where
@@ -36,7 +41,7 @@ pub record FoldsTo (binding : Arguments) (state : FollowState) (numbered : List 
   pub after : List NumberedEntry
   pub whole : numbered ≡ before ++ after
   pub folds : done.state ≡ follow_all binding state (entries_in before)
-  pub complete : done.gap ≡ None → after ≡ []
+  pub left : IsLeft done.gap after
 
 abbrev pub FollowingFolds : Type 0
 FollowingFolds = (binding : Arguments) (skips : Bool) (state : FollowState) (numbered : List NumberedEntry)
@@ -129,3 +134,10 @@ abbrev pub ChainedFollowersGoOn : Type 0
 ChainedFollowersGoOn = (binding : Arguments) (queue : List Event) (state : FollowState) (entries : List Entry)
     → RiseFrom 0 queue → KeepsPrefix binding queue state → AllByRecursion (IsOfQueue queue) entries
     → KeepsPrefix binding queue (follow_all binding state entries)
+
+-- so does one that goes through such entries of a stream, wherever it stops
+abbrev pub FollowedQueuesKeepAPrefix : Type 0
+FollowedQueuesKeepAPrefix = (binding : Arguments) (skips : Bool) (queue : List Event) (state : FollowState)
+    (numbered : List NumberedEntry) → RiseFrom 0 queue → KeepsPrefix binding queue state
+    → AllByRecursion (IsOfQueue queue) (entries_in numbered)
+    → KeepsPrefix binding queue (follow binding skips state numbered).state

@@ -2,7 +2,8 @@
 
 ghost use Rattle.cdc_subscriber.specs.Answers.{listens};
 ghost use Rattle.std.specs.Prelude.{◌≡◌, true, OnOk, OnErr, IfOk};
-ghost use Rattle.cdc_follow.specs.Following.{comes_early as early, content_outcome, end_outcome, next_follow, outcome_of, state_by};
+ghost use Rattle.cdc_follow.specs.Following.{comes_early as early, content_outcome, end_outcome};
+ghost use Rattle.cdc_follow.specs.Following.{next_follow, outcome_of, state_by};
 
 use crate::entries::{Content, Entry};
 use cdc_match::Binding;
@@ -27,8 +28,8 @@ pub enum Following {
     Ended,
 }
 
-/// A follower: a subscriber, and the timestamp of the last event seen. In a chained stream this is the last one that was
-/// applied or passed by, in any other one the last one applied.
+/// A follower: a subscriber, and the timestamp of the last event seen. In a chained stream this is the last one that
+/// was applied or passed by, in any other one the last one applied.
 pub struct Follower {
     subscriber: Subscriber,
     seen: u64,

@@ -1,7 +1,7 @@
 //! Laws of following. They are the postconditions of functions that do nothing.
 
 ghost use Rattle.cdc_follow.specs.Laws.{ChainedFollowersGoOn, ChainedFollowersKeepAPrefix};
-ghost use Rattle.cdc_follow.specs.Laws.{FollowingFolds, GoingOnIsOnce};
+ghost use Rattle.cdc_follow.specs.Laws.{FollowedQueuesKeepAPrefix, FollowingFolds, GoingOnIsOnce};
 ghost use Rattle.cdc_follow.specs.Laws.{PlainFollowersAreSubscribers, ReceivedOnceIsApplied};
 
 /// Does nothing. Following the entries of a stream is a fold of those before the gap at which it stops, or of all, so
@@ -33,6 +33,12 @@ pub fn chained_followers_keep_a_prefix()
 /// Does nothing. The same holds of a follower that resumes from such a state.
 pub fn chained_followers_go_on()
     ensures { ChainedFollowersGoOn }
+{}
+
+/// Does nothing. The same holds of a follower that goes through the entries of a stream, wherever it stops: at the end,
+/// at a gap, at a line that is no entry, or after an error.
+pub fn followed_queues_keep_a_prefix()
+    ensures { FollowedQueuesKeepAPrefix }
 {}
 
 /// Does nothing. A subscriber that receives events whose timestamps rise, each once and in order, has applied just

@@ -12,7 +12,8 @@ pub returns-in_err-entry_of-in-Ok : goal.returns-in_err-entry_of-in-Ok
 returns-in_err-entry_of-in-Ok c =
     let parsed = c.in-Ok.ensures.ok in
     let exit = err_from_is_err_and c.from_residual.result c.from_residual.ensures.1 in
-    rw (exit.1, exit.2) (inl (wrong_entry c.args.chained c.args.line.now _ _ parsed.0 parsed.1 c.in_err-entry_of-in-Ok.ensures))
+    rw (exit.1, exit.2)
+    (inl (wrong_entry c.args.chained c.args.line.now _ _ parsed.0 parsed.1 c.in_err-entry_of-in-Ok.ensures))
 
 pub returns-in-Err-2 : goal.returns-in-Err-2
 returns-in-Err-2 c =

@@ -1,3 +1,4 @@
+use Rattle.std.specs.Prelude.{not}
 use Rattle.std.proofs.lemmas.Result.{err_from_is_err_and}
 use Rattle.cdc_follow.proofs.LineLemmas.{ended, fed, line_long}
 use Rattle.cdc_follow.proofs.lines.read_line.Goals as goal
@@ -17,6 +18,7 @@ returns-in-Feed-clause-line g c =
 pub returns-in-Stream-clause-line : goal.returns-in-Stream-clause-line
 returns-in-Stream-clause-line g c =
     ended (g.B.Read.remaining c.args.reader.now) (g.B.Read.remaining c.loop.reader)
-    (g.B.Read.remaining c.add_part.new.reader) c.loop.line.items c.add_part.new.line.items c.in_ok-add_part.field-0 _
+    (g.B.Read.remaining c.add_part.new.reader) c.loop.line.items c.add_part.new.line.items c.in_ok-add_part.field-0
+    (not c.is_empty.result)
     c.in-Stream.is c.loop.invariant.reads c.loop.invariant.clean c.in_ok-add_part.ensures.part
     (cc (c.is_empty.ensures, c.add_part.new.line.ok.0))
