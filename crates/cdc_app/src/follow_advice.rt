@@ -6,8 +6,7 @@ use cdc_follow::{Entry, Follower, LineError, Stop};
 use cdc_follow_command::FollowEnding;
 use cdc_message::{DecodeError, Field, Part};
 use cdc_progress::StoreError;
-use std::fs;
-use std::io;
+use std::{fs, io};
 
 /// Reports why following stopped before the end of the stream in the file of this name, whose book is in that file.
 pub fn advise_on_stream(

@@ -37,11 +37,11 @@ use cdc_diagnostics::Observation;
 use cdc_json::Json;
 use cdc_progress::{FileStore, MemoryStore, ProgressStore};
 use cdc_run_command::{Ran, RunEnded, RunPlan, run_command};
-use follow::run_follow;
 use diagnostics::{
     EXPLAIN, asked, can_draw, explain_books, explain_run, hint, is_reported, note,
     report_simulation,
 };
+use follow::run_follow;
 use kept::Kept;
 use options::{Diagnostics, Form, Options, OptionsFault, RunDiagnostics, options};
 use random::run_random;
@@ -144,7 +144,9 @@ fn run_arguments<T: Threads + Wait + Sync>(rt: &HostRuntime, threads: &T, args: 
                 form,
             },
         ) => run_check(rt, file, steps, has_diagram, form),
-        Ok(Options::Follow { file, plan, form }) => return run_follow(rt, file, plan, form).status(),
+        Ok(Options::Follow { file, plan, form }) => return run_follow(
+            rt, file, plan, form,
+        ).status(),
         Ok(Options::Explain { text }) => explain(rt, text.as_str()),
         Err(OptionsFault::BadWords { message }) => refuse_arguments(rt, message.as_str()),
         Err(OptionsFault::OutOfMemory) => abort(rt, ProgramFault::OutOfMemory, Form::Text),

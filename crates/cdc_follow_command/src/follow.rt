@@ -70,9 +70,7 @@ pub fn follow_command<F: Form + FollowForm, B: LineReader, W: Write, K: BookStor
     ensures { PrintsFollowing F.prints_saved F.prints_end F.prints_fault
         (W.contents writer.old) (W.contents writer.new) follower.new result }
 {
-    match follow_stream(
-        form, alloc, reader, writer, saver, binding, rules, follower,
-    ) {
+    match follow_stream(form, alloc, reader, writer, saver, binding, rules, follower) {
         Ok(stop) => print_end(form, alloc, writer, follower, stop),
         Err(fault) => fail(form, writer, fault),
     }
@@ -103,7 +101,11 @@ fn fail<F: Form, W: Write>(form: &F, writer: &mut W, fault: ProgramFault) -> Fol
     if let ProgramFault::WriteFault(_) = fault {
         return FollowEnding::Failed(fault);
     }
-    print_last(writer, form.failure(fault).as_bytes(), FollowEnding::Failed(fault))
+    print_last(
+        writer,
+        form.failure(fault).as_bytes(),
+        FollowEnding::Failed(fault),
+    )
 }
 
 /// Prints the last text. Returns this ending, or a write fault if the write fails.

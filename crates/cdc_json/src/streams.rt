@@ -16,22 +16,15 @@ pub fn push_saved(alloc: Global, lines: &mut Lines, timestamp: u64) -> Result<()
     lines.push(
         alloc,
         "saved",
-        &[
-            Member {
-                name: "timestamp",
-                value: Field::Wide(timestamp.into()),
-            },
-        ],
+        &[Member {
+            name: "timestamp",
+            value: Field::Wide(timestamp.into()),
+        }],
     )
 }
 
 /// Adds the line of why following stopped, where the last event seen has this timestamp; none at the end.
-pub fn push_stop(
-    alloc: Global,
-    lines: &mut Lines,
-    seen: u64,
-    stop: Stop,
-) -> Result<(), AllocError>
+pub fn push_stop(alloc: Global, lines: &mut Lines, seen: u64, stop: Stop) -> Result<(), AllocError>
     ensures { OnOk result (lines.new.text.items
         ≡ lines.old.text.items ++ json_lines (stop_values seen stop)) }
 {

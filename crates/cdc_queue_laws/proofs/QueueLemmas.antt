@@ -36,8 +36,7 @@ lines_are : (queue before after : List Event) → queue ≡ before ++ after → 
     → AllByRecursion (IsLineOfQueue queue) (lines_after (last_timestamp before) after)
 lines_are queue before [] whole small fit =
     let previous = last_timestamp before in
-    let last : last_timestamp before ≡ last_timestamp queue = ap last_timestamp (sym (whole ∙ append-nil before)) in
-    (
+    let last : last_timestamp before ≡ last_timestamp queue = ap last_timestamp (sym (whole ∙ append-nil before)) in (
       (
         chained content.End previous,
         end_entry previous (end_line previous) small (ends_read previous small),
@@ -49,8 +48,7 @@ lines_are queue before (e ∷ rest) whole small fit =
     let previous = last_timestamp before in
     let next : last_timestamp (before ++ e ∷ []) ≡ e.timestamp = last_timestamp_from-push 0 before e in
     let fits : e.timestamp < 2 ^ 64 = fit.0.timestamp in
-    let later : last_timestamp (before ++ e ∷ []) < 2 ^ 64 = subst (λ (t : ℕ). t < 2 ^ 64) (sym next) fits in
-    (
+    let later : last_timestamp (before ++ e ∷ []) < 2 ^ 64 = subst (λ (t : ℕ). t < 2 ^ 64) (sym next) fits in (
       (
         chained (content.Event e) previous,
         message_entry previous e (message_line previous e) small (messages_read previous e small fit.0),
