@@ -161,6 +161,31 @@ def owner_of(words):
     return name_in(words)
 
 
+def aliases_of(tokens):
+    """Returns the names that a crate declares as other names of types."""
+    found = set()
+    for all in tokens.values():
+        words = [it.text for it in all if it.kind == "Code"]
+        found.update(name for it, name in zip(words, words[1:]) if it == "type")
+    return found
+
+
+def alias_with_arguments(words):
+    """Returns the name under which a check prints the functions of an impl of an alias, whose head these words are: with each
+    of the alias's arguments behind a plus sign."""
+    start = max(at for at, it in enumerate(words) if it == owner_of(words))
+    depth, parts = 0, []
+    for word in words[start:]:
+        if depth == 0 and word == "where":
+            break
+        if depth == 0 and word == "<" or depth == 1 and word == ",":
+            parts.append([])
+        depth += {"<": 1, ">": -1}.get(word, 0)
+        if depth and parts and (depth, word) not in ((1, "<"), (1, ",")):
+            parts[-1].append(word)
+    return "+".join([owner_of(words), *map(name_in, parts)])
+
+
 def homes_of(tokens):
     """Returns the module of each type that is declared once in a crate, whose files these are."""
     found = {}
@@ -180,7 +205,7 @@ def test_modules(file, tokens):
     return [[*module_of(file), words[at]] for at in places]
 
 
-def functions_of(crate_name, file, tokens, homes):
+def functions_of(crate_name, file, tokens, homes, aliases=frozenset()):
     """Returns the functions of a file, outermost only: what is inside a function belongs to it. Those of an impl that is no
     trait's are named by the module of their type."""
     # (clauses are antt's text; braces count in Rattle's own code alone)
@@ -218,6 +243,8 @@ def functions_of(crate_name, file, tokens, homes):
                 if kind in ("impl", "trait"):
                     owner = owner_of(words[words.index(kind) :])
                     is_own = kind == "impl" and not is_of_trait
+                    if is_own and owner in aliases:
+                        owner = alias_with_arguments(words[words.index(kind) :])
                     inner = [*(homes.get(owner, inner) if is_own else inner), owner]
                 elif kind == "mod":
                     inner.append(words[words.index("mod") + 1])
@@ -256,7 +283,7 @@ class Sources:
         self.files = [it for it in paths if it.endswith(".rt")]
         self.texts = {it: open(f"{crate.folder}/{it}", "rb").read() for it in self.files}
         self.tokens = dict(zip(self.files, tokens_of([f"{crate.folder}/{it}" for it in self.files])))
-        self.homes = homes_of(self.tokens)
+        self.homes, self.aliases = homes_of(self.tokens), aliases_of(self.tokens)
         self.of_tests = [it for file in self.files for it in test_modules(file, self.tokens[file])]
         self.functions = {it: self.functions_in(it, self.tokens[it]) for it in self.files}
         self.all = [it for file in self.files for it in self.functions[file]]
@@ -266,7 +293,7 @@ class Sources:
     def functions_in(self, file, tokens):
         """Returns the functions of a file with these tokens, without those of the tests."""
         is_test = lambda it: any(it.path.split("::")[1 : 1 + len(module)] == module for module in self.of_tests)
-        return [it for it in functions_of(self.crate.name, file, tokens, self.homes) if not is_test(it)]
+        return [it for it in functions_of(self.crate.name, file, tokens, self.homes, self.aliases) if not is_test(it)]
 
     def change(self, texts):
         """Returns the Change that these texts are, or None where they change more than one body."""

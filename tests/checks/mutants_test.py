@@ -378,6 +378,22 @@ def test_what_a_check_reports(tree):
     assert text == wanted, text
 
 
+def test_aliases(tree):
+    """The functions of an impl of an alias bear its name, with each of its arguments behind a plus sign."""
+    heads = {
+        "impl End": "End",
+        "impl < S : Store > End < S >": "End+S",
+        "impl < S , T : Store < S > > End < S , Vec < T > > where T : Copy": "End+S+Vec",
+    }
+    arguments = "import sys; sys.path.insert(0, 'tests'); import types, mutants as it\n"
+    arguments += f"for head in {[*heads]!r}: print(it.alias_with_arguments(head.split()))\n"
+    parts = "pub type End < S > = Other < S > ; pub struct Own ;".split()
+    arguments += f"tokens = [types.SimpleNamespace(kind='Code', text=word) for word in {parts!r}]\n"
+    arguments += "print(it.aliases_of({'src/lib.rt': tokens}))\n"
+    text = python(tree, arguments)
+    assert text == "".join(f"{it}\n" for it in [*heads.values(), "{'End'}"]), text
+
+
 def test_choice(tree):
     """The choice of an eighth is the same each time, near an eighth, and each group comes up over 64 commits."""
     commits = [f"{at:040x}" for at in range(64)]

@@ -21,6 +21,11 @@ pub fn advise(rt: &HostRuntime, ending: Ending) {
     let _ = advice(rt, shown_name(STANDARD_INPUT), ending);
 }
 
+/// Reports why a command failed that has read the file of this shown name.
+pub fn advise_on_failure(rt: &HostRuntime, place: &str, fault: ProgramFault) {
+    let _ = advice(rt, place, Ending::Failed(fault));
+}
+
 /// Reports why a command over a script failed or refused it: the place, the fault's name, and what is wrong there or
 /// what the system reported.
 pub fn advise_on_script(rt: &HostRuntime, script: Seen<'_>, ending: Ending) {

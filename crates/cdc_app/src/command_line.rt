@@ -3,6 +3,7 @@
 ghost use Rattle.std.specs.Prelude.{◌≡◌};
 ghost use Rattle.cdc_app.specs.Options.{options_fault_number, options_fault_name};
 
+use crate::follow_options::FollowPlan;
 use cdc_random_steps::Chances;
 use cdc_run_command::RunPlan;
 use std::alloc::AllocError;
@@ -59,6 +60,12 @@ pub enum Options<'a> {
         steps: Option<&'a str>,
         /// Whether a diagram is asked for, which a check doesn't draw.
         has_diagram: bool,
+        form: Form,
+    },
+    /// The book of the stream of messages in this file; `-` is standard input.
+    Follow {
+        file: &'a str,
+        plan: FollowPlan<'a>,
         form: Form,
     },
     /// A text on the program itself: help, or its version.

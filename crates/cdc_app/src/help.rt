@@ -75,3 +75,31 @@ Exit status:
   1  a read, a write, memory, a thread, the store of progress or the run itself failed: the last line of standard
      output names the fault, unless a write failed
   2  the arguments or the script are bad: standard error reports what was expected, and where";
+
+pub const FOLLOW: &str = "\
+FILE is a stream of messages, one JSON object in each line, and - is standard input. A line is the body of a message,
+as the command messages prints it; or an object with a member body, which is such a body; or the end of the stream, an
+object with the member end, which is true. Empty lines and lines that begin with event_type= are ignored.
+
+Each event that is later than the last one is applied to the book, and any other one is a duplicate. With --chained,
+each line has a member previous, the timestamp of the message before it in its queue (0 before the first), and an event
+is applied only if nothing of the queue can lie between it and the last one; where something can, there is a gap, and
+following stops. So no event is lost or applied twice, whatever the broker does.
+
+With --book, the book is saved after every N lines, each time that no whole line is waiting, and at the end. After each
+save a line with saved and the timestamp of the last event is printed: events up to there may be acknowledged, and none
+later. If following is stopped at any time and started again with that book, it goes on where the book was saved, and
+what was applied before is a duplicate.
+
+The output is these lines, and at the end how far the stream was applied and its book: for each account its pending
+debits, posted debits, pending credits and posted credits.
+
+Examples:
+  relayplum messages examples/two-phase.script | relayplum follow
+  consume-from-my-queue | relayplum follow --chained --book ann.book
+
+Exit status:
+  0  the stream ended
+  1  there is a gap, or a read, a write, memory or the store of the book failed: the last line of standard output names
+     the fault, unless a write failed
+  2  the arguments or a line of the stream are bad: standard error reports what was expected, and where";

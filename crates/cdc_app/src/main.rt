@@ -7,6 +7,9 @@ ghost use Rattle.cdc_run_command.specs.Plans.{IsPlan};
 mod advice;
 mod command_line;
 mod diagnostics;
+mod follow;
+mod follow_advice;
+mod follow_options;
 mod help;
 mod kept;
 mod options;
@@ -38,6 +41,7 @@ use diagnostics::{
     EXPLAIN, asked, can_draw, explain_books, explain_run, hint, is_reported, note,
     report_simulation,
 };
+use follow::run_follow;
 use kept::Kept;
 use options::{Diagnostics, Form, Options, OptionsFault, RunDiagnostics, options};
 use random::run_random;
@@ -53,14 +57,14 @@ use std::thread::Threads;
 use std::{env, io};
 
 fn main(rt: HostRuntime) -> ExitCode {
-    let ending = match command_line_of(&rt) {
+    let status = match command_line_of(&rt) {
         Ok(args) => run_arguments(&rt, &rt, args.as_slice()),
         Err(error) if error.kind() == io::ErrorKind::InvalidData => {
-            refuse_arguments(&rt, "error: an argument is not UTF-8 text\n")
+            refuse_arguments(&rt, "error: an argument is not UTF-8 text\n").status()
         }
-        Err(_) => abort(&rt, ProgramFault::OutOfMemory, Form::Text),
+        Err(_) => abort(&rt, ProgramFault::OutOfMemory, Form::Text).status(),
     };
-    ExitCode::from(ending.status())
+    ExitCode::from(status)
 }
 
 /// The arguments, without the program's own name.
@@ -69,25 +73,21 @@ fn command_line_of(rt: &HostRuntime) -> io::Result<Vec<String>> {
     Ok(args)
 }
 
-/// Does what the arguments ask for. `threads` starts the threads of a run.
-fn run_arguments<T: Threads + Wait + Sync>(
-    rt: &HostRuntime,
-    threads: &T,
-    args: &[String],
-) -> Ending {
+/// Does what the arguments ask for, and returns the exit status. `threads` starts the threads of a run.
+fn run_arguments<T: Threads + Wait + Sync>(rt: &HostRuntime, threads: &T, args: &[String]) -> u8 {
     let texts: Result<Vec<&str>, AllocError> = args
         .iter()
         .map(|word| word.as_str())
         .collect(rt.alloc());
     let Ok(texts) = texts else {
-        return abort(rt, ProgramFault::OutOfMemory, Form::Text);
+        return abort(rt, ProgramFault::OutOfMemory, Form::Text).status();
     };
     if texts.is_empty() && rt.reader().is_terminal() {
         let _ = eprintln!(rt;
             "relayplum: a script is read from standard input, up to its end; --help describes it"
         );
     }
-    match options(rt.alloc(), texts.as_slice()) {
+    let ending = match options(rt.alloc(), texts.as_slice()) {
         Ok(
             Options::Books {
                 file,
@@ -144,10 +144,14 @@ fn run_arguments<T: Threads + Wait + Sync>(
                 form,
             },
         ) => run_check(rt, file, steps, has_diagram, form),
+        Ok(Options::Follow { file, plan, form }) => return run_follow(
+            rt, file, plan, form,
+        ).status(),
         Ok(Options::Explain { text }) => explain(rt, text.as_str()),
         Err(OptionsFault::BadWords { message }) => refuse_arguments(rt, message.as_str()),
         Err(OptionsFault::OutOfMemory) => abort(rt, ProgramFault::OutOfMemory, Form::Text),
-    }
+    };
+    ending.status()
 }
 
 /// Runs `books` over the script of this name, and reports on standard error why it failed, or what wasn't accepted.

@@ -5,6 +5,7 @@ ghost use Rattle.cdc_types.specs.Windows.{IsWindow};
 ghost use Rattle.cdc_app.specs.Options.{IsRun, IsWithinLimits};
 
 pub use crate::command_line::{Diagnostics, Form, Options, OptionsFault, RunDiagnostics};
+use crate::follow_options::{follow_arguments, follow_plan};
 use crate::help;
 use crate::random_options::{asked_chances, faults_option, random_option, steps_option};
 use crate::run_options::{default_plan, run_arguments, run_plan};
@@ -103,7 +104,8 @@ fn read_arguments<'a>(alloc: Global, args: &'a [&'a str]) -> Result<ArgMatches<'
         .subcommand(books_arguments(alloc)?)?
         .subcommand(messages_arguments(alloc)?)?
         .subcommand(simulate_arguments(alloc)?)?
-        .subcommand(run_arguments(alloc)?)?;
+        .subcommand(run_arguments(alloc)?)?
+        .subcommand(follow_arguments(alloc)?)?;
     program.try_get_matches_from(args)
 }
 
@@ -280,6 +282,11 @@ fn asked_of<'a>(
             },
             form,
         }),
+        ("follow", _) => Ok(Options::Follow {
+            file,
+            plan: follow_plan(alloc, arguments)?,
+            form,
+        }),
         _ => Err(usage_error(alloc, "error: no command has such arguments\n")?),
     }
 }
@@ -404,6 +411,7 @@ fn all_commands(alloc: Global) -> Result<Vec<Command<'static>>, AllocError> {
     commands.push(messages_arguments(alloc)?)?;
     commands.push(simulate_arguments(alloc)?)?;
     commands.push(run_arguments(alloc)?)?;
+    commands.push(follow_arguments(alloc)?)?;
     Ok(commands)
 }
 

@@ -8,12 +8,12 @@ use crate::diagnostics::{asked, can_draw, draw, is_reported};
 use crate::kept::{Kept, Seen};
 use crate::options::{Diagnostics, Form, STANDARD_ERROR};
 use crate::sources::Source;
-use cdc_commands::simulate::simulation_of;
+use cdc_commands::simulate::simulation_of_steps;
 use cdc_commands::{Ended, Ending, ProgramFault, Tally, Text, print_fault, print_output};
 use cdc_diagnostics::{Observation, Observed, RefusedStep, notes_text};
 use cdc_json::Json;
-use cdc_random_steps::{Chances, random_steps};
-use cdc_script::read_text;
+use cdc_random_steps::{Chances, RandomSteps, random_steps};
+use cdc_script::{StepFile, read_text};
 use std::io;
 
 /// Makes random steps for the script of this name, prints them as a step file on standard error, and simulates the
@@ -38,7 +38,7 @@ pub fn run_random(
         Ok(script) => script,
         Err(error) => return abort(rt, seen, error.into(), form),
     };
-    let Ok(steps) = random_steps(rt.alloc(), &script, window, chances) else {
+    let Ok(RandomSteps { text, steps }) = random_steps(rt.alloc(), &script, window, chances) else {
         return abort(rt, seen, ProgramFault::OutOfMemory, form);
     };
     let mut observation = Observation::new(rt.alloc(), shown_name(file), asked(diagnostics));
@@ -46,10 +46,10 @@ pub fn run_random(
         ending,
         tally,
         notes,
-    } = simulate(rt, &script, window, steps.as_str(), form, &mut observation);
+    } = simulate(rt, &script, window, &steps, form, &mut observation);
     match ending {
         Ending::Done | Ending::Refused(_) => {
-            print_steps(rt, window, chances, steps.as_str());
+            print_steps(rt, window, chances, text.as_str());
             let mut reported = false;
             if is_reported(ending, diagnostics) {
                 if let Some(observed) = observation.finish(rt.alloc()) {
@@ -88,36 +88,35 @@ fn simulate(
     rt: &HostRuntime,
     script: &[u8],
     window: usize,
-    steps: &str,
+    steps: &StepFile,
     form: Form,
     observation: &mut Observation<'_>,
 ) -> Ended
     requires { IsWindow window }
 {
     let alloc = rt.alloc();
-    let steps = steps.as_bytes();
     let mut writer = io::writer(rt);
     match form {
         Form::Text => {
-            let output = simulation_of(&Text, alloc, script, steps, window, observation);
+            let output = simulation_of_steps(&Text, alloc, script, steps, window, observation);
             print_output(&Text, &mut writer, output)
         }
         Form::Json => {
-            let output = simulation_of(&Json, alloc, script, steps, window, observation);
+            let output = simulation_of_steps(&Json, alloc, script, steps, window, observation);
             print_output(&Json, &mut writer, output)
         }
     }
 }
 
-/// Prints steps as a step file, with the command line that makes them.
-fn print_steps(rt: &HostRuntime, window: usize, chances: Chances, steps: &str) {
+/// Prints the text of a step file, with the command line that makes it.
+fn print_steps(rt: &HostRuntime, window: usize, chances: Chances, text: &str) {
     let Chances {
         seed,
         steps: count,
         faults,
     } = chances;
     let _ = eprint!(rt;
-        "# relayplum simulate FILE --random {seed} --steps {count} --faults {faults} --window {window}\n{steps}"
+        "# relayplum simulate FILE --random {seed} --steps {count} --faults {faults} --window {window}\n{text}"
     );
 }
 

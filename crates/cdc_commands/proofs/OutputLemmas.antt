@@ -1,9 +1,11 @@
 -- What a command writes of what it makes of its input.
 use Rattle.std.proofs.Common.{◌≡◌, ◌∙◌, ℕ, List, Some, None, Ok, Err, sym, subst, inl, inr}
-use Rattle.std.specs.Prelude.{Option, Result, IfErr, IfOk, IfSome, IsSomeAnd}
+use Rattle.std.specs.Prelude.{Option, Result, IfErr, IfOk, IfSome, IsSomeAnd, option_map}
 use Rattle.cdc_script.specs.Scripts.{script_of}
 use Rattle.cdc_script.specs.StepFiles.{acts_of}
+use Rattle.cdc_script.specs.declared.faults.ScriptFault.{ScriptFault}
 use Rattle.cdc_script.specs.declared.scripts.Script.{Script}
+use Rattle.cdc_script.specs.declared.step_files.Act.{Act}
 use Rattle.cdc_world.specs.declared.steps.StepError.{StepError}
 use Rattle.cdc_commands.specs.declared.book_reports.ParsedBatches.{ParsedBatches}
 use Rattle.cdc_commands.specs.declared.books.BooksOutput.{BooksOutput}
@@ -62,21 +64,13 @@ parsed_of_script bytes script (Ok x) reads are = go x.parsed are
 parsed_of_script bytes script (Err why) reads are = tt
 
 -- a plan that is read of a text of a script is that of all its bytes
-same_script : (window : ℕ) (script bytes steps : List ℕ) (plan : Plan) → script_of script ≡ script_of bytes
+same_script : (window : ℕ) (script bytes : List ℕ) (steps : Result (List Act) ScriptFault) (plan : Plan)
+    → script_of script ≡ script_of bytes
     → StatesPlan window script steps plan → StatesPlan window bytes steps plan
 same_script window script bytes steps plan same states = record {
   window_is = states.window_is;
   script_stated = sym same ∙ states.script_stated;
   steps_stated = states.steps_stated;
-}
-
--- a plan that is read of a text of steps is that of all its bytes
-same_steps : (window : ℕ) (script steps bytes : List ℕ) (plan : Plan) → acts_of steps ≡ acts_of bytes
-    → StatesPlan window script steps plan → StatesPlan window script bytes plan
-same_steps window script steps bytes plan same states = record {
-  window_is = states.window_is;
-  script_stated = states.script_stated;
-  steps_stated = sym same ∙ states.steps_stated;
 }
 
 -- what fails because memory ran out fails as a command that reads may
@@ -93,8 +87,8 @@ may_fail fault.NotOneSystem is = absurd is
 -- for whatever is printed of plans, and of faults
 module _ (ReportsOf : Plan → Option StepError → List ℕ → Type 0) (ReportsFault : Ending → List ℕ → Type 0) where
   -- what is printed for a text of a script is printed for all its bytes
-  of_script : (window : ℕ) (script : List ℕ) (bytes steps : Option (List ℕ)) (ending : Ending) (printed : List ℕ)
-      → IfSome bytes (λ all. script_of script ≡ script_of all)
+  of_script : (window : ℕ) (script : List ℕ) (bytes : Option (List ℕ)) (steps : Option (Result (List Act) ScriptFault))
+      (ending : Ending) (printed : List ℕ) → IfSome bytes (λ all. script_of script ≡ script_of all)
       → PrintsPlan ReportsOf ReportsFault (record { window = window; script = Some script; steps = steps }) ending printed
       → PrintsPlan ReportsOf ReportsFault (record { window = window; script = bytes; steps = steps }) ending printed
   of_script window script None steps Done printed same prints = tt
@@ -113,29 +107,37 @@ module _ (ReportsOf : Plan → Option StepError → List ℕ → Type 0) (Report
   of_script window script bytes steps (Failed why) printed same prints = prints
   of_script window script bytes steps BadWords printed same prints = absurd prints
 
-  -- what is printed for a text of steps is printed for all its bytes
+  -- what is printed for steps is printed if nothing is known of them
+  of_unknown_steps : (window : ℕ) (script : Option (List ℕ)) (steps : Result (List Act) ScriptFault) (ending : Ending)
+      (printed : List ℕ)
+      → PrintsPlan ReportsOf ReportsFault (record { window = window; script = script; steps = Some steps }) ending printed
+      → PrintsPlan ReportsOf ReportsFault (record { window = window; script = script; steps = None }) ending printed
+  of_unknown_steps window None steps Done printed prints = tt
+  of_unknown_steps window (Some bytes) steps Done printed prints = tt
+  of_unknown_steps window None steps (Refused why) printed prints = tt
+  of_unknown_steps window (Some bytes) steps (Refused why) printed prints = tt
+  of_unknown_steps window script steps (BadScript at) printed prints = prints
+  of_unknown_steps window script steps (BadSteps at) printed prints = (prints.0, (prints.1.0, tt))
+  of_unknown_steps window script steps (Failed why) printed prints = prints
+  of_unknown_steps window script steps BadWords printed prints = absurd prints
+
+  -- what is printed for the acts of a text is printed for those of all its bytes
   of_steps : (window : ℕ) (script : Option (List ℕ)) (steps : List ℕ) (bytes : Option (List ℕ)) (ending : Ending)
       (printed : List ℕ) → IfSome bytes (λ all. acts_of steps ≡ acts_of all)
-      → PrintsPlan ReportsOf ReportsFault (record { window = window; script = script; steps = Some steps }) ending printed
-      → PrintsPlan ReportsOf ReportsFault (record { window = window; script = script; steps = bytes }) ending printed
-  of_steps window None steps bytes Done printed same prints = tt
-  of_steps window (Some script) steps None Done printed same prints = tt
-  of_steps window (Some script) steps (Some all) Done printed same prints =
-      (prints.0, (same_steps window script steps all prints.0 same prints.1.0, prints.1.1))
-  of_steps window None steps bytes (Refused why) printed same prints = tt
-  of_steps window (Some script) steps None (Refused why) printed same prints = tt
-  of_steps window (Some script) steps (Some all) (Refused why) printed same prints =
-      (prints.0, (same_steps window script steps all prints.0 same prints.1.0, prints.1.1))
-  of_steps window script steps bytes (BadScript at) printed same prints = prints
-  of_steps window script steps None (BadSteps at) printed same prints = (prints.0, (prints.1.0, tt))
-  of_steps window script steps (Some all) (BadSteps at) printed same prints =
-      (prints.0, (prints.1.0, sym same ∙ prints.1.1))
-  of_steps window script steps bytes (Failed why) printed same prints = prints
-  of_steps window script steps bytes BadWords printed same prints = absurd prints
+      → PrintsPlan ReportsOf ReportsFault (record { window = window; script = script; steps = Some (acts_of steps) })
+      ending printed
+      → PrintsPlan ReportsOf ReportsFault
+      (record { window = window; script = script; steps = option_map acts_of bytes }) ending printed
+  of_steps window script steps None ending printed same prints =
+      of_unknown_steps window script (acts_of steps) ending printed prints
+  of_steps window script steps (Some all) ending printed same prints =
+      subst (λ (acts : Result (List Act) ScriptFault). PrintsPlan ReportsOf ReportsFault
+      (record { window = window; script = script; steps = Some acts }) ending printed) same prints
 
   -- the same of what a command made of the text of a script, which may be none
   pub made_of_script : {X : Type 0} (ending_of : X → Ending) (text_of : X → List ℕ) (window : ℕ) (text script : List ℕ)
-      (bytes steps : Option (List ℕ)) (made : Result X ProgramFault) → text ≡ script
+      (bytes : Option (List ℕ)) (steps : Option (Result (List Act) ScriptFault)) (made : Result X ProgramFault)
+      → text ≡ script
       → IfSome bytes (λ all. script_of script ≡ script_of all)
       → IfOk made (λ x. PrintsPlan ReportsOf ReportsFault (record { window = window; script = Some text; steps = steps })
       (ending_of x) (text_of x))
@@ -151,25 +153,33 @@ module _ (ReportsOf : Plan → Option StepError → List ℕ → Type 0) (Report
   pub made_of_steps : {X : Type 0} (ending_of : X → Ending) (text_of : X → List ℕ) (window : ℕ)
       (script : Option (List ℕ)) (text steps : List ℕ) (bytes : Option (List ℕ)) (made : Result X ProgramFault)
       → text ≡ steps → IfSome bytes (λ all. acts_of steps ≡ acts_of all)
-      → IfOk made (λ x. PrintsPlan ReportsOf ReportsFault (record { window = window; script = script; steps = Some text })
-      (ending_of x) (text_of x))
-      → IfOk made (λ x. PrintsPlan ReportsOf ReportsFault (record { window = window; script = script; steps = bytes })
-      (ending_of x) (text_of x))
+      → IfOk made (λ x. PrintsPlan ReportsOf ReportsFault
+      (record { window = window; script = script; steps = Some (acts_of text) }) (ending_of x) (text_of x))
+      → IfOk made (λ x. PrintsPlan ReportsOf ReportsFault
+      (record { window = window; script = script; steps = option_map acts_of bytes }) (ending_of x) (text_of x))
   made_of_steps ending_of text_of window script text steps bytes (Ok x) is same prints =
       of_steps window script steps bytes (ending_of x) (text_of x) same
       (subst (λ (xs : List ℕ). PrintsPlan ReportsOf ReportsFault
-      (record { window = window; script = script; steps = Some xs }) (ending_of x) (text_of x)) is prints)
+      (record { window = window; script = script; steps = Some (acts_of xs) }) (ending_of x) (text_of x)) is prints)
   made_of_steps ending_of text_of window script text steps bytes (Err why) is same prints = tt
 
   -- what is printed of a simulation with this ending is printed by the command
-  pub prints_after : (window : ℕ) (script steps : List ℕ) (refusal : Option StepError) (ending : Ending)
-      (printed : List ℕ) → ending ≡ refusal_ending refusal
-      → ReportsPlan ReportsOf (record { window = window; script = Some script; steps = Some steps }) refusal printed
-      → PrintsPlan ReportsOf ReportsFault (record { window = window; script = Some script; steps = Some steps }) ending
-      printed
-  prints_after window script steps None ending printed is prints =
-      let input : SimulationInput = record { window = window; script = Some script; steps = Some steps } in
+  pub prints_after : (input : SimulationInput) (refusal : Option StepError) (ending : Ending) (printed : List ℕ)
+      → ending ≡ refusal_ending refusal → ReportsPlan ReportsOf input refusal printed
+      → PrintsPlan ReportsOf ReportsFault input ending printed
+  prints_after input None ending printed is prints =
       subst (λ (e : Ending). PrintsPlan ReportsOf ReportsFault input e printed) (sym is) prints
-  prints_after window script steps (Some why) ending printed is prints =
-      let input : SimulationInput = record { window = window; script = Some script; steps = Some steps } in
+  prints_after input (Some why) ending printed is prints =
       subst (λ (e : Ending). PrintsPlan ReportsOf ReportsFault input e printed) (sym is) prints
+
+  -- what is printed for the acts of a text without a fault is printed for the text
+  pub made_of_acts : {X : Type 0} (ending_of : X → Ending) (text_of : X → List ℕ) (window : ℕ)
+      (script : Option (List ℕ)) (steps : List ℕ) (acts : List Act) (made : Result X ProgramFault)
+      → acts_of steps ≡ Ok acts
+      → IfOk made (λ x. PrintsPlan ReportsOf ReportsFault
+      (record { window = window; script = script; steps = Some (Ok acts) }) (ending_of x) (text_of x))
+      → IfOk made (λ x. PrintsPlan ReportsOf ReportsFault
+      (record { window = window; script = script; steps = Some (acts_of steps) }) (ending_of x) (text_of x))
+  made_of_acts {X} ending_of text_of window script steps acts made stated prints =
+      subst (λ (parsed : Result (List Act) ScriptFault). IfOk made (λ (x : X). PrintsPlan ReportsOf ReportsFault
+      (record { window = window; script = script; steps = Some parsed }) (ending_of x) (text_of x))) (sym stated) prints

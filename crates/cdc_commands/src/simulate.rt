@@ -1,8 +1,11 @@
 //! The command `simulate`: takes a script's batches and a session's packets step by step.
 
-ghost use Rattle.std.specs.Prelude.{◌≡◌, ◌+◌, ℕ, List, Option, IfErr, IfOk, Ok, Some};
+ghost use Rattle.std.specs.Prelude.{◌≡◌, ◌+◌, ℕ, List, Option, Result, IfErr, IfOk, Ok, Some, option_map};
 ghost use Rattle.cdc_script.specs.Reading.{ConsumesAtMost};
+ghost use Rattle.cdc_script.specs.declared.faults.ScriptFault.{ScriptFault};
+ghost use Rattle.cdc_script.specs.declared.step_files.Act.{Act};
 ghost use Rattle.cdc_script.specs.Scripts.{max_bytes, script_of};
+ghost use Rattle.cdc_script.specs.StepFiles.{acts_of};
 ghost use Rattle.cdc_types.specs.Windows.{IsWindow};
 ghost use Rattle.cdc_commands.specs.Outcomes.{IsSimulationFault, MayFailScript, Writes};
 ghost use Rattle.cdc_commands.specs.Simulated.{PrintsPlan};
@@ -15,7 +18,7 @@ use crate::observers::Observer;
 use crate::output::{Ended, Output, print_output};
 use crate::simulations::play_script;
 use crate::tally::Tally;
-use cdc_script::{ReadError, Script, ScriptError, parse_script, parse_steps, read_text};
+use cdc_script::{ReadError, Script, ScriptError, StepFile, parse_script, parse_steps, read_text};
 use std::alloc::Global;
 use std::io::{Read, Write};
 
@@ -33,12 +36,35 @@ pub fn simulation_of<F: Form, O: Observer>(
 ) -> Result<Output, ProgramFault>
     requires { IsWindow window }
     ensures output { IfOk result (λ output. PrintsPlan F.prints_simulation F.prints_fault
-        (record { window = window; script = Some script.now; steps = Some steps.now })
+        (record { window = window; script = Some script.now; steps = Some (acts_of steps.now) })
         output.ending output.text.items) }
     ensures fault { IfErr result IsSimulationFault }
 {
     match parse_script(alloc, script) {
         Ok(stated) => script_simulation(form, alloc, stated, steps, window, observer),
+        Err(ScriptError::Fault(fault)) => Ok(Output::of_bad_script(form, alloc, script, fault)?),
+        Err(ScriptError::OutOfMemory) => Err(ProgramFault::OutOfMemory),
+    }
+}
+
+/// What `simulate` prints for the bytes of a script and for these steps, and how it ends. It is the same as for a step
+/// file that has these steps, so only the script can be bad. Fails if memory runs out.
+pub fn simulation_of_steps<F: Form, O: Observer>(
+    form: &F,
+    alloc: Global,
+    script: &[u8],
+    steps: &StepFile,
+    window: usize,
+    observer: &mut O,
+) -> Result<Output, ProgramFault>
+    requires { IsWindow window }
+    ensures output { IfOk result (λ output. PrintsPlan F.prints_simulation F.prints_fault
+        (record { window = window; script = Some script.now; steps = Some (Ok steps.now.acts.items) })
+        output.ending output.text.items) }
+    ensures fault { IfErr result IsSimulationFault }
+{
+    match parse_script(alloc, script) {
+        Ok(stated) => steps_simulation(form, alloc, stated, steps, window, observer),
         Err(ScriptError::Fault(fault)) => Ok(Output::of_bad_script(form, alloc, script, fault)?),
         Err(ScriptError::OutOfMemory) => Err(ProgramFault::OutOfMemory),
     }
@@ -56,7 +82,7 @@ fn script_simulation<F: Form, O: Observer>(
     requires { IsWindow window }
     ensures output { (bytes : List ℕ) → script_of bytes ≡ Ok script
         → IfOk result (λ output. PrintsPlan F.prints_simulation F.prints_fault
-        (record { window = window; script = Some bytes; steps = Some steps.now })
+        (record { window = window; script = Some bytes; steps = Some (acts_of steps.now) })
         output.ending output.text.items) }
     ensures fault { IfErr result IsSimulationFault }
 {
@@ -67,10 +93,30 @@ fn script_simulation<F: Form, O: Observer>(
         }
         Err(ScriptError::OutOfMemory) => return Err(ProgramFault::OutOfMemory),
     };
+    steps_simulation(form, alloc, script, &stated, window, observer)
+}
+
+/// What `simulate` prints for a script and for steps.
+fn steps_simulation<F: Form, O: Observer>(
+    form: &F,
+    alloc: Global,
+    script: Script,
+    steps: &StepFile,
+    window: usize,
+    observer: &mut O,
+) -> Result<Output, ProgramFault>
+    requires { IsWindow window }
+    ensures output { (bytes : List ℕ) → script_of bytes ≡ Ok script
+        → IfOk result (λ output. PrintsPlan F.prints_simulation F.prints_fault
+        (record { window = window; script = Some bytes; steps = Some (Ok steps.now.acts.items) })
+        output.ending output.text.items) }
+    ensures fault { IfErr result IsSimulationFault }
+{
     let notes = Notes::of(alloc, &script);
-    observer.begin(alloc, &script, &stated);
-    let simulated = play_script(alloc, script, window, stated.acts.as_slice(), observer)?;
-    let text = form.simulation(alloc, &simulated, stated.acts.len())?;
+    observer.begin(alloc, &script, steps);
+    let acts = steps.acts.as_slice();
+    let simulated = play_script(alloc, script, window, acts, observer)?;
+    let text = form.simulation(alloc, &simulated, acts.len())?;
     Ok(Output {
         text,
         ending: Ending::of_refusal(simulated.played.refusal),
@@ -95,7 +141,7 @@ pub fn simulate<F: Form, R: Read, Q: Read, W: Write, O: Observer>(
         (record {
           window = window;
           script = R.remaining script.old;
-          steps = Q.remaining steps.old;
+          steps = option_map acts_of (Q.remaining steps.old);
         }))
         (W.contents writer.old) (W.contents writer.new) result.ending }
     ensures script { ConsumesAtMost (max_bytes + 1)
@@ -117,7 +163,11 @@ fn read_simulation<F: Form, R: Read, Q: Read, O: Observer>(
 ) -> Result<Output, ProgramFault>
     requires { IsWindow window }
     ensures output { IfOk result (λ output. PrintsPlan F.prints_simulation F.prints_fault
-        (record { window = window; script = R.remaining script.old; steps = Q.remaining steps.old })
+        (record {
+          window = window;
+          script = R.remaining script.old;
+          steps = option_map acts_of (Q.remaining steps.old);
+        })
         output.ending output.text.items) }
     ensures fault { IfErr result MayFailScript }
     ensures script { ConsumesAtMost (max_bytes + 1)
@@ -138,8 +188,8 @@ fn unread_steps<F: Form>(
     script: &[u8],
     error: ReadError,
 ) -> Result<Output, ProgramFault>
-    ensures output { (window : ℕ) → (steps : Option (List ℕ)) → IfOk result (λ output.
-        PrintsPlan F.prints_simulation F.prints_fault
+    ensures output { (window : ℕ) → (steps : Option (Result (List Act) ScriptFault))
+        → IfOk result (λ output. PrintsPlan F.prints_simulation F.prints_fault
         (record { window = window; script = Some script.now; steps = steps })
         output.ending output.text.items) }
     ensures fault { IfErr result MayFailScript }

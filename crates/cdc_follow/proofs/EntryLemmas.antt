@@ -1,4 +1,4 @@
--- What a JSON text says, by the value that it is.
+-- The entry of a JSON text, by the value that it is.
 use Rattle.std.proofs.Common.{◌≡◌, ◌≤◌, ℕ, List, length, Option, Bool, true, false, Some, None, Ok, Err, Result, IsUtf8, refl, sym, ap, ◌∙◌}
 use Rattle.std.proofs.lemmas.Str.{IsUtf8-from_is_utf8, is_utf8-from_IsUtf8}
 use Rattle.std.proofs.lemmas.Bool.{le-ltb}
@@ -14,7 +14,7 @@ use Rattle.cdc_follow.specs.declared.entries.TheConstants.{LONGEST_LINE}
 use Rattle.cdc_follow.specs.declared.entries.Entry.{Entry}
 use Rattle.cdc_follow.specs.declared.errors.LineError.{LineError}
 use Rattle.cdc_follow.specs.declared.errors.LineError.TheVariants.{Decode}
-use Rattle.cdc_follow.specs.Entries.{◌>>=◌, content_from, entry_of, line_entry, previous_of, says_nothing, value_entry}
+use Rattle.cdc_follow.specs.Entries.{◌>>=◌, content_from, entry_of, line_entry, previous_of, is_ignored, value_entry}
 
 -- the value of a JSON text
 value_some : (bytes : List ℕ) (value : Data) → IsUtf8 bytes → json.read bytes ≡ Some value → value_of bytes ≡ Some value
@@ -30,16 +30,16 @@ value_none bytes false e none = rw e refl
 pub some_entry : (chained : Bool) (bytes : List ℕ) (value : Data) (entry : Entry) → IsUtf8 bytes
     → json.read bytes ≡ Some value → Ok entry ≡ entry_of chained value
     → Ok (Some entry) ≡ value_entry chained (value_of bytes)
-some_entry chained bytes value entry text is says =
-    ap (λ (read : Result Entry LineError). read >>= λ entry. Ok (Some entry)) says
+some_entry chained bytes value entry text is reads =
+    ap (λ (read : Result Entry LineError). read >>= λ entry. Ok (Some entry)) reads
     ∙ sym (ap (value_entry chained) (value_some bytes value text is))
 
 -- a text whose value is none
 pub wrong_entry : (chained : Bool) (bytes : List ℕ) (value : Data) (why : LineError) → IsUtf8 bytes
     → json.read bytes ≡ Some value → Err why ≡ entry_of chained value
     → Err why ≡ value_entry chained (value_of bytes)
-wrong_entry chained bytes value why text is says =
-    ap (λ (read : Result Entry LineError). read >>= λ entry. Ok (Some entry)) says
+wrong_entry chained bytes value why text is reads =
+    ap (λ (read : Result Entry LineError). read >>= λ entry. Ok (Some entry)) reads
     ∙ sym (ap (value_entry chained) (value_some bytes value text is))
 
 -- bytes that are no JSON text
@@ -49,14 +49,14 @@ no_entry chained bytes none = sym (ap (value_entry chained) (value_none bytes (i
 
 -- ---- a line
 
--- a line that says nothing
-pub line-nothing : (chained : Bool) (line : List ℕ) → length line ≤ LONGEST_LINE → says_nothing line ≡ true
+-- a line that is ignored
+pub line-nothing : (chained : Bool) (line : List ℕ) → length line ≤ LONGEST_LINE → is_ignored line ≡ true
     → line_entry chained line ≡ Ok None
 unfolding line_entry
 line-nothing chained line short quiet = rw (le-ltb LONGEST_LINE (length line) short, quiet) refl
 
--- any other line says what its JSON text says
-pub line-value : (chained : Bool) (line : List ℕ) → length line ≤ LONGEST_LINE → says_nothing line ≡ false
+-- any other line has the entry of its JSON text
+pub line-value : (chained : Bool) (line : List ℕ) → length line ≤ LONGEST_LINE → is_ignored line ≡ false
     → line_entry chained line ≡ value_entry chained (value_of line)
 unfolding line_entry
 line-value chained line short quiet = rw (le-ltb LONGEST_LINE (length line) short, quiet) refl

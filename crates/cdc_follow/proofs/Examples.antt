@@ -1,4 +1,4 @@
--- The definitions at work, beside what the rules say in words.
+-- The definitions at work, beside the rules.
 use Rattle.std.specs.Prelude.{ℕ, ◌≡◌, true, false, [], ◌∷◌, codes, Some, None, Ok, Err}
 use Rattle.std.proofs.Common.{refl}
 use Rattle.std.specs.Str.{is_utf8, chars}
@@ -18,33 +18,33 @@ use Rattle.cdc_follow.specs.declared.follower.Following.TheVariants.{Applied, Pa
 use Rattle.cdc_follow.specs.Entries.{line_entry}
 use Rattle.cdc_follow.specs.Following.{FollowState, follow, follow_all, outcome_of}
 use Rattle.cdc_follow.specs.Lines.{lines_of}
-use Rattle.cdc_follow.specs.Streams.{NumberedEntry, bytes_tell, lines_tell}
+use Rattle.cdc_follow.specs.Streams.{NumberedEntry, stream_of, stream_of_lines}
 
--- the last line may lack its line feed; a line feed alone is an empty line
+-- the last line may be without a line feed; a line feed alone is an empty line
 lines : (lines_of (codes "a\n\nbc") ≡ codes "a" ∷ [] ∷ codes "bc" ∷ [])
     × (lines_of (codes "a\n") ≡ codes "a" ∷ []) × (lines_of [] ≡ [])
 unfolding lines_of
 lines = (refl, refl, refl)
 
 -- an end, chained and not
-says_end : (line_entry true (codes "{\"end\":true,\"previous\":\"2000\"}")
+is_the_end : (line_entry true (codes "{\"end\":true,\"previous\":\"2000\"}")
     ≡ Ok (Some (record { content = content.End; previous = Some 2000 })))
     × (line_entry false (codes "{\"end\":true}") ≡ Ok (Some (record { content = content.End; previous = None })))
     × (line_entry true (codes "{\"end\":true}") ≡ Err PreviousMissing)
 unfolding line_entry serde_json_on_literals is_utf8 chars
-says_end = (refl, refl, refl)
+is_the_end = (refl, refl, refl)
 
--- lines that say nothing, and one that is no JSON text
-says_nothing : (line_entry true [] ≡ Ok None) × (line_entry true (codes "\r") ≡ Ok None)
+-- lines that are ignored, and one that is no JSON text
+is_ignored : (line_entry true [] ≡ Ok None) × (line_entry true (codes "\r") ≡ Ok None)
     × (line_entry true (codes "event_type=single_phase ledger=1") ≡ Ok None)
     × (line_entry true (codes "hello") ≡ Err (Decode NotJson))
 unfolding line_entry serde_json_on_literals is_utf8 chars
-says_nothing = (refl, refl, refl, refl)
+is_ignored = (refl, refl, refl, refl)
 
 -- what comes after a bad line is not read
-stops_at_bad : bytes_tell false (codes "\nhello\n{\"end\":true}\n")
+stops_at_bad : stream_of false (codes "\nhello\n{\"end\":true}\n")
     ≡ record { entries = []; bad = Some (record { line = 2; error = Decode NotJson }) }
-unfolding line_entry lines_of lines_tell serde_json_on_literals is_utf8 chars
+unfolding line_entry lines_of stream_of_lines serde_json_on_literals is_utf8 chars
 stops_at_bad = refl
 
 -- an account as an event shows it

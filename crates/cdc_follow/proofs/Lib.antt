@@ -6,5 +6,6 @@ pub mod OnceLemmas
 pub mod PlainLemmas
 pub mod QueueLemmas
 pub mod ReceivedLemmas
+pub mod SavedLemmas
 pub mod StepLemmas
 pub mod StopLemmas

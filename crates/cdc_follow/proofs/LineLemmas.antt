@@ -168,6 +168,6 @@ fed old mid new line after end is first clean adds =
 pub ended : (old mid new : Option (List ℕ)) (line after : List ℕ) (end : PartEnd) (more : Bool) → end ≡ Stream
     → Consumes old mid line → HasNoFeed line → AddsPart mid new line after end → more ≡ not (length after == 0)
     → IfSome old (λ bytes. TakesLine more bytes after new)
-ended old mid new line after end more is first clean adds tells =
+ended old mid new line after end more is first clean adds takes =
     line_last old mid new line adds.part after more first clean adds.added (adds.last is).0 (adds.last is).1
-    (subst (λ e. Consumes mid new (adds.part ++ feed_of e)) is adds.reads) tells
+    (subst (λ e. Consumes mid new (adds.part ++ feed_of e)) is adds.reads) takes

@@ -191,7 +191,7 @@ taken_by-push binding before e takes is =
     case_of true is = rw is refl
     case_of false is = rw is (append-nil (taken_by binding before))
 
--- what is kept, said with what it has of the end
+-- what is kept, by what it has of the end
 kept_as : (kept : SubscriberState) (events : List Event) (ended : Bool) → kept ≡ kept_after events ended
     → kept ≡ kept_after events kept.ended
 kept_as kept events ended is = is ∙ ap (kept_after events) (sym (ap (λ (k : SubscriberState). k.ended) is))

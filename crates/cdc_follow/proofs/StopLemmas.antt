@@ -19,23 +19,23 @@ use Rattle.cdc_follow.specs.Following.{FollowState, Followed, follow, is_gap, ne
 use Rattle.cdc_follow.specs.LineErrors.{GivesUnlessMemory}
 use Rattle.cdc_follow.specs.Lines.{FirstLineIsLong, TakesLine, lines_of}
 use Rattle.cdc_follow.specs.Stops.{KeepsFirst, LineLeadsTo, StepLeadsTo, Stopped, bytes_followed, followed, lines_followed, stopped}
-use Rattle.cdc_follow.specs.Streams.{Diagnostics, NumberedEntry, lines_tell, tells_first}
+use Rattle.cdc_follow.specs.Streams.{Stream, NumberedEntry, stream_of_lines, stream_with}
 use Rattle.cdc_follow.proofs.LineLemmas.{lines_of-none}
 
--- lines tell what the first one tells, in front of the others
-pub tells : (chained : Bool) (number : ℕ) (line : List ℕ) (rest : List (List ℕ))
-    → lines_tell chained number (line ∷ rest)
-    ≡ tells_first number (line_entry chained line) (lines_tell chained (number + 1) rest)
-unfolding lines_tell
-tells chained number line rest = refl
+-- the stream of lines has the entry of the first one in front of the others
+pub stream_first : (chained : Bool) (number : ℕ) (line : List ℕ) (rest : List (List ℕ))
+    → stream_of_lines chained number (line ∷ rest)
+    ≡ stream_with number (line_entry chained line) (stream_of_lines chained (number + 1) rest)
+unfolding stream_of_lines
+stream_first chained number line rest = refl
 
--- a line that says nothing
+-- a line that is ignored
 pub leads_past : (binding : Arguments) (rules : Rules) (number : ℕ) (line : List ℕ) (state : FollowState)
     → line_entry rules.chained line ≡ Ok None → LineLeadsTo binding rules number line state None state
 leads_past binding rules number line state is rest =
     ap (followed binding rules.skips_gaps state)
-    (tells rules.chained number line rest
-    ∙ ap (λ entry. tells_first number entry (lines_tell rules.chained (number + 1) rest)) is)
+    (stream_first rules.chained number line rest
+    ∙ ap (λ entry. stream_with number entry (stream_of_lines rules.chained (number + 1) rest)) is)
 
 -- nothing is followed of no entries
 pub follow-none : (binding : Arguments) (skips : Bool) (state : FollowState)
@@ -49,8 +49,8 @@ pub leads_to_bad : (binding : Arguments) (rules : Rules) (number : ℕ) (line : 
     → LineLeadsTo binding rules number line state (Some (stop.BadLine number error)) state
 leads_to_bad binding rules number line state error is rest =
     ap (followed binding rules.skips_gaps state)
-    (tells rules.chained number line rest
-    ∙ ap (λ entry. tells_first number entry (lines_tell rules.chained (number + 1) rest)) is)
+    (stream_first rules.chained number line rest
+    ∙ ap (λ entry. stream_with number entry (stream_of_lines rules.chained (number + 1) rest)) is)
     ∙ bad_alone
   where
     bad_alone : followed binding rules.skips_gaps state
@@ -73,9 +73,9 @@ pub leads_on : (binding : Arguments) (rules : Rules) (number : ℕ) (line : List
     → (is_gap (outcome_of binding state entry) && not rules.skips_gaps) ≡ false
     → LineLeadsTo binding rules number line state None (next_follow binding state entry)
 leads_on binding rules number line state entry is goes rest =
-    let later = lines_tell rules.chained (number + 1) rest in
+    let later = stream_of_lines rules.chained (number + 1) rest in
     ap (followed binding rules.skips_gaps state)
-    (tells rules.chained number line rest ∙ ap (λ entry. tells_first number entry later) is)
+    (stream_first rules.chained number line rest ∙ ap (λ entry. stream_with number entry later) is)
     ∙ ap (λ done. stopped done later.bad)
     (follow-first binding rules.skips_gaps state (record { line = number; entry = entry }) later.entries false goes)
 
@@ -85,9 +85,9 @@ pub leads_to_gap : (binding : Arguments) (rules : Rules) (number : ℕ) (line : 
     → (is_gap (outcome_of binding state entry) && not rules.skips_gaps) ≡ true
     → LineLeadsTo binding rules number line state (Some (stop.Gap number entry)) state
 leads_to_gap binding rules number line state entry is stops rest =
-    let later = lines_tell rules.chained (number + 1) rest in
+    let later = stream_of_lines rules.chained (number + 1) rest in
     ap (followed binding rules.skips_gaps state)
-    (tells rules.chained number line rest ∙ ap (λ entry. tells_first number entry later) is)
+    (stream_first rules.chained number line rest ∙ ap (λ entry. stream_with number entry later) is)
     ∙ ap (λ done. stopped done later.bad)
     (follow-first binding rules.skips_gaps state (record { line = number; entry = entry }) later.entries true stops)
 
@@ -121,11 +121,11 @@ step_leads binding rules number old new (Some bytes) left line None taken leads 
 step_leads binding rules number old new (Some bytes) left line (Some stop) taken leads =
     ap (lines_followed binding rules old number) taken.2 ∙ leads (lines_of taken.0)
 
--- no lines tell nothing
-none_told : (binding : Arguments) (rules : Rules) (state : FollowState) (number : ℕ)
+-- no lines have no entry
+none_followed : (binding : Arguments) (rules : Rules) (state : FollowState) (number : ℕ)
     → lines_followed binding rules state number [] ≡ record { state = state; stop = stop.AtEnd }
-unfolding lines_tell follow
-none_told binding rules state number = refl
+unfolding stream_of_lines follow
+none_followed binding rules state number = refl
 
 -- no line is left
 step_ends : (binding : Arguments) (rules : Rules) (number : ℕ) (state : FollowState) (known left : Option (List ℕ))
@@ -134,7 +134,7 @@ step_ends : (binding : Arguments) (rules : Rules) (number : ℕ) (state : Follow
 step_ends binding rules number state None left none = tt
 step_ends binding rules number state (Some bytes) left none =
     ap (λ bytes. lines_followed binding rules state number (lines_of bytes)) none
-    ∙ (ap (lines_followed binding rules state number) lines_of-none ∙ none_told binding rules state number)
+    ∙ (ap (lines_followed binding rules state number) lines_of-none ∙ none_followed binding rules state number)
 
 pub step_none : (binding : Arguments) (rules : Rules) (number : ℕ) (state : FollowState) (known left : Option (List ℕ))
     (line : List ℕ) (more : Bool) → more ≡ false → IfSome known (λ bytes. TakesLine more bytes line left)
@@ -220,7 +220,7 @@ follows_stop binding rules start old new number stop (Some bytes) None left foll
 follows_stop binding rules start old new number stop (Some bytes) (Some rest) left follows step =
     ap (lines_followed binding rules start 1) follows.whole ∙ follows.leads (lines_of rest) ∙ step
 
--- ---- what is kept after some lines, in terms of the entries that these and others tell
+-- ---- what is kept after some lines, in terms of the entries that these and others have
 
 -- what is kept after the first so many of these entries
 abbrev kept_first : Arguments → Bool → FollowState → ℕ → List NumberedEntry → FollowState
@@ -229,7 +229,7 @@ kept_first binding skips start count entries = (follow binding skips start (take
 -- lines keep what some of the first entries make
 abbrev KeepsSome : Arguments → Rules → FollowState → ℕ → List (List ℕ) → List (List ℕ) → Type 0
 KeepsSome binding rules start number front rest = (count : ℕ) × ((lines_followed binding rules start number front).state
-    ≡ kept_first binding rules.skips_gaps start count (lines_tell rules.chained number (front ++ rest)).entries)
+    ≡ kept_first binding rules.skips_gaps start count (stream_of_lines rules.chained number (front ++ rest)).entries)
 
 -- following that stops at once keeps what no entries make
 keeps_none : (binding : Arguments) (rules : Rules) (start : FollowState) (number : ℕ) (stop : Stop)
@@ -242,17 +242,17 @@ keeps_none binding rules start number stop front rest is = (
       ∙ sym (ap (λ (done : Followed). done.state) (follow-none binding rules.skips_gaps start)),
 )
 
--- what the first line tells, in front of what the others tell
+-- the entry of the first line, in front of those of the others
 entries_first : (chained : Bool) (number : ℕ) (line : List ℕ) (rest : List (List ℕ))
     (read : Result (Option Entry) LineError) → line_entry chained line ≡ read
-    → (lines_tell chained number (line ∷ rest)).entries
-    ≡ (tells_first number read (lines_tell chained (number + 1) rest)).entries
+    → (stream_of_lines chained number (line ∷ rest)).entries
+    ≡ (stream_with number read (stream_of_lines chained (number + 1) rest)).entries
 entries_first chained number line rest read is =
-    ap (λ (all : Diagnostics). all.entries) (tells chained number line rest)
+    ap (λ (all : Stream). all.entries) (stream_first chained number line rest)
     ∙ ap (λ (read : Result (Option Entry) LineError).
-    (tells_first number read (lines_tell chained (number + 1) rest)).entries) is
+    (stream_with number read (stream_of_lines chained (number + 1) rest)).entries) is
 
--- one line in front of others, by what it says
+-- one line in front of others, by its entry
 keeps_line : (binding : Arguments) (rules : Rules) (start : FollowState) (number : ℕ) (line : List ℕ)
     (front rest : List (List ℕ)) (read : Result (Option Entry) LineError) → line_entry rules.chained line ≡ read
     → ((state : FollowState) → KeepsSome binding rules state (number + 1) front rest)
@@ -274,7 +274,7 @@ keeps_line binding rules start number line front rest (Ok (Some entry)) is later
     by_gap false gap =
         let numbered : NumberedEntry = record { line = number; entry = entry } in
         let others = later (next_follow binding start entry) in
-        let entries = (lines_tell rules.chained (number + 1) (front ++ rest)).entries in (
+        let entries = (stream_of_lines rules.chained (number + 1) (front ++ rest)).entries in (
           suc others.0,
           ap (λ (s : Stopped). s.state) (leads_on binding rules number line start entry is gap front) ∙ others.1
               ∙ sym (ap (λ (done : Followed). done.state)
@@ -289,7 +289,7 @@ keeps_line binding rules start number line front rest (Err error) is later =
 keeps_some : (binding : Arguments) (rules : Rules) (start : FollowState) (number : ℕ) (front rest : List (List ℕ))
     → KeepsSome binding rules start number front rest
 keeps_some binding rules start number [] rest =
-    keeps_none binding rules start number stop.AtEnd [] rest (none_told binding rules start number)
+    keeps_none binding rules start number stop.AtEnd [] rest (none_followed binding rules start number)
 keeps_some binding rules start number (line ∷ front) rest =
     keeps_line binding rules start number line front rest _ refl
     (λ state. keeps_some binding rules state (number + 1) front rest)
@@ -304,10 +304,10 @@ follows_keeps binding rules start state number (Some bytes) (Some left) follows 
     let some = keeps_some binding rules start 1 follows.front (lines_of left) in
     let all : lines_followed binding rules start 1 follows.front ≡ record { state = state; stop = stop.AtEnd } =
     ap (lines_followed binding rules start 1) (sym (append-nil follows.front)) ∙ follows.leads []
-    ∙ none_told binding rules state number in (
+    ∙ none_followed binding rules state number in (
       some.0,
       sym (ap (λ (s : Stopped). s.state) all) ∙ some.1
-          ∙ ap (λ lines. kept_first binding rules.skips_gaps start some.0 (lines_tell rules.chained 1 lines).entries)
+          ∙ ap (λ lines. kept_first binding rules.skips_gaps start some.0 (stream_of_lines rules.chained 1 lines).entries)
           (sym follows.whole),
     )
 

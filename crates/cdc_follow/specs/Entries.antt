@@ -1,4 +1,4 @@
--- What a line of a stream says.
+-- The content of a line of a stream.
 use Rattle.std.specs.Prelude.{ℕ, List, Bool, false, ◌||◌, ◌==◌, codes, nat_eq, nat_le, nat_lt, length, if◌then◌else◌, Option, Some, None, unwrap_or, Result, Ok, Err}
 use Rattle.std.specs.List.{list_all, starts_with}
 use Rattle.serde_json.specs.Data.{Data}
@@ -31,12 +31,12 @@ abbrev pub as_event : Result Event DecodeError → Read Content
 as_event (Ok e) = Ok (content.Event e)
 as_event (Err why) = Err (decoding_error why)
 
--- a value says that the stream ends: its member `end` is true
+-- a value is the end of a stream: its member `end` is true
 abbrev pub is_true : Option Data → Bool
 is_true None = false
 is_true (Some value) = unwrap_or (as_bool value) false
 
--- a value that is no body: an envelope if it has a body, the end if it says so, else wrong, for this reason
+-- a value that is no body: an envelope if it has a body, the end if it is one, else wrong, for this reason
 abbrev pub other_content : Data → DecodeError → Option Data → Read Content
 other_content value why (Some body) = as_event (event_of body)
 other_content value why None = if is_true (get (codes "end") value) then Ok content.End else Err (decoding_error why)
@@ -65,7 +65,7 @@ previous_in (Some value) = do
 abbrev pub previous_of : Bool → Data → Read (Option ℕ)
 previous_of chained value = if chained then previous_in (get (codes "previous") value) else Ok None
 
--- what a value says
+-- the entry of a value
 abbrev pub entry_of : Bool → Data → Read Entry
 entry_of chained value = do
   content ← content_of value
@@ -76,19 +76,19 @@ entry_of chained value = do
 abbrev pub is_space : ℕ → Bool
 is_space b = b == 32 || b == 9 || b == 13
 
--- a line that says nothing: white space alone, or the headers of a message in text
-abbrev pub says_nothing : List ℕ → Bool
-says_nothing line = list_all is_space line || starts_with nat_eq line (codes "event_type=")
+-- a line that is ignored: white space alone, or the headers of a message in text
+abbrev pub is_ignored : List ℕ → Bool
+is_ignored line = list_all is_space line || starts_with nat_eq line (codes "event_type=")
 
--- what a JSON text says
+-- the entry of a JSON text
 abbrev pub value_entry : Bool → Option Data → Read (Option Entry)
 value_entry chained None = Err (Decode NotJson)
 value_entry chained (Some value) = do
   entry ← entry_of chained value
   Ok (Some entry)
 
--- what a line says, if it says anything
+-- the entry of a line, if it has one
 unfoldable pub line_entry : Bool → List ℕ → Read (Option Entry)
 line_entry chained line =
     if nat_lt LONGEST_LINE (length line) then Err TooLong
-    else (if says_nothing line then Ok None else value_entry chained (value_of line))
+    else (if is_ignored line then Ok None else value_entry chained (value_of line))

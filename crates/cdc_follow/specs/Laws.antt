@@ -1,4 +1,4 @@
--- Laws of following: what a follower has applied of entries that come again, and of the entries of a chained queue.
+-- Laws of following: what a follower has applied of redelivered entries, and of the entries of a chained queue.
 use Rattle.std.specs.Prelude.{◌≡◌, ℕ, List, [], ◌∷◌, ◌++◌, Bool, true, false, if◌then◌else◌, Option, Some, None, Contains, filter, fold, length, map, min}
 use Rattle.std.specs.List.{AllByRecursion}
 use Rattle.cdc_types.specs.declared.events.Event.{Event}

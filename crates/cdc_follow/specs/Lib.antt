@@ -4,5 +4,7 @@ pub mod Laws
 pub mod LineErrors
 pub mod LineParts
 pub mod Lines
+pub mod Saved
+pub mod SavedParts
 pub mod Stops
 pub mod Streams

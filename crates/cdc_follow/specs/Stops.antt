@@ -7,7 +7,7 @@ use Rattle.cdc_follow.specs.declared.streams.Stop.TheVariants.{AtEnd, Gap, BadLi
 use Rattle.cdc_follow.specs.Following.{FollowState, Followed, follow}
 use Rattle.cdc_follow.specs.Lines.{lines_of}
 use Rattle.cdc_follow.specs.Streams as streams
-use Rattle.cdc_follow.specs.Streams.{Diagnostics, NumberedEntry, bytes_tell, lines_tell}
+use Rattle.cdc_follow.specs.Streams.{Stream, NumberedEntry, stream_of, stream_of_lines}
 
 -- what is kept, and why following stops
 pub record Stopped : Type 0 where
@@ -23,23 +23,23 @@ stop_at None None = AtEnd
 abbrev pub stopped : Followed → Option streams.BadLine → Stopped
 stopped done bad = record { state = done.state; stop = stop_at done.gap bad }
 
--- what a follower makes of what a stream tells
-abbrev pub followed : Arguments → Bool → FollowState → Diagnostics → Stopped
-followed binding skips state told = stopped (follow binding skips state told.entries) told.bad
+-- what a follower makes of a stream
+abbrev pub followed : Arguments → Bool → FollowState → Stream → Stopped
+followed binding skips state stream = stopped (follow binding skips state stream.entries) stream.bad
 
 -- what a follower makes of lines, numbered from this one on
 abbrev pub lines_followed : Arguments → Rules → FollowState → ℕ → List (List ℕ) → Stopped
 lines_followed binding rules state number lines =
-    followed binding rules.skips_gaps state (lines_tell rules.chained number lines)
+    followed binding rules.skips_gaps state (stream_of_lines rules.chained number lines)
 
 -- what a follower makes of bytes
 abbrev pub bytes_followed : Arguments → Rules → FollowState → List ℕ → Stopped
 bytes_followed binding rules state bytes = lines_followed binding rules state 1 (lines_of bytes)
 
--- what is kept is what following makes of some number of the first entries that bytes tell, and of no others
+-- what is kept is what following makes of some number of the first entries of the bytes, and of no others
 abbrev pub KeepsFirst : Arguments → Rules → FollowState → List ℕ → FollowState → Type 0
 KeepsFirst binding rules old bytes new = (count : ℕ)
-    × (new ≡ (follow binding rules.skips_gaps old (take count (bytes_tell rules.chained bytes).entries)).state)
+    × (new ≡ (follow binding rules.skips_gaps old (take count (stream_of rules.chained bytes).entries)).state)
 
 -- the line of this number leads from one state to the next, whatever lines come after it; or following stops at it
 abbrev pub LineLeadsTo : Arguments → Rules → ℕ → List ℕ → FollowState → Option Stop → FollowState → Type 0

@@ -1,4 +1,4 @@
-//! What a line of a stream says.
+//! The content of a line of a stream.
 
 ghost use Rattle.std.specs.Prelude.{◌≡◌, codes};
 ghost use Rattle.std.specs.List.{list_all};
@@ -65,7 +65,7 @@ fn previous_of(value: &Value, chained: bool) -> Result<Option<u64>, LineError>
     }
 }
 
-// Whether a value says that the stream ends.
+// Whether a value is the end of a stream.
 fn is_end(value: &Value) -> bool
     ensures { result ≡ spec.is_true (get (codes "end") (view value.now)) }
 {
@@ -93,7 +93,7 @@ fn content_of(value: &Value) -> Result<Content, LineError>
     }
 }
 
-// What a value says.
+// The entry of a value.
 fn entry_of(value: &Value, chained: bool) -> Result<Entry, LineError>
     ensures { result ≡ spec.entry_of chained (view value.now) }
 {
@@ -116,14 +116,14 @@ fn is_blank(line: &[u8]) -> bool
     line.iter().all(|byte| is_space(*byte))
 }
 
-// Whether a line says nothing.
-fn says_nothing(line: &[u8]) -> bool
-    ensures { result ≡ spec.says_nothing line.now }
+// Whether a line is ignored.
+fn is_ignored(line: &[u8]) -> bool
+    ensures { result ≡ spec.is_ignored line.now }
 {
     is_blank(line) || line.starts_with(b"event_type=")
 }
 
-// What a JSON text says.
+// The entry of a JSON text.
 fn value_entry(alloc: Global, line: &[u8], chained: bool) -> Result<Option<Entry>, LineError>
     ensures { GivesUnlessMemory result (spec.value_entry chained (value_of line.now)) }
 {
@@ -134,15 +134,15 @@ fn value_entry(alloc: Global, line: &[u8], chained: bool) -> Result<Option<Entry
     }
 }
 
-/// What a line says, if it says anything: an event, by its body or by an envelope round that, or the end. In a chained
-/// stream each entry has to say what came before it in its queue.
+/// The entry of a line, if it has one: an event, by its body or by an envelope round that, or the end. In a chained
+/// stream each entry has to name what came before it in its queue.
 pub fn read_entry(alloc: Global, line: &[u8], chained: bool) -> Result<Option<Entry>, LineError>
     ensures { GivesUnlessMemory result (spec.line_entry chained line.now) }
 {
     if line.len() > LONGEST_LINE {
         return Err(LineError::TooLong);
     }
-    if says_nothing(line) {
+    if is_ignored(line) {
         return Ok(None);
     }
     if !chained {

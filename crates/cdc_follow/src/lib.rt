@@ -6,10 +6,12 @@ pub mod errors;
 pub mod follower;
 pub mod laws;
 pub mod lines;
+pub mod saved;
 pub mod streams;
 
 pub use entries::{Content, Entry, read_entry};
 pub use errors::LineError;
 pub use follower::{Follower, Following};
 pub use lines::{ReadError, read_line};
+pub use saved::{BOOK_MARK, SavedBook, read_book, write_book};
 pub use streams::{FollowError, Rules, Stop, follow, follow_line};

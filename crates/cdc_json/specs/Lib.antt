@@ -1,3 +1,4 @@
 pub mod Lines
 pub mod Objects
 pub mod Private
+pub mod Streams

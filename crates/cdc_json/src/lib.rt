@@ -9,9 +9,11 @@ mod lines;
 mod messages;
 mod objects;
 mod simulations;
+mod streams;
 mod subscribers;
 
 pub use batches::push_batch;
 pub use lines::Lines;
 pub use objects::Json;
+pub use streams::{push_saved, push_stop};
 pub use subscribers::push_subscriber;

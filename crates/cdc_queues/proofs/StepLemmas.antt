@@ -23,7 +23,7 @@ pub record IsTaking (event : Event) (bindings : List Arguments) (first : List �
   pub short : length found ≤ place
   pub kept : take place last ++ last_after event (drop place bindings) (drop place last)
       ≡ last_after event bindings first
-  pub told : found ++ found_after event (place + 1) (drop place bindings) (drop place last)
+  pub listed : found ++ found_after event (place + 1) (drop place bindings) (drop place last)
       ≡ found_after event 1 bindings first
 
 -- what is kept and found, if the next queue is looked at by itself
@@ -32,7 +32,7 @@ record NextQueue (event : Event) (bindings : List Arguments) (first : List ℕ) 
   kept : take place last
       ++ last_with event binding previous ∷ last_after event (drop (place + 1) bindings) (drop (place + 1) last)
       ≡ last_after event bindings first
-  told : found ++ found_with event binding (place + 1) previous
+  listed : found ++ found_with event binding (place + 1) previous
       (found_after event (place + 1 + 1) (drop (place + 1) bindings) (drop (place + 1) last))
       ≡ found_after event 1 bindings first
 
@@ -49,7 +49,7 @@ next_queue event bindings first place last found binding previous inside is was 
     drop_more last place previous within ∙ ap (λ (t : ℕ). t ∷ drop (place + 1) last) (sym was) in
     record {
       kept = rw (these, those) at before.kept;
-      told = rw (these, those) at before.told;
+      listed = rw (these, those) at before.listed;
     }
 
 -- a queue that takes the event
@@ -66,7 +66,7 @@ taken event bindings first place last found binding previous inside is was takes
     let now : last_with event binding previous ≡ event.timestamp =
     ap (λ (b : Bool). cond b event.timestamp previous) takes in
     let later = found_after event (place + 1 + 1) (drop (place + 1) bindings) (drop (place + 1) last) in
-    let tells : found_with event binding (place + 1) previous later
+    let lists : found_with event binding (place + 1) previous later
     ≡ record { queue = place + 1; previous = previous } ∷ later =
     ap (λ (b : Bool). cond b (record { queue = place + 1; previous = previous } ∷ later) later) takes in
     let left : drop (place + 1) (set last place event.timestamp) ≡ drop (place + 1) last =
@@ -83,11 +83,11 @@ taken event bindings first place last found binding previous inside is was takes
           ∙ ap (λ (t : ℕ). take place last
           ++ t ∷ last_after event (drop (place + 1) bindings) (drop (place + 1) last)) (sym now)
           ∙ next.kept;
-      told = ap (λ (ts : List ℕ). (found ++ record { queue = place + 1; previous = previous } ∷ [])
+      listed = ap (λ (ts : List ℕ). (found ++ record { queue = place + 1; previous = previous } ∷ [])
           ++ found_after event (place + 1 + 1) (drop (place + 1) bindings) ts) left
           ∙ append_assoc found (record { queue = place + 1; previous = previous } ∷ []) later
-          ∙ ap (λ (ps : List Predecessor). found ++ ps) (sym tells)
-          ∙ next.told;
+          ∙ ap (λ (ps : List Predecessor). found ++ ps) (sym lists)
+          ∙ next.listed;
     }
 
 -- a queue that doesn't take it
@@ -105,7 +105,7 @@ passed event bindings first place last found binding inside is takes before =
     let now : last_with event binding previous ≡ previous =
     ap (λ (b : Bool). cond b event.timestamp previous) takes in
     let later = found_after event (place + 1 + 1) (drop (place + 1) bindings) (drop (place + 1) last) in
-    let tells : found_with event binding (place + 1) previous later ≡ later =
+    let lists : found_with event binding (place + 1) previous later ≡ later =
     ap (λ (b : Bool). cond b (record { queue = place + 1; previous = previous } ∷ later) later) takes in
     record {
       many = before.many;
@@ -117,7 +117,7 @@ passed event bindings first place last found binding inside is takes before =
           ∙ ap (λ (t : ℕ). take place last
           ++ t ∷ last_after event (drop (place + 1) bindings) (drop (place + 1) last)) (sym now)
           ∙ next.kept;
-      told = ap (λ (ps : List Predecessor). found ++ ps) (sym tells) ∙ next.told;
+      listed = ap (λ (ps : List Predecessor). found ++ ps) (sym lists) ∙ next.listed;
     }
 
 -- after all queues
@@ -136,7 +136,7 @@ pub all_found : (event : Event) (bindings : List Arguments) (first : List ℕ) (
 all_found event bindings first place last found past before =
     let whole : found ++ found_after event (place + 1) (drop place bindings) (drop place last) ≡ found =
     rw (drop_all place bindings past) (append-nil found) in
-    sym whole ∙ before.told
+    sym whole ∙ before.listed
 
 -- there are as many timestamps as before
 pub length-last_after : (event : Event) (bindings : List Arguments) (last : List ℕ) → length last ≡ length bindings
@@ -178,7 +178,7 @@ found_after-predecessors event n (binding ∷ rest) before =
     ap (found_with event binding n (last_timestamp (feed before binding)))
     (found_after-predecessors event (n + 1) rest before)
 
--- a binding's answer for the headers of an event says whether it takes the event
+-- a binding's answer for the headers of an event states whether it takes the event
 pub takes_by : (binding : Arguments) (event : Event) (headers : Headers) (answer is : Bool)
     → headers ≡ headers_of_event event → answer ≡ matches binding headers → answer ≡ is
     → takes_event binding event ≡ is

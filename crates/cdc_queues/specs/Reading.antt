@@ -30,7 +30,7 @@ pub record ReadsAsMessage (previous : ℕ) (event : Event) (line : List ℕ) : T
   pub has_body : get (codes "body") value ≡ Some body
   pub body_is : event_of body ≡ Ok event
 
--- the line of an end: it has no body, and says that it is the end
+-- the line of an end: it has no body, and is marked as the end
 pub record ReadsAsEnd (previous : ℕ) (line : List ℕ) : Type 0 where
   pub value : Data
   pub is_line : IsLine previous line value

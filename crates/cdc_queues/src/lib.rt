@@ -1,4 +1,4 @@
-//! Queues as streams: each message with the timestamp of the message before it in its queue, so that a consumer can tell
+//! Queues as streams: each message with the timestamp of the message before it in its queue, so that a consumer can see
 //! by itself that nothing is missing.
 #![tactic(auto)]
 

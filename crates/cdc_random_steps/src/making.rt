@@ -1,13 +1,13 @@
-//! Generates random steps: each drawn step is tried in a world, and written to the step file if the world takes it.
+//! Generates random steps: each drawn step is tried in a world, and kept if the world takes it.
 
 ghost use Rattle.std.specs.Prelude.{◌<◌};
 ghost use Rattle.cdc_types.specs.Windows.{IsWindow};
 
 use crate::chances::Chances;
-use cdc_diagnostics::step_text;
+use cdc_diagnostics::{Sentence, step_text};
 use cdc_match::Binding;
 use cdc_progress::MemoryStore;
-use cdc_script::{ClientBatch, Script, ScriptError, parse_script};
+use cdc_script::{Act, ClientBatch, Script, ScriptError, StepFile, parse_script};
 use cdc_types::{EventTimestamp, Limits, Step};
 use cdc_world::{StepError, World};
 use rand::RngExt;
@@ -19,6 +19,15 @@ use std::vec::IntoIter;
 
 /// How often in a row the world may refuse a drawn step before no more steps are generated.
 const TRIES: u64 = 256;
+
+/// Random steps, and the text of the step file that has them.
+#[derive(Drop)]
+pub struct RandomSteps {
+    /// The text: one line for each step, and one comment for each skipped packet or confirm.
+    pub text: String,
+    /// What the text is parsed as: the steps, and the line of each, from 1.
+    pub steps: StepFile,
+}
 
 /// A draw: what is tried next.
 #[derive(Drop)]
@@ -54,28 +63,37 @@ struct Maker {
     runs: bool,
     /// Whether a confirm came since the last save.
     has_news: bool,
-    /// The step file: one line for each step, and one comment for each skipped packet or confirm.
-    text: String,
+    /// How many lines the text has.
+    lines: u32,
+    /// What is made so far.
+    made: RandomSteps,
 }
 
-/// Generates a step file for a script: steps that its world takes, one after another. Most of them make progress;
-/// faults are injected among them. `window` is how many events of a session may wait for their confirms at a time. A
-/// bad script gives an empty step file.
+/// Generates steps for a script: its world takes them, one after another. Most of them make progress; faults are
+/// injected among them. `window` is how many events of a session may wait for their confirms at a time. A bad script
+/// gives no steps.
 pub fn random_steps(
     alloc: Global,
     script: &[u8],
     window: usize,
     chances: Chances,
-) -> Result<String, AllocError>
+) -> Result<RandomSteps, AllocError>
     requires { IsWindow window }
 {
+    let none = RandomSteps {
+        text: String::new(alloc),
+        steps: StepFile {
+            acts: Vec::new(alloc),
+            lines: Vec::new(alloc),
+        },
+    };
     let Script {
         bindings,
         batches,
         lines: _,
     } = match parse_script(alloc, script) {
         Ok(script) => script,
-        Err(ScriptError::Fault(_)) => return Ok(String::new(alloc)),
+        Err(ScriptError::Fault(_)) => return Ok(none),
         Err(ScriptError::OutOfMemory) => return Err(AllocError),
     };
     let mut maker = Maker {
@@ -88,11 +106,12 @@ pub fn random_steps(
         is_waiting: false,
         runs: false,
         has_news: false,
-        text: String::new(alloc),
+        lines: 0,
+        made: none,
     };
     make_in_world(alloc, bindings.into_vec(), window, chances, &mut maker)?;
-    let Maker { text, .. } = maker;
-    Ok(text)
+    let Maker { made, .. } = maker;
+    Ok(made)
 }
 
 /// Generates steps in a new world with these bindings. The world is owned only here, and lent to all other functions,
@@ -278,7 +297,7 @@ impl Maker {
         draw: Draw,
     ) -> Result<bool, AllocError> {
         match draw {
-            Draw::Step(step) => self.try_step(alloc, world, &step),
+            Draw::Step(step) => self.try_step(alloc, world, step),
             Draw::Batch => self.try_batch(alloc, world),
             Draw::LosePacket => self.lose_packet(world.packets() as u64),
             Draw::LoseConfirm => self.lose_confirm(world.confirms() as u64),
@@ -299,7 +318,7 @@ impl Maker {
             self.batches_done = true;
             return Ok(false);
         };
-        let is_done = self.try_step(alloc, world, &Step::Submit(item.batch))?;
+        let is_done = self.try_step(alloc, world, Step::Submit(item.batch))?;
         self.batches_done = !is_done;
         Ok(is_done)
     }
@@ -309,19 +328,40 @@ impl Maker {
         &mut self,
         alloc: Global,
         world: &mut World<MemoryStore>,
-        step: &Step,
+        step: Step,
     ) -> Result<bool, AllocError> {
-        if matches!(step, Step::CloseLedger) && world.ledger().closed() {
+        if matches!(&step, Step::CloseLedger) && world.ledger().closed() {
             return Ok(false);
         }
-        match world.step(alloc, step) {
+        match world.step(alloc, &step) {
             Ok(_) => {}
             Err(StepError::OutOfMemory) => return Err(AllocError),
             Err(_) => return Ok(false),
         }
-        self.follow(step);
-        let words = step_text(step);
-        done_if(writeln!(self.text, "{words}").is_ok())
+        self.follow(&step);
+        self.write_step(step)?;
+        Ok(true)
+    }
+
+    /// Writes down a step that was done.
+    fn write_step(&mut self, step: Step) -> Result<(), AllocError> {
+        self.write_line(step_text(&step))?;
+        let act = match step {
+            Step::Submit(_) => Act::Batch,
+            step => Act::Step(step),
+        };
+        self.made.steps.acts.push(act)?;
+        self.made.steps.lines.push(self.lines)?;
+        Ok(())
+    }
+
+    /// Writes a line of the text.
+    fn write_line(&mut self, line: Sentence) -> Result<(), AllocError> {
+        self.lines = self.lines.saturating_add(1);
+        match writeln!(self.made.text, "{line}") {
+            Ok(()) => Ok(()),
+            Err(_) => Err(AllocError),
+        }
     }
 
     /// Updates what the next draws depend on after a step that was done.
@@ -358,8 +398,8 @@ impl Maker {
         }
         self.arrived += 1;
         self.is_waiting = true;
-        let number = self.arrived;
-        done_if(writeln!(self.text, "# packet {number} is left out").is_ok())
+        self.write_line(Sentence::One("# packet ", self.arrived.into(), " is left out"))?;
+        Ok(true)
     }
 
     /// Skips the next of `count` confirms. Returns false if none is left.
@@ -369,17 +409,8 @@ impl Maker {
         }
         self.answered += 1;
         self.is_waiting = true;
-        let number = self.answered;
-        done_if(writeln!(self.text, "# confirm {number} is left out").is_ok())
-    }
-}
-
-/// Returns true if the line of what was done is written. Otherwise there was no memory for it.
-fn done_if(is_written: bool) -> Result<bool, AllocError> {
-    if is_written {
+        self.write_line(Sentence::One("# confirm ", self.answered.into(), " is left out"))?;
         Ok(true)
-    } else {
-        Err(AllocError)
     }
 }
 

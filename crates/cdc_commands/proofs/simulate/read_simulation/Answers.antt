@@ -1,5 +1,7 @@
 use Rattle.std.proofs.Common.{Some}
+use Rattle.std.specs.Prelude.{option_map}
 use Rattle.std.proofs.lemmas.Result.{IfErr-weaker}
+use Rattle.cdc_script.specs.StepFiles.{acts_of}
 use Rattle.cdc_commands.specs.declared.output.Output.{Output}
 use Rattle.cdc_commands.specs.Outcomes.{IsSimulationFault, MayFailScript}
 use Rattle.cdc_commands.proofs.OutputLemmas.{made_of_script, made_of_steps, may_fail}
@@ -10,7 +12,7 @@ returns-in-Ok-clause-output g c =
     let steps = g.Q.Read.remaining c.args.steps.now in
     made_of_script g.F.Form.prints_simulation g.F.Form.prints_fault (λ (o : Output). o.ending) (λ (o : Output). o.text.items)
     c.args.window c.deref.result.now c.in_ok-script.script.items
-    (g.R.Read.remaining c.args.script.now) steps c.simulation_of.result c.deref.ensures.value
+    (g.R.Read.remaining c.args.script.now) (option_map acts_of steps) c.simulation_of.result c.deref.ensures.value
     c.in_ok-script.ensures.script
     (made_of_steps g.F.Form.prints_simulation g.F.Form.prints_fault (λ (o : Output). o.ending) (λ (o : Output). o.text.items)
     c.args.window (Some c.deref.result.now) c.deref-in-Ok.result.now c.in-Ok.steps.items steps
@@ -18,7 +20,7 @@ returns-in-Ok-clause-output g c =
 
 pub returns-clause-output : goal.returns-clause-output
 returns-clause-output g c =
-    let steps = g.Q.Read.remaining c.args.steps.now in
+    let steps = option_map acts_of (g.Q.Read.remaining c.args.steps.now) in
     made_of_script g.F.Form.prints_simulation g.F.Form.prints_fault (λ (o : Output). o.ending) (λ (o : Output). o.text.items)
     c.args.window c.deref-in-Err.result.now c.in_ok-script.script.items
     (g.R.Read.remaining c.args.script.now) steps c.unread_steps.result c.deref-in-Err.ensures.value

@@ -11,18 +11,18 @@ use Rattle.cdc_follow.proofs.entries.read_entry.Goals as goal
 pub returns-then-line-gt-LONGEST_LINE : goal.returns-then-line-gt-LONGEST_LINE
 returns-then-line-gt-LONGEST_LINE c = inl (sym (long_entry c.args.chained c.args.line.now (omega arith)))
 
-pub returns-then-says_nothing : goal.returns-then-says_nothing
-returns-then-says_nothing c =
-    inl (sym (line-nothing c.args.chained c.args.line.now (omega arith) (sym c.if-says_nothing.ensures)))
+pub returns-then-is_ignored : goal.returns-then-is_ignored
+returns-then-is_ignored c =
+    inl (sym (line-nothing c.args.chained c.args.line.now (omega arith) (sym c.if-is_ignored.ensures)))
 
 pub returns-in-Some : goal.returns-in-Some
 returns-in-Some c =
-    inl (sym (line-value c.args.chained c.args.line.now (omega arith) (sym c.if-says_nothing.ensures)
+    inl (sym (line-value c.args.chained c.args.line.now (omega arith) (sym c.if-is_ignored.ensures)
     ∙ ap (λ chained. value_entry chained (value_of c.args.line.now)) c.if-not-chained.true
     ∙ line-event c.args.line.now c.in-Some.event c.in-Some.ensures))
 
 pub returns : goal.returns
 returns c =
-    subst (λ (said : Result (Option Entry) LineError). GivesUnlessMemory c.value_entry.result said)
-    (sym (line-value c.args.chained c.args.line.now (omega arith) (sym c.if-says_nothing.ensures)))
+    subst (λ (given : Result (Option Entry) LineError). GivesUnlessMemory c.value_entry.result given)
+    (sym (line-value c.args.chained c.args.line.now (omega arith) (sym c.if-is_ignored.ensures)))
     c.value_entry.ensures

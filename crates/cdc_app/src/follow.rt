@@ -1,0 +1,101 @@
+//! The command `follow`: a stream in, and its book out.
+
+use crate::advice::shown_name;
+use crate::follow_advice::{advise_on_book, advise_on_stream};
+use crate::follow_options::FollowPlan;
+use crate::options::Form;
+use crate::sources::Source;
+use cdc_commands::{ProgramFault, Text, print_fault};
+use cdc_follow::Follower;
+use cdc_follow_command::{FileBook, FollowEnding, Saver, begin_book, follow_command, resume};
+use cdc_json::Json;
+use cdc_progress::StoreError;
+use std::io;
+use std::io::BufReader;
+
+/// The bytes of a stream that are read at a time.
+const BUFFER_BYTES: usize = 65_536;
+
+/// Follows the stream in the file of this name, and reports on standard error why that stopped before the end.
+pub fn run_follow(rt: &HostRuntime, file: &str, plan: FollowPlan<'_>, form: Form) -> FollowEnding {
+    let FollowPlan {
+        rules,
+        binding,
+        binding_text,
+        book,
+        every,
+    } = plan;
+    let opened = open_book(rt, book, rules.chained, binding_text.as_slice());
+    let (store, follower) = match opened {
+        Ok(opened) => opened,
+        Err(error) => return refuse_book(rt, file, book, error, form),
+    };
+    let source = Source::of_script(rt, file);
+    let Ok(mut reader) = BufReader::with_capacity(rt.alloc(), BUFFER_BYTES, source) else {
+        return refuse_book(rt, file, book, StoreError::OutOfMemory, form);
+    };
+    let mut saver = Saver::new(store, rules.chained, binding_text, every);
+    let mut follower = follower;
+    let mut writer = io::writer(rt);
+    let ending = match form {
+        Form::Text => follow_command(
+            &Text,
+            rt.alloc(),
+            &mut reader,
+            &mut writer,
+            &mut saver,
+            &binding,
+            rules,
+            &mut follower,
+        ),
+        Form::Json => follow_command(
+            &Json,
+            rt.alloc(),
+            &mut reader,
+            &mut writer,
+            &mut saver,
+            &binding,
+            rules,
+            &mut follower,
+        ),
+    };
+    advise_on_stream(rt, file, book, &follower, ending);
+    ending
+}
+
+/// Opens the book at this path, if there is one, and returns it with the follower that it holds. A book that isn't
+/// there yet is made at once, so that the file is locked from the start.
+fn open_book<'a>(
+    rt: &'a HostRuntime,
+    book: Option<&str>,
+    chained: bool,
+    binding: &[u8],
+) -> Result<(Option<FileBook<'a, HostRuntime>>, Follower), StoreError> {
+    let Some(path) = book else {
+        return Ok((None, resume(rt.alloc(), None, chained, binding)?));
+    };
+    let mut store = FileBook::open(rt, path)?;
+    let follower = resume(rt.alloc(), store.text(), chained, binding)?;
+    if store.text().is_none() {
+        begin_book(rt.alloc(), &mut store, chained, binding, &follower)?;
+    }
+    Ok((Some(store), follower))
+}
+
+/// Prints the fault of a book that can't be opened, and reports why on standard error.
+fn refuse_book(
+    rt: &HostRuntime,
+    file: &str,
+    book: Option<&str>,
+    error: StoreError,
+    form: Form,
+) -> FollowEnding {
+    let fault = ProgramFault::from(error);
+    let mut writer = io::writer(rt);
+    let _ending = match form {
+        Form::Text => print_fault(&Text, &mut writer, fault),
+        Form::Json => print_fault(&Json, &mut writer, fault),
+    };
+    advise_on_book(rt, shown_name(file), book, fault);
+    FollowEnding::Failed(fault)
+}

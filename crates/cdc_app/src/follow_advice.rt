@@ -1,0 +1,126 @@
+//! What standard error reports of a stream that is followed.
+
+use crate::advice::{advise_on_failure, shown_name};
+use cdc_commands::ProgramFault;
+use cdc_follow::{Entry, Follower, LineError, Stop};
+use cdc_follow_command::FollowEnding;
+use cdc_message::{DecodeError, Field, Part};
+use cdc_progress::StoreError;
+use std::{fs, io};
+
+/// Reports why following stopped before the end of the stream in the file of this name, whose book is in that file.
+pub fn advise_on_stream(
+    rt: &HostRuntime,
+    file: &str,
+    book: Option<&str>,
+    follower: &Follower,
+    ending: FollowEnding,
+) {
+    let place = shown_name(file);
+    let _ = match ending {
+        FollowEnding::Stopped(Stop::AtEnd) => Ok(()),
+        FollowEnding::Stopped(Stop::Gap(line, entry)) => {
+            advise_on_gap(rt, place, line, entry, follower.seen())
+        }
+        FollowEnding::Stopped(Stop::BadLine(line, error)) => advise_on_line(rt, place, line, error),
+        FollowEnding::Failed(fault) => {
+            advise_on_book(rt, place, book, fault);
+            Ok(())
+        }
+    };
+}
+
+/// Reports why the command failed.
+pub fn advise_on_book(rt: &HostRuntime, place: &str, book: Option<&str>, fault: ProgramFault) {
+    if let (Some(book), ProgramFault::Store(error)) = (book, fault) {
+        let name = error.name();
+        let why = trouble(rt, book, error);
+        let _ = eprintln!(rt; "{book}: store: {name}: {why}");
+        return;
+    }
+    advise_on_failure(rt, place, fault);
+}
+
+/// Reports a gap before the entry of the line of this number.
+fn advise_on_gap(
+    rt: &HostRuntime,
+    place: &str,
+    line: u64,
+    entry: Entry,
+    seen: u64,
+) -> io::Result<()> {
+    let previous = entry.previous.unwrap_or(0);
+    eprintln!(rt;
+        "{place}:{line}: gap: the message before this one in its queue has the timestamp {previous}, and the last one \
+         that came has {seen}: messages between them are missing"
+    )
+}
+
+/// Reports why the line of this number is no entry of a stream.
+fn advise_on_line(rt: &HostRuntime, place: &str, line: u64, error: LineError) -> io::Result<()> {
+    let name = error.name();
+    match error {
+        LineError::Decode(why) => match field_of(why) {
+            Some((field, trouble)) => {
+                let part = part_of(field);
+                let key = field.name.key();
+                eprintln!(rt; "{place}:{line}: {name}: {part}{key} {trouble}")
+            }
+            None => eprintln!(rt; "{place}:{line}: {name}: {why}"),
+        },
+        _ => eprintln!(rt; "{place}:{line}: {name}: {error}"),
+    }
+}
+
+/// The field that an error names, and what is wrong with it.
+fn field_of(error: DecodeError) -> Option<(Field, &'static str)> {
+    match error {
+        DecodeError::Missing(field) => Some((field, "is missing")),
+        DecodeError::WrongType(field) => Some((field, "has the wrong type")),
+        DecodeError::OutOfRange(field) => Some((field, "is too large")),
+        DecodeError::NotJson
+        | DecodeError::NotAnObject
+        | DecodeError::UnknownKind
+        | DecodeError::OutOfMemory => None,
+    }
+}
+
+/// The member that a field stands in, with a dot; nothing for a field of the event itself.
+fn part_of(field: Field) -> &'static str {
+    match field.part {
+        Part::Top => "",
+        Part::Transfer => "transfer.",
+        Part::Debit => "debit_account.",
+        Part::Credit => "credit_account.",
+    }
+}
+
+/// What is wrong with the file of a book, for which its store has reported this error, and what to do.
+fn trouble(rt: &HostRuntime, book: &str, error: StoreError) -> &'static str {
+    match error {
+        StoreError::ReadFault => unread(rt, book),
+        StoreError::WriteFault => {
+            "the book can't be written: the file and its folder have to be writable and to have room, nobody else may \
+             change the file, and what stands at its name with .new behind it has to be what a save left"
+        }
+        StoreError::BadRecord => {
+            "it holds no book, or one that was saved with another --binding, or with --chained where that isn't given now, or \
+             the other way round: name its options, or another file"
+        }
+        StoreError::OutOfMemory => "no memory was left",
+    }
+}
+
+/// What is wrong with a file that can't be read.
+fn unread(rt: &HostRuntime, book: &str) -> &'static str {
+    // (it isn't opened, since opening a pipe waits for a writer)
+    match fs::metadata(rt, book) {
+        Ok(data) if data.is_file() => {
+            "it can't be read, or another program has it: let that one end, or name another file"
+        }
+        Ok(_) => "it is no regular file: name another one",
+        Err(_) => {
+            "it can't be opened: name a file that can be read, or one that isn't there in a folder that is"
+        }
+    }
+}

@@ -1,0 +1,167 @@
+//! Replacing a file as a whole.
+
+ghost use Rattle.std.specs.Prelude.{◌≡◌, ◌++◌, codes, IfOk, OnOk, string_bytes};
+ghost use Rattle.std.specs.Io.KnownBytes.{Appends};
+
+use std::alloc::{AllocError, Global};
+use std::fs::{File, Files, OpenFile, Permissions, TryLockError};
+use std::io::{ErrorKind, Read, Write};
+use std::{fs, io};
+
+/// The bytes that are read at a time.
+const PIECE_BYTES: usize = 4096;
+
+/// A file that is replaced: where it is, and where its next content is written first.
+#[derive(Clone, Copy)]
+pub struct Replaced<'a> {
+    /// The path of the file, which is no link.
+    pub path: &'a str,
+    /// The path of the file that is written first.
+    pub new_path: &'a str,
+    /// The first bytes of each content. A file at `new_path` that begins otherwise is not the leftover of an
+    /// interrupted replacement, and isn't removed.
+    pub mark: &'a [u8],
+}
+
+/// Locks a file that isn't locked here, and returns whether another holder has it locked already. On a system without
+/// locks it returns false.
+fn is_taken(file: &File) -> bool {
+    match file.try_lock() {
+        Err(TryLockError::WouldBlock) => true,
+        Err(TryLockError::Error(_)) | Ok(()) => false,
+    }
+}
+
+/// Opens a file and locks it until it is dropped; `None` if there is no file. Anything but a plain file, such as a
+/// folder or a pipe, isn't opened, since that might block. A file that is locked already is the error `WouldBlock`.
+pub fn open_locked<R: Files<File = File>>(rt: &R, path: &str) -> io::Result<Option<File>> {
+    match fs::metadata(rt, path) {
+        Ok(metadata) if metadata.is_file() => {}
+        Ok(_) => return Err(io::Error::from(ErrorKind::InvalidInput)),
+        Err(error) if error.kind() == ErrorKind::NotFound => return Ok(None),
+        Err(error) => return Err(error),
+    }
+    let file = File::open(rt, path)?;
+    if is_taken(&file) {
+        return Err(io::Error::from(ErrorKind::WouldBlock));
+    }
+    Ok(Some(file))
+}
+
+/// The path of the file that a path refers to, with links resolved. If there is no file, it is the path itself; a link
+/// without a target is the error `NotFound`.
+pub fn target_of<R: Files<File = File> + AllocGlobal>(rt: &R, path: &str) -> io::Result<String> {
+    match fs::canonicalize(rt, path) {
+        Ok(target) => Ok(target.into_string()),
+        Err(error) if error.kind() == ErrorKind::NotFound => {
+            if fs::symlink_metadata(rt, path).is_ok() {
+                return Err(error);
+            }
+            String::from_str(rt.alloc(), path).or(Err(io::Error::from(ErrorKind::OutOfMemory)))
+        }
+        Err(error) => Err(error),
+    }
+}
+
+/// The path of the file that is written before it is put in place of the file at this path.
+pub fn path_of_new(alloc: Global, path: &str) -> Result<String, AllocError>
+    ensures { IfOk result (λ text. string_bytes text ≡ path.now ++ codes ".new") }
+{
+    let mut text = String::new(alloc);
+    text.push_str(path)?;
+    text.push_str(".new")?;
+    Ok(text)
+}
+
+/// Whether a reader has exactly these bytes left.
+pub fn holds<F: Read>(reader: &mut F, bytes: &[u8]) -> io::Result<bool> {
+    let mut piece = [0u8; PIECE_BYTES];
+    let mut rest = bytes;
+    for _ in 0..u64::MAX {
+        let count = reader.read(&mut piece)?;
+        if count == 0 {
+            return Ok(rest.is_empty());
+        }
+        if !rest.starts_with(&piece[..count]) {
+            return Ok(false);
+        }
+        rest = &rest[count..];
+    }
+    Ok(false)
+}
+
+/// Writes a whole text, sets this mode, if one is given, and syncs the file to the disk.
+fn write_whole(file: &mut File, mode: Option<Permissions>, text: &[u8]) -> io::Result<()> {
+    if let Some(mode) = mode {
+        file.set_permissions(mode)?;
+    }
+    file.write_all(text)?;
+    file.sync_all()
+}
+
+/// Whether the file at this path can be the leftover of an interrupted replacement: a plain file that nobody has
+/// locked, and that begins with the mark, as far as it goes.
+fn is_leftover<R: Files<File = File>>(rt: &R, path: &str, mark: &[u8]) -> io::Result<bool> {
+    if !fs::symlink_metadata(rt, path)?.is_file() {
+        return Ok(false);
+    }
+    let mut file = File::open(rt, path)?;
+    if is_taken(&file) {
+        return Ok(false);
+    }
+    let mut piece = [0u8; PIECE_BYTES];
+    let count = file.read(&mut piece)?;
+    let start = &piece[..count];
+    Ok(start.starts_with(mark) || mark.starts_with(start))
+}
+
+/// Creates the file that is written first, and locks it, in place of the leftover of an interrupted replacement, if
+/// there is one.
+fn make_new<R: Files<File = File>>(rt: &R, file: Replaced<'_>) -> io::Result<File> {
+    let made = match File::create_new(rt, file.new_path) {
+        Err(error) if error.kind() == ErrorKind::AlreadyExists => {
+            if !is_leftover(rt, file.new_path, file.mark)? {
+                return Err(error);
+            }
+            fs::remove_file(rt, file.new_path)?;
+            File::create_new(rt, file.new_path)?
+        }
+        made => made?,
+    };
+    if is_taken(&made) {
+        return Err(io::Error::from(ErrorKind::WouldBlock));
+    }
+    Ok(made)
+}
+
+/// Whether a mode is given in which nobody may write.
+fn is_readonly(mode: &Option<Permissions>) -> bool {
+    match mode {
+        Some(mode) => mode.readonly(),
+        None => false,
+    }
+}
+
+/// Replaces the content of a file, and returns the file with this content, locked. An interrupted replacement leaves
+/// the old content. The mode is kept if one is given; a mode in which nobody may write is the error
+/// `PermissionDenied`.
+pub fn replace<R: Files<File = File>>(
+    rt: &R,
+    file: Replaced<'_>,
+    mode: Option<Permissions>,
+    text: &[u8],
+) -> io::Result<File> {
+    if is_readonly(&mode) {
+        return Err(io::Error::from(ErrorKind::PermissionDenied));
+    }
+    let mut made = make_new(rt, file)?;
+    let written = match write_whole(&mut made, mode, text) {
+        Ok(()) => fs::rename(rt, file.new_path, file.path),
+        Err(error) => Err(error),
+    };
+    if let Err(error) = written {
+        let _ = fs::remove_file(rt, file.new_path);
+        return Err(error);
+    }
+    Ok(made)
+}

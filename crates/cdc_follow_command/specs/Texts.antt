@@ -1,0 +1,25 @@
+-- What `follow` prints as text.
+use Rattle.std.specs.Prelude.{ℕ, List, [], ◌++◌, codes, decimal, unwrap_or}
+use Rattle.cdc_subscriber.specs.Lines.{named, subscriber_text}
+use Rattle.cdc_follow.specs.Following.{FollowState}
+use Rattle.cdc_follow.specs.LineErrors.{line_error_name}
+use Rattle.cdc_follow.specs.declared.entries.Entry.{Entry}
+use Rattle.cdc_follow.specs.declared.streams.Stop.{Stop}
+use Rattle.cdc_follow.specs.declared.streams.Stop.TheVariants.{AtEnd, Gap, BadLine}
+
+-- the line of a save at which the last event seen has this timestamp
+abbrev pub saved_line : ℕ → List ℕ
+saved_line timestamp = (codes "saved " ++ decimal timestamp) ++ codes "\n"
+
+-- the line of why following stopped, where the last event seen has this timestamp; none at the end
+abbrev pub stop_line : ℕ → Stop → List ℕ
+stop_line seen AtEnd = []
+stop_line seen (Gap line entry) =
+    (codes "gap: line " ++ decimal line) ++ ((codes ": after " ++ decimal (unwrap_or entry.previous 0))
+    ++ ((codes ", expected after " ++ decimal seen) ++ codes "\n"))
+stop_line seen (BadLine line error) =
+    (codes "fault: line " ++ decimal line) ++ (codes ": " ++ (line_error_name error ++ codes "\n"))
+
+-- what is printed at the end: the subscriber with its book, and why following stopped
+abbrev pub end_text : FollowState → Stop → List ℕ
+end_text state stop = subscriber_text 1 state.kept ++ stop_line state.seen stop

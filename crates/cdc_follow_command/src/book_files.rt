@@ -1,0 +1,114 @@
+//! A follower's book in a file.
+
+ghost use Rattle.std.specs.Prelude.{◌≡◌, IfOk};
+
+use crate::stores::BookStore;
+use cdc_files::{Replaced, holds, open_locked, path_of_new, replace, target_of};
+use cdc_follow::BOOK_MARK;
+use cdc_progress::StoreError;
+use std::fs::{File, Files, OpenFile, Permissions};
+use std::io::{ErrorKind, Read};
+use std::{fs, io};
+
+/// The text of a book in a file. A save writes the file `PATH.new`, syncs it to the disk and renames it to PATH, so an
+/// interrupted save leaves the old text. If PATH is a link, both names refer to the link's target, and the link stays.
+/// The file's mode is kept, its owner isn't.
+///
+/// The file is locked from its opening or its first save on, and another follower that uses it is refused. A save is
+/// refused if PATH no longer holds what this store has last loaded or saved, if nobody may write it, and if `PATH.new`
+/// exists and can't be the leftover of an interrupted save.
+///
+/// No contract can state what a file holds. `held` is the text that this store has last loaded or saved. That the file
+/// returns it is an assumption of the store's user; nothing here proves it.
+#[derive(Drop)]
+pub struct FileBook<'a, R> {
+    rt: &'a R,
+    path: String,
+    new_path: String,
+    /// The file, locked, once there is one.
+    file: Option<File>,
+    known: Option<Vec<u8>>,
+}
+
+/// The error of a store whose file can't be opened or read.
+fn read_error(error: io::Error) -> StoreError {
+    match error.kind() {
+        ErrorKind::OutOfMemory => StoreError::OutOfMemory,
+        _ => StoreError::ReadFault,
+    }
+}
+
+impl<'a, R: Files<File = File> + AllocGlobal> FileBook<'a, R> {
+    /// Opens the book at this path, and locks and reads it if there is one.
+    pub fn open(rt: &'a R, path: &str) -> Result<FileBook<'a, R>, StoreError> {
+        let path = target_of(rt, path).map_err(read_error)?;
+        let new_path = path_of_new(rt.alloc(), path.as_str())?;
+        let mut book = FileBook {
+            rt,
+            path,
+            new_path,
+            file: None,
+            known: None,
+        };
+        if let Some(mut file) = open_locked(rt, book.path.as_str()).map_err(read_error)? {
+            let mut text = Vec::new(rt.alloc());
+            file.read_to_end(&mut text).map_err(read_error)?;
+            book.file = Some(file);
+            book.known = Some(text);
+        }
+        Ok(book)
+    }
+
+    /// The text of the book, if there is one.
+    pub fn text(&self) -> Option<&[u8]> {
+        match &self.known {
+            Some(text) => Some(text.as_slice()),
+            None => None,
+        }
+    }
+
+    /// The mode that the file keeps, if there is one. An error if the file doesn't hold what it is known to hold.
+    fn mode_to_keep(&self) -> io::Result<Option<Permissions>> {
+        let (Some(file), Some(known)) = (&self.file, &self.known) else {
+            return match fs::symlink_metadata(self.rt, self.path.as_str()) {
+                Ok(_) => Err(io::Error::from(ErrorKind::AlreadyExists)),
+                Err(_) => Ok(None),
+            };
+        };
+        let mut present = File::open(self.rt, self.path.as_str())?;
+        if !holds(&mut present, known.as_slice())? {
+            return Err(io::Error::from(ErrorKind::InvalidData));
+        }
+        Ok(Some(file.metadata()?.permissions()))
+    }
+
+    /// Replaces the content of the file, and returns the file with this content.
+    fn put(&self, text: &[u8]) -> io::Result<File> {
+        let mode = self.mode_to_keep()?;
+        let file = Replaced {
+            path: self.path.as_str(),
+            new_path: self.new_path.as_str(),
+            mark: BOOK_MARK,
+        };
+        replace(self.rt, file, mode, text)
+    }
+}
+
+impl<'a, R: Files<File = File> + AllocGlobal> BookStore for FileBook<'a, R> {
+    ghost use Rattle.std.specs.Prelude.{◌≡◌};
+    ghost use Rattle.std.specs.Option.{option_map};
+
+    ghost held = { λ book. option_map (λ text. text.items) book.known };
+
+    fn save(&mut self, text: Vec<u8>) -> Result<(), StoreError> {
+        match self.put(text.as_slice()) {
+            Ok(file) => {
+                self.file = Some(file);
+                self.known = Some(text);
+                Ok(())
+            }
+            Err(error) if error.kind() == ErrorKind::OutOfMemory => Err(StoreError::OutOfMemory),
+            Err(_) => Err(StoreError::WriteFault),
+        }
+    }
+}

@@ -1,0 +1,119 @@
+//! The command `follow`: follows a stream up to its end, and saves and prints its book.
+
+ghost use Rattle.std.specs.Prelude.{◌≡◌, Some, IfOk, IfSome, OnOk};
+ghost use Rattle.cdc_follow.specs.Saved.{book_text};
+ghost use Rattle.cdc_follow.specs.Stops.{bytes_followed};
+ghost use Rattle.cdc_follow_command.specs.Saving.{IsPrintedLast, PrintsEnd, PrintsFailure, PrintsFollowing, PrintsSaves, UnlessWriteFails};
+
+use crate::endings::{FollowEnding, fault_of};
+use crate::forms::FollowForm;
+use crate::readers::LineReader;
+use crate::savers::{Saver, report};
+use crate::stores::BookStore;
+use cdc_commands::{Form, ProgramFault};
+use cdc_follow::{Follower, Rules, Stop, follow_line};
+use cdc_match::Binding;
+use std::alloc::Global;
+use std::io;
+use std::io::{ErrorKind, Write};
+
+/// Follows the lines of a reader, numbered from 1, and saves the book after every so many lines, each time that no
+/// whole line is waiting, and at the end.
+pub fn follow_stream<F: FollowForm, B: LineReader, W: Write, K: BookStore>(
+    form: &F,
+    alloc: Global,
+    reader: &mut B,
+    writer: &mut W,
+    saver: &mut Saver<K>,
+    binding: &Binding,
+    rules: Rules,
+    follower: &mut Follower,
+) -> Result<Stop, ProgramFault>
+    ensures stops { IfOk result (λ stop. IfSome (B.remaining reader.old) (λ bytes.
+        bytes_followed binding.now rules follower.old bytes
+        ≡ record { state = follower.new; stop = stop })) }
+    ensures saved { OnOk result (IfSome saver.new.store (λ store.
+        K.held store
+        ≡ Some (book_text saver.old.chained saver.old.binding.items follower.new))) }
+    ensures printed { UnlessWriteFails result
+        (PrintsSaves F.prints_saved (W.contents writer.old) (W.contents writer.new)) }
+{
+    let mut line = Vec::new(alloc);
+    for number in 1..u64::MAX {
+        saver.save_if_due(form, alloc, writer, follower, !reader.has_line())?;
+        let ended = match follow_line(alloc, reader, &mut line, number, binding, rules, follower) {
+            Ok(None) => {
+                saver.count_line();
+                continue;
+            }
+            Ok(Some(stop)) => Ok(stop),
+            Err(error) => Err(fault_of(error)),
+        };
+        saver.save(form, alloc, writer, follower)?;
+        return ended;
+    }
+    Err(ProgramFault::ReadFault(io::Error::from(ErrorKind::Other)))
+}
+
+/// Follows a stream, and prints each save, and at the end the book and why following stopped; or the fault of a
+/// command that failed. Nothing is written after a write that failed.
+pub fn follow_command<F: Form + FollowForm, B: LineReader, W: Write, K: BookStore>(
+    form: &F,
+    alloc: Global,
+    reader: &mut B,
+    writer: &mut W,
+    saver: &mut Saver<K>,
+    binding: &Binding,
+    rules: Rules,
+    follower: &mut Follower,
+) -> FollowEnding
+    ensures { PrintsFollowing F.prints_saved F.prints_end F.prints_fault
+        (W.contents writer.old) (W.contents writer.new) follower.new result }
+{
+    match follow_stream(form, alloc, reader, writer, saver, binding, rules, follower) {
+        Ok(stop) => print_end(form, alloc, writer, follower, stop),
+        Err(fault) => fail(form, writer, fault),
+    }
+}
+
+/// Prints the book and why following stopped.
+fn print_end<F: Form + FollowForm, W: Write>(
+    form: &F,
+    alloc: Global,
+    writer: &mut W,
+    follower: &Follower,
+    stop: Stop,
+) -> FollowEnding
+    ensures { PrintsEnd F.prints_end F.prints_fault
+        (W.contents writer.old) (W.contents writer.new) follower.now result }
+{
+    match form.end(alloc, follower, stop) {
+        Ok(text) => print_last(writer, text.as_slice(), FollowEnding::Stopped(stop)),
+        Err(_) => fail(form, writer, ProgramFault::OutOfMemory),
+    }
+}
+
+/// Prints the fault of a command that failed, unless it is one of a write.
+fn fail<F: Form, W: Write>(form: &F, writer: &mut W, fault: ProgramFault) -> FollowEnding
+    ensures { PrintsFailure F.prints_fault (W.contents writer.old) (W.contents writer.new)
+        fault result }
+{
+    if let ProgramFault::WriteFault(_) = fault {
+        return FollowEnding::Failed(fault);
+    }
+    print_last(
+        writer,
+        form.failure(fault).as_bytes(),
+        FollowEnding::Failed(fault),
+    )
+}
+
+/// Prints the last text. Returns this ending, or a write fault if the write fails.
+fn print_last<W: Write>(writer: &mut W, text: &[u8], ending: FollowEnding) -> FollowEnding
+    ensures { IsPrintedLast (W.contents writer.old) (W.contents writer.new) text.now ending result }
+{
+    match report(writer, text) {
+        Ok(()) => ending,
+        Err(error) => FollowEnding::Failed(ProgramFault::WriteFault(error)),
+    }
+}

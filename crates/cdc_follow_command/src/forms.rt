@@ -1,0 +1,102 @@
+//! The forms in which `follow` prints what it reports.
+
+ghost use Rattle.std.specs.Prelude.{◌≡◌, ◌++◌, ℕ, List, IfOk, OnOk};
+ghost use Rattle.cdc_follow.specs.Following.{FollowState};
+ghost use Rattle.cdc_follow.specs.declared.streams.Stop.{Stop as Stops};
+ghost use Rattle.cdc_follow_command.specs.Texts.{end_text, saved_line, stop_line};
+ghost use Rattle.cdc_subscriber.specs.Lines.{subscriber_text};
+
+use cdc_commands::Text;
+use cdc_follow::{Entry, Follower, Stop};
+use cdc_subscriber::Subscriber;
+use itoa::{Buffer, Integer};
+use std::alloc::{AllocError, Global};
+
+/// A form in which `follow` prints what it reports: lines of text, or JSON objects.
+pub trait FollowForm {
+    /// What is printed of a save at which the last event seen has this timestamp.
+    ghost prints_saved: { ℕ → List ℕ };
+
+    /// What is printed at the end, of a follower and of why following stopped.
+    ghost prints_end: { FollowState → Stops → List ℕ };
+
+    /// The line of a save at which the last event seen has this timestamp, in nanoseconds.
+    fn saved(&self, alloc: Global, timestamp: u64) -> Result<Vec<u8>, AllocError>
+        ensures { IfOk result (λ text. text.items ≡ prints_saved timestamp) };
+
+    /// The lines of a follower at the end, and of why following stopped.
+    fn end(&self, alloc: Global, follower: &Follower, stop: Stop) -> Result<Vec<u8>, AllocError>
+        ensures { IfOk result (λ text. text.items ≡ prints_end follower.now stop) };
+}
+
+impl FollowForm for Text {
+    ghost use Rattle.cdc_follow_command.specs.Texts.{end_text, saved_line};
+
+    ghost prints_saved = { saved_line };
+
+    ghost prints_end = { end_text };
+
+    fn saved(&self, alloc: Global, timestamp: u64) -> Result<Vec<u8>, AllocError> {
+        let mut text = Vec::new(alloc);
+        push_named(&mut text, "saved ", timestamp)?;
+        push(&mut text, "\n")?;
+        Ok(text)
+    }
+
+    fn end(&self, alloc: Global, follower: &Follower, stop: Stop) -> Result<Vec<u8>, AllocError> {
+        let mut text = Vec::new(alloc);
+        push_subscriber(&mut text, follower.subscriber())?;
+        push_stop(&mut text, follower.seen(), stop)?;
+        Ok(text)
+    }
+}
+
+/// Adds a part of a text.
+fn push(text: &mut Vec<u8>, part: &str) -> Result<(), AllocError>
+    ensures { OnOk result (text.new.items ≡ text.old.items ++ part.now) }
+{
+    text.extend_from_slice(part.as_bytes())
+}
+
+/// Adds a name and a number.
+fn push_named<I: Integer>(text: &mut Vec<u8>, name: &str, value: I) -> Result<(), AllocError>
+    ensures { OnOk result (text.new.items ≡ text.old.items ++ (name.now ++ I.text value)) }
+{
+    push(text, name)?;
+    push(text, Buffer::new().format(value))
+}
+
+/// Adds the lines of the subscriber, which has the number 1.
+fn push_subscriber(text: &mut Vec<u8>, subscriber: &Subscriber) -> Result<(), AllocError>
+    ensures { OnOk result (text.new.items ≡ text.old.items ++ subscriber_text 1 subscriber.now) }
+{
+    // (a write to a vector fails only if memory runs out)
+    subscriber.print(text, 1).or(Err(AllocError))
+}
+
+/// Adds the line of why following stopped; none if it stopped at the end.
+fn push_stop(text: &mut Vec<u8>, seen: u64, stop: Stop) -> Result<(), AllocError>
+    ensures { OnOk result (text.new.items ≡ text.old.items ++ stop_line seen stop) }
+{
+    match stop {
+        Stop::AtEnd => Ok(()),
+        Stop::Gap(line, entry) => push_gap(text, seen, line, entry),
+        Stop::BadLine(line, error) => {
+            push_named(text, "fault: line ", line)?;
+            push(text, ": ")?;
+            push(text, error.name())?;
+            push(text, "\n")
+        }
+    }
+}
+
+/// Adds the line of a gap before the entry of the line of this number.
+fn push_gap(text: &mut Vec<u8>, seen: u64, line: u64, entry: Entry) -> Result<(), AllocError>
+    ensures { OnOk result (text.new.items
+        ≡ text.old.items ++ stop_line seen (Stops.Gap line entry)) }
+{
+    push_named(text, "gap: line ", line)?;
+    push_named(text, ": after ", entry.previous.unwrap_or(0))?;
+    push_named(text, ", expected after ", seen)?;
+    push(text, "\n")
+}

@@ -1,0 +1,529 @@
+#!/usr/bin/env python3
+"""The command follow: streams by hand, random streams beside a model, and books that are killed and refused while they are saved.
+
+  tests/checks/follow.py [PROGRAM]    PROGRAM: crates/cdc_app/out/cdc_app
+
+By hand: each kind of line, each fault, each status, and where a line ends. Random streams of a queue are lost, repeated,
+shuffled and merged from two publishers; what is printed has to be what a small model prints, which reads JSON by Python's
+own parser. Killed: the program ends at each read, write, sync and rename of a stream with a book, and is started again with
+the lines from an earlier `saved` on; it has to come to the book of a run without a stop. Refused: each allocation, read, write,
+open, sync and rename is refused in turn; the book has to be the old one or a later one, and whole.
+
+Killed and Refused need a C compiler, `cc`. The last line is `follow: N passed, M failed`; the status is 1 where one failed.
+"""
+import concurrent.futures
+import json
+import os
+import random
+import re
+import resource
+import shutil
+import subprocess
+import sys
+
+sys.dont_write_bytecode = True
+sys.path += [os.path.join(os.path.dirname(os.path.realpath(__file__)), "..", it) for it in ("common", "faults")]
+import ending
+import needs
+import rooms
+import sweep
+
+SECONDS, JOBS = 300, 2  # that a run may take, a last guard; runs at a time
+STREAMS, MOST_LINES = 600, 40  # random streams, and lines of each
+MOST_SHOWN = 10
+KINDS = ("single_phase", "two_phase_pending", "two_phase_posted", "two_phase_voided", "two_phase_expired")
+program = None
+passed = 0
+failures = []
+
+
+def check(name, is_right, found):
+    """Counts a check, and keeps what was found where it failed."""
+    global passed
+    if is_right:
+        passed += 1
+    else:
+        failures.append(f"failed: {name}: {found!r}"[:1500])
+
+
+def run(arguments, stdin, env=None):
+    """Runs the command: its status, standard output and standard error."""
+    done = subprocess.run([program, "follow", *arguments], input=stdin, capture_output=True, env=env, timeout=SECONDS)
+    return done.returncode, done.stdout.decode(), done.stderr.decode(errors="replace")
+
+
+# ---------------------------------------------------------------------------------------------------------------------
+# Messages.
+
+
+def account(id, balances, code=1):
+    names = ("debits_pending", "debits_posted", "credits_pending", "credits_posted")
+    return {
+        "id": str(id),
+        **{name: str(value) for name, value in zip(names, balances)},
+        "user_data_128": "0",
+        "user_data_64": "0",
+        "user_data_32": 0,
+        "code": code,
+        "flags": 0,
+        "timestamp": "1",
+    }
+
+
+def event(timestamp, debit=1, credit=2, balances=((0, 5, 0, 0), (0, 0, 0, 5)), kind="single_phase", ledger=700, code=1):
+    """An event's body, as Python has it, in the order of TigerBeetle's documentation."""
+    return {
+        "timestamp": str(timestamp),
+        "type": kind,
+        "ledger": ledger,
+        "transfer": {
+            "id": str(timestamp),
+            "amount": "5",
+            "pending_id": "0",
+            "user_data_128": "0",
+            "user_data_64": "0",
+            "user_data_32": 0,
+            "timeout": 0,
+            "code": code,
+            "flags": 0,
+            "timestamp": str(timestamp),
+        },
+        "debit_account": account(debit, balances[0]),
+        "credit_account": account(credit, balances[1]),
+    }
+
+
+def own(body):
+    """A body as a connector writes it: its members in order, without white space."""
+    return json.dumps(body, sort_keys=True, separators=(",", ":"))
+
+
+def numbers(value):
+    """The same with each decimal string as a JSON number."""
+    if isinstance(value, dict):
+        return {name: numbers(it) for name, it in value.items()}
+    return int(value) if isinstance(value, str) and value.isdigit() else value
+
+
+def chained(previous, body):
+    return json.dumps({"previous": str(previous), "body": body})
+
+
+def end(previous=None):
+    return json.dumps({"end": True} if previous is None else {"end": True, "previous": str(previous)})
+
+
+# ---------------------------------------------------------------------------------------------------------------------
+# The model.
+
+
+class Model:
+    """What a follower keeps and prints, by streams of well-formed lines."""
+
+    def __init__(self, is_chained, ledger=None):
+        self.is_chained, self.ledger = is_chained, ledger
+        self.applied = self.last = self.seen = 0
+        self.ended = False
+        self.book = {}
+
+    def take(self, number, line):
+        """Takes a line; returns the line that is printed where there is a gap."""
+        value = json.loads(line)
+        previous = int(value["previous"]) if self.is_chained else 0
+        body = value.get("body", value)
+        timestamp = None if value.get("end") else int(body["timestamp"])
+        if self.ended or timestamp is not None and timestamp <= self.seen:
+            return None
+        if previous > self.seen:
+            return f"gap: line {number}: after {previous}, expected after {self.seen}\n"
+        if timestamp is None:
+            self.ended = True
+        elif self.ledger in (None, body["ledger"]):
+            self.seen = self.last = timestamp
+            self.applied += 1
+            for side in ("debit_account", "credit_account"):
+                self.book[int(body[side]["id"])] = body[side]
+        elif self.is_chained:
+            self.seen = timestamp
+        return None
+
+    def text(self):
+        names = ("debits_pending", "debits_posted", "credits_pending", "credits_posted")
+        ended = "yes" if self.ended else "no"
+        lines = [f"subscriber 1 applied {self.applied} last {self.last} ended {ended} closed no\n"]
+        for id, shown in self.book.items():
+            lines.append(f"account {id} {' '.join(str(shown[name]) for name in names)}\n")
+        return "".join(lines)
+
+
+# ---------------------------------------------------------------------------------------------------------------------
+# By hand.
+
+NOTHING = "subscriber 1 applied 0 last 0 ended no closed no\n"
+ONE = "subscriber 1 applied 1 last 10 ended no closed no\naccount 1 0 5 0 0\naccount 2 0 0 0 5\n"
+TWO = "subscriber 1 applied 2 last 20 ended no closed no\naccount 1 0 9 0 0\naccount 2 0 0 0 9\n"
+FIRST, SECOND = event(10), event(20, balances=((0, 9, 0, 0), (0, 0, 0, 9)))
+
+
+def without(body, *names):
+    """A body without a member, which is named by its path."""
+    copy = json.loads(json.dumps(body))
+    part = copy
+    for name in names[:-1]:
+        part = part[name]
+    del part[names[-1]]
+    return copy
+
+
+def with_member(body, value, *names):
+    copy = json.loads(json.dumps(body))
+    part = copy
+    for name in names[:-1]:
+        part = part[name]
+    part[names[-1]] = value
+    return copy
+
+
+def padded(body, length):
+    """A body's line of this many bytes, by spaces inside the object."""
+    text = own(body)
+    return text[:-1] + " " * (length - len(text)) + "}"
+
+
+def rows():
+    """Each row: what it is, the arguments, the stream, what is printed, the status, and a part of standard error."""
+    first, second = own(FIRST), own(SECOND)
+    lines = lambda *given: "".join(f"{it}\n" for it in given).encode()
+    yield "an empty stream", [], b"", NOTHING, 0, ""
+    yield "a body", [], lines(first), ONE, 0, ""
+    yield "a body without a line feed", [], first.encode(), ONE, 0, ""
+    yield "two bodies", [], lines(first, second), TWO, 0, ""
+    yield "a body twice", [], lines(first, first), ONE, 0, ""
+    yield "an earlier body", [], lines(second, first), TWO.replace("applied 2", "applied 1"), 0, ""
+    yield "a body as it is documented", [], lines(json.dumps(FIRST)), ONE, 0, ""
+    yield "numbers as JSON numbers", [], lines(json.dumps(numbers(FIRST))), ONE, 0, ""
+    yield "further members", [], lines(json.dumps({**FIRST, "more": [1, {"a": None}]})), ONE, 0, ""
+    yield "an envelope", [], lines(json.dumps({"x": 1, "body": FIRST})), ONE, 0, ""
+    yield "the end", [], lines(first, end()), ONE.replace("ended no", "ended yes"), 0, ""
+    yield "the end twice, and an event between", [], lines(first, end(), second, end()), ONE.replace("ended no", "ended yes"), 0, ""
+    yield "no end, since its member is false", [], lines('{"end":false}'), NOTHING + "fault: line 1: missing\n", 2, "missing"
+    yield "blank lines and headers", [], lines("", " \t", "event_type=x", first), ONE, 0, ""
+    yield "carriage returns", [], (first + "\r\n\r\n").encode(), ONE, 0, ""
+    mark = b"\xef\xbb\xbf" + lines(first)
+    yield "a byte order mark", [], mark, NOTHING + "fault: line 1: not_json\n", 2, "not_json"
+    yield "no JSON", [], lines(first, "{"), ONE + "fault: line 2: not_json\n", 2, ":2: not_json"
+    yield "bytes that are no text", [], b"\"\xff\"\n", NOTHING + "fault: line 1: not_json\n", 2, "not_json"
+    yield "a line of zeros", [], b"\0\0\n", NOTHING + "fault: line 1: not_json\n", 2, "not_json"
+    yield "no object", [], lines("7"), NOTHING + "fault: line 1: not_an_object\n", 2, "not_an_object"
+    yield "a member is missing", [], lines(json.dumps(without(FIRST, "debit_account", "id"))), (
+        NOTHING + "fault: line 1: missing\n"
+    ), 2, ":1: missing: debit_account.id is missing"
+    yield "a wrong type", [], lines(json.dumps(with_member(FIRST, [], "ledger"))), NOTHING + "fault: line 1: wrong_type\n", 2, "wrong_type: ledger has the wrong type"
+    yield "a negative number", [], lines(json.dumps(with_member(FIRST, -1, "timestamp"))), (
+        NOTHING + "fault: line 1: wrong_type\n"
+    ), 2, "wrong_type: timestamp has"
+    yield "a number too large", [], lines(json.dumps(with_member(FIRST, str(2**128), "transfer", "id"))), (
+        NOTHING + "fault: line 1: out_of_range\n"
+    ), 2, "out_of_range: transfer.id is too large"
+    yield "an unknown kind", [], lines(json.dumps(with_member(FIRST, "x", "type"))), NOTHING + "fault: line 1: unknown_kind\n", 2, ""
+    yield "a fault after two events", [], lines(first, second, "x"), TWO + "fault: line 3: not_json\n", 2, ":3: not_json"
+    yield "an envelope whose body is none", [], lines('{"body":7}'), NOTHING + "fault: line 1: not_an_object\n", 2, ""
+    yield "a line of 65,536 bytes", [], lines(padded(FIRST, 65536)), ONE, 0, ""
+    yield "a line of 65,537 bytes", [], lines(padded(FIRST, 65537)), NOTHING + "fault: line 1: too_long\n", 2, "too_long"
+    yield "a last line of 65,536 bytes", [], padded(FIRST, 65536).encode(), ONE, 0, ""
+    yield "a last line of 65,537 bytes", [], padded(FIRST, 65537).encode(), NOTHING + "fault: line 1: too_long\n", 2, "too_long"
+    yield "megabytes without a line feed", [], b" " * 3_000_000, NOTHING + "fault: line 1: too_long\n", 2, "too_long"
+    chain = ["--chained"]
+    yield "a chain", chain, lines(chained(0, FIRST), chained(10, SECOND)), TWO, 0, ""
+    yield "a chain and its end", chain, lines(chained(0, FIRST), end(10)), ONE.replace("ended no", "ended yes"), 0, ""
+    yield "a gap", chain, lines(chained(0, FIRST), chained(15, SECOND)), (
+        ONE + "gap: line 2: after 15, expected after 10\n"
+    ), 1, ":2: gap: "
+    yield "a gap before the first event", chain, lines(chained(10, SECOND)), NOTHING + "gap: line 1: after 10, expected after 0\n", 1, "gap"
+    yield "a gap before the end", chain, lines(chained(0, FIRST), end(20)), (
+        ONE + "gap: line 2: after 20, expected after 10\n"
+    ), 1, "gap"
+    yield "an event after a gap that is skipped", [*chain, "--skip-gaps"], lines(
+        chained(10, SECOND), chained(0, FIRST), chained(10, SECOND)
+    ), TWO, 0, ""
+    yield "a duplicate whose predecessor is missing", chain, lines(chained(0, FIRST), chained(10, SECOND), chained(7, FIRST)), TWO, 0, ""
+    yield "no predecessor", chain, lines(first), NOTHING + "fault: line 1: missing\n", 2, "previous"
+    yield "a predecessor that is no number", chain, lines(json.dumps({"previous": "x", "body": FIRST})), (
+        NOTHING + "fault: line 1: wrong_type\n"
+    ), 2, "previous"
+    yield "a predecessor of more than 64 bits", chain, lines(chained(2**64, FIRST)), NOTHING + "fault: line 1: out_of_range\n", 2, "previous"
+    yield "a predecessor as a JSON number", chain, lines(json.dumps({"previous": 0, "body": FIRST})), ONE, 0, ""
+    yield "a body that has a predecessor itself", chain, lines(json.dumps({**FIRST, "previous": "0"})), ONE, 0, ""
+    yield "a binding that takes nothing", ["--binding", "all ledger=701"], lines(first, second), NOTHING, 0, ""
+    yield "a binding that takes all", ["--binding", "all ledger=700"], lines(first, second), TWO, 0, ""
+    yield "a chain past an event that the binding doesn't take", [*chain, "--binding", "all ledger=700"], lines(
+        chained(0, {**FIRST, "ledger": 701}), chained(10, SECOND)
+    ), TWO.replace("applied 2", "applied 1"), 0, ""
+
+
+JSON_ROWS = [
+    (
+        "as JSON",
+        ["--json", "--chained"],
+        f"{chained(0, FIRST)}\n{chained(30, SECOND)}\n",
+        '{"kind":"subscriber","subscriber":1,"applied":1,"last":"10","ended":false,"closed":false}\n'
+        '{"kind":"account","subscriber":1,"id":"1","debits_pending":"0","debits_posted":"5","credits_pending":"0","credits_posted":"0"}\n'
+        '{"kind":"account","subscriber":1,"id":"2","debits_pending":"0","debits_posted":"0","credits_pending":"0","credits_posted":"5"}\n'
+        '{"kind":"gap","line":2,"after":"30","expected_after":"10"}\n',
+        1,
+    ),
+    (
+        "a bad line as JSON",
+        ["--json"],
+        "{\n",
+        '{"kind":"subscriber","subscriber":1,"applied":0,"last":"0","ended":false,"closed":false}\n'
+        '{"kind":"line_fault","line":1,"name":"not_json"}\n',
+        2,
+    ),
+]
+USAGE = [["--skip-gaps"], ["--every", "0"], ["--every", "x"], ["--binding", ""], ["--binding", "some"], ["--binding", "all x=1"], ["a", "b"]]
+
+
+def by_hand(folder):
+    for name, arguments, stream, printed, status, said in rows():
+        found = run(arguments, stream)
+        is_right = found[:2] == (status, printed) and said in found[2] and (status != 0 or not found[2])
+        check(name, is_right, found)
+        file = os.path.join(folder, "stream")
+        with open(file, "wb") as it:
+            it.write(stream)
+        check(f"{name}, in a file", run([file, *arguments], b"")[:2] == (status, printed), found)
+    for name, arguments, stream, printed, status in JSON_ROWS:
+        found = run(arguments, stream.encode())
+        check(name, found[:2] == (status, printed), found)
+    for arguments in USAGE:
+        found = run(arguments, b"")
+        check(f"usage: {arguments}", found[0] == 2 and not found[1] and found[2].startswith("error: "), found)
+    found = run([os.path.join(folder, "nowhere")], b"")
+    check("a stream that isn't there", found[:2] == (1, "fault: read_fault\n") and "read_fault" in found[2], found)
+    found = run([folder], b"")
+    check("a stream that is a folder", found[:2] == (1, "fault: read_fault\n"), found)
+
+
+# ---------------------------------------------------------------------------------------------------------------------
+# Random streams.
+
+
+def queue_of(rng, count, first_id):
+    """The lines of a queue, each with its predecessor, and its end."""
+    balances, last, timestamp, lines = {}, 0, rng.randrange(3), []
+    for _ in range(count):
+        timestamp += rng.choice([1, 1, 2, 50])
+        debit, credit = rng.sample(range(first_id, first_id + 4), 2)
+        for id, place in ((debit, 1), (credit, 3)):
+            balances.setdefault(id, [0, 0, 0, 0])[place] += 5
+        body = event(timestamp, debit, credit, (balances[debit], balances[credit]), rng.choice(KINDS), rng.choice([700, 701]))
+        form = rng.choice([lambda it: it, numbers])
+        lines.append(chained(last, form(body)))
+        last = timestamp
+    return [*lines, end(last)]
+
+
+def disturbed(rng, lines):
+    """Lines that are lost, repeated and shuffled."""
+    lines = [it for it in lines if rng.random() > rng.choice([0, 0, 0.1])]
+    for _ in range(rng.choice([0, 0, 3, 8])):
+        if lines:
+            lines.insert(rng.randrange(len(lines) + 1), rng.choice(lines))
+    for _ in range(rng.choice([0, 0, 2])):
+        if len(lines) > 1:
+            place = rng.randrange(len(lines) - 1)
+            lines[place : place + 2] = reversed(lines[place : place + 2])
+    if rng.random() < 0.1:
+        rng.shuffle(lines)
+    return lines
+
+
+def random_stream(seed):
+    """A random stream, and what is wrong with what the program makes of it, or None."""
+    rng = random.Random(seed)
+    lines = disturbed(rng, queue_of(rng, rng.randrange(MOST_LINES), 1))
+    if rng.random() < 0.2:
+        other = disturbed(rng, queue_of(rng, rng.randrange(MOST_LINES), 3))
+        lines = [it for pair in zip(lines, other) for it in pair] + lines[len(other) :] + other[len(lines) :]
+    is_chained, skips, ledger = rng.random() < 0.7, rng.random() < 0.5, rng.choice([None, 700])
+    model, printed, status = Model(is_chained, ledger), "", 0
+    for number, line in enumerate(lines, 1):
+        gap = model.take(number, line)
+        if gap and not skips:
+            printed, status = gap, 1
+            break
+    arguments = ["--chained"] * is_chained + ["--skip-gaps"] * (is_chained and skips)
+    arguments += ["--binding", f"all ledger={ledger}"] if ledger else []
+    found = run(arguments, "".join(f"{it}\n" for it in lines).encode())
+    return None if found[:2] == (status, model.text() + printed) else f"seed {seed}: {arguments}: {found!r}, not {model.text() + printed!r}"
+
+
+def random_streams():
+    with concurrent.futures.ThreadPoolExecutor(JOBS) as pool:
+        for wrong in pool.map(random_stream, range(STREAMS)):
+            check("a random stream", wrong is None, wrong)
+
+
+# ---------------------------------------------------------------------------------------------------------------------
+# Books.
+
+SAVED = re.compile(r"(?m)^saved (\d+)\n")
+
+
+def stream_of(count):
+    return queue_of(random.Random(7), count, 1)
+
+
+def books(folder):
+    """A book that is kept: going on, and what is refused."""
+    lines = stream_of(30)
+    text = lambda given: "".join(f"{it}\n" for it in given).encode()
+    whole = run(["--chained"], text(lines))[1]
+    book = os.path.join(folder, "a.book")
+    found = run(["--chained", "--book", book, "--every", "7"], text(lines[:12]))
+    check("a book's saves", found[0] == 0 and SAVED.findall(found[1]), found)
+    found = run(["--chained", "--book", book], text(lines))
+    check("a book goes on", found[0] == 0 and found[1].endswith(whole), found)
+    check("nothing is left beside a book", sorted(os.listdir(folder)) == ["a.book"], os.listdir(folder))
+    before = open(book, "rb").read()
+    found = run(["--book", book], text(lines))
+    check("a book of a chained stream", found[:2] == (1, "fault: store\n") and "store" in found[2], found)
+    found = run(["--chained", "--binding", "all ledger=700", "--book", book], text(lines))
+    check("a book of another binding", found[:2] == (1, "fault: store\n") and "store" in found[2], found)
+    check("it stays", open(book, "rb").read() == before, before)
+    for name, content in [
+        ("empty", b""),
+        ("another kind", b"tb-cdc 2 1 0 0\n"),
+        ("a cut book", before[:-5]),
+        ("a further blank line", before + b"\n"),
+        ("an account twice", before + before[before.index(b"account ") :].split(b"\n")[0] + b"\n"),
+        ("a leading zero", before.replace(b" applied ", b" applied 0", 1)),
+        ("another version", before.replace(b"book 1", b"book 2", 1)),
+    ]:
+        other = os.path.join(folder, "other")
+        with open(other, "wb") as file:
+            file.write(content)
+        found = run(["--chained", "--book", other], text(lines))
+        check(f"a book that is none: {name}", found[:2] == (1, "fault: store\n") and f"{other}: store" in found[2], found)
+        check(f"it stays: {name}", open(other, "rb").read() == content, name)
+        os.remove(other)
+    found = run(["--chained", "--book", folder], b"")
+    check("a book that is a folder", found[:2] == (1, "fault: store\n") and "regular file" in found[2], found)
+    found = run(["--chained", "--book", os.path.join(folder, "no", "where")], b"")
+    check("a book in no folder", found[:2] == (1, "fault: store\n"), found)
+    with open(book, "rb") as held:
+        import fcntl
+
+        fcntl.flock(held, fcntl.LOCK_EX)
+        found = run(["--chained", "--book", book], text(lines))
+        check("a locked book", found[:2] == (1, "fault: store\n"), found)
+    beside = book + ".new"
+    with open(beside, "wb") as file:
+        file.write(b"mine\n")
+    found = run(["--chained", "--book", book], text(lines))
+    check("another's file beside a book", found[0] == 1 and found[1] == "fault: store\n", found)
+    check("it stays, too", open(beside, "rb").read() == b"mine\n", "")
+    os.remove(beside)
+    link = os.path.join(folder, "link")
+    os.symlink(book, link)
+    found = run(["--chained", "--book", link], text(lines))
+    check("a book behind a link", found[0] == 0 and os.path.islink(link) and found[1].endswith(whole), found)
+    os.remove(link)
+    os.chmod(book, 0o444)
+    if os.geteuid():
+        found = run(["--chained", "--book", book], text(lines))
+        check("a book that nobody may write", found[:2] == (1, "fault: store\n"), found)
+    os.chmod(book, 0o600)
+    os.remove(book)
+
+
+class Killed:
+    """A stream with a book that ends at one call of the C library, and is started again."""
+
+    def __init__(self, library, folder):
+        self.library, self.folder = library, folder
+        self.lines = stream_of(12)
+        self.text = "".join(f"{it}\n" for it in self.lines).encode()
+        self.whole = run(["--chained"], self.text)[1]
+        calls = os.path.join(folder, "calls")
+        self.run("counted", CALLS=calls)
+        with open(calls, encoding="ascii") as file:
+            self.calls = {kind: int(count) for kind, count in (line.split() for line in file)}
+
+    def run(self, name, **plan):
+        """Runs the stream over a book of this name."""
+        book = os.path.join(self.folder, name)
+        env = dict(os.environ, LD_PRELOAD=self.library, **plan)
+        return run(["--chained", "--book", book, "--every", "3"], self.text, env)
+
+    def plans(self, word):
+        return [f"{kind}:{n}{word}" for kind in ("open", "read", "write", "sync", "rename") for n in range(1, self.calls[kind] + 1)]
+
+    def complaint(self, number, plan):
+        """Returns what is wrong after the program was ended by a plan, or a call was refused."""
+        name = f"{number}.book"
+        ended = self.run(name, FAULT=plan)
+        saved = [int(it) for it in SAVED.findall(ended[1])]
+        if saved != sorted(saved):
+            return f"{plan}: {ended!r}"
+        # Whoever hands on the stream begins after what was reported as saved.
+        last = saved[-1] if saved else 0
+        left = [it for it in self.lines if "end" in json.loads(it) or int(json.loads(it)["body"]["timestamp"]) > last]
+        again = run(["--chained", "--book", os.path.join(self.folder, name)], "".join(f"{it}\n" for it in left).encode())
+        if again[0] or not again[1].endswith(self.whole):
+            return f"{plan}: {ended!r}, then {again!r}"
+        if "end" not in plan and (ended[0] not in (0, 1) or ended[0] == 1 and "write" not in plan and not ended[1].splitlines()[-1:][0].startswith("fault: ")):
+            return f"{plan}: {ended!r}"
+        return None
+
+
+def killed(folder):
+    """The program is ended at each call, done and not done; and each call is refused."""
+    if not shutil.which("cc"):
+        print(f"follow: not tried: books that are killed and refused: {needs.no_command('cc')}")
+        return
+    library = sweep.built_library(folder)
+    it = Killed(library, folder)
+    plans = [*it.plans(" end"), *it.plans(" after end"), *it.plans(""), *it.plans(" after"), "short"]
+    plans += [f"allocation:{n}" for n in range(1, it.calls["allocation"] + 1)]
+    with concurrent.futures.ThreadPoolExecutor(JOBS) as pool:
+        for wrong in pool.map(it.complaint, range(len(plans)), plans):
+            check("killed or refused", wrong is None, wrong)
+
+
+def memory(folder):
+    """A stream ten times as long takes no more memory, beside a page or two."""
+    most = []
+    for count in (20_000, 200_000):
+        file = os.path.join(folder, "long")
+        with open(file, "w", encoding="ascii") as it:
+            for number in range(1, count + 1):
+                it.write(own(event(number)) + "\n")
+        child = subprocess.Popen([program, "follow", file], stdout=subprocess.PIPE)
+        out = child.stdout.read()
+        _, status, used = os.wait4(child.pid, 0)
+        child.returncode = status
+        check(f"{count} lines", status == 0 and out.startswith(b"subscriber 1 applied %d " % count), out)
+        most.append(used.ru_maxrss)
+        os.remove(file)
+    check("memory doesn't grow", most[1] <= most[0] + 256, most)
+
+
+def main(arguments):
+    global program
+    program = rooms.options_of(rooms.parser_of_first(__doc__), arguments).program
+    with rooms.room("follow-") as folder:
+        for part in (by_hand, books, killed, memory):
+            room = os.path.join(folder, part.__name__)
+            os.mkdir(room)
+            part(room)
+        random_streams()
+    for it in failures[:MOST_SHOWN]:
+        print(it)
+    print(f"follow: {passed} passed, {len(failures)} failed")
+    return 1 if failures else 0
+
+
+if __name__ == "__main__":
+    ending.run(main)
