@@ -1,13 +1,12 @@
 -- The entries of the lines of a queue.
-use Rattle.std.proofs.Common.{◌≡◌, ℕ, ◌<◌, ◌≤◌, ◌^◌, Bool, true, false, cond, List, ◌∷◌, Some, None, Ok, Err, codes, refl, ap, ◌∙◌, arith, le-leb}
+use Rattle.std.proofs.Common.{◌≡◌, ℕ, ◌<◌, ◌≤◌, ◌^◌, Bool, true, false, cond, List, ◌∷◌, Some, Ok, Err, codes, refl, ap, ◌∙◌, arith, le-leb}
 use Rattle.std.specs.Prelude.{Option, Result}
-use Rattle.serde_json.specs.Data.{Data, boolean}
+use Rattle.serde_json.specs.Data.{Data}
 use Rattle.serde_json.specs.Find.{get}
 use Rattle.cdc_types.specs.declared.events.Event.{Event}
 use Rattle.cdc_types.specs.Widths.{max_64}
 use Rattle.cdc_message.specs.declared.errors.DecodeError.{DecodeError}
-use Rattle.cdc_message.specs.Reading.{event_of, value_of, whole_number}
-use Rattle.cdc_message.specs.Widths.{EventFits}
+use Rattle.cdc_message.specs.Reading.{whole_number}
 use Rattle.cdc_follow.specs.declared.entries.Content.{Content}
 use Rattle.cdc_follow.specs.declared.entries.Content.TheVariants as content
 use Rattle.cdc_follow.specs.declared.entries.Entry.{Entry}
@@ -15,9 +14,7 @@ use Rattle.cdc_follow.specs.declared.errors.LineError.TheVariants.{PreviousOutOf
 use Rattle.cdc_follow.specs.Entries.{Read, ◌>>=◌, as_event, content_from, is_true, line_entry, other_content, previous_in, is_ignored, up_to_64, value_entry}
 use Rattle.cdc_follow.specs.LineErrors.{decoding_error}
 use Rattle.cdc_follow.proofs.EntryLemmas.{line-value}
-use Rattle.cdc_queues.specs.Lines.{end_line, message_line}
 use Rattle.cdc_queues.specs.Reading.{IsLine, ReadsAsEnd, ReadsAsMessage}
-use Rattle.cdc_queues.proofs.Values.{ends_read, messages_read}
 
 -- an entry of a chained stream
 abbrev pub chained : Content → ℕ → Entry

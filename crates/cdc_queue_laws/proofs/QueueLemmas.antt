@@ -1,5 +1,5 @@
 -- The lines of a queue are entries of that queue, and so is whatever arrives of them.
-use Rattle.std.proofs.Common.{◌≡◌, ℕ, ◌+◌, ◌<◌, ◌^◌, Bool, true, false, cond, List, [], ◌∷◌, ◌++◌, Some, None, Ok, codes, flat_map, map, filter, refl, sym, ap, ◌∙◌, subst, arith, append_assoc, append-nil}
+use Rattle.std.proofs.Common.{◌≡◌, ℕ, ◌+◌, ◌<◌, ◌^◌, Bool, true, false, cond, List, [], ◌∷◌, ◌++◌, Some, codes, flat_map, filter, refl, sym, ap, ◌∙◌, subst, arith, append_assoc, append-nil}
 use Rattle.std.specs.Prelude.{Contains, Option, Result}
 use Rattle.std.specs.List.{AllByRecursion}
 use Rattle.std.proofs.lemmas.List.Elements.{All-contains, All-from_recursion}
@@ -7,25 +7,20 @@ use Rattle.cdc_types.specs.declared.events.Event.{Event}
 use Rattle.cdc_types.specs.Timestamps.{RiseFrom, last_timestamp}
 use Rattle.cdc_types.proofs.Rising.{RiseFrom-filter, last_timestamp_from-push}
 use Rattle.cdc_message.specs.Widths.{EventFits}
-use Rattle.cdc_match.specs.Arguments.{Arguments}
 use Rattle.cdc_match.specs.Queue.{feed, takes_event}
 use Rattle.cdc_follow.specs.declared.entries.Content.TheVariants as content
 use Rattle.cdc_follow.specs.declared.entries.Entry.{Entry}
 use Rattle.cdc_follow.specs.declared.errors.LineError.{LineError}
-use Rattle.cdc_follow.specs.declared.streams.Rules.{Rules}
-use Rattle.cdc_follow.specs.Entries.{line_entry}
-use Rattle.cdc_follow.specs.Following.{FollowState, follow_all}
-use Rattle.cdc_follow.specs.Laws.{IsOfQueue, KeepsPrefix, begins, entries_in, taken_by}
+use Rattle.cdc_follow.specs.Laws.{IsOfQueue, begins, entries_in, taken_by}
 use Rattle.cdc_follow.specs.LineParts.{HasNoFeed}
 use Rattle.cdc_follow.specs.Lines.{lines_of}
-use Rattle.cdc_follow.specs.Stops.{bytes_followed}
-use Rattle.cdc_follow.specs.Streams.{Diagnostics, NumberedEntry, lines_tell, tells_first}
+use Rattle.cdc_follow.specs.Streams.{stream_of_lines, stream_with}
 use Rattle.cdc_follow.proofs.FoldLemmas.{followed_keep_a_prefix}
 use Rattle.cdc_follow.proofs.LineLemmas.{lines_of-feed, lines_of-none}
 use Rattle.cdc_follow.proofs.QueueLemmas.{keeps_a_prefix}
-use Rattle.cdc_queues.specs.Lines.{end_line, ended, lines_after, lines_of_queue, message_line, queue_text}
+use Rattle.cdc_queues.specs.Lines.{end_line, ended, lines_after, message_line, queue_text}
 use Rattle.cdc_queues.proofs.Values.{ends_read, messages_read}
-use Rattle.cdc_queue_laws.specs.Laws.{AreLedgerEvents, HasLinesOf, IsLineOfQueue, QueueTextsAreOfQueues, WhateverArrivesIsAPrefix, WhateverArrivesLaterToo}
+use Rattle.cdc_queue_laws.specs.Laws.{IsLineOfQueue, QueueTextsAreOfQueues, WhateverArrivesIsAPrefix, WhateverArrivesLaterToo}
 use Rattle.cdc_queue_laws.proofs.EntryLemmas.{chained, end_entry, message_entry}
 
 -- ---- the lines
@@ -36,8 +31,7 @@ lines_are : (queue before after : List Event) → queue ≡ before ++ after → 
     → AllByRecursion (IsLineOfQueue queue) (lines_after (last_timestamp before) after)
 lines_are queue before [] whole small fit =
     let previous = last_timestamp before in
-    let last : last_timestamp before ≡ last_timestamp queue = ap last_timestamp (sym (whole ∙ append-nil before)) in
-    (
+    let last : last_timestamp before ≡ last_timestamp queue = ap last_timestamp (sym (whole ∙ append-nil before)) in (
       (
         chained content.End previous,
         end_entry previous (end_line previous) small (ends_read previous small),
@@ -49,8 +43,7 @@ lines_are queue before (e ∷ rest) whole small fit =
     let previous = last_timestamp before in
     let next : last_timestamp (before ++ e ∷ []) ≡ e.timestamp = last_timestamp_from-push 0 before e in
     let fits : e.timestamp < 2 ^ 64 = fit.0.timestamp in
-    let later : last_timestamp (before ++ e ∷ []) < 2 ^ 64 = subst (λ (t : ℕ). t < 2 ^ 64) (sym next) fits in
-    (
+    let later : last_timestamp (before ++ e ∷ []) < 2 ^ 64 = subst (λ (t : ℕ). t < 2 ^ 64) (sym next) fits in (
       (
         chained (content.Event e) previous,
         message_entry previous e (message_line previous e) small (messages_read previous e small fit.0),
@@ -98,14 +91,14 @@ texts_are_of_queues binding events are =
 
 -- ---- what arrives
 
--- whatever lines of a queue arrive, each says an entry of the queue, and none is bad
+-- whatever lines of a queue arrive, each has an entry of the queue, and none is bad
 arrived : (queue : List Event) (number : ℕ) (lines : List (List ℕ)) → AllByRecursion (IsLineOfQueue queue) lines
-    → AllByRecursion (IsOfQueue queue) (entries_in (lines_tell true number lines).entries)
-unfolding lines_tell
+    → AllByRecursion (IsOfQueue queue) (entries_in (stream_of_lines true number lines).entries)
+unfolding stream_of_lines
 arrived queue number [] are = tt
 arrived queue number (line ∷ rest) are =
     subst (λ (read : Result (Option Entry) LineError). AllByRecursion (IsOfQueue queue)
-    (entries_in (tells_first number read (lines_tell true (number + 1) rest)).entries)) (sym are.0.1)
+    (entries_in (stream_with number read (stream_of_lines true (number + 1) rest)).entries)) (sym are.0.1)
     (are.0.2, arrived queue (number + 1) rest are.1)
 
 -- each line that is among lines of a queue is one
@@ -124,11 +117,11 @@ arrives_later binding own events rules state bytes are keeps within chains =
     let rising : RiseFrom 0 (taken_by binding events) = RiseFrom-filter (takes_event binding) 0 events are.rising in
     let lines = among queue (lines_of (queue_text binding events)) (lines_of bytes)
     (texts_are_of_queues binding events are) within in
-    let told : AllByRecursion (IsOfQueue queue) (entries_in (lines_tell rules.chained 1 (lines_of bytes)).entries) =
-    subst (λ (b : Bool). AllByRecursion (IsOfQueue queue) (entries_in (lines_tell b 1 (lines_of bytes)).entries))
+    let listed : AllByRecursion (IsOfQueue queue) (entries_in (stream_of_lines rules.chained 1 (lines_of bytes)).entries) =
+    subst (λ (b : Bool). AllByRecursion (IsOfQueue queue) (entries_in (stream_of_lines b 1 (lines_of bytes)).entries))
     (sym chains) (arrived queue 1 (lines_of bytes) lines) in
-    followed_keep_a_prefix own rules.skips_gaps queue state (lines_tell rules.chained 1 (lines_of bytes)).entries
-    rising keeps told
+    followed_keep_a_prefix own rules.skips_gaps queue state (stream_of_lines rules.chained 1 (lines_of bytes)).entries
+    rising keeps listed
 
 -- and so does one that begins, with the empty prefix
 pub whatever_arrives : WhateverArrivesIsAPrefix
