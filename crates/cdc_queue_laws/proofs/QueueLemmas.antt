@@ -117,11 +117,11 @@ arrives_later binding own events rules state bytes are keeps within chains =
     let rising : RiseFrom 0 (taken_by binding events) = RiseFrom-filter (takes_event binding) 0 events are.rising in
     let lines = among queue (lines_of (queue_text binding events)) (lines_of bytes)
     (texts_are_of_queues binding events are) within in
-    let listed : AllByRecursion (IsOfQueue queue) (entries_in (stream_of_lines rules.chained 1 (lines_of bytes)).entries) =
+    let stream = stream_of_lines rules.chained 1 (lines_of bytes) in
+    let listed : AllByRecursion (IsOfQueue queue) (entries_in stream.entries) =
     subst (λ (b : Bool). AllByRecursion (IsOfQueue queue) (entries_in (stream_of_lines b 1 (lines_of bytes)).entries))
     (sym chains) (arrived queue 1 (lines_of bytes) lines) in
-    followed_keep_a_prefix own rules.skips_gaps queue state (stream_of_lines rules.chained 1 (lines_of bytes)).entries
-    rising keeps listed
+    followed_keep_a_prefix own rules.skips_gaps queue state stream.entries rising keeps listed
 
 -- and so does one that begins, with the empty prefix
 pub whatever_arrives : WhateverArrivesIsAPrefix
