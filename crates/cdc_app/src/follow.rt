@@ -7,7 +7,7 @@ use crate::options::Form;
 use crate::sources::Source;
 use cdc_commands::{ProgramFault, Text, print_fault};
 use cdc_follow::Follower;
-use cdc_follow_command::{FileBook, FollowEnding, Saver, begin_book, follow_command, resume};
+use cdc_follow_command::{FileBook, FollowEnding, Saver, begin, begin_book, follow_command, resume};
 use cdc_json::Json;
 use cdc_progress::StoreError;
 use std::io;
@@ -72,13 +72,15 @@ fn open_book<'a>(
     binding: &[u8],
 ) -> Result<(Option<FileBook<'a, HostRuntime>>, Follower), StoreError> {
     let Some(path) = book else {
-        return Ok((None, resume(rt.alloc(), None, chained, binding)?));
+        return Ok((None, begin(rt.alloc())));
     };
     let mut store = FileBook::open(rt, path)?;
-    let follower = resume(rt.alloc(), store.text(), chained, binding)?;
-    if store.text().is_none() {
-        begin_book(rt.alloc(), &mut store, chained, binding, &follower)?;
+    if let Some(text) = store.text() {
+        let follower = resume(rt.alloc(), text, chained, binding)?;
+        return Ok((Some(store), follower));
     }
+    let follower = begin(rt.alloc());
+    begin_book(rt.alloc(), &mut store, chained, binding, &follower)?;
     Ok((Some(store), follower))
 }
 

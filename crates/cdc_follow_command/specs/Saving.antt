@@ -1,5 +1,5 @@
 -- Saving a book now and then, and what the command prints.
-use Rattle.std.specs.Prelude.{◌≡◌, ◌⊎◌, ℕ, List, Option, Result, Ok, Err, Unit}
+use Rattle.std.specs.Prelude.{◌≡◌, ℕ, Bool, true, false, List, Option, Result, Ok, Err}
 use Rattle.std.specs.List.{flat_map}
 use Rattle.std.specs.Io.KnownBytes.{Appends}
 use Rattle.cdc_commands.specs.declared.endings.Ending.{Ending}
@@ -40,7 +40,12 @@ PrintsFollowing saves prints fails old new state (Failed (WriteFault error)) = U
 PrintsFollowing saves prints fails old new state ending =
     (between : Option (List ℕ)) × (PrintsSaves saves old between × PrintsEnd prints fails between new state ending)
 
+-- a write failed
+abbrev pub fails_to_write : {T : Type 0} → Result T ProgramFault → Bool
+fails_to_write (Ok value) = false
+fails_to_write (Err (WriteFault error)) = true
+fails_to_write (Err why) = false
+
 -- this holds unless a write failed
 abbrev pub UnlessWriteFails : {T : Type 0} → Result T ProgramFault → Type 0 → Type 0
-UnlessWriteFails (Err (WriteFault error)) Holds = Unit {0}
-UnlessWriteFails result Holds = Holds
+UnlessWriteFails result Holds = fails_to_write result ≡ false → Holds

@@ -40,7 +40,10 @@ pub fn follow_stream<F: FollowForm, B: LineReader, W: Write, K: BookStore>(
 {
     let mut line = Vec::new(alloc);
     for number in 1..u64::MAX {
-        saver.save_if_due(form, alloc, writer, follower, !reader.has_line())?;
+        let waits = !reader.has_line();
+        if let Err(fault) = saver.save_if_due(form, alloc, writer, follower, waits) {
+            return Err(fault);
+        }
         let ended = match follow_line(alloc, reader, &mut line, number, binding, rules, follower) {
             Ok(None) => {
                 saver.count_line();
@@ -49,7 +52,9 @@ pub fn follow_stream<F: FollowForm, B: LineReader, W: Write, K: BookStore>(
             Ok(Some(stop)) => Ok(stop),
             Err(error) => Err(fault_of(error)),
         };
-        saver.save(form, alloc, writer, follower)?;
+        if let Err(fault) = saver.save(form, alloc, writer, follower) {
+            return Err(fault);
+        }
         return ended;
     }
     Err(ProgramFault::ReadFault(io::Error::from(ErrorKind::Other)))

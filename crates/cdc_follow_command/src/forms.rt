@@ -85,7 +85,8 @@ fn push_stop(text: &mut Vec<u8>, seen: u64, stop: Stop) -> Result<(), AllocError
             push_named(text, "fault: line ", line)?;
             push(text, ": ")?;
             push(text, error.name())?;
-            push(text, "\n")
+            push(text, "\n")?;
+            Ok(())
         }
     }
 }
@@ -98,5 +99,6 @@ fn push_gap(text: &mut Vec<u8>, seen: u64, line: u64, entry: Entry) -> Result<()
     push_named(text, "gap: line ", line)?;
     push_named(text, ": after ", entry.previous.unwrap_or(0))?;
     push_named(text, ", expected after ", seen)?;
-    push(text, "\n")
+    push(text, "\n")?;
+    Ok(())
 }

@@ -15,5 +15,5 @@ pub use endings::FollowEnding;
 pub use follow::{follow_command, follow_stream};
 pub use forms::FollowForm;
 pub use readers::LineReader;
-pub use savers::{Saver, begin_book, resume};
+pub use savers::{Saver, begin, begin_book, resume};
 pub use stores::BookStore;

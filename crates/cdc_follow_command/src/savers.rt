@@ -1,6 +1,6 @@
 //! Saving a follower's book now and then.
 
-ghost use Rattle.std.specs.Prelude.{◌≡◌, None, Some, IfOk, IfSome, OnOk};
+ghost use Rattle.std.specs.Prelude.{◌≡◌, Some, IfOk, IfSome, IsTrue, OnOk};
 ghost use Rattle.std.specs.Io.KnownBytes.{Appends};
 ghost use Rattle.cdc_follow.specs.Laws.{begins};
 ghost use Rattle.cdc_follow.specs.Saved.{book_text};
@@ -9,7 +9,7 @@ ghost use Rattle.cdc_follow_command.specs.Saving.{PrintsSaves, UnlessWriteFails}
 use crate::forms::FollowForm;
 use crate::stores::BookStore;
 use cdc_commands::ProgramFault;
-use cdc_follow::{Follower, read_book, write_book};
+use cdc_follow::{Follower, SavedBook, read_book, write_book};
 use cdc_progress::StoreError;
 use cdc_subscriber::Subscriber;
 use std::alloc::{AllocError, Global};
@@ -137,27 +137,34 @@ pub(crate) fn report<W: Write>(writer: &mut W, line: &[u8]) -> io::Result<()>
     writer.flush()
 }
 
-/// The follower of a book with this text, or one that begins if there is no text. `BadRecord`: the text isn't one of a
-/// book, or it is one of another binding, or of a chained stream where this one isn't, or the other way round.
+/// A follower that begins, with an empty book.
+pub fn begin(alloc: Global) -> Follower
+    ensures { result ≡ begins }
+{
+    Follower::new(Subscriber::new(alloc), 0)
+}
+
+/// The follower of a book with this text. `BadRecord`: the text isn't one of a book, or it is one of another binding, or
+/// of a chained stream where this one isn't, or the other way round.
 pub fn resume(
     alloc: Global,
-    text: Option<&[u8]>,
+    text: &[u8],
     chained: bool,
     binding: &[u8],
 ) -> Result<Follower, StoreError>
-    ensures begins { text ≡ None → IfOk result (λ follower. follower ≡ begins) }
-    ensures resumes { IfSome text (λ bytes. IfOk result (λ follower.
-        bytes.now ≡ book_text chained binding.now follower)) }
+    ensures { IfOk result (λ follower. text.now ≡ book_text chained binding.now follower) }
 {
-    let Some(text) = text else {
-        return Ok(Follower::new(Subscriber::new(alloc), 0));
-    };
     match read_book(alloc, text)? {
-        Some(saved) if saved.chained == chained && saved.binding.as_slice() == binding => {
-            Ok(saved.follower)
-        }
+        Some(saved) if is_of(&saved, chained, binding) => Ok(saved.follower),
         _ => Err(StoreError::BadRecord),
     }
+}
+
+/// Whether a book is of such a stream and of this binding.
+fn is_of(book: &SavedBook, chained: bool, binding: &[u8]) -> bool
+    ensures { IsTrue result → (book.now.chained ≡ chained) × (book.now.binding.items ≡ binding.now) }
+{
+    book.chained == chained && book.binding.as_slice() == binding
 }
 
 /// Saves the book of a follower.

@@ -1,10 +1,11 @@
 -- The JSON values of what is printed of a stream that is followed.
-use Rattle.std.specs.Prelude.{ℕ, List, [], ◌∷◌, ◌++◌, codes, unwrap_or}
+use Rattle.std.specs.Prelude.{ℕ, List, [], ◌++◌, codes, unwrap_or}
 use Rattle.serde_json.specs.Data.{Data, string, no_members, member}
 use Rattle.cdc_message.specs.Values.{narrow, wide}
 use Rattle.cdc_follow.specs.Following.{FollowState}
 use Rattle.cdc_follow.specs.LineErrors.{line_error_name}
 use Rattle.cdc_follow.specs.declared.entries.Entry.{Entry}
+use Rattle.cdc_follow.specs.declared.errors.LineError.{LineError}
 use Rattle.cdc_follow.specs.declared.streams.Stop.{Stop}
 use Rattle.cdc_follow.specs.declared.streams.Stop.TheVariants.{AtEnd, Gap, BadLine}
 use Rattle.cdc_json.specs.Lines.{json_line, json_lines, line_of, subscriber_values}
@@ -16,21 +17,29 @@ saved_value timestamp = line_of (codes "saved") (member (codes "timestamp") (wid
 abbrev pub saved_lines : ℕ → List ℕ
 saved_lines timestamp = json_line (saved_value timestamp)
 
--- why following stopped, where the last event seen has this timestamp; nothing at the end
-abbrev pub stop_values : ℕ → Stop → List Data
-stop_values seen AtEnd = []
-stop_values seen (Gap line entry) =
+-- a gap before the entry of this line, where the last event seen has this timestamp
+abbrev pub gap_value : ℕ → ℕ → Entry → Data
+gap_value seen line entry =
     line_of (codes "gap") (
     member (codes "line") (narrow line) (
     member (codes "after") (wide (unwrap_or entry.previous 0)) (
     member (codes "expected_after") (wide seen)
-    no_members))) ∷ []
-stop_values seen (BadLine line error) =
+    no_members)))
+
+-- a line that is no entry, for this reason
+abbrev pub bad_line_value : ℕ → LineError → Data
+bad_line_value line error =
     line_of (codes "line_fault") (
     member (codes "line") (narrow line) (
     member (codes "name") (string (line_error_name error))
-    no_members)) ∷ []
+    no_members))
+
+-- the line of why following stopped; none at the end
+abbrev pub stop_lines : ℕ → Stop → List ℕ
+stop_lines seen AtEnd = []
+stop_lines seen (Gap line entry) = json_line (gap_value seen line entry)
+stop_lines seen (BadLine line error) = json_line (bad_line_value line error)
 
 -- what is printed at the end: the subscriber with its book, and why following stopped
 abbrev pub end_lines : FollowState → Stop → List ℕ
-end_lines state stop = json_lines (subscriber_values 1 state.kept) ++ json_lines (stop_values state.seen stop)
+end_lines state stop = json_lines (subscriber_values 1 state.kept) ++ stop_lines state.seen stop

@@ -1,12 +1,11 @@
 //! The lines of a stream that is followed.
 
 ghost use Rattle.std.specs.Prelude.{◌≡◌, ◌++◌, OnOk};
-ghost use Rattle.cdc_follow.specs.declared.streams.Stop.{Stop as Stops};
-ghost use Rattle.cdc_json.specs.Lines.{json_lines};
-ghost use Rattle.cdc_json.specs.Streams.{saved_lines, stop_values};
+ghost use Rattle.cdc_json.specs.Lines.{json_line};
+ghost use Rattle.cdc_json.specs.Streams.{bad_line_value, gap_value, saved_lines, stop_lines};
 
 use crate::lines::{Field, Lines, Member};
-use cdc_follow::{Entry, Stop};
+use cdc_follow::{Entry, LineError, Stop};
 use std::alloc::{AllocError, Global};
 
 /// Adds the line of a save at which the last event seen has this timestamp, in nanoseconds.
@@ -26,26 +25,39 @@ pub fn push_saved(alloc: Global, lines: &mut Lines, timestamp: u64) -> Result<()
 /// Adds the line of why following stopped, where the last event seen has this timestamp; none at the end.
 pub fn push_stop(alloc: Global, lines: &mut Lines, seen: u64, stop: Stop) -> Result<(), AllocError>
     ensures { OnOk result (lines.new.text.items
-        ≡ lines.old.text.items ++ json_lines (stop_values seen stop)) }
+        ≡ lines.old.text.items ++ stop_lines seen stop) }
 {
     match stop {
         Stop::AtEnd => Ok(()),
         Stop::Gap(line, entry) => push_gap(alloc, lines, seen, line, entry),
-        Stop::BadLine(line, error) => lines.push(
-            alloc,
-            "line_fault",
-            &[
-                Member {
-                    name: "line",
-                    value: Field::Number(line),
-                },
-                Member {
-                    name: "name",
-                    value: Field::Text(error.name()),
-                },
-            ],
-        ),
+        Stop::BadLine(line, error) => push_bad_line(alloc, lines, line, error),
     }
+}
+
+/// Adds the line of a line that is no entry, for this reason.
+fn push_bad_line(
+    alloc: Global,
+    lines: &mut Lines,
+    line: u64,
+    error: LineError,
+) -> Result<(), AllocError>
+    ensures { OnOk result (lines.new.text.items
+        ≡ lines.old.text.items ++ json_line (bad_line_value line error)) }
+{
+    lines.push(
+        alloc,
+        "line_fault",
+        &[
+            Member {
+                name: "line",
+                value: Field::Number(line),
+            },
+            Member {
+                name: "name",
+                value: Field::Text(error.name()),
+            },
+        ],
+    )
 }
 
 /// Adds the line of a gap before the entry of the line of this number.
@@ -57,7 +69,7 @@ fn push_gap(
     entry: Entry,
 ) -> Result<(), AllocError>
     ensures { OnOk result (lines.new.text.items
-        ≡ lines.old.text.items ++ json_lines (stop_values seen (Stops.Gap line entry))) }
+        ≡ lines.old.text.items ++ json_line (gap_value seen line entry)) }
 {
     lines.push(
         alloc,
