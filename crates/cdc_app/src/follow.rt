@@ -7,7 +7,9 @@ use crate::options::Form;
 use crate::sources::Source;
 use cdc_commands::{ProgramFault, Text, print_fault};
 use cdc_follow::Follower;
-use cdc_follow_command::{FileBook, FollowEnding, Saver, begin, begin_book, follow_command, resume};
+use cdc_follow_command::{
+    FileBook, FollowEnding, Saver, begin, begin_book, follow_command, resume,
+};
 use cdc_json::Json;
 use cdc_progress::StoreError;
 use std::io;

@@ -4,9 +4,7 @@ use Rattle.std.specs.List.{flat_map}
 use Rattle.std.specs.Io.KnownBytes.{Appends}
 use Rattle.std.proofs.KnownBytes.{Appends-trans}
 use Rattle.std.proofs.lemmas.List.Concat.{flat_map-append}
-use Rattle.std.specs.Prelude.{Result, false}
-use Rattle.cdc_commands.specs.declared.faults.ProgramFault.{ProgramFault}
-use Rattle.cdc_follow_command.specs.Saving.{PrintsSaves, UnlessWriteFails, fails_to_write}
+use Rattle.cdc_follow_command.specs.Saving.{PrintsSaves}
 
 -- nothing is printed
 appends_nothing : (known : Option (List ℕ)) → Appends known known []
@@ -30,10 +28,3 @@ prints_more prints old mid new first later = (
   subst (Appends old new) (sym (flat_map-append prints first.0 later.0))
       (Appends-trans old mid new (flat_map prints first.0) (flat_map prints later.0) first.1 later.1),
 )
-
--- lines, and then more unless a write failed
-pub prints_unless : {T U : Type 0} (prints : ℕ → List ℕ) (old mid new : Option (List ℕ)) (given : Result T ProgramFault)
-    (answer : Result U ProgramFault) → fails_to_write given ≡ fails_to_write answer → PrintsSaves prints old mid
-    → UnlessWriteFails given (PrintsSaves prints mid new) → UnlessWriteFails answer (PrintsSaves prints old new)
-prints_unless prints old mid new given answer same first later fine =
-    prints_more prints old mid new first (later (same ∙ fine))

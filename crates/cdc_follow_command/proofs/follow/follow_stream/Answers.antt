@@ -28,4 +28,7 @@ returns-in-Err-save-clause-printed g c fine =
     (prints_more g.F.FollowForm.prints_saved _ _ _ (c.in_default.ensures.printed refl) (c.in-Err-save.ensures.printed fine))
 
 pub returns-in-loop-number-clause-printed : goal.returns-in-loop-number-clause-printed
-returns-in-loop-number-clause-printed g c fine = ?
+returns-in-loop-number-clause-printed g c fine =
+    prints_more g.F.FollowForm.prints_saved _ _ _ c.loop-number.invariant.1.1.1
+    (prints_more g.F.FollowForm.prints_saved _ _ _ (c.in_default.ensures.printed refl)
+    (c.in_default-save.ensures.printed refl))

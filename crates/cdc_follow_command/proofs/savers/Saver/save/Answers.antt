@@ -1,5 +1,3 @@
-use Rattle.std.proofs.Common.{sym, subst}
-use Rattle.std.specs.Io.KnownBytes.{Appends}
 use Rattle.cdc_follow_command.proofs.SavingLemmas.{prints_one}
 use Rattle.cdc_follow_command.proofs.savers.Saver.save.Goals as goal
 
