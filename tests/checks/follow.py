@@ -1,7 +1,7 @@
 #!/usr/bin/env python3
 """The command follow: streams by hand, random streams beside a model, and books that are killed and refused while they are saved.
 
-  tests/checks/follow.py [PROGRAM]    PROGRAM: crates/cdc_app/out/cdc_app
+  tests/checks/follow.py [PROGRAM] [--streams N]    PROGRAM: crates/cdc_app/out/cdc_app; N random streams, 300 by default
 
 By hand: each kind of line, each fault, each status, and where a line ends. Random streams of a queue are lost, repeated,
 shuffled and merged from two publishers; what is printed has to be what a small model prints, which reads JSON by Python's
@@ -29,7 +29,7 @@ import rooms
 import sweep
 
 SECONDS, JOBS = 300, 2  # that a run may take, a last guard; runs at a time
-STREAMS, MOST_LINES = 600, 40  # random streams, and lines of each
+STREAMS, MOST_LINES = 300, 40  # random streams, and lines of each
 MOST_SHOWN = 10
 KINDS = ("single_phase", "two_phase_pending", "two_phase_posted", "two_phase_voided", "two_phase_expired")
 program = None
@@ -359,9 +359,9 @@ def random_stream(seed):
     return None if found[:2] == (status, model.text() + printed) else f"seed {seed}: {arguments}: {found!r}, not {model.text() + printed!r}"
 
 
-def random_streams():
+def random_streams(count):
     with concurrent.futures.ThreadPoolExecutor(JOBS) as pool:
-        for wrong in pool.map(random_stream, range(STREAMS)):
+        for wrong in pool.map(random_stream, range(count)):
             check("a random stream", wrong is None, wrong)
 
 
@@ -512,13 +512,16 @@ def memory(folder):
 
 def main(arguments):
     global program
-    program = rooms.options_of(rooms.parser_of_first(__doc__), arguments).program
+    parser = rooms.parser_of_first(__doc__)
+    parser.add_argument("--streams", type=int, default=STREAMS, metavar="N", help="random streams; default: %(default)s")
+    options = rooms.options_of(parser, arguments)
+    program = options.program
     with rooms.room("follow-") as folder:
         for part in (by_hand, books, killed, memory):
             room = os.path.join(folder, part.__name__)
             os.mkdir(room)
             part(room)
-        random_streams()
+        random_streams(options.streams)
     for it in failures[:MOST_SHOWN]:
         print(it)
     print(f"follow: {passed} passed, {len(failures)} failed")
