@@ -78,6 +78,7 @@ CASES = [
     (["books", example("refusals.script")], None),
     (["messages", example("two-phase.script")], None),
     (["messages", EVERY], None),
+    (["messages", example("two-phase.script"), "--queue", "1"], None),
     (["simulate", example("two-phase.script"), example("two-phase.steps")], None),
     (["simulate", example("two-phase.script"), example("faults.steps")], None),
     (["simulate", EVERY, os.path.join(HERE, "every-step.steps")], None),
