@@ -2,7 +2,7 @@
 # docs/GUIDE.md and docs/REFERENCE.md as their reader meets them: each `sh` block of a page is run, in their order, in
 # one folder that begins with the program and the examples, and what it prints on standard output is compared with the
 # block of output behind it. A block with none behind it prints nothing. Whatever it writes is in the folder play/.
-# Of README what it shows of the marketplace is compared, and its theorem has to stand in docs/PROOFS.md, word for word.
+# Of README what it shows of the marketplace is compared, and its theorems have to stand in docs/PROOFS.md, word for word.
 # Takes the program's path, crates/cdc_app/out/cdc_app where none is given. Prints each block that fails.
 set -uo pipefail
 top=$(cd "$(dirname "${BASH_SOURCE[0]}")/../.." && pwd)
@@ -87,8 +87,11 @@ shown=$(sed -n '/^send 1: position 1,/,/^```$/p' "$top/README.md" | sed '$d')
 [ "$shown" == "$(tail -n 6 trace)" ] || wrong 'README: the end of the trace'
 line=$(sed -n 's/.*`\(account 1 [0-9 ]*\)`.*/\1/p' "$top/README.md")
 grep -qx "$line" books || wrong 'README: a line of the book'
-theorem=$(sed -n 's/^> //p' "$top/README.md" | tr '\n' ' ')
-[ "$theorem" != '' ] && grep -qF "${theorem% }" "$top/docs/PROOFS.md" || wrong "README: not the theorem of PROOFS.md"
+theorems=$(awk -v RS= '/^> / { gsub(/(^|\n)> /, " "); print substr($0, 2) }' "$top/README.md")
+[ "$(wc -l <<<"$theorems")" == 2 ] || wrong "README: not two theorems"
+while IFS= read -r theorem; do
+    [ "$theorem" != '' ] && grep -qF "$theorem" "$top/docs/PROOFS.md" || wrong "README: not a theorem of PROOFS.md"
+done <<<"$theorems"
 
 [ "$lack_jq" == 0 ] || echo "guide: not tried: $lack_jq blocks: there is no jq (Debian package jq)"
 echo "guide: $blocks blocks, $failed failed"
