@@ -15,6 +15,11 @@ use Rattle.cdc_follow_command.specs.declared.endings.FollowEnding.TheVariants.{S
 abbrev pub PrintsSaves : (ℕ → List ℕ) → Option (List ℕ) → Option (List ℕ) → Type 0
 PrintsSaves prints old new = (timestamps : List ℕ) × Appends old new (flat_map prints timestamps)
 
+-- if following stopped, this holds of why
+abbrev pub IfStopped : FollowEnding → (Stop → Type 0) → Type 0
+IfStopped (Stopped stop) Holds = Holds stop
+IfStopped (Failed fault) Holds = Unit {0}
+
 -- a text was written, and the command ends so; or the write failed
 abbrev pub IsPrintedLast : Option (List ℕ) → Option (List ℕ) → List ℕ → FollowEnding → FollowEnding → Type 0
 IsPrintedLast old new text ending (Failed (WriteFault error)) = Unit {0}

@@ -3,7 +3,7 @@
 ghost use Rattle.std.specs.Prelude.{◌≡◌, Some, IfOk, IfSome, OnOk};
 ghost use Rattle.cdc_follow.specs.Saved.{book_text};
 ghost use Rattle.cdc_follow.specs.Stops.{bytes_followed};
-ghost use Rattle.cdc_follow_command.specs.Saving.{IsPrintedLast, PrintsEnd, PrintsFailure, PrintsFollowing, PrintsSaves, UnlessWriteFails};
+ghost use Rattle.cdc_follow_command.specs.Saving.{IfStopped, IsPrintedLast, PrintsEnd, PrintsFailure, PrintsFollowing, PrintsSaves, UnlessWriteFails};
 
 use crate::endings::{FollowEnding, fault_of};
 use crate::forms::FollowForm;
@@ -72,7 +72,13 @@ pub fn follow_command<F: Form + FollowForm, B: LineReader, W: Write, K: BookStor
     rules: Rules,
     follower: &mut Follower,
 ) -> FollowEnding
-    ensures { PrintsFollowing F.prints_saved F.prints_end F.prints_fault
+    ensures stops { IfStopped result (λ stop. IfSome (B.remaining reader.old) (λ bytes.
+        bytes_followed binding.now rules follower.old bytes
+        ≡ record { state = follower.new; stop = stop })) }
+    ensures saved { IfStopped result (λ _. IfSome saver.new.store (λ store.
+        K.held store
+        ≡ Some (book_text saver.old.chained saver.old.binding.items follower.new))) }
+    ensures printed { PrintsFollowing F.prints_saved F.prints_end F.prints_fault
         (W.contents writer.old) (W.contents writer.new) follower.new result }
 {
     match follow_stream(form, alloc, reader, writer, saver, binding, rules, follower) {
@@ -89,7 +95,8 @@ fn print_end<F: Form + FollowForm, W: Write>(
     follower: &Follower,
     stop: Stop,
 ) -> FollowEnding
-    ensures { PrintsEnd F.prints_end F.prints_fault
+    ensures stops { IfStopped result (λ it. it ≡ stop) }
+    ensures printed { PrintsEnd F.prints_end F.prints_fault
         (W.contents writer.old) (W.contents writer.new) follower.now result }
 {
     match form.end(alloc, follower, stop) {
@@ -100,7 +107,8 @@ fn print_end<F: Form + FollowForm, W: Write>(
 
 /// Prints the fault of a command that failed, unless it is one of a write.
 fn fail<F: Form, W: Write>(form: &F, writer: &mut W, fault: ProgramFault) -> FollowEnding
-    ensures { PrintsFailure F.prints_fault (W.contents writer.old) (W.contents writer.new)
+    ensures fails { IfStopped result (λ _. ⊥) }
+    ensures printed { PrintsFailure F.prints_fault (W.contents writer.old) (W.contents writer.new)
         fault result }
 {
     if let ProgramFault::WriteFault(_) = fault {
