@@ -1,0 +1,39 @@
+-- What the events before an event show: the balances of each account, and which transfers were stored and settled.
+use Rattle.std.specs.Prelude.{ℕ, Bool, ◌==◌, ◌&&◌, List, find, Option, None, Some, option_map, unwrap_or}
+use Rattle.std.specs.List.{list_any}
+use Rattle.cdc_types.specs.declared.accounts.Balances.{Balances}
+use Rattle.cdc_types.specs.declared.events.Event.{Event}
+use Rattle.cdc_types.specs.declared.events.EventKind.{EventKind}
+use Rattle.cdc_types.specs.declared.events.EventKind.TheVariants.{SinglePhase, TwoPhasePending, TwoPhasePosted, TwoPhaseVoided, TwoPhaseExpired}
+use Rattle.cdc_types.specs.declared.events.EventTransfer.{EventTransfer}
+use Rattle.cdc_ledger.specs.Accounts.{no_balances}
+use Rattle.cdc_ledger.specs.Kinds.{holds, settles, stores}
+use Rattle.cdc_subscriber.specs.Book.{balances_shown}
+
+-- the balances of an account after these events: those that its last event shows; four zeros before its first one
+abbrev pub balances_after : List Event → ℕ → Balances
+balances_after past id = unwrap_or (balances_shown past id) no_balances
+
+-- an event stored a transfer of this id
+abbrev pub is_stored : List Event → ℕ → Bool
+is_stored past id = list_any (λ e. stores e.kind && (e.transfer.id == id)) past
+
+-- the amount of the pending transfer of this id, if an event stored one
+abbrev pub pending_amount : List Event → ℕ → Option ℕ
+pending_amount past id =
+    option_map (λ (e : Event). e.transfer.amount) (find (λ e. holds e.kind && (e.transfer.id == id)) past)
+
+-- the id of the pending transfer that an event of this kind with this transfer posts, voids or lets expire
+abbrev pub settled_id_by : EventKind → EventTransfer → ℕ
+settled_id_by SinglePhase x = 0
+settled_id_by TwoPhasePending x = 0
+settled_id_by TwoPhasePosted x = x.pending_id
+settled_id_by TwoPhaseVoided x = x.pending_id
+settled_id_by TwoPhaseExpired x = x.id
+
+abbrev pub settled_id : Event → ℕ
+settled_id e = settled_id_by e.kind e.transfer
+
+-- an event posted, voided or let expire the pending transfer of this id
+abbrev pub is_settled : List Event → ℕ → Bool
+is_settled past id = list_any (λ e. settles e.kind && (settled_id e == id)) past

@@ -1,0 +1,4 @@
+-- what has to be believed
+pub mod Known
+pub mod Rules
+pub mod Audits

@@ -1,0 +1,77 @@
+-- The rules by which an event follows the events before it.
+use Rattle.std.specs.Prelude.{ℕ, ◌+◌, Bool, ◌==◌, ◌&&◌, not, nat_lt, is_none, is_some, List, [], ◌∷◌, ◌++◌, Option, unwrap_or, if◌then◌else◌}
+use Rattle.cdc_types.specs.declared.accounts.Balances.{Balances}
+use Rattle.cdc_types.specs.declared.events.Event.{Event}
+use Rattle.cdc_types.specs.Lines.{first_line}
+use Rattle.cdc_types.specs.Timestamps.{last_timestamp}
+use Rattle.cdc_ledger.specs.Kinds.{holds, moves, settles, stores}
+use Rattle.cdc_audit.specs.declared.refusals.BalanceField.{BalanceField}
+use Rattle.cdc_audit.specs.declared.refusals.BalanceField.TheVariants.{DebitsPending, DebitsPosted, CreditsPending, CreditsPosted}
+use Rattle.cdc_audit.specs.declared.refusals.Refusal.{Refusal}
+use Rattle.cdc_audit.specs.declared.refusals.Refusal.TheVariants.{NotLater, OneAccount, KnownId, NotPending, Settled, Balance}
+use Rattle.cdc_audit.specs.Known.{balances_after, is_settled, is_stored, pending_amount, settled_id}
+
+-- what an event adds to the posted sums, adds to the pending sums and releases of the pending sums
+abbrev pub posted : Event → ℕ
+posted e = if moves e.kind then e.transfer.amount else 0
+
+abbrev pub held : Event → ℕ
+held e = if holds e.kind then e.transfer.amount else 0
+
+abbrev pub released : List Event → Event → ℕ
+released past e = if settles e.kind then unwrap_or (pending_amount past (settled_id e)) 0 else 0
+
+-- the line on one balance: what is shown isn't what was before, with what is added and less what is released
+abbrev pub balance_line : ℕ → BalanceField → ℕ → ℕ → ℕ → ℕ → Bool × Refusal
+balance_line account field shown before added less = (
+  not (shown + less == before + added),
+  Balance (record {
+    account = account;
+    field = field;
+    shown = shown;
+    before = before;
+    added = added;
+    released = less;
+  }),
+)
+
+-- the lines on the account that is debited: its credits stay
+abbrev pub debit_lines : List Event → Event → List (Bool × Refusal)
+debit_lines past e =
+    let account = e.debit_account in
+    let before = balances_after past account.id in
+    balance_line account.id DebitsPending account.debits_pending before.debits_pending (held e) (released past e) ∷
+    balance_line account.id DebitsPosted account.debits_posted before.debits_posted (posted e) 0 ∷
+    balance_line account.id CreditsPending account.credits_pending before.credits_pending 0 0 ∷
+    balance_line account.id CreditsPosted account.credits_posted before.credits_posted 0 0 ∷
+    []
+
+-- the lines on the account that is credited: its debits stay
+abbrev pub credit_lines : List Event → Event → List (Bool × Refusal)
+credit_lines past e =
+    let account = e.credit_account in
+    let before = balances_after past account.id in
+    balance_line account.id DebitsPending account.debits_pending before.debits_pending 0 0 ∷
+    balance_line account.id DebitsPosted account.debits_posted before.debits_posted 0 0 ∷
+    balance_line account.id CreditsPending account.credits_pending before.credits_pending (held e) (released past e) ∷
+    balance_line account.id CreditsPosted account.credits_posted before.credits_posted (posted e) 0 ∷
+    []
+
+-- the lines on the transfer that an event stores, and on the pending one that it settles
+abbrev pub transfer_lines : List Event → Event → List (Bool × Refusal)
+transfer_lines past e =
+    (stores e.kind && is_stored past e.transfer.id, KnownId e.transfer.id) ∷
+    (settles e.kind && is_none (pending_amount past (settled_id e)), NotPending (settled_id e)) ∷
+    (settles e.kind && is_settled past (settled_id e), Settled (settled_id e)) ∷
+    []
+
+-- all lines on an event, in order
+abbrev pub event_lines : List Event → Event → List (Bool × Refusal)
+event_lines past e =
+    (not (nat_lt (last_timestamp past) e.timestamp), NotLater e.timestamp (last_timestamp past)) ∷
+    (e.debit_account.id == e.credit_account.id, OneAccount e.debit_account.id) ∷
+    (transfer_lines past e ++ (debit_lines past e ++ credit_lines past e))
+
+-- why an event can't follow those before it, if it can't
+unfoldable pub refusal : List Event → Event → Option Refusal
+refusal past e = first_line (event_lines past e)

@@ -1,0 +1,26 @@
+//! What an audit shows of a stream. The laws are the postconditions of functions that do nothing.
+
+ghost use Rattle.cdc_audit_laws.specs.Laws.{AChangeShows, BalancesAreSums, LedgersAreAccepted, NoOtherBalances, WhatIsLeftOutMovedNothing};
+
+/// Does nothing. Every stream that a ledger's events make is accepted, whole and every prefix of it.
+pub fn ledgers_are_accepted()
+    ensures { LedgersAreAccepted }
+{}
+
+/// Does nothing. If an event is left out that changed an account's balances, the next event of that account is
+/// refused, or one before it.
+pub fn a_change_shows()
+    ensures { AChangeShows }
+{}
+
+/// Does nothing. The posted balances that accepted events show are the sums of all that they moved. So whatever is left
+/// out of a stream, or added to it: if both are accepted up to one event, they moved as much of its accounts.
+pub fn balances_are_sums()
+    ensures sums { BalancesAreSums }
+    ensures moved { WhatIsLeftOutMovedNothing }
+{}
+
+/// Does nothing. Of two accepted streams that differ only in balances of their last event, the balances are the same.
+pub fn no_other_balances()
+    ensures { NoOtherBalances }
+{}

@@ -1,0 +1,6 @@
+//! What an audit shows of a stream, and that a ledger's stream is accepted.
+#![tactic(auto)]
+
+mod laws;
+
+pub use laws::{a_change_shows, balances_are_sums, ledgers_are_accepted, no_other_balances};
