@@ -14,9 +14,9 @@ _relayplum() {
         compopt -o filenames 2>/dev/null
         mapfile -t COMPREPLY < <(compgen -d -- "$word")
     elif [ "$COMP_CWORD" = "$first" ]; then
-        words="books messages simulate run follow help -h --help -V --version $launcher"
+        words="books messages simulate run follow audit help -h --help -V --version $launcher"
     elif [ "${COMP_WORDS[first]}" = help ]; then
-        words='books messages simulate run follow help'
+        words='books messages simulate run follow audit help'
     elif [ "${COMP_WORDS[COMP_CWORD - 1]}" = --window ]; then
         words='1 2 8 64'
     elif [ "${COMP_WORDS[COMP_CWORD - 1]}" = --queue ]; then
@@ -30,6 +30,7 @@ _relayplum() {
                 words='--window --prefetch --lose-confirm --lose-publish --restart-after --repeat --close --start-after --progress --explain --trace --json -h --help'
                 ;;
             follow) words='--chained --skip-gaps --binding --book --every --json -h --help' ;;
+            audit) words='--book --json -h --help' ;;
         esac
     fi
     # Where there is no such word, files are offered.

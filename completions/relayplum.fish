@@ -4,12 +4,13 @@ complete -c relayplum -n __fish_use_subcommand -f -a messages -d 'Print headers 
 complete -c relayplum -n __fish_use_subcommand -f -a simulate -d 'Take a script step by step, and print the state that the steps lead to'
 complete -c relayplum -n __fish_use_subcommand -f -a run -d 'Run a script on threads, and print the results and the books'
 complete -c relayplum -n __fish_use_subcommand -f -a follow -d 'Follow a stream of messages, apply each event once, and print the book'
+complete -c relayplum -n __fish_use_subcommand -f -a audit -d 'Check whether a stream of messages can be what a ledger published'
 complete -c relayplum -n __fish_use_subcommand -f -a help -d 'Print what the program or a command does'
 complete -c relayplum -n __fish_use_subcommand -s V -l version -d 'Print the version'
 complete -c relayplum -n 'not __fish_seen_subcommand_from help' -s h -l help -d 'Print help'
-complete -c relayplum -n '__fish_seen_subcommand_from help' -f -a 'books messages simulate run follow help'
+complete -c relayplum -n '__fish_seen_subcommand_from help' -f -a 'books messages simulate run follow audit help'
 complete -c relayplum -n '__fish_seen_subcommand_from books simulate run' -l explain -d 'Print on standard error why each item was not accepted'
-complete -c relayplum -n '__fish_seen_subcommand_from books messages simulate run follow' -l json -d 'Print a JSON object in each line'
+complete -c relayplum -n '__fish_seen_subcommand_from books messages simulate run follow audit' -l json -d 'Print a JSON object in each line'
 complete -c relayplum -n '__fish_seen_subcommand_from books messages simulate' -l check -d 'Validate the files only'
 complete -c relayplum -n '__fish_seen_subcommand_from messages' -l queue -x -a '1 2 3 4 5 6 7 8' -d 'Print only the queue of this subscriber'
 complete -c relayplum -n '__fish_seen_subcommand_from simulate' -l trace -d 'Print on standard error what each step did'
@@ -32,6 +33,7 @@ complete -c relayplum -n '__fish_seen_subcommand_from follow' -l skip-gaps -d 'S
 complete -c relayplum -n '__fish_seen_subcommand_from follow' -l binding -x -d 'Apply only the events that match this binding'
 complete -c relayplum -n '__fish_seen_subcommand_from follow' -l book -r -d 'The file that the book is saved in'
 complete -c relayplum -n '__fish_seen_subcommand_from follow' -l every -x -d 'Number of lines after which the book is saved, at the latest'
+complete -c relayplum -n '__fish_seen_subcommand_from audit' -l book -d 'Print the last balances of each account'
 # Called by a path, it may be the launcher in the repository, which takes options before the command.
 function __relayplum_may_be_launcher
     string match -q '*/*' -- (commandline -opc)[1]

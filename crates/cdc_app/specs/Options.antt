@@ -5,7 +5,7 @@ use Rattle.cdc_types.specs.Windows.{IsWindow}
 use Rattle.cdc_run_command.specs.Plans.{IsPlan}
 use Rattle.cdc_run_command.specs.declared.plans.RunPlan.{RunPlan}
 use Rattle.cdc_app.specs.declared.command_line.Options.{Options}
-use Rattle.cdc_app.specs.declared.command_line.Options.TheVariants.{Books, Messages, Simulate, Random, Run, Check, Follow, Explain}
+use Rattle.cdc_app.specs.declared.command_line.Options.TheVariants.{Books, Messages, Simulate, Random, Run, Check, Follow, Audit, Explain}
 use Rattle.cdc_app.specs.declared.command_line.Form.TheVariants.{Text}
 use Rattle.cdc_app.specs.declared.command_line.OptionsFault.{OptionsFault}
 use Rattle.cdc_app.specs.declared.command_line.OptionsFault.TheVariants.{BadWords, OutOfMemory}
@@ -29,6 +29,7 @@ IsRun name (Run file plan progress diagnostics form) =
     × ((diagnostics ≡ record { explain = false; trace = false }) × (form ≡ Text))))
 IsRun name (Check file steps has_diagram form) = ⊥
 IsRun name (Follow file plan form) = ⊥
+IsRun name (Audit file shows_book form) = ⊥
 IsRun name (Explain text) = ⊥
 
 -- the numbers that are asked for are within their limits
@@ -40,6 +41,7 @@ IsWithinLimits (Random file window chances diagnostics form) = IsWindow window
 IsWithinLimits (Run file plan progress diagnostics form) = IsPlan plan
 IsWithinLimits (Check file steps has_diagram form) = Unit {0}
 IsWithinLimits (Follow file plan form) = Unit {0}
+IsWithinLimits (Audit file shows_book form) = Unit {0}
 IsWithinLimits (Explain text) = Unit {0}
 
 -- the place of a fault in the list of them

@@ -68,6 +68,13 @@ pub enum Options<'a> {
         plan: FollowPlan<'a>,
         form: Form,
     },
+    /// Whether the stream of messages in this file can be what a ledger published; `-` is standard input.
+    Audit {
+        file: &'a str,
+        /// Whether the last balances are printed.
+        shows_book: bool,
+        form: Form,
+    },
     /// A text on the program itself: help, or its version.
     Explain {
         text: String,

@@ -41,7 +41,7 @@ pub fn follow_arguments<'a>(alloc: Global) -> Result<Command<'a>, AllocError> {
 }
 
 /// The argument FILE, a stream.
-fn stream_argument<'a>(alloc: Global) -> Arg<'a> {
+pub fn stream_argument<'a>(alloc: Global) -> Arg<'a> {
     Arg::new(alloc, "FILE")
         .action(ArgAction::Set)
         .default_value(STANDARD_INPUT)

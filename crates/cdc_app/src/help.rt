@@ -103,3 +103,26 @@ Exit status:
   1  there is a gap, or a read, a write, memory or the store of the book failed: the last line of standard output names
      the fault, unless a write failed
   2  the arguments or a line of the stream are bad: standard error reports what was expected, and where";
+
+pub const AUDIT: &str = "\
+FILE is a stream of messages from a ledger's first event on, one JSON object in each line, and - is standard input. Its
+lines are those that the command follow reads.
+
+Each event shows the balances of its two accounts after it, so it has to follow from the events before it: its timestamp
+is later, its transfer is new, a post, void or expiry names a pending transfer that came before and hasn't ended, and
+each of the eight balances is the one before with this event's amount. The first event that doesn't follow is refused,
+with the rule that it breaks and the numbers. So a lost, doubled, swapped or changed event is found; docs/AUDIT.md
+describes what can't be.
+
+The output is how many events are accepted and the last one's timestamp; with --book also the balances that they show
+last, as the command books prints them; and at the end the line of the event that is refused, if one is.
+
+Examples:
+  relayplum messages examples/two-phase.script | relayplum audit
+  relayplum audit archive.jsonl --book
+
+Exit status:
+  0  all events are accepted
+  1  an event is refused; or a read, a write or memory failed: the last line of standard output names the fault, unless
+     a write failed
+  2  the arguments or a line of the stream are bad: standard error reports what was expected, and where";

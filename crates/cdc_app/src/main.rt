@@ -5,6 +5,8 @@ ghost use Rattle.cdc_types.specs.Windows.{IsWindow};
 ghost use Rattle.cdc_run_command.specs.Plans.{IsPlan};
 
 mod advice;
+mod audit;
+mod audit_options;
 mod command_line;
 mod diagnostics;
 mod follow;
@@ -25,6 +27,7 @@ mod slips;
 mod sources;
 
 use advice::{advise, advise_on_run, advise_on_script, advise_on_steps, shown_name};
+use audit::run_audit;
 use cdc_commands::books::{BooksEnded, books};
 use cdc_commands::check::{check, check_files};
 use cdc_commands::messages::messages;
@@ -147,6 +150,13 @@ fn run_arguments<T: Threads + Wait + Sync>(rt: &HostRuntime, threads: &T, args: 
         Ok(Options::Follow { file, plan, form }) => return run_follow(
             rt, file, plan, form,
         ).status(),
+        Ok(
+            Options::Audit {
+                file,
+                shows_book,
+                form,
+            },
+        ) => return run_audit(rt, file, shows_book, form).status(),
         Ok(Options::Explain { text }) => explain(rt, text.as_str()),
         Err(OptionsFault::BadWords { message }) => refuse_arguments(rt, message.as_str()),
         Err(OptionsFault::OutOfMemory) => abort(rt, ProgramFault::OutOfMemory, Form::Text),

@@ -4,6 +4,7 @@ ghost use Rattle.std.specs.Prelude.{◌≡◌, length, codes, IfOk, IfSome, IsOk
 ghost use Rattle.cdc_types.specs.Windows.{IsWindow};
 ghost use Rattle.cdc_app.specs.Options.{IsRun, IsWithinLimits};
 
+use crate::audit_options::audit_arguments;
 pub use crate::command_line::{Diagnostics, Form, Options, OptionsFault, RunDiagnostics};
 use crate::follow_options::{follow_arguments, follow_plan};
 use crate::help;
@@ -105,7 +106,8 @@ fn read_arguments<'a>(alloc: Global, args: &'a [&'a str]) -> Result<ArgMatches<'
         .subcommand(messages_arguments(alloc)?)?
         .subcommand(simulate_arguments(alloc)?)?
         .subcommand(run_arguments(alloc)?)?
-        .subcommand(follow_arguments(alloc)?)?;
+        .subcommand(follow_arguments(alloc)?)?
+        .subcommand(audit_arguments(alloc)?)?;
     program.try_get_matches_from(args)
 }
 
@@ -287,6 +289,11 @@ fn asked_of<'a>(
             plan: follow_plan(alloc, arguments)?,
             form,
         }),
+        ("audit", _) => Ok(Options::Audit {
+            file,
+            shows_book: arguments.get_flag("book"),
+            form,
+        }),
         _ => Err(usage_error(alloc, "error: no command has such arguments\n")?),
     }
 }
@@ -412,6 +419,7 @@ fn all_commands(alloc: Global) -> Result<Vec<Command<'static>>, AllocError> {
     commands.push(simulate_arguments(alloc)?)?;
     commands.push(run_arguments(alloc)?)?;
     commands.push(follow_arguments(alloc)?)?;
+    commands.push(audit_arguments(alloc)?)?;
     Ok(commands)
 }
 

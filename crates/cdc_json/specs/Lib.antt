@@ -1,3 +1,4 @@
+pub mod Audits
 pub mod Lines
 pub mod Objects
 pub mod Private

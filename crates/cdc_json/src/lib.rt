@@ -2,6 +2,7 @@
 //! above makes what `run` prints.
 #![tactic(auto)]
 
+mod audits;
 mod batches;
 mod books;
 mod faults;
@@ -12,6 +13,7 @@ mod simulations;
 mod streams;
 mod subscribers;
 
+pub use audits::{push_accepted, push_audit_stop};
 pub use batches::push_batch;
 pub use lines::Lines;
 pub use objects::Json;

@@ -35,7 +35,7 @@ pub fn push_stop(alloc: Global, lines: &mut Lines, seen: u64, stop: Stop) -> Res
 }
 
 /// Adds the line of a line that is no entry, for this reason.
-fn push_bad_line(
+pub(crate) fn push_bad_line(
     alloc: Global,
     lines: &mut Lines,
     line: u64,

@@ -1,0 +1,114 @@
+//! The forms in which `audit` prints what it finds.
+
+ghost use Rattle.std.specs.Prelude.{◌≡◌, ◌++◌, ℕ, Bool, List, IfOk, OnOk};
+ghost use Rattle.cdc_audit.specs.declared.streams.AuditStop.{AuditStop as Stops};
+ghost use Rattle.cdc_audit_command.specs.Texts.{accepted_line, audit_text, book_text, stop_line};
+ghost use Rattle.cdc_subscriber.specs.SubscriberState.{SubscriberState};
+
+use cdc_audit::{AuditStop, Refusal, push_refusal};
+use cdc_commands::Text;
+use cdc_subscriber::Subscriber;
+use itoa::{Buffer, Integer};
+use std::alloc::{AllocError, Global};
+
+/// A form in which `audit` prints what it finds: lines of text, or JSON objects.
+pub trait AuditForm {
+    /// What is printed of a subscriber of the accepted events, with or without its book, and of why auditing stopped.
+    ghost prints_audit: { Bool → SubscriberState → Stops → List ℕ };
+
+    /// The lines of a subscriber of the accepted events, with its book if `shows` is true, and of why auditing stopped.
+    fn audit(
+        &self,
+        alloc: Global,
+        shows: bool,
+        subscriber: &Subscriber,
+        stop: AuditStop,
+    ) -> Result<Vec<u8>, AllocError>
+        ensures { IfOk result (λ text. text.items ≡ prints_audit shows subscriber.now stop) };
+}
+
+impl AuditForm for Text {
+    ghost use Rattle.cdc_audit_command.specs.Texts.{audit_text};
+
+    ghost prints_audit = { audit_text };
+
+    fn audit(
+        &self,
+        alloc: Global,
+        shows: bool,
+        subscriber: &Subscriber,
+        stop: AuditStop,
+    ) -> Result<Vec<u8>, AllocError> {
+        let mut text = Vec::new(alloc);
+        push_accepted(&mut text, subscriber)?;
+        push_book(&mut text, shows, subscriber)?;
+        push_stop(&mut text, stop)?;
+        Ok(text)
+    }
+}
+
+/// Adds a part of a text.
+fn push(text: &mut Vec<u8>, part: &str) -> Result<(), AllocError>
+    ensures { OnOk result (text.new.items ≡ text.old.items ++ part.now) }
+{
+    text.extend_from_slice(part.as_bytes())
+}
+
+/// Adds a name and a number.
+fn push_named<I: Integer>(text: &mut Vec<u8>, name: &str, value: I) -> Result<(), AllocError>
+    ensures { OnOk result (text.new.items ≡ text.old.items ++ (name.now ++ I.text value)) }
+{
+    push(text, name)?;
+    push(text, Buffer::new().format(value))
+}
+
+/// Adds the line of how many events are accepted.
+fn push_accepted(text: &mut Vec<u8>, subscriber: &Subscriber) -> Result<(), AllocError>
+    ensures { OnOk result (text.new.items ≡ text.old.items ++ accepted_line subscriber.now) }
+{
+    push_named(text, "accepted ", subscriber.applied_count())?;
+    push_named(text, " last ", subscriber.last())?;
+    push(text, "\n")
+}
+
+/// Adds the lines of the subscriber, which has the number 1, if they are asked for.
+fn push_book(
+    text: &mut Vec<u8>,
+    shows: bool,
+    subscriber: &Subscriber,
+) -> Result<(), AllocError>
+    ensures { OnOk result (text.new.items ≡ text.old.items ++ book_text shows subscriber.now) }
+{
+    if !shows {
+        return Ok(());
+    }
+    // (a write to a vector fails only if memory runs out)
+    subscriber.print(text, 1).or(Err(AllocError))
+}
+
+/// Adds the line of why auditing stopped; none if it stopped at the end.
+fn push_stop(text: &mut Vec<u8>, stop: AuditStop) -> Result<(), AllocError>
+    ensures { OnOk result (text.new.items ≡ text.old.items ++ stop_line stop) }
+{
+    match stop {
+        AuditStop::AtEnd => Ok(()),
+        AuditStop::Refused(line, why) => push_refused(text, line, why),
+        AuditStop::BadLine(line, error) => {
+            push_named(text, "fault: line ", line)?;
+            push(text, ": ")?;
+            push(text, error.name())?;
+            push(text, "\n")?;
+            Ok(())
+        }
+    }
+}
+
+/// Adds the line of an event that is refused, on the line of this number.
+fn push_refused(text: &mut Vec<u8>, line: u64, why: Refusal) -> Result<(), AllocError>
+    ensures { OnOk result (text.new.items ≡ text.old.items ++ stop_line (Stops.Refused line why)) }
+{
+    push_named(text, "refused: line ", line)?;
+    push(text, ": ")?;
+    push_refusal(text, &why)?;
+    push(text, "\n")
+}

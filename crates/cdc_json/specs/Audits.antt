@@ -1,0 +1,62 @@
+-- The JSON values of what is printed of an audit.
+use Rattle.std.specs.Prelude.{ℕ, Bool, List, [], ◌++◌, codes, if◌then◌else◌}
+use Rattle.serde_json.specs.Data.{Data, Members, string, no_members, member}
+use Rattle.cdc_message.specs.Values.{narrow, wide}
+use Rattle.cdc_subscriber.specs.SubscriberState.{SubscriberState}
+use Rattle.cdc_audit.specs.Texts.{field_name, refusal_name}
+use Rattle.cdc_audit.specs.declared.refusals.Refusal.{Refusal}
+use Rattle.cdc_audit.specs.declared.refusals.Refusal.TheVariants.{AfterEnd, NotLater, OneAccount, KnownId, NotPending, Settled, Balance}
+use Rattle.cdc_audit.specs.declared.streams.AuditStop.{AuditStop}
+use Rattle.cdc_audit.specs.declared.streams.AuditStop.TheVariants.{AtEnd, Refused, BadLine}
+use Rattle.cdc_json.specs.Lines.{json_line, json_lines, line_of, subscriber_values}
+use Rattle.cdc_json.specs.Streams.{bad_line_value}
+
+-- how many events are accepted, and the last one's timestamp
+abbrev pub accepted_value : SubscriberState → Data
+accepted_value kept =
+    line_of (codes "accepted") (
+    member (codes "events") (narrow kept.applied) (
+    member (codes "last") (wide kept.last)
+    no_members))
+
+-- the numbers of a refusal
+abbrev pub refusal_members : Refusal → Members
+refusal_members (AfterEnd timestamp) = member (codes "timestamp") (wide timestamp) no_members
+refusal_members (NotLater timestamp last) =
+    member (codes "timestamp") (wide timestamp) (member (codes "last") (wide last) no_members)
+refusal_members (OneAccount account) = member (codes "account") (wide account) no_members
+refusal_members (KnownId transfer) = member (codes "transfer") (wide transfer) no_members
+refusal_members (NotPending transfer) = member (codes "transfer") (wide transfer) no_members
+refusal_members (Settled transfer) = member (codes "transfer") (wide transfer) no_members
+refusal_members (Balance it) =
+    member (codes "account") (wide it.account) (
+    member (codes "field") (string (field_name it.field)) (
+    member (codes "shown") (wide it.shown) (
+    member (codes "before") (wide it.before) (
+    member (codes "added") (wide it.added) (
+    member (codes "released") (wide it.released)
+    no_members)))))
+
+-- the line of an event that is refused by this rule, on the line of this number
+abbrev pub rule_value : ℕ → List ℕ → Members → Data
+rule_value line rule members =
+    line_of (codes "refusal") (member (codes "line") (narrow line) (member (codes "rule") (string rule) members))
+
+-- the same of a refusal
+abbrev pub refused_value : ℕ → Refusal → Data
+refused_value line why = rule_value line (refusal_name why) (refusal_members why)
+
+-- the line of why auditing stopped; none at the end
+abbrev pub audit_stop_lines : AuditStop → List ℕ
+audit_stop_lines AtEnd = []
+audit_stop_lines (Refused line why) = json_line (refused_value line why)
+audit_stop_lines (BadLine line error) = json_line (bad_line_value line error)
+
+-- the lines of a subscriber of the accepted events, if they are asked for
+abbrev pub audit_book_lines : Bool → SubscriberState → List ℕ
+audit_book_lines shows kept = if shows then json_lines (subscriber_values 1 kept) else []
+
+-- all that is printed: how much is accepted, the book if it is asked for, and why auditing stopped
+abbrev pub audit_lines : Bool → SubscriberState → AuditStop → List ℕ
+audit_lines shows kept stop =
+    json_line (accepted_value kept) ++ (audit_book_lines shows kept ++ audit_stop_lines stop)

@@ -1,0 +1,398 @@
+#!/usr/bin/env python3
+"""The command audit: streams by hand that each break one rule, and random streams of a ledger that are changed, beside a model.
+
+  tests/checks/audit.py [PROGRAM] [--streams N]    PROGRAM: crates/cdc_app/out/cdc_app; N random streams, 400 by default
+
+By hand: each rule broken alone, with the line that is printed, in both forms; what follows the end; bad lines; the book. Random
+streams are the events of the model's ledger for random scripts of the soak: each has to be accepted, with the ledger's balances.
+Then one event is left out, doubled, swapped with the next one or changed in one field: the program has to accept or refuse
+just what a small model of the rules does, at the same line and by the same rule, which reads JSON by Python's own parser. A
+double, a swap, another balance, and another amount that is moved or held have to be refused; so has what follows an event that is
+left out, if its amount isn't 0 and one of its accounts appears again. What no rule finds is counted by kind and printed.
+
+The last line is `audit: N passed, M failed`; the status is 1 if one failed.
+"""
+import collections
+import concurrent.futures
+import json
+import os
+import random
+import subprocess
+import sys
+
+sys.dont_write_bytecode = True
+sys.path += [os.path.join(os.path.dirname(os.path.realpath(__file__)), "..", it) for it in ("common", "checks")]
+import ending
+import model
+import rooms
+import soak
+
+SECONDS, JOBS = 300, 2  # that a run may take, a last guard; runs at a time
+STREAMS = 400
+MOST_SHOWN = 10
+BALANCES = ("debits_pending", "debits_posted", "credits_pending", "credits_posted")
+STORES = ("single_phase", "two_phase_pending", "two_phase_posted", "two_phase_voided")
+MOVES, HOLDS = ("single_phase", "two_phase_posted"), ("two_phase_pending",)
+SETTLES = ("two_phase_posted", "two_phase_voided", "two_phase_expired")
+program = None
+passed = 0
+failures = []
+
+
+def check(name, is_right, found):
+    """Counts a check, and keeps what was found if it failed."""
+    global passed
+    if is_right:
+        passed += 1
+    else:
+        failures.append(f"failed: {name}: {found!r}"[:1500])
+
+
+def run(arguments, stream):
+    """Runs the command over these bytes: its status, standard output and standard error."""
+    done = subprocess.run([program, "audit", *arguments], input=stream, capture_output=True, timeout=SECONDS)
+    return done.returncode, done.stdout.decode(), done.stderr.decode(errors="replace")
+
+
+def text_of(bodies):
+    return "".join(json.dumps(it) + "\n" for it in bodies).encode()
+
+
+# ---------------------------------------------------------------------------------------------------------------------
+# The model.
+
+
+def settled_id(body):
+    transfer = body["transfer"]
+    return int(transfer["id"] if body["type"] == "two_phase_expired" else transfer["pending_id"])
+
+
+class Audit:
+    """What an audit knows of the events so far, and why the next one is refused."""
+
+    def __init__(self):
+        self.count = self.last = 0
+        self.balances, self.stored, self.pending, self.settled = {}, set(), {}, set()
+
+    def refusal(self, body):
+        """Why an event is refused, as the rule and its sentence, or None."""
+        timestamp, kind, transfer = int(body["timestamp"]), body["type"], body["transfer"]
+        id, amount = int(transfer["id"]), int(transfer["amount"])
+        debit, credit = body["debit_account"], body["credit_account"]
+        if timestamp <= self.last:
+            return f"timestamps: {timestamp}, after {self.last}"
+        if int(debit["id"]) == int(credit["id"]):
+            return f"accounts: account {int(debit['id'])} is debited and credited"
+        if kind in STORES and id in self.stored:
+            return f"id: transfer {id} came before"
+        released = 0
+        if kind in SETTLES:
+            of = settled_id(body)
+            if of not in self.pending:
+                return f"pending: no pending transfer {of} came before"
+            if of in self.settled:
+                return f"ended: pending transfer {of} ended before"
+            released = self.pending[of]
+        held, posted = amount if kind in HOLDS else 0, amount if kind in MOVES else 0
+        for account, side in ((debit, 0), (credit, 2)):
+            before = self.balances.get(int(account["id"]), (0, 0, 0, 0))
+            for place, name in enumerate(BALANCES):
+                added = (held, posted)[place - side] if place - side in (0, 1) else 0
+                less = released if place == side else 0
+                shown = int(account[name])
+                if shown + less != before[place] + added:
+                    reason = f" and this transfer's {added}" if added else ""
+                    reason += f" less the pending transfer's {less}" if less else ""
+                    return f"balances: account {int(account['id'])} has {name} {shown}, after {before[place]}{reason}"
+        return None
+
+    def take(self, body):
+        """Takes an event that isn't refused."""
+        self.count, self.last = self.count + 1, int(body["timestamp"])
+        if body["type"] in STORES:
+            self.stored.add(int(body["transfer"]["id"]))
+        if body["type"] in HOLDS:
+            self.pending[int(body["transfer"]["id"])] = int(body["transfer"]["amount"])
+        if body["type"] in SETTLES:
+            self.settled.add(settled_id(body))
+        for side in ("debit_account", "credit_account"):
+            account = body[side]
+            self.balances[int(account["id"])] = tuple(int(account[name]) for name in BALANCES)
+
+    def book(self):
+        return "".join(f"account {id} {' '.join(map(str, shown))}\n" for id, shown in self.balances.items())
+
+
+def audited(bodies, book=False):
+    """What the program has to print of these events, and its status."""
+    it, refused = Audit(), ""
+    for number, body in enumerate(bodies, 1):
+        why = it.refusal(body)
+        if why:
+            refused = f"refused: line {number}: {why}\n"
+            break
+        it.take(body)
+    shown = f"subscriber 1 applied {it.count} last {it.last} ended no closed no\n{it.book()}" if book else ""
+    return f"accepted {it.count} last {it.last}\n{shown}{refused}", 1 if refused else 0
+
+
+# ---------------------------------------------------------------------------------------------------------------------
+# By hand.
+
+
+def account(id, *balances):
+    members = {"user_data_128": "0", "user_data_64": "0", "user_data_32": 0, "code": 1, "flags": 0, "timestamp": "1"}
+    return {"id": str(id), **{name: str(value) for name, value in zip(BALANCES, balances)}, **members}
+
+
+def event(timestamp, id, kind, amount, debit, credit, pending=0):
+    """An event's body; an account is its id and its four balances."""
+    members = {"user_data_128": "0", "user_data_64": "0", "user_data_32": 0, "timeout": 0, "code": 1, "flags": 0}
+    transfer = {"id": str(id), "amount": str(amount), "pending_id": str(pending), **members, "timestamp": str(timestamp)}
+    return {
+        "timestamp": str(timestamp),
+        "type": kind,
+        "ledger": 700,
+        "transfer": transfer,
+        "debit_account": account(*debit),
+        "credit_account": account(*credit),
+    }
+
+
+SINGLE, PENDING, POSTED, VOIDED, EXPIRED = (*STORES, "two_phase_expired")
+# Account 1 pays 30 to account 2, and holds back 10 for it, of which 4 are posted.
+PAID = event(10, 1, SINGLE, 30, (1, 0, 30, 0, 0), (2, 0, 0, 0, 30))
+HELD = event(20, 2, PENDING, 10, (1, 10, 30, 0, 0), (2, 0, 0, 10, 30))
+POST = event(30, 3, POSTED, 4, (1, 0, 34, 0, 0), (2, 0, 0, 0, 34), 2)
+VOID = event(30, 3, VOIDED, 10, (1, 0, 30, 0, 0), (2, 0, 0, 0, 30), 2)
+EXPIRY = event(30, 2, EXPIRED, 10, (1, 0, 30, 0, 0), (2, 0, 0, 0, 30))
+END = {"end": True}
+
+
+def rows():
+    """Each row: what it is, the stream, what is printed, and the status."""
+    yield "nothing", [], "accepted 0 last 0\n", 0
+    yield "one event", [PAID], "accepted 1 last 10\n", 0
+    yield "a post", [PAID, HELD, POST], "accepted 3 last 30\n", 0
+    yield "a void", [PAID, HELD, VOID], "accepted 3 last 30\n", 0
+    yield "an expiry", [PAID, HELD, EXPIRY], "accepted 3 last 30\n", 0
+    yield "envelopes and the end", [{"previous": "0", "body": PAID}, END], "accepted 1 last 10\n", 0
+    yield "the end twice", [PAID, END, END], "accepted 1 last 10\n", 0
+    yield "an event after the end", [PAID, END, HELD], "accepted 1 last 10\nrefused: line 3: end: event 20 came after the end\n", 1
+    yield "an event at 0", [{**PAID, "timestamp": "0"}], "accepted 0 last 0\nrefused: line 1: timestamps: 0, after 0\n", 1
+    yield "one timestamp twice", [PAID, {**HELD, "timestamp": "10"}], (
+        "accepted 1 last 10\nrefused: line 2: timestamps: 10, after 10\n"
+    ), 1
+    yield "an event twice", [PAID, PAID], "accepted 1 last 10\nrefused: line 2: timestamps: 10, after 10\n", 1
+    one = event(10, 1, SINGLE, 5, (1, 0, 5, 0, 5), (1, 0, 5, 0, 5))
+    yield "one account", [one], "accepted 0 last 0\nrefused: line 1: accounts: account 1 is debited and credited\n", 1
+    again = event(20, 1, SINGLE, 1, (1, 0, 31, 0, 0), (2, 0, 0, 0, 31))
+    yield "an id twice", [PAID, again], "accepted 1 last 10\nrefused: line 2: id: transfer 1 came before\n", 1
+    yield "a post of nothing", [PAID, POST], "accepted 1 last 10\nrefused: line 2: pending: no pending transfer 2 came before\n", 1
+    of_single = event(30, 3, POSTED, 4, (1, 0, 34, 0, 0), (2, 0, 0, 0, 34), 1)
+    yield "a post of a single-phase transfer", [PAID, of_single], (
+        "accepted 1 last 10\nrefused: line 2: pending: no pending transfer 1 came before\n"
+    ), 1
+    late = {**EXPIRY, "timestamp": "40"}
+    yield "an expiry of what was posted", [PAID, HELD, POST, late], (
+        "accepted 3 last 30\nrefused: line 4: ended: pending transfer 2 ended before\n"
+    ), 1
+    second = event(40, 4, VOIDED, 10, (1, 0, 30, 0, 0), (2, 0, 0, 0, 30), 2)
+    yield "a void of what expired", [PAID, HELD, EXPIRY, second], (
+        "accepted 3 last 30\nrefused: line 4: ended: pending transfer 2 ended before\n"
+    ), 1
+    third = event(30, 3, SINGLE, 1, (1, 0, 35, 0, 0), (2, 0, 0, 0, 35))
+    yield "an event that was left out", [PAID, third], (
+        "accepted 1 last 10\nrefused: line 2: balances: account 1 has debits_posted 35, after 30 and this transfer's 1\n"
+    ), 1
+    wrong = event(20, 2, PENDING, 10, (1, 10, 30, 0, 0), (2, 0, 0, 9, 30))
+    yield "credits that aren't held", [PAID, wrong], (
+        "accepted 1 last 10\nrefused: line 2: balances: account 2 has credits_pending 9, after 0 and this transfer's 10\n"
+    ), 1
+    whole = event(30, 3, POSTED, 4, (1, 6, 34, 0, 0), (2, 0, 0, 6, 34), 2)
+    yield "a post that releases its own amount", [PAID, HELD, whole], (
+        "accepted 2 last 20\nrefused: line 3: balances: account 1 has debits_pending 6, after 10 less the pending transfer's 10\n"
+    ), 1
+    other = event(20, 2, SINGLE, 1, (1, 0, 31, 0, 0), (2, 0, 7, 0, 31))
+    yield "a side that doesn't move", [PAID, other], (
+        "accepted 1 last 10\nrefused: line 2: balances: account 2 has debits_posted 7, after 0\n"
+    ), 1
+    turned = event(20, 2, SINGLE, 1, (1, 0, 30, 0, 1), (2, 0, 1, 0, 30))
+    yield "debit and credit exchanged", [PAID, turned], (
+        "accepted 1 last 10\nrefused: line 2: balances: account 1 has debits_posted 30, after 30 and this transfer's 1\n"
+    ), 1
+    most = 2**128 - 1
+    full = event(10, 1, SINGLE, most, (1, 0, most, 0, 0), (2, 0, 0, 0, most))
+    over = event(20, 2, SINGLE, 1, (1, 0, 0, 0, 0), (3, 0, 0, 0, 1))
+    yield "a sum past 128 bits", [full, over], (
+        f"accepted 1 last 10\nrefused: line 2: balances: account 1 has debits_posted 0, after {most} and this transfer's 1\n"
+    ), 1
+
+
+def by_hand(folder):
+    for name, stream, printed, status in rows():
+        found = run([], text_of(stream))
+        check(name, found[:2] == (status, printed) and bool(found[2]) == (status != 0), found)
+        file = os.path.join(folder, "stream")
+        with open(file, "wb") as it:
+            it.write(text_of(stream))
+        check(f"{name}, in a file", run([file], b"")[:2] == (status, printed), found)
+    book = "subscriber 1 applied 3 last 30 ended yes closed no\naccount 1 0 34 0 0\naccount 2 0 0 0 34\n"
+    found = run(["--book"], text_of([PAID, HELD, POST, END]))
+    check("the book", found[:2] == (0, "accepted 3 last 30\n" + book), found)
+    found = run(["--json"], text_of([PAID, POST]))
+    lines = '{"kind":"accepted","events":1,"last":"10"}\n{"kind":"refusal","line":2,"rule":"pending","transfer":"2"}\n'
+    check("as JSON", found[:2] == (1, lines), found)
+    for stream, members in json_rows():
+        found = run(["--json"], text_of(stream))
+        line = json.loads(found[1].splitlines()[-1])
+        check(f"as JSON: {members['rule']}", line == {"kind": "refusal", "line": len(stream), **members}, found)
+    found = run(["--json", "--book"], text_of([PAID]))
+    kinds = [json.loads(it)["kind"] for it in found[1].splitlines()]
+    check("the book as JSON", (found[0], kinds) == (0, ["accepted", "subscriber", "account", "account"]), found)
+    for line, name in ((b"{\n", "not_json"), (b"{}\n", "missing"), (b" " * 65537 + b"\n", "too_long")):
+        found = run([], text_of([PAID]) + line)
+        check(f"a bad line: {name}", found[:2] == (2, f"accepted 1 last 10\nfault: line 2: {name}\n") and name in found[2], found)
+    found = run(["--json"], b"{\n")
+    line = '{"kind":"line_fault","line":1,"name":"not_json"}\n'
+    check("a bad line as JSON", found[:2] == (2, '{"kind":"accepted","events":0,"last":"0"}\n' + line), found)
+    found = run([os.path.join(folder, "nowhere")], b"")
+    check("a stream that isn't there", found[:2] == (1, "fault: read_fault\n") and "read_fault" in found[2], found)
+    for arguments in (["a", "b"], ["--chained"], ["--every", "1"]):
+        found = run(arguments, b"")
+        check(f"usage: {arguments}", found[0] == 2 and not found[1] and found[2].startswith("error: "), found)
+
+
+def json_rows():
+    """The members of a refusal, for each rule."""
+    one = event(10, 1, SINGLE, 5, (1, 0, 5, 0, 5), (1, 0, 5, 0, 5))
+    again = event(20, 1, SINGLE, 1, (1, 0, 31, 0, 0), (2, 0, 0, 0, 31))
+    wrong = event(30, 3, POSTED, 4, (1, 6, 34, 0, 0), (2, 0, 0, 6, 34), 2)
+    yield [PAID, END, HELD], {"rule": "end", "timestamp": "20"}
+    yield [PAID, PAID], {"rule": "timestamps", "timestamp": "10", "last": "10"}
+    yield [one], {"rule": "accounts", "account": "1"}
+    yield [PAID, again], {"rule": "id", "transfer": "1"}
+    yield [PAID, HELD, POST, {**EXPIRY, "timestamp": "40"}], {"rule": "ended", "transfer": "2"}
+    shown = {"shown": "6", "before": "10", "added": "0", "released": "10"}
+    yield [PAID, HELD, wrong], {"rule": "balances", "account": "1", "field": "debits_pending", **shown}
+
+
+# ---------------------------------------------------------------------------------------------------------------------
+# Random streams.
+
+PATHS = [("timestamp",), ("ledger",)]
+PATHS += [("transfer", it) for it in ("id", "amount", "pending_id", "timeout", "code", "flags", "timestamp")]
+PATHS += [(side, it) for side in ("debit_account", "credit_account") for it in (*BALANCES, "id", "code", "flags", "timestamp")]
+
+
+def bodies_of(seed):
+    """The events of a random script that the model's ledger took, as bodies; and its balances."""
+    script = soak.case_of("audit", seed).script
+    try:
+        ledger, _ = model.run_batches(model.read_script(script))
+    except model.Fault:
+        return []
+    return [json.loads(model.body(it)) for it in ledger.events]
+
+
+def changed(rng, body):
+    """A body with another value in one field, and the field's path."""
+    path = rng.choice(PATHS)
+    copy = json.loads(json.dumps(body))
+    part = copy
+    for name in path[:-1]:
+        part = part[name]
+    value = int(part[path[-1]])
+    other = rng.choice([value + 1, max(value - 1, 0), 0, value * 2 + 1, rng.randrange(2**16)])
+    if other == value:
+        other = value + 1
+    part[path[-1]] = str(other) if isinstance(part[path[-1]], str) else other % 2**16
+    return copy, path
+
+
+def appears_later(bodies, place):
+    """Whether an account of an event appears again after it."""
+    ids = {bodies[place][side]["id"] for side in ("debit_account", "credit_account")}
+    return any(it[side]["id"] in ids for it in bodies[place + 1 :] for side in ("debit_account", "credit_account"))
+
+
+def must_be_found(kind, path, bodies, place):
+    """Whether a change has to be refused, whatever the stream."""
+    body = bodies[place]
+    if kind in ("doubled", "swapped"):
+        return True
+    if kind == "dropped":
+        amount = int(body["transfer"]["amount"])
+        return amount > 0 and body["type"] in (*MOVES, *HOLDS) and appears_later(bodies, place)
+    return path[-1] in BALANCES or path == ("transfer", "amount") and body["type"] in (*MOVES, *HOLDS)
+
+
+def mutants(rng, bodies):
+    """Changed streams: the kind, the stream, and whether it has to be refused."""
+    for kind in ("dropped", "doubled", "swapped", "changed", "changed", "changed"):
+        place = rng.randrange(len(bodies))
+        stream, path = list(bodies), None
+        if kind == "dropped":
+            del stream[place]
+        elif kind == "doubled":
+            stream.insert(rng.randrange(place + 1, len(stream) + 1), stream[place])
+        elif kind == "swapped":
+            if place + 1 == len(stream):
+                continue
+            stream[place : place + 2] = reversed(stream[place : place + 2])
+        else:
+            stream[place], path = changed(rng, stream[place])
+        name = f"changed {path[-1]}" if path else kind
+        yield name, stream, must_be_found(kind, path, bodies, place)
+
+
+def random_stream(seed):
+    """What is wrong with what the program makes of a random stream and of its mutants, and what of these it didn't refuse."""
+    rng = random.Random(f"audit {seed}")
+    bodies, wrong, missed = bodies_of(seed), [], []
+    text, status = audited(bodies, True)
+    found = run(["--book"], text_of(bodies))
+    if status or found[:2] != (0, text):
+        wrong.append(f"seed {seed}: {found!r}, not {text!r}")
+    for kind, stream, must in mutants(rng, bodies) if bodies else ():
+        text, status = audited(stream)
+        found = run([], text_of(stream))
+        if found[:2] != (status, text) or must and status == 0:
+            wrong.append(f"seed {seed}, {kind}: {found!r}, not {text!r}")
+        missed.append((kind, status))
+    return wrong, missed
+
+
+def random_streams(count):
+    counts = collections.Counter()
+    with concurrent.futures.ProcessPoolExecutor(JOBS, initializer=given, initargs=(program,)) as pool:
+        for wrong, missed in pool.map(random_stream, range(count), chunksize=20):
+            check("a random stream", not wrong, wrong)
+            counts.update(missed)
+    kinds = sorted({kind for kind, _ in counts})
+    accepted = ", ".join(f"{it} {counts[it, 0]} of {counts[it, 0] + counts[it, 1]}" for it in kinds)
+    print(f"audit: accepted all the same: {accepted}")
+
+
+def given(path):
+    global program
+    program = path
+
+
+def main(arguments):
+    global program
+    parser = rooms.parser_of_first(__doc__)
+    parser.add_argument("--streams", type=int, default=STREAMS, metavar="N", help="random streams; default: %(default)s")
+    options = rooms.options_of(parser, arguments)
+    program = options.program
+    with rooms.room("audit-") as folder:
+        by_hand(folder)
+        random_streams(options.streams)
+    for it in failures[:MOST_SHOWN]:
+        print(it)
+    print(f"audit: {passed} passed, {len(failures)} failed")
+    return 1 if failures else 0
+
+
+if __name__ == "__main__":
+    ending.run(main)
