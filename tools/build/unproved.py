@@ -10,7 +10,7 @@ from .crates import APP
 # The flags that a number follows, which is no file even where a file has its name.
 NUMBERED = (
     "--window", "--prefetch", "--lose-confirm", "--lose-publish", "--restart-after", "--repeat", "--close", "--start-after",
-    "--random", "--steps", "--faults",
+    "--random", "--steps", "--faults", "--queue", "--every", "--binding",
 )
 
 
@@ -19,7 +19,7 @@ def handed_on(arguments):
     is handed on as a copy, and one that is written by its whole path."""
     data, handed, before = [], [], ""
     for place, argument in enumerate(arguments):
-        if before == "--progress":
+        if before == "--progress" or (arguments[0], before) == ("follow", "--book"):
             handed.append(os.path.realpath(argument))
         elif argument.startswith("--diagram=") and argument != "--diagram=-":
             handed.append(f"--diagram={os.path.realpath(argument.partition('=')[2])}")
