@@ -72,6 +72,7 @@ run_page() {
     done <"$top/docs/$name.md"
     run_block
     [ "$blocks" -gt "$before" ] || wrong "$name.md: no block was found"
+    [ -d play ] || mkdir play
     diff <(ls -A) <(printf '%s\n' examples play relayplum) || wrong "$name.md: other files than play/"
     diff -r examples "$top/examples" || wrong "$name.md: an example was changed"
 }
