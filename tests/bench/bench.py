@@ -2,10 +2,11 @@
 """Measures the program, and prints one table: commands by scripts, in instructions, memory and time. With no --program it is
 the one that LLVM makes, which is built first, as `./relayplum --optimised` does it.
 
-    tests/bench/bench.py [--program PATH] [--times N] [--jobs N] [--only SCRIPT].. [--write]
+    tests/bench/bench.py [--program PATH] [--times N] [--jobs N] [--only SCRIPT_OR_STREAM].. [--write]
 
 The scripts have 1,000 events, as many as a script has room for, as many between 5,000 accounts, and as many for eight
-subscribers. Of each command that works on one thread Valgrind counts the instructions, which other work on the machine
+subscribers. Streams of 20,000 and of 1,000,000 events are followed and audited, as the connector writes their bodies, as
+TigerBeetle documents them, and in envelopes (streams.py); those of a million have no count. Of each command that works on one thread Valgrind counts the instructions, which other work on the machine
 doesn't change; `run` looks for messages while it waits, so its instructions say nothing. The most memory is what the
 system has of a run (spent.c, which wants `cc`). For the wall-clock times the commands of a script are run in turn, --times
 times (15, and no fewer count as a measure): the least and the median, with the load before and after.
@@ -31,6 +32,7 @@ import ending
 import rooms
 import scripts
 import spent
+import streams
 from build.jobs import OPTIMISING
 from build.program import Program
 
@@ -52,6 +54,10 @@ SCRIPTS = {
     '5,000 accounts': (5_000, None, 1),
     'eight subscribers': (2, None, 8),
 }
+
+
+# How many events a stream has; whether its instructions are counted.
+STREAMS = {'20,000 messages': (20_000, True), '1,000,000 messages': (1_000_000, False)}
 
 
 def script_of(name):
@@ -86,6 +92,17 @@ def commands_of(subscribers, has_steps):
     return found
 
 
+def stream_commands():
+    """The commands over a stream by their names."""
+    return {
+        'follow': ['follow', 'own.stream'],
+        'follow, documented bodies': ['follow', 'documented.stream'],
+        'follow --chained': ['follow', '--chained', 'chained.stream'],
+        'audit': ['audit', 'own.stream'],
+        'audit, documented bodies': ['audit', 'documented.stream'],
+    }
+
+
 def instructions(program, arguments, folder):
     """What Valgrind counts of a run."""
     with tempfile.NamedTemporaryFile(dir=folder) as out:
@@ -110,9 +127,23 @@ class Bench:
         steps = steps_of(text, events, subscribers)
         (folder / 'bench.steps').write_text(steps)
         commands = commands_of(subscribers, len(steps) <= scripts.SCRIPT_BYTES)
+        self.measure_commands(name, folder, commands, events, [it for it in commands if not it.startswith('run')])
+
+    def measure_stream(self, name, events, is_counted):
+        """Measures each command on a stream."""
+        folder = pathlib.Path(self.folder) / name.replace(' ', '-')
+        folder.mkdir()
+        for form in streams.FORMS:
+            with open(folder / f'{form}.stream', 'w', encoding='ascii') as file:
+                file.writelines(streams.lines(events, form))
+        commands = stream_commands()
+        self.measure_commands(name, folder, commands, events, commands if is_counted else [])
+
+    def measure_commands(self, name, folder, commands, events, counted_ones):
+        """Measures commands in a folder, and counts the instructions of some of them."""
         counted = {
             it: self.pool.submit(instructions, self.program, [self.within(folder, argument) for argument in arguments], folder)
-            for it, arguments in commands.items() if not it.startswith('run')
+            for it, arguments in commands.items() if it in counted_ones
         }
         counts = {it: future.result() for it, future in counted.items()}
         runs = {it: [] for it in commands}
@@ -127,7 +158,7 @@ class Bench:
 
     @staticmethod
     def within(folder, argument):
-        return str(folder / argument) if argument.startswith('bench.') else argument
+        return str(folder / argument) if argument.startswith('bench.') or argument.endswith('.stream') else argument
 
     def table(self):
         lines = [HEAD, re.sub('[^|]+', '---', HEAD)]
@@ -184,15 +215,18 @@ def main(arguments):
     parser = rooms.parser_of(__doc__, default=None)
     parser.add_argument('--times', type=int, default=15)
     parser.add_argument('--jobs', type=int, default=2)
-    parser.add_argument('--only', action='append', choices=SCRIPTS)
+    parser.add_argument('--only', action='append', choices=[*SCRIPTS, *STREAMS])
     parser.add_argument('--write', action='store_true')
     given = parser.parse_args(arguments)
     options = rooms.options_of(parser, [*arguments, '--program', given.program or optimised()])
     before = os.getloadavg()[0]
     with rooms.room('bench-') as folder:
         bench = Bench(options.program, folder, options.times, options.jobs)
-        for name in options.only or SCRIPTS:
-            bench.measure(name, *script_of(name))
+        for name in options.only or [*SCRIPTS, *STREAMS]:
+            if name in STREAMS:
+                bench.measure_stream(name, *STREAMS[name])
+            else:
+                bench.measure(name, *script_of(name))
     processors = len(os.sched_getaffinity(0))
     title = f'## `{commit()}`, {datetime.date.today()}: the benchmark\n'
     load = f'a load of {before:.1f} before and {os.getloadavg()[0]:.1f} after'

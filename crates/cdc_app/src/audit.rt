@@ -20,7 +20,7 @@ pub fn run_audit(rt: &HostRuntime, file: &str, shows_book: bool, form: Form) -> 
     let mut writer = io::writer(rt);
     let source = Source::of_script(rt, file);
     let Ok(mut reader) = BufReader::with_capacity(rt.alloc(), BUFFER_BYTES, source) else {
-        return lack_memory(rt, file, form);
+        return out_of_memory(rt, file, form);
     };
     let mut auditor = Auditor::new(rt.alloc());
     let ending = match form {
@@ -46,7 +46,7 @@ pub fn run_audit(rt: &HostRuntime, file: &str, shows_book: bool, form: Form) -> 
 }
 
 /// Prints that memory ran out before the first line was read.
-fn lack_memory(rt: &HostRuntime, file: &str, form: Form) -> AuditEnding {
+fn out_of_memory(rt: &HostRuntime, file: &str, form: Form) -> AuditEnding {
     let fault = ProgramFault::OutOfMemory;
     let mut writer = io::writer(rt);
     let _ending = match form {
