@@ -155,9 +155,14 @@ usage_error "'--random" simulate one.script --check --random 1
 usage_error "'--random" books one.script --random 1
 usage_error "'--steps" simulate one.script three.steps --steps 5
 usage_error "'--faults" simulate one.script three.steps --faults 5
-for arguments in '--random x' '--random 18446744073709551616' '--random 1 --steps 20001' '--random 1 --faults=-1' \
-    '--random 1 --steps x' '--random='; do
-    usage_error 'a seed is 0 to 18446744073709551615, and steps and faults are 0 to 20000' simulate one.script $arguments
+usage_error "relayplum simulate one.script --random 1" simulate one.script
+usage_error "can't both be standard input" simulate - -
+for seed in x 18446744073709551616 ''; do
+    usage_error "--random $seed: a seed, a number from 0 to 18446744073709551615" simulate one.script "--random=$seed"
+done
+for count in 20001 -1 x; do
+    usage_error "--steps $count: a number from 0 to 20000" simulate one.script --random 1 "--steps=$count"
+    usage_error "--faults $count: a number from 0 to 20000" simulate one.script --random 1 "--faults=$count"
 done
 usage_error "'--trace'" books one.script --trace
 usage_error "'--diagram" messages one.script --diagram=out
@@ -168,30 +173,30 @@ usage_error "'--progress" run one.script --progress a --progress b
 usage_error "'--prefetch" run one.script --prefetch 1 --prefetch 1
 usage_error "'--lose-confirm'" books one.script --lose-confirm 1
 for prefetch in 0 65 18446744073709551617 x 8: -1 ''; do
-    usage_error 'a prefetch is 1 to 64' run one.script --prefetch="$prefetch"
+    usage_error "--prefetch $prefetch: a number from 1 to 64" run one.script --prefetch="$prefetch"
 done
 usage_error "'--start-after" run one.script --start-after
 usage_error "'--start-after" run one.script --start-after 1 --start-after 1
 usage_error "'--start-after'" simulate one.script three.steps --start-after 1
 for start in 9223372036854775808 18446744073709551616 x 1:1 +1 -1 ''; do
-    usage_error 'a start is a timestamp in nanoseconds, 0 to 9223372036854775807' run one.script --start-after="$start"
+    usage_error "--start-after $start: a timestamp in nanoseconds, from 0 to 9223372036854775807" run one.script --start-after="$start"
 done
 for option in --lose-confirm --lose-publish --restart-after; do
     usage_error "'$option" run one.script "$option"
     for count in 0 00 18446744073709551616 x 1:1 +1 -1 ''; do
-        usage_error 'is a number from 1' run one.script "$option" 1 "$option=$count"
+        usage_error "$option $count: a number from 1 to 18446744073709551615" run one.script "$option" 1 "$option=$count"
     done
 done
 for option in --repeat --close; do
     usage_error "'$option" run one.script "$option"
-    for pair in 0:1 1:0 1 1: :1 : 1:1:1 1-1 x:1 1:x 18446744073709551616:1 1:18446744073709551616 ''; do
-        usage_error 'two numbers from 1' run one.script "$option=1:1" "$option=$pair"
+    for pair in 0:1 9:1 1:0 1 1: :1 : 1:1:1 1-1 x:1 1:x 18446744073709551616:1 1:18446744073709551616 ''; do
+        usage_error "$option $pair: a " run one.script "$option=1:1" "$option=$pair"
     done
 done
 for window in 0 65 1000 x 1.5 ''; do
-    usage_error 'a window is 1 to 64' run one.script --window "$window"
-    usage_error 'a window is 1 to 64' simulate one.script three.steps --window "$window"
-    usage_error 'a window is 1 to 64' simulate one.script three.steps --check --window "$window"
+    usage_error "--window $window: a number from 1 to 64" run one.script --window "$window"
+    usage_error "--window $window: a number from 1 to 64" simulate one.script three.steps --window "$window"
+    usage_error "--window $window: a number from 1 to 64" simulate one.script three.steps --check --window "$window"
 done
 run books $'\xff'
 same 'an argument that is no text: status' 2 "$status"
@@ -565,8 +570,12 @@ for arguments in 'one.script three.steps' '- three.steps' 'one.script three.step
     same "arguments 'simulate $arguments'" "$its_world" "$out"
     ends_well "arguments 'simulate $arguments'"
 done
-cp three.steps ./-
+cp three.steps input
 run simulate one.script -
+same 'steps on standard input' "$its_world" "$out"
+ends_well 'steps on standard input'
+cp three.steps ./-
+run simulate one.script ./-
 same 'a step file whose name is a dash' "$its_world" "$out"
 printf 'start\nstart\n' >twice.steps
 run simulate one.script twice.steps
@@ -578,6 +587,9 @@ subscriber 1 applied 0 last 0 ended no closed no
 ' "$out"
 same 'a refused step: standard error' 'twice.steps:2: start: not enabled: session 1 runs already
 ' "$err"
+cp twice.steps input
+run simulate one.script -
+has 'a refused step of standard input' ':2: start: not enabled: session 1 runs already' "$err"
 run simulate "$top/examples/two-phase.script" "$top/examples/two-phase.steps"
 shown=$(sed -n '/^steps 22 of 22$/,/^```$/p' "$top/docs/REFERENCE.md")
 same 'the example of steps' "batch 1: 0 0 0 0

@@ -49,10 +49,10 @@ pub fn advise_on_steps(rt: &HostRuntime, script: Seen<'_>, steps: Seen<'_>, endi
                 Some(bytes) => steps_fault_sentence(rt.alloc(), bytes, fault),
                 None => Err(AllocError),
             };
-            let _ = advice_on_file(rt, steps.name, fault, sentence);
+            let _ = advice_on_file(rt, shown_name(steps.name), fault, sentence);
         }
         Ending::Failed(ProgramFault::ReadFault(_)) if steps.failed && !script.failed => {
-            let _ = advice(rt, steps.name, ending);
+            let _ = advice(rt, shown_name(steps.name), ending);
         }
         _ => advise_on_script(rt, script, ending),
     }

@@ -2,7 +2,7 @@
 
 use crate::command_line::OptionsFault;
 use crate::help;
-use crate::options::{json_flag, usage_error};
+use crate::options::{bad_value, json_flag, usage_error};
 use crate::sources::STANDARD_INPUT;
 use cdc_follow::Rules;
 use cdc_match::{BindError, Binding};
@@ -109,22 +109,23 @@ pub fn follow_plan<'a>(
         .collect(alloc)?;
     Ok(FollowPlan {
         rules,
-        binding: asked_binding(alloc, parts.as_slice())?,
+        binding: asked_binding(alloc, arguments.get_str("binding").unwrap_or("all"), parts.as_slice())?,
         binding_text: joined(alloc, parts.as_slice())?,
         book: arguments.get_str("book"),
         every: asked_every(alloc, arguments)?,
     })
 }
 
-/// The binding that these parts represent.
-fn asked_binding(alloc: Global, parts: &[&str]) -> Result<Binding, OptionsFault> {
+/// The binding that these parts of a word represent.
+fn asked_binding(alloc: Global, word: &str, parts: &[&str]) -> Result<Binding, OptionsFault> {
     match Binding::parse(alloc, parts) {
         Ok(binding) => Ok(binding),
         Err(BindError::OutOfMemory) => Err(OptionsFault::OutOfMemory),
-        Err(_) => Err(usage_error(
+        Err(_) => Err(bad_value(
             alloc,
-            "error: a binding is all or any, and up to ten pairs of a header and its value, such as \
-             'all ledger=700'\n\nFor more information, try '--help'.\n",
+            "binding",
+            word,
+            "all or any, and up to ten pairs of a header and its value, such as 'all ledger=700'",
         )?),
     }
 }
@@ -148,9 +149,11 @@ fn asked_every(alloc: Global, arguments: &ArgMatches<'_>) -> Result<u64, Options
     };
     match decimal_up_to(word.as_bytes(), u128::from(u64::MAX)) {
         Some(number) if number != 0 => Ok(number as u64),
-        _ => Err(usage_error(
+        _ => Err(bad_value(
             alloc,
-            "error: --every is a number from 1\n\nFor more information, try '--help'.\n",
+            "every",
+            word,
+            "a number from 1 to 18446744073709551615",
         )?),
     }
 }

@@ -260,7 +260,7 @@ fn run_simulation(
         return Ending::BadWords;
     }
     let mut script = Kept::new(rt.alloc(), Source::of_script(rt, file));
-    let mut step_file = Kept::new(rt.alloc(), Source::of_file(rt, steps));
+    let mut step_file = Kept::new(rt.alloc(), Source::of_script(rt, steps));
     let mut observation = Observation::new(rt.alloc(), shown_name(file), asked(diagnostics));
     let Ended {
         ending,
@@ -277,7 +277,7 @@ fn run_simulation(
     let mut reported = false;
     if is_reported(ending, diagnostics) {
         if let Some(observed) = observation.finish(rt.alloc()) {
-            reported = report_simulation(rt, steps, &observed, diagnostics);
+            reported = report_simulation(rt, shown_name(steps), &observed, diagnostics);
         }
     }
     let seen = script.seen(file);
@@ -445,7 +445,7 @@ fn run_check(
         advise_on_script(rt, script.seen(file), ending);
         return ending;
     };
-    let mut step_file = Kept::new(rt.alloc(), Source::of_file(rt, steps));
+    let mut step_file = Kept::new(rt.alloc(), Source::of_script(rt, steps));
     let ending = match form {
         Form::Text => check_files(&Text, rt.alloc(), &mut script, &mut step_file, &mut writer),
         Form::Json => check_files(&Json, rt.alloc(), &mut script, &mut step_file, &mut writer),

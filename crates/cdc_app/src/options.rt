@@ -137,7 +137,7 @@ fn simulate_arguments<'a>(alloc: Global) -> Result<Command<'a>, AllocError> {
     let steps = Arg::new(alloc, "STEPS")
         .required_unless_present("random")?
         .action(ArgAction::Set)
-        .help("The file of the steps");
+        .help("The file of the steps; - is standard input");
     Command::new(alloc, "simulate")
         .about(
             "Take a script's batches and a session's packets step by step, and print the world that the steps lead to",
@@ -308,6 +308,12 @@ fn simulation<'a>(
 ) -> Result<Options<'a>, OptionsFault>
     ensures { IfOk result IsWithinLimits }
 {
+    if file == STANDARD_INPUT && steps == STANDARD_INPUT {
+        return Err(usage_error(
+            alloc,
+            "error: the script and the steps can't both be standard input\n\nFor more information, try '--help'.\n",
+        )?);
+    }
     let window = asked_window(alloc, arguments)?;
     if arguments.get_flag("check") {
         return Ok(Options::Check {
@@ -351,9 +357,11 @@ fn asked_queue(alloc: Global, arguments: &ArgMatches<'_>) -> Result<Option<usize
     };
     match read_subscriber(word) {
         Some(number) => Ok(Some(number)),
-        None => Err(usage_error(
+        None => Err(bad_value(
             alloc,
-            "error: a queue is the number of its subscriber, 1 to 8\n\nFor more information, try '--help'.\n",
+            "queue",
+            word,
+            "the number of a subscriber, from 1 to 8",
         )?),
     }
 }
@@ -381,28 +389,42 @@ fn asked_diagnostics<'a>(arguments: &ArgMatches<'a>) -> Diagnostics<'a> {
 pub fn asked_window(alloc: Global, arguments: &ArgMatches<'_>) -> Result<usize, OptionsFault>
     ensures { IfOk result IsWindow }
 {
-    match read_window(arguments.get_str("window")) {
+    let Some(word) = arguments.get_str("window") else {
+        return Ok(1);
+    };
+    match read_window(word) {
         Some(window) => Ok(window),
-        None => Err(usage_error(
-            alloc,
-            "error: a window is 1 to 64\n\nFor more information, try '--help'.\n",
-        )?),
+        None => Err(bad_value(alloc, "window", word, "a number from 1 to 64")?),
     }
 }
 
-/// The window that an argument gives, or that of one event if there is none. None if it isn't 1 to 64.
-fn read_window(word: Option<&str>) -> Option<usize>
+/// The window that an argument gives. None if it isn't 1 to 64.
+fn read_window(word: &str) -> Option<usize>
     ensures { IfSome result IsWindow }
 {
-    let Some(word) = word else {
-        return Some(1);
-    };
     let number = decimal_up_to(word.as_bytes(), Limits::WINDOW as u128)?;
     if number == 0 {
         None
     } else {
         Some(number as usize)
     }
+}
+
+/// A usage error for the value of a flag, with what is expected.
+pub fn bad_value(
+    alloc: Global,
+    flag: &str,
+    value: &str,
+    expected: &str,
+) -> Result<OptionsFault, AllocError> {
+    let mut message = String::from_str(alloc, "error: --")?;
+    message.push_str(flag)?;
+    message.push_str(" ")?;
+    message.push_str(value)?;
+    message.push_str(": ")?;
+    message.push_str(expected)?;
+    message.push_str("\n\nFor more information, try '--help'.\n")?;
+    Ok(OptionsFault::BadWords { message })
 }
 
 /// A usage error with this message.

@@ -1,7 +1,7 @@
 //! The arguments of `simulate` that ask for random steps.
 
 use crate::command_line::OptionsFault;
-use crate::options::usage_error;
+use crate::options::bad_value;
 use cdc_message::decimal_up_to;
 use cdc_random_steps::Chances;
 use clap::{Arg, ArgAction, ArgMatches};
@@ -48,30 +48,34 @@ pub fn faults_option<'a>(alloc: Global) -> Result<Arg<'a>, AllocError> {
 
 /// The seed and the numbers of steps and faults that the arguments give, or a usage error.
 pub fn asked_chances(alloc: Global, arguments: &ArgMatches<'_>) -> Result<Chances, OptionsFault> {
-    match read_chances(arguments) {
-        Some(chances) => Ok(chances),
-        None => Err(usage_error(
+    let seed = arguments.get_str("random").unwrap_or("");
+    let Some(number) = decimal_up_to(seed.as_bytes(), u128::from(u64::MAX)) else {
+        return Err(bad_value(
             alloc,
-            "error: a seed is 0 to 18446744073709551615, and steps and faults are 0 to 20000\n\n\
-             For more information, try '--help'.\n",
-        )?),
-    }
-}
-
-/// The same. None if one of the arguments isn't a number in its range.
-fn read_chances(arguments: &ArgMatches<'_>) -> Option<Chances> {
-    let seed = arguments.get_str("random")?;
-    Some(Chances {
-        seed: decimal_up_to(seed.as_bytes(), u128::from(u64::MAX))? as u64,
-        steps: count_or(arguments.get_str("steps"), DEFAULT_STEPS)?,
-        faults: count_or(arguments.get_str("faults"), DEFAULT_FAULTS)?,
+            "random",
+            seed,
+            "a seed, a number from 0 to 18446744073709551615",
+        )?);
+    };
+    Ok(Chances {
+        seed: number as u64,
+        steps: asked_count(alloc, arguments, "steps", DEFAULT_STEPS)?,
+        faults: asked_count(alloc, arguments, "faults", DEFAULT_FAULTS)?,
     })
 }
 
-/// The count that an argument gives, or `count` if there is none. None if it isn't a number up to the limit of steps.
-fn count_or(word: Option<&str>, count: u64) -> Option<u64> {
-    match word {
-        None => Some(count),
-        Some(word) => Some(decimal_up_to(word.as_bytes(), u128::from(MOST_STEPS))? as u64),
+/// The count that an option gives, or `default` if it isn't given. A usage error if it exceeds the limit of steps.
+fn asked_count(
+    alloc: Global,
+    arguments: &ArgMatches<'_>,
+    name: &str,
+    default: u64,
+) -> Result<u64, OptionsFault> {
+    let Some(word) = arguments.get_str(name) else {
+        return Ok(default);
+    };
+    match decimal_up_to(word.as_bytes(), u128::from(MOST_STEPS)) {
+        Some(count) => Ok(count as u64),
+        None => Err(bad_value(alloc, name, word, "a number from 0 to 20000")?),
     }
 }

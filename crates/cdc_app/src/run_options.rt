@@ -1,13 +1,13 @@
 //! The arguments of the command `run`.
 
-ghost use Rattle.std.specs.Prelude.{◌≡◌, ◌≤◌, All, IfOk, IfSome};
+ghost use Rattle.std.specs.Prelude.{◌≤◌, All, IfOk, IfSome};
 ghost use Rattle.cdc_run_command.specs.Plans.{AreCounts, IsPlan, IsPrefetch};
 ghost use Rattle.cdc_app.specs.Options.{IsDefaultPlan};
 
 use crate::command_line::OptionsFault;
 use crate::help;
 use crate::options::{
-    asked_window, explain_flag, json_flag, script_argument, usage_error, window_option,
+    asked_window, bad_value, explain_flag, json_flag, script_argument, window_option,
 };
 use cdc_message::decimal_up_to;
 use cdc_run::Faults;
@@ -18,6 +18,15 @@ use std::alloc::{AllocError, Global};
 
 /// The limit of deliveries of a queue without an acknowledgement, if none is given.
 const DEFAULT_PREFETCH: u64 = 8;
+
+/// What is expected of a count.
+const COUNTS: &str = "a number from 1 to 18446744073709551615";
+
+/// What is expected of a queue and one of its positions.
+const POSITIONS: &str = "a queue from 1 to 8, a colon and a position from 1, such as 1:2";
+
+/// What is expected of a subscriber and how many events it applies.
+const CLOSES: &str = "a subscriber from 1 to 8, a colon and a number of events from 1, such as 1:2";
 
 pub fn run_arguments<'a>(alloc: Global) -> Result<Command<'a>, AllocError> {
     Command::new(alloc, "run")
@@ -161,10 +170,11 @@ fn asked_start(
     };
     match timestamp_in(word) {
         Some(start_time) => Ok(Some(start_time)),
-        None => Err(usage_error(
+        None => Err(bad_value(
             alloc,
-            "error: a start is a timestamp in nanoseconds, 0 to 9223372036854775807\n\n\
-             For more information, try '--help'.\n",
+            "start-after",
+            word,
+            "a timestamp in nanoseconds, from 0 to 9223372036854775807",
         )?),
     }
 }
@@ -184,10 +194,7 @@ fn asked_prefetch(alloc: Global, arguments: &ArgMatches<'_>) -> Result<u64, Opti
     };
     match count_in(word, Limits::PREFETCH) {
         Some(prefetch) => Ok(prefetch),
-        None => Err(usage_error(
-            alloc,
-            "error: a prefetch is 1 to 64\n\nFor more information, try '--help'.\n",
-        )?),
+        None => Err(bad_value(alloc, "prefetch", word, "a number from 1 to 64")?),
     }
 }
 
@@ -198,8 +205,8 @@ fn asked_faults(alloc: Global, arguments: &ArgMatches<'_>) -> Result<Faults, Opt
     let lose_confirm = asked_counts(alloc, arguments, "lose-confirm")?;
     let lose_publish = asked_counts(alloc, arguments, "lose-publish")?;
     let restart_after = asked_counts(alloc, arguments, "restart-after")?;
-    let repeat = asked_pairs(alloc, arguments, "repeat")?;
-    let close = asked_pairs(alloc, arguments, "close")?;
+    let repeat = asked_pairs(alloc, arguments, "repeat", POSITIONS)?;
+    let close = asked_pairs(alloc, arguments, "close", CLOSES)?;
     Ok(Faults {
         lose_confirm,
         lose_publish,
@@ -217,67 +224,39 @@ fn asked_counts(
 ) -> Result<Vec<u64>, OptionsFault>
     ensures { IfOk result (λ counts. All (λ n. 1 ≤ n) counts.items) }
 {
-    match counts_in(alloc, arguments.get_strs(name))? {
-        Some(counts) => Ok(counts),
-        None => Err(usage_error(
-            alloc,
-            "error: what is lost, and where the connector restarts, is a number from 1\n\n\
-             For more information, try '--help'.\n",
-        )?),
+    let mut counts = Vec::new(alloc);
+    let Some(words) = arguments.get_strs(name) else {
+        return Ok(counts);
+    };
+    for word in words {
+        let Some(count) = count_in(word, u64::MAX) else {
+            return Err(bad_value(alloc, name, word, COUNTS)?);
+        };
+        counts.push(count)?;
     }
+    Ok(counts)
 }
 
-/// The pairs of numbers of an option, in the order in which it is given.
+/// The pairs of numbers of an option, in the order in which it is given; the first one is of a subscriber.
 fn asked_pairs(
     alloc: Global,
     arguments: &ArgMatches<'_>,
     name: &str,
+    expected: &str,
 ) -> Result<Vec<(u64, u64)>, OptionsFault>
     ensures { IfOk result (λ pairs. All (λ p. (1 ≤ p.0) × (1 ≤ p.1)) pairs.items) }
 {
-    match pairs_in(alloc, arguments.get_strs(name))? {
-        Some(pairs) => Ok(pairs),
-        None => Err(usage_error(
-            alloc,
-            "error: QUEUE:POSITION and SUBSCRIBER:N are two numbers from 1\n\n\
-             For more information, try '--help'.\n",
-        )?),
-    }
-}
-
-/// The counts among an option's values, of which there may be none. None if one of them isn't a count.
-fn counts_in(alloc: Global, args: Option<&[&str]>) -> Result<Option<Vec<u64>>, AllocError>
-    ensures { IfOk result (λ found. IfSome found (λ counts. All (λ n. 1 ≤ n) counts.items)) }
-{
-    let mut counts = Vec::new(alloc);
-    let Some(args) = args else {
-        return Ok(Some(counts));
-    };
-    for word in args {
-        let Some(count) = count_in(word, u64::MAX) else {
-            return Ok(None);
-        };
-        counts.push(count)?;
-    }
-    Ok(Some(counts))
-}
-
-/// The pairs among an option's values, of which there may be none. None if one of them isn't a pair.
-fn pairs_in(alloc: Global, args: Option<&[&str]>) -> Result<Option<Vec<(u64, u64)>>, AllocError>
-    ensures { IfOk result (λ found. IfSome found (λ pairs.
-        All (λ p. (1 ≤ p.0) × (1 ≤ p.1)) pairs.items)) }
-{
     let mut pairs = Vec::new(alloc);
-    let Some(args) = args else {
-        return Ok(Some(pairs));
+    let Some(words) = arguments.get_strs(name) else {
+        return Ok(pairs);
     };
-    for word in args {
+    for word in words {
         let Some(pair) = pair_in(word) else {
-            return Ok(None);
+            return Err(bad_value(alloc, name, word, expected)?);
         };
         pairs.push(pair)?;
     }
-    Ok(Some(pairs))
+    Ok(pairs)
 }
 
 /// The number of an argument. None if it isn't one from 1 to `greatest`.
@@ -292,10 +271,14 @@ fn count_in(word: &str, greatest: u64) -> Option<u64>
     }
 }
 
-/// The two numbers of an argument, separated at its first colon. None if they aren't numbers from 1.
+/// The two numbers of an argument, separated at its first colon. None if the first one is no subscriber's that a script
+/// can have, or the second one isn't a number from 1.
 fn pair_in(word: &str) -> Option<(u64, u64)>
     ensures { IfSome result (λ p. (1 ≤ p.0) × (1 ≤ p.1)) }
 {
     let (first, second) = word.split_once(':')?;
-    Some((count_in(first, u64::MAX)?, count_in(second, u64::MAX)?))
+    Some((
+        count_in(first, Limits::SUBSCRIBERS as u64)?,
+        count_in(second, u64::MAX)?,
+    ))
 }

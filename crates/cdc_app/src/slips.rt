@@ -16,6 +16,19 @@ pub fn push_tip(
     match error.kind() {
         ErrorKind::InvalidSubcommand => push_books(text, args),
         ErrorKind::UnknownArgument => push_owners(alloc, text, args, commands),
+        ErrorKind::MissingRequiredArgument => push_random(text, args),
+        _ => Ok(()),
+    }
+}
+
+/// If `simulate` has a script and nothing else, adds how it takes random steps.
+fn push_random(text: &mut String, args: &[&str]) -> Result<(), AllocError> {
+    match args {
+        ["simulate", script] => {
+            text.push_str("\nFor random steps: 'relayplum simulate ")?;
+            text.push_str(script)?;
+            text.push_str(" --random 1'.\n")
+        }
         _ => Ok(()),
     }
 }

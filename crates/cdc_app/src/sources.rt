@@ -17,7 +17,7 @@ pub enum Source {
 }
 
 impl Source {
-    /// The script of this name; `-` is standard input.
+    /// The script or the step file of this name; `-` is standard input.
     pub fn of_script(rt: &HostRuntime, name: &str) -> Source {
         if name == STANDARD_INPUT {
             Source::Standard(rt.reader())
