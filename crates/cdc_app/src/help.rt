@@ -43,10 +43,10 @@ Exit status:
   2  the arguments or the script are bad: standard error reports what was expected, and where";
 
 pub const SIMULATE: &str = "\
-FILE is a script. STEPS is a file with one step of a simulation in each line: batch, close_ledger, start, start at N,
-crash, poll, publish, arrive K, answer K, save, send I, rewind I, break I, take I, ack I K or close I. I is a subscriber
-and its queue, K counts the packets, the confirms or a subscriber's acknowledgements ever sent, from 1, and N is a
-timestamp in nanoseconds. One of the two files may be -, which is standard input.
+FILE is a script, and - is standard input; STEPS may be - instead. STEPS is a file with one step of a simulation in
+each line: batch, close_ledger, start, start at N, crash, poll, publish, arrive K, answer K, save, send I, rewind I,
+break I, take I, ack I K or close I. I is a subscriber and its queue, K counts the packets, the confirms or a
+subscriber's acknowledgements ever sent, from 1, and N is a timestamp in nanoseconds.
 
 The steps are taken in order, up to the first that is refused. The output is the results of the batches that were
 taken, how many steps were done, what the session has saved, and for each subscriber how far it is and its book.
