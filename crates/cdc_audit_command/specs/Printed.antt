@@ -1,4 +1,4 @@
--- What the command prints, and what its audit is.
+-- What the command prints.
 use Rattle.std.specs.Prelude.{◌≡◌, ℕ, Bool, List, Option}
 use Rattle.std.specs.Io.KnownBytes.{Appends}
 use Rattle.cdc_commands.specs.declared.endings.Ending.{Ending}
@@ -6,17 +6,9 @@ use Rattle.cdc_commands.specs.declared.endings.Ending.TheVariants as ending
 use Rattle.cdc_commands.specs.declared.faults.ProgramFault.{ProgramFault}
 use Rattle.cdc_commands.specs.declared.faults.ProgramFault.TheVariants.{WriteFault}
 use Rattle.cdc_subscriber.specs.SubscriberState.{SubscriberState}
-use Rattle.cdc_audit.specs.Audits.{AuditState, bytes_audited}
-use Rattle.cdc_audit.specs.Standing.{AuditorState, StandsFor}
 use Rattle.cdc_audit.specs.declared.streams.AuditStop.{AuditStop}
 use Rattle.cdc_audit_command.specs.declared.endings.AuditEnding.{AuditEnding}
 use Rattle.cdc_audit_command.specs.declared.endings.AuditEnding.TheVariants.{Stopped, Failed}
-
--- the auditor stands for what the audit of these bytes comes to, and the audit stops for this reason
-pub record IsAuditOf (state : AuditState) (bytes : List ℕ) (auditor : AuditorState) (stop : AuditStop) : Type 0 where
-  pub after : AuditState
-  pub stands : StandsFor auditor after
-  pub audited : bytes_audited state bytes ≡ record { state = after; stop = stop }
 
 -- if auditing stopped, this holds of why
 abbrev pub IfStopped : AuditEnding → (AuditStop → Type 0) → Type 0

@@ -2,9 +2,8 @@
 
 ghost use Rattle.std.specs.Prelude.{◌≡◌, IfSome, OnOk};
 ghost use Rattle.std.specs.Io.KnownBytes.{Appends};
-ghost use Rattle.cdc_audit.specs.Audits.{AuditState};
-ghost use Rattle.cdc_audit.specs.Standing.{StandsFor};
-ghost use Rattle.cdc_audit_command.specs.Printed.{IfStopped, IsAuditOf, PrintsAudit, PrintsFailure};
+ghost use Rattle.cdc_audit.specs.Stops.{Audits};
+ghost use Rattle.cdc_audit_command.specs.Printed.{IfStopped, PrintsAudit, PrintsFailure};
 
 use crate::endings::{AuditEnding, fault_of};
 use crate::forms::AuditForm;
@@ -25,8 +24,8 @@ pub fn audit_command<F: Form + AuditForm, B: BufRead, W: Write>(
     shows_book: bool,
     auditor: &mut Auditor,
 ) -> AuditEnding
-    ensures audits { (state : AuditState) → StandsFor auditor.old state → IfStopped result (λ stop.
-        IfSome (B.remaining reader.old) (λ bytes. IsAuditOf state bytes auditor.new stop)) }
+    ensures audits { IfStopped result (λ stop. IfSome (B.remaining reader.old) (λ bytes.
+        Audits auditor.old bytes stop auditor.new)) }
     ensures printed { PrintsAudit F.prints_audit F.prints_fault (W.contents writer.old)
         (W.contents writer.new) shows_book auditor.new.kept result }
 {
