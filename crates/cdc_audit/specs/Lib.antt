@@ -2,3 +2,7 @@
 pub mod Known
 pub mod Rules
 pub mod Audits
+pub mod Standing
+pub mod Stops
+-- private: what the code's own contracts cite
+pub mod Checks

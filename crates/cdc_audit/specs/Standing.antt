@@ -1,0 +1,74 @@
+-- What an auditor keeps, and for which audits it stands.
+use Rattle.std.specs.Prelude.{◌≡◌, ℕ, ◌+◌, Bool, false, min, nat_eq, is_some, List, length, Option, None, unwrap_or, if◌then◌else◌}
+use Rattle.std.specs.Map.{lookup}
+use Rattle.indexmap.specs.IndexMap.{insert_entry}
+use Rattle.cdc_types.specs.declared.events.Event.{Event}
+use Rattle.cdc_types.specs.Timestamps.{last_timestamp}
+use Rattle.cdc_types.specs.Widths.{max_64}
+use Rattle.cdc_ledger.specs.Accounts.{no_balances}
+use Rattle.cdc_ledger.specs.Kinds.{settles, stores}
+use Rattle.cdc_subscriber.specs.Book.{balances_in, book_of}
+use Rattle.cdc_subscriber.specs.SubscriberState.{SubscriberState}
+use Rattle.cdc_audit.specs.declared.checks.Facts.{Facts}
+use Rattle.cdc_audit.specs.declared.checks.Stored.{Stored}
+use Rattle.cdc_audit.specs.declared.checks.Stored.TheVariants as stored
+use Rattle.cdc_audit.specs.Audits.{AuditState}
+use Rattle.cdc_audit.specs.Checks.{amount_in, stored_by, was_settled}
+use Rattle.cdc_audit.specs.Known.{is_settled, is_stored, pending_amount, settled_id}
+
+-- what an auditor keeps: what its subscriber keeps, and what is known of each stored transfer, by its id
+pub record AuditorState : Type 0 where
+  pub kept : SubscriberState
+  pub transfers : List (ℕ × Stored)
+
+-- what is known of the transfer with this id, if one is stored
+abbrev pub stored_under : List (ℕ × Stored) → ℕ → Option Stored
+stored_under transfers id = lookup (nat_eq id) transfers
+
+-- what an open subscriber keeps that has applied the events of an audit
+abbrev pub kept_after : AuditState → SubscriberState
+kept_after state = record {
+  book = book_of state.past;
+  last = last_timestamp state.past;
+  applied = min (length state.past) max_64;
+  ended = state.ended;
+  closed = false;
+}
+
+-- this is what the events show of the transfer with this id
+pub record IsKnownOf (known : Option Stored) (past : List Event) (id : ℕ) : Type 0 where
+  pub stored : is_stored past id ≡ is_some known
+  pub amount : pending_amount past id ≡ amount_in known
+  pub settled : is_settled past id ≡ was_settled known
+
+-- an auditor stands for an audit: it has the book, the last timestamp, the count and the end of the audited events, and
+-- knows each of their transfers
+pub record StandsFor (auditor : AuditorState) (state : AuditState) : Type 0 where
+  pub kept : auditor.kept ≡ kept_after state
+  pub transfers : (id : ℕ) → IsKnownOf (stored_under auditor.transfers id) state.past id
+
+-- ---- private: the parts of an auditor's step
+
+-- what is known under an id that counts
+abbrev pub stored_if : Bool → List (ℕ × Stored) → ℕ → Option Stored
+stored_if counts transfers id = if counts then stored_under transfers id else None
+
+-- what an auditor knows of an event
+abbrev pub facts_of : AuditorState → Event → Facts
+facts_of auditor e = record {
+  last = auditor.kept.last;
+  own = stored_if (stores e.kind) auditor.transfers e.transfer.id;
+  settled = stored_if (settles e.kind) auditor.transfers (settled_id e);
+  debited = unwrap_or (balances_in auditor.kept.book e.debit_account.id) no_balances;
+  credited = unwrap_or (balances_in auditor.kept.book e.credit_account.id) no_balances;
+}
+
+-- the transfers after an event that stores its own one
+abbrev pub with_own : List (ℕ × Stored) → Event → List (ℕ × Stored)
+with_own transfers e =
+    if stores e.kind then insert_entry nat_eq transfers e.transfer.id (stored_by e) else transfers
+
+-- the transfers after an event that settles a pending one of this amount
+abbrev pub with_settled : List (ℕ × Stored) → Event → ℕ → List (ℕ × Stored)
+with_settled transfers e amount =
+    if settles e.kind then insert_entry nat_eq transfers (settled_id e) (stored.Settled amount) else transfers

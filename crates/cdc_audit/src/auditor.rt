@@ -1,0 +1,177 @@
+//! An auditor: it accepts each event of a stream that follows from the events before it, and refuses the first other
+//! one.
+
+ghost use Rattle.std.specs.Prelude.{◌≡◌, ◌≤◌, ◌+◌, true, false, nat_eq, unwrap_or, Some, None, IsSome, IfOk, OnErr};
+ghost use Rattle.indexmap.specs.IndexMap.{insert_entry, spare};
+ghost use Rattle.cdc_message.specs.declared.items.Item.TheVariants as item;
+ghost use Rattle.cdc_ledger.specs.Accounts.{no_balances};
+ghost use Rattle.cdc_subscriber.specs.Book.{balances_in};
+ghost use Rattle.cdc_subscriber.specs.Steps.{next_state};
+ghost use Rattle.cdc_audit.specs.Audits.{AuditState, begins, entry_refusal, next_audit};
+ghost use Rattle.cdc_audit.specs.Checks as spec;
+ghost use Rattle.cdc_audit.specs.Standing as standing;
+ghost use Rattle.cdc_audit.specs.Standing.{StandsFor, kept_after};
+
+use crate::checks::{Facts, Stored, refusal_by, released, settled_id, settles, stored_by, stores};
+use crate::refusals::Refusal;
+use cdc_follow::Content;
+use cdc_subscriber::Subscriber;
+use cdc_types::{Balances, Event};
+use indexmap::IndexMap;
+use std::alloc::{AllocError, Global};
+use std::marker::Model;
+
+/// An auditor of a stream. It keeps the book of the events that it accepted, and what is known of each stored transfer.
+pub struct Auditor {
+    subscriber: Subscriber,
+    transfers: IndexMap<u128, Stored>,
+}
+
+impl Drop for Auditor {
+    fn drop(self) {
+        let Auditor {
+            subscriber: _,
+            transfers: _,
+        } = self;
+    }
+}
+
+impl Model for Auditor {
+    ghost use Rattle.cdc_audit.specs.Standing.{AuditorState};
+
+    ghost Value = { AuditorState };
+
+    ghost view = { λ a. record { kept = a.subscriber; transfers = a.transfers.entries } };
+}
+
+impl Auditor {
+    /// An auditor of a stream from a ledger's first event on.
+    pub fn new(alloc: Global) -> Auditor
+        ensures { StandsFor result begins }
+    {
+        Auditor {
+            subscriber: Subscriber::new(alloc),
+            transfers: IndexMap::new(alloc),
+        }
+    }
+
+    /// Takes an entry of the stream: accepts it, or returns why it is refused. A refused entry changes nothing. The one
+    /// error is that memory ran out, and then nothing changes either.
+    pub fn take(&mut self, content: &Content) -> Result<Option<Refusal>, AllocError>
+        ensures answer { IfOk result (λ answer. (state : AuditState) → StandsFor self.old state
+            → answer ≡ entry_refusal state content.now) }
+        ensures accepted { IfOk result (λ answer. (state : AuditState) → StandsFor self.old state
+            → answer ≡ None → StandsFor self.new (next_audit state content.now)) }
+        ensures refused { IfOk result (λ answer. IsSome answer → self.new ≡ self.old) }
+        ensures err { OnErr result (self.new ≡ self.old) }
+    {
+        match content {
+            Content::Event(event) => self.take_event(event),
+            Content::End => {
+                let _taking = self.subscriber.take_end();
+                Ok(None)
+            }
+        }
+    }
+
+    /// The subscriber that applied the accepted events: its book has the balances that they show last.
+    pub fn subscriber(&self) -> &Subscriber
+        ensures kept { result.now ≡ self.now.kept }
+        ensures stands { (state : AuditState) → StandsFor self.now state → result.now ≡ kept_after state }
+    {
+        &self.subscriber
+    }
+
+    /// What is known of the transfer with this id, if it counts.
+    fn stored_if(&self, counts: bool, id: u128) -> Option<Stored>
+        ensures { result ≡ standing.stored_if counts self.now.transfers id }
+    {
+        if counts {
+            self.transfers.get(&id).copied()
+        } else {
+            None
+        }
+    }
+
+    /// The balances of an account; four zeros before its first event.
+    fn balances(&self, account: u128) -> Balances
+        ensures { result ≡ unwrap_or (balances_in self.now.kept.book account) no_balances }
+    {
+        self.subscriber.book().get(account).unwrap_or(Balances {
+            debits_pending: 0,
+            debits_posted: 0,
+            credits_pending: 0,
+            credits_posted: 0,
+        })
+    }
+
+    /// What is known of an event by the events before it.
+    fn facts(&self, event: &Event) -> Facts
+        ensures { result ≡ standing.facts_of self.now event.now }
+    {
+        Facts {
+            last: self.subscriber.last(),
+            own: self.stored_if(stores(event.kind), event.transfer.id),
+            settled: self.stored_if(settles(event.kind), settled_id(event)),
+            debited: self.balances(event.debit_account.id),
+            credited: self.balances(event.credit_account.id),
+        }
+    }
+
+    /// Takes an event.
+    fn take_event(&mut self, event: &Event) -> Result<Option<Refusal>, AllocError>
+        ensures answer { IfOk result (λ answer. (state : AuditState) → StandsFor self.old state
+            → answer ≡ entry_refusal state (Content.Event event.now)) }
+        ensures accepted { IfOk result (λ answer. (state : AuditState) → StandsFor self.old state
+            → answer ≡ None → StandsFor self.new (next_audit state (Content.Event event.now))) }
+        ensures refused { IfOk result (λ answer. IsSome answer → self.new ≡ self.old) }
+        ensures err { OnErr result (self.new ≡ self.old) }
+    {
+        if self.subscriber.ended() {
+            return Ok(Some(Refusal::AfterEnd(event.timestamp)));
+        }
+        let facts = self.facts(event);
+        if let Some(why) = refusal_by(&facts, event) {
+            return Ok(Some(why));
+        }
+        self.transfers.reserve(2)?;
+        if self.subscriber.take_event(event).is_err() {
+            return Err(AllocError);
+        }
+        keep(&mut self.transfers, event, released(&facts, event));
+        Ok(None)
+    }
+}
+
+/// Keeps what is known of a transfer.
+fn put(transfers: &mut IndexMap<u128, Stored>, id: u128, stored: Stored)
+    requires { 1 ≤ spare transfers.old }
+    ensures entries { transfers.new.entries ≡ insert_entry nat_eq transfers.old.entries id stored }
+    ensures room { spare transfers.old ≤ spare transfers.new + 1 }
+{
+    transfers.insert(id, stored).unwrap();
+}
+
+/// Keeps the transfer that an event stores, if it stores one.
+fn keep_own(transfers: &mut IndexMap<u128, Stored>, event: &Event)
+    requires { 2 ≤ spare transfers.old }
+    ensures entries { transfers.new.entries ≡ standing.with_own transfers.old.entries event.now }
+    ensures room { 1 ≤ spare transfers.new }
+{
+    if stores(event.kind) {
+        put(transfers, event.transfer.id, stored_by(event));
+    }
+}
+
+/// Keeps the transfers of an accepted event: the one that it stores, and the pending one, of this amount, that it
+/// settles.
+fn keep(transfers: &mut IndexMap<u128, Stored>, event: &Event, amount: u128)
+    requires { 2 ≤ spare transfers.old }
+    ensures { transfers.new.entries
+        ≡ standing.with_settled (standing.with_own transfers.old.entries event.now) event.now amount }
+{
+    keep_own(transfers, event);
+    if settles(event.kind) {
+        put(transfers, settled_id(event), Stored::Settled(amount));
+    }
+}
