@@ -225,10 +225,10 @@ fn asked_counts(
     ensures { IfOk result (λ counts. All (λ n. 1 ≤ n) counts.items) }
 {
     let mut counts = Vec::new(alloc);
-    let Some(words) = arguments.get_strs(name) else {
+    let Some(values) = arguments.get_strs(name) else {
         return Ok(counts);
     };
-    for word in words {
+    for word in values {
         let Some(count) = count_in(word, u64::MAX) else {
             return Err(bad_value(alloc, name, word, COUNTS)?);
         };
@@ -247,10 +247,10 @@ fn asked_pairs(
     ensures { IfOk result (λ pairs. All (λ p. (1 ≤ p.0) × (1 ≤ p.1)) pairs.items) }
 {
     let mut pairs = Vec::new(alloc);
-    let Some(words) = arguments.get_strs(name) else {
+    let Some(values) = arguments.get_strs(name) else {
         return Ok(pairs);
     };
-    for word in words {
+    for word in values {
         let Some(pair) = pair_in(word) else {
             return Err(bad_value(alloc, name, word, expected)?);
         };
