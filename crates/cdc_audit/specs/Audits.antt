@@ -3,8 +3,7 @@ use Rattle.std.specs.Prelude.{ℕ, Bool, true, false, ◌&&◌, is_none, List, [
 use Rattle.cdc_types.specs.declared.events.Event.{Event}
 use Rattle.cdc_follow.specs.declared.entries.Content.{Content}
 use Rattle.cdc_follow.specs.declared.entries.Content.TheVariants as content
-use Rattle.cdc_follow.specs.declared.errors.LineError.{LineError}
-use Rattle.cdc_follow.specs.Streams.{BadLine, NumberedEntry, Stream, stream_of_lines}
+use Rattle.cdc_follow.specs.Streams.{BadLine, NumberedEntry, stream_of_lines}
 use Rattle.cdc_follow.specs.Lines.{lines_of}
 use Rattle.cdc_audit.specs.declared.refusals.Refusal.{Refusal}
 use Rattle.cdc_audit.specs.declared.refusals.Refusal.TheVariants.{AfterEnd}

@@ -1,9 +1,9 @@
 -- The rules again, by the few facts of the earlier events that they need (private: for the code's own contracts).
-use Rattle.std.specs.Prelude.{ℕ, ◌+◌, Bool, true, false, ◌==◌, ◌&&◌, not, nat_lt, is_none, is_some, List, [], ◌∷◌, ◌++◌, Option, Some, None, unwrap_or, if◌then◌else◌}
+use Rattle.std.specs.Prelude.{ℕ, Bool, true, false, ◌==◌, ◌&&◌, not, nat_lt, is_none, is_some, List, [], ◌∷◌, ◌++◌, Option, Some, None, unwrap_or, if◌then◌else◌}
 use Rattle.cdc_types.specs.declared.accounts.Balances.{Balances}
 use Rattle.cdc_types.specs.declared.events.Event.{Event}
 use Rattle.cdc_types.specs.declared.events.EventAccount.{EventAccount}
-use Rattle.cdc_ledger.specs.Kinds.{holds, moves, settles, stores}
+use Rattle.cdc_ledger.specs.Kinds.{holds, settles, stores}
 use Rattle.cdc_audit.specs.declared.checks.Amounts.{Amounts}
 use Rattle.cdc_audit.specs.declared.checks.Facts.{Facts}
 use Rattle.cdc_audit.specs.declared.checks.Stored.{Stored}

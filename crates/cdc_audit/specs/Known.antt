@@ -1,5 +1,5 @@
 -- What the events before an event show: the balances of each account, and which transfers were stored and settled.
-use Rattle.std.specs.Prelude.{ℕ, Bool, ◌==◌, ◌&&◌, List, find, Option, None, Some, option_map, unwrap_or}
+use Rattle.std.specs.Prelude.{ℕ, Bool, ◌==◌, ◌&&◌, List, find, Option, option_map, unwrap_or}
 use Rattle.std.specs.List.{list_any}
 use Rattle.cdc_types.specs.declared.accounts.Balances.{Balances}
 use Rattle.cdc_types.specs.declared.events.Event.{Event}

@@ -1,6 +1,5 @@
 -- The rules by which an event follows the events before it.
-use Rattle.std.specs.Prelude.{ℕ, ◌+◌, Bool, ◌==◌, ◌&&◌, not, nat_lt, is_none, is_some, List, [], ◌∷◌, ◌++◌, Option, unwrap_or, if◌then◌else◌}
-use Rattle.cdc_types.specs.declared.accounts.Balances.{Balances}
+use Rattle.std.specs.Prelude.{ℕ, ◌+◌, Bool, ◌==◌, ◌&&◌, not, nat_lt, is_none, List, [], ◌∷◌, ◌++◌, Option, unwrap_or, if◌then◌else◌}
 use Rattle.cdc_types.specs.declared.events.Event.{Event}
 use Rattle.cdc_types.specs.Lines.{first_line}
 use Rattle.cdc_types.specs.Timestamps.{last_timestamp}

@@ -1,5 +1,5 @@
 -- What an auditor keeps, and for which audits it stands.
-use Rattle.std.specs.Prelude.{◌≡◌, ℕ, ◌+◌, Bool, false, min, nat_eq, is_some, List, length, Option, None, unwrap_or, if◌then◌else◌}
+use Rattle.std.specs.Prelude.{◌≡◌, ℕ, Bool, false, min, nat_eq, is_some, List, length, Option, None, unwrap_or, if◌then◌else◌}
 use Rattle.std.specs.Map.{lookup}
 use Rattle.indexmap.specs.IndexMap.{insert_entry}
 use Rattle.cdc_types.specs.declared.events.Event.{Event}

@@ -8,8 +8,8 @@ use Rattle.cdc_audit.specs.Audits.{AuditState, Audited, audit_entries, bytes_aud
 use Rattle.cdc_audit.specs.Standing.{AuditorState, StandsFor}
 
 -- an audit ended so: it stops for this reason, and the auditor stands for what was audited
-pub record EndsAs (audited : Audited) (stop : AuditStop) (auditor : AuditorState) : Type 0 where
-  pub stop : audited.stop ≡ stop
+pub record EndsAs (audited : Audited) (why : AuditStop) (auditor : AuditorState) : Type 0 where
+  pub stop : audited.stop ≡ why
   pub stands : StandsFor auditor audited.state
 
 -- whatever audit the auditor stood for, its audit of the bytes ended so

@@ -1,0 +1,232 @@
+-- What the events show of a transfer after one more event, and what an auditor knows of it then.
+use Rattle.std.proofs.Common.{◌≡◌, ℕ, Bool, true, false, cond, List, [], ◌∷◌, ◌++◌, Option, Some, None, refl, sym, ap, ◌∙◌, inl, inr}
+use Rattle.std.specs.Prelude.{◌==◌, ◌&&◌, ◌||◌, nat_eq, is_none, is_some, unwrap_or, find, option_map}
+use Rattle.std.specs.Option.{option_or}
+use Rattle.std.proofs.lemmas.Bool.{ne_eqb}
+use Rattle.std.proofs.lemmas.Bool.Decides.{eqb_tells}
+use Rattle.std.proofs.lemmas.List.Folds.{find-append, list_any-append}
+use Rattle.indexmap.specs.IndexMap.{insert_entry}
+use Rattle.cdc_types.specs.declared.events.Event.{Event}
+use Rattle.cdc_types.specs.declared.events.EventKind.{EventKind}
+use Rattle.cdc_types.specs.declared.events.EventKind.TheVariants as kind
+use Rattle.cdc_ledger.specs.Kinds.{holds, settles, stores}
+use Rattle.cdc_audit.specs.declared.checks.Stored.{Stored}
+use Rattle.cdc_audit.specs.declared.checks.Stored.TheVariants.{Plain, Pending, Settled}
+use Rattle.cdc_audit.specs.Checks.{amount_in, stored_by, was_settled}
+use Rattle.cdc_audit.specs.Known.{is_settled, is_stored, pending_amount, settled_id}
+use Rattle.cdc_audit.specs.Standing.{IsKnownOf, stored_under, with_own, with_settled}
+
+or_false : (b : Bool) → (b || false) ≡ b
+or_false true = refl
+or_false false = refl
+
+-- what is stored after one more event
+is_stored-push : (past : List Event) (e : Event) (id : ℕ)
+    → is_stored (past ++ e ∷ []) id ≡ (is_stored past id || (stores e.kind && (e.transfer.id == id)))
+is_stored-push past e id =
+    list_any-append (λ (f : Event). stores f.kind && (f.transfer.id == id)) past (e ∷ [])
+    ∙ ap (λ b. is_stored past id || b) (or_false (stores e.kind && (e.transfer.id == id)))
+
+-- what is settled after one more event
+is_settled-push : (past : List Event) (e : Event) (id : ℕ)
+    → is_settled (past ++ e ∷ []) id ≡ (is_settled past id || (settles e.kind && (settled_id e == id)))
+is_settled-push past e id =
+    list_any-append (λ (f : Event). settles f.kind && (settled_id f == id)) past (e ∷ [])
+    ∙ ap (λ b. is_settled past id || b) (or_false (settles e.kind && (settled_id e == id)))
+
+amount_of_found : Option Event → Option ℕ
+amount_of_found found = option_map (λ (e : Event). e.transfer.amount) found
+
+amount-or : (one other : Option Event)
+    → option_map (λ (e : Event). e.transfer.amount) (option_or one other)
+    ≡ option_or (option_map (λ (e : Event). e.transfer.amount) one) (option_map (λ (e : Event). e.transfer.amount) other)
+amount-or None other = refl
+amount-or (Some e) other = refl
+
+amount-one : (e : Event) (t : Bool)
+    → option_map (λ (f : Event). f.transfer.amount) (cond t (Some e) None) ≡ cond t (Some e.transfer.amount) None
+amount-one e true = refl
+amount-one e false = refl
+
+-- a kind of event that holds its amount stores its transfer
+holds_stores : (k : EventKind) (t : Bool) → (holds k && t) ≡ (holds k && (stores k && t))
+holds_stores kind.SinglePhase t = refl
+holds_stores kind.TwoPhasePending t = refl
+holds_stores kind.TwoPhasePosted t = refl
+holds_stores kind.TwoPhaseVoided t = refl
+holds_stores kind.TwoPhaseExpired t = refl
+
+-- the amount that is or was pending, after one more event
+pending_amount-push : (past : List Event) (e : Event) (id : ℕ)
+    → pending_amount (past ++ e ∷ []) id
+    ≡ option_or (pending_amount past id)
+    (cond (holds e.kind && (stores e.kind && (e.transfer.id == id))) (Some e.transfer.amount) None)
+pending_amount-push past e id =
+    let test : Event → Bool = λ f. holds f.kind && (f.transfer.id == id) in
+    ap (option_map (λ (f : Event). f.transfer.amount)) (find-append test past (e ∷ []))
+    ∙ amount-or (find test past) (find test (e ∷ []))
+    ∙ ap (option_or (pending_amount past id)) (amount-one e (test e))
+    ∙ ap (λ t. option_or (pending_amount past id) (cond t (Some e.transfer.amount) None))
+    (holds_stores e.kind (e.transfer.id == id))
+
+eqb_same : (n : ℕ) → (n == n) ≡ true
+eqb_same n = elim (eqb_tells n n) [
+    | inl same ↦ same.0
+    | inr other ↦ absurd (other.1 refl)
+  ]
+
+-- what is known under an id after an insertion
+stored_under-insert : (transfers : List (ℕ × Stored)) (key : ℕ) (stored : Stored) (id : ℕ)
+    → stored_under (insert_entry nat_eq transfers key stored) id ≡ cond (key == id) (Some stored) (stored_under transfers id)
+stored_under-insert [] key stored id =
+    elim (eqb_tells key id) [
+      | inl same ↦ rw (same.0, ← same.1, eqb_same key) refl
+      | inr other ↦ rw (other.0, ne_eqb id key (λ is. other.1 (sym is))) refl
+    ]
+stored_under-insert (first ∷ rest) key stored id =
+    elim (eqb_tells key first.0) [
+      | inl here ↦ elim (eqb_tells key id) [
+        | inl same ↦ rw (here.0, same.0, ← same.1, here.0) refl
+        | inr other ↦
+            let away : (id == first.0) ≡ false = ne_eqb id first.0 (λ is. other.1 (here.1 ∙ sym is)) in
+            rw (here.0, other.0, away) refl
+      ]
+      | inr apart ↦ elim (eqb_tells id first.0) [
+        | inl there ↦
+            let away : (key == id) ≡ false = ne_eqb key id (λ is. apart.1 (is ∙ there.1)) in
+            rw (apart.0, there.0, away) refl
+        | inr away ↦ rw (apart.0, away.0) (stored_under-insert rest key stored id)
+      ]
+    ]
+
+stored_under-if : (counts : Bool) (transfers : List (ℕ × Stored)) (key : ℕ) (stored : Stored) (id : ℕ)
+    → stored_under (cond counts (insert_entry nat_eq transfers key stored) transfers) id
+    ≡ cond (counts && (key == id)) (Some stored) (stored_under transfers id)
+stored_under-if true transfers key stored id = stored_under-insert transfers key stored id
+stored_under-if false transfers key stored id = refl
+
+-- what is known under an id after an event
+stored_under-step : (transfers : List (ℕ × Stored)) (e : Event) (amount id : ℕ)
+    → stored_under (with_settled (with_own transfers e) e amount) id
+    ≡ cond (settles e.kind && (settled_id e == id)) (Some (Settled amount))
+    (cond (stores e.kind && (e.transfer.id == id)) (Some (stored_by e)) (stored_under transfers id))
+stored_under-step transfers e amount id =
+    stored_under-if (settles e.kind) (with_own transfers e) (settled_id e) (Settled amount) id
+    ∙ ap (cond (settles e.kind && (settled_id e == id)) (Some (Settled amount)))
+    (stored_under-if (stores e.kind) transfers e.transfer.id (stored_by e) id)
+
+-- this is known of a transfer of which the events show so much
+record Knows (known : Option Stored) (is_there : Bool) (held : Option ℕ) (was : Bool) : Type 0 where
+  pub stored : is_there ≡ is_some known
+  pub amount : held ≡ amount_in known
+  pub settled : was ≡ was_settled known
+
+-- one step: the transfer is the pending one that the event settles, or the one that it stores, or another one
+knows-step : (settled own holding : Bool) (amount less : ℕ) (known : Option Stored) (is_there : Bool) (held : Option ℕ)
+    (was : Bool) → Knows known is_there held was → (settled ≡ true → known ≡ Some (Pending less))
+    → (own ≡ true → known ≡ None)
+    → Knows (cond settled (Some (Settled less)) (cond own (Some (cond holding (Pending amount) Plain)) known))
+    (is_there || own) (option_or held (cond (holding && own) (Some amount) None)) (was || settled)
+knows-step true own holding amount less known is_there held was knows pending new =
+    let is = pending refl in
+    let there : is_there ≡ true = knows.stored ∙ ap is_some is in
+    let amount_is : held ≡ Some less = knows.amount ∙ ap amount_in is in
+    record {
+      stored = rw there refl;
+      amount = rw amount_is refl;
+      settled = true_last was;
+    }
+  where
+    true_last : (b : Bool) → (b || true) ≡ true
+    true_last true = refl
+    true_last false = refl
+knows-step false true holding amount less known is_there held was knows pending new =
+    let is = new refl in
+    let none : held ≡ None = knows.amount ∙ ap amount_in is in
+    let open_yet : was ≡ false = knows.settled ∙ ap was_settled is in
+    record {
+      stored = true_last is_there;
+      amount = rw none (by_holding holding);
+      settled = rw open_yet (is_open holding);
+    }
+  where
+    true_last : (b : Bool) → (b || true) ≡ true
+    true_last true = refl
+    true_last false = refl
+
+    by_holding : (b : Bool)
+        → cond (b && true) (Some amount) None ≡ amount_in (Some (cond b (Pending amount) Plain))
+    by_holding true = refl
+    by_holding false = refl
+
+    is_open : (b : Bool) → false ≡ was_settled (Some (cond b (Pending amount) Plain))
+    is_open true = refl
+    is_open false = refl
+knows-step false false holding amount less known is_there held was knows pending new = record {
+  stored = or_false is_there ∙ knows.stored;
+  amount = no_more holding held ∙ knows.amount;
+  settled = or_false was ∙ knows.settled;
+}
+  where
+    no_more : (b : Bool) (held : Option ℕ) → option_or held (cond (b && false) (Some amount) None) ≡ held
+    no_more true None = refl
+    no_more true (Some n) = refl
+    no_more false None = refl
+    no_more false (Some n) = refl
+
+both_true : (a b : Bool) → (a && b) ≡ true → (a ≡ true) × (b ≡ true)
+both_true true b is = (refl, is)
+both_true false b is = cc
+
+same_id : (a b : ℕ) → (a == b) ≡ true → a ≡ b
+same_id a b is = elim (eqb_tells a b) [
+    | inl same ↦ same.1
+    | inr other ↦ cc
+  ]
+
+-- nothing is stored under an id that isn't known
+unknown : (counts : Bool) (known : Option Stored) → (counts && is_some (cond counts known None)) ≡ false
+    → counts ≡ true → known ≡ None
+unknown true None free is = refl
+unknown true (Some stored) free is = cc
+unknown false known free is = cc
+
+-- a transfer that may be settled is pending, with the amount that is released
+pending_one : (counts : Bool) (known : Option Stored)
+    → (counts && is_none (amount_in (cond counts known None))) ≡ false
+    → (counts && was_settled (cond counts known None)) ≡ false → counts ≡ true
+    → known ≡ Some (Pending (cond counts (unwrap_or (amount_in (cond counts known None)) 0) 0))
+pending_one true None there open_yet is = cc
+pending_one true (Some Plain) there open_yet is = cc
+pending_one true (Some (Pending amount)) there open_yet is = refl
+pending_one true (Some (Settled amount)) there open_yet is = cc
+pending_one false known there open_yet is = cc
+
+-- what an auditor knows of each transfer after an event that it accepts
+pub known-step : (transfers : List (ℕ × Stored)) (past : List Event) (e : Event)
+    → ((id : ℕ) → IsKnownOf (stored_under transfers id) past id)
+    → (stores e.kind && is_some (cond (stores e.kind) (stored_under transfers e.transfer.id) None)) ≡ false
+    → (settles e.kind && is_none (amount_in (cond (settles e.kind) (stored_under transfers (settled_id e)) None))) ≡ false
+    → (settles e.kind && was_settled (cond (settles e.kind) (stored_under transfers (settled_id e)) None)) ≡ false
+    → (id : ℕ) → IsKnownOf (stored_under (with_settled (with_own transfers e) e (cond (settles e.kind)
+    (unwrap_or (amount_in (cond (settles e.kind) (stored_under transfers (settled_id e)) None)) 0) 0)) id)
+    (past ++ e ∷ []) id
+known-step transfers past e knows new there open_yet id =
+    let less : ℕ = cond (settles e.kind)
+    (unwrap_or (amount_in (cond (settles e.kind) (stored_under transfers (settled_id e)) None)) 0) 0 in
+    let was = knows id in
+    let step = knows-step (settles e.kind && (settled_id e == id)) (stores e.kind && (e.transfer.id == id))
+    (holds e.kind) e.transfer.amount less (stored_under transfers id) (is_stored past id) (pending_amount past id)
+    (is_settled past id) (record { stored = was.stored; amount = was.amount; settled = was.settled })
+    (λ is. let both = both_true (settles e.kind) (settled_id e == id) is in
+    sym (ap (stored_under transfers) (same_id (settled_id e) id both.1))
+    ∙ pending_one (settles e.kind) (stored_under transfers (settled_id e)) there open_yet both.0)
+    (λ is. let both = both_true (stores e.kind) (e.transfer.id == id) is in
+    sym (ap (stored_under transfers) (same_id e.transfer.id id both.1))
+    ∙ unknown (stores e.kind) (stored_under transfers e.transfer.id) new both.0) in
+    let found = stored_under-step transfers e less id in
+    record {
+      stored = is_stored-push past e id ∙ step.stored ∙ sym (ap is_some found);
+      amount = pending_amount-push past e id ∙ step.amount ∙ sym (ap amount_in found);
+      settled = is_settled-push past e id ∙ step.settled ∙ sym (ap was_settled found);
+    }

@@ -1,0 +1,39 @@
+use Rattle.std.proofs.Common.{None, ap, sym, ◌∙◌}
+use Rattle.cdc_message.specs.declared.items.Item.TheVariants as item
+use Rattle.cdc_subscriber.specs.Steps.{next_state}
+use Rattle.cdc_types.specs.Lines.{first_line}
+use Rattle.cdc_audit.specs.declared.checks.Facts.{Facts}
+use Rattle.cdc_audit.specs.Checks.{lines, released}
+use Rattle.cdc_audit.specs.Standing.{AuditorState, with_own, with_settled}
+use Rattle.cdc_audit.proofs.StandLemmas.{accepts, answers, unless_error}
+use Rattle.cdc_audit.proofs.auditor.Auditor.take_event.Goals as goal
+
+pub returns-in-Some-clause-answer : goal.returns-in-Some-clause-answer
+returns-in-Some-clause-answer c = λ state stands.
+    answers c.args.self.now state c.args.event.now _
+    (sym (ap (λ (a : AuditorState). a.kept.ended) c.self.view_is) ∙ (sym c.ended.ensures ∙ c.if-ended.false))
+    (sym c.in-Some.is ∙ c.refusal_by.ensures
+    ∙ ap (λ (facts : Facts). first_line (lines facts c.args.event.now)) c.facts-facts.ensures) stands
+
+pub returns-clause-answer : goal.returns-clause-answer
+returns-clause-answer c = λ state stands.
+    answers c.args.self.now state c.args.event.now None
+    (sym (ap (λ (a : AuditorState). a.kept.ended) c.self.view_is) ∙ (sym c.ended.ensures ∙ c.if-ended.false))
+    (sym c.in_default.is ∙ c.refusal_by.ensures
+    ∙ ap (λ (facts : Facts). first_line (lines facts c.args.event.now)) c.facts-facts.ensures) stands
+
+pub returns-clause-accepted : goal.returns-clause-accepted
+returns-clause-accepted c = λ state stands _.
+    let e = c.args.event.now in
+    accepts c.args.self.now (record { kept = c.take_event.new.self; transfers = c.keep.new.transfers.entries }) state e
+    (sym (ap (λ (a : AuditorState). a.kept.ended) c.self.view_is) ∙ (sym c.ended.ensures ∙ c.if-ended.false))
+    (sym (ap (λ (facts : Facts). first_line (lines facts e)) c.facts-facts.ensures) ∙ sym c.refusal_by.ensures
+    ∙ c.in_default.is)
+    (unless_error c.take_event.result _ (sym c.is_err.ensures.value ∙ c.if-is_err.false) c.take_event.ensures.state
+    ∙ ap (λ (a : AuditorState). next_state a.kept (item.Event e)) c.self.view_is)
+    (c.keep.ensures
+    ∙ ap (λ ts. with_settled (with_own ts e) e c.released.result)
+    (c.in_ok-reserve.ensures.entries ∙ ap (λ (a : AuditorState). a.transfers) c.self.view_is)
+    ∙ ap (with_settled (with_own c.args.self.now.transfers e) e)
+    (c.released.ensures ∙ ap (λ (facts : Facts). released facts e) c.facts-facts.ensures))
+    stands
