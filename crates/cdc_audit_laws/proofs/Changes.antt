@@ -73,18 +73,18 @@ no_other_balances front e f id all_e all_f alike =
     let can_f = (last_follows front f all_f).1 in
     elim (eqb_tells e.credit_account.id id) [
       | inl credit ↦
-        balances_after-credited front e id credit.1 ∙ same_credited front e f alike can_e can_f
-        ∙ sym (balances_after-credited front f id (sym alike.credit ∙ credit.1))
+          balances_after-credited front e id credit.1 ∙ same_credited front e f alike can_e can_f
+          ∙ sym (balances_after-credited front f id (sym alike.credit ∙ credit.1))
       | inr credit ↦
-        let not_credited : f.credit_account.id ≢ id = λ same. credit.1 (alike.credit ∙ same) in
-        elim (eqb_tells e.debit_account.id id) [
-          | inl debit ↦
-            balances_after-debited front e id debit.1 credit.1 ∙ same_debited front e f alike can_e can_f
-            ∙ sym (balances_after-debited front f id (sym alike.debit ∙ debit.1) not_credited)
-          | inr debit ↦
-            balances_after-other front e id debit.1 credit.1
-            ∙ sym (balances_after-other front f id (λ same. debit.1 (alike.debit ∙ same)) not_credited)
-        ]
+          let not_credited : f.credit_account.id ≢ id = λ same. credit.1 (alike.credit ∙ same) in
+          elim (eqb_tells e.debit_account.id id) [
+            | inl debit ↦
+                balances_after-debited front e id debit.1 credit.1 ∙ same_debited front e f alike can_e can_f
+                ∙ sym (balances_after-debited front f id (sym alike.debit ∙ debit.1) not_credited)
+            | inr debit ↦
+                balances_after-other front e id debit.1 credit.1
+                ∙ sym (balances_after-other front f id (λ same. debit.1 (alike.debit ∙ same)) not_credited)
+          ]
     ]
 
 -- ---- an event that is left out

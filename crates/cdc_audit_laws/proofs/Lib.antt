@@ -3,3 +3,6 @@ pub mod Following
 pub mod Streams
 pub mod Sums
 pub mod Changes
+pub mod Keeping
+pub mod Entries
+pub mod Ledgers

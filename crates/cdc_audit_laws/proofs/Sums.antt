@@ -40,11 +40,11 @@ adds : (past : List Event) (e : Event) (id : ℕ) → CanFollow past e → Adds 
 adds past e id can =
     elim (eqb_tells e.credit_account.id id) [
       | inl credit ↦
-        let not_debit : e.debit_account.id ≢ id = λ same. can.apart (same ∙ sym credit.1) in
-        elim (eqb_tells e.debit_account.id id) [
-          | inl debit ↦ absurd (not_debit debit.1)
-          | inr debit ↦ credited credit.0 debit.0 credit.1
-        ]
+          let not_debit : e.debit_account.id ≢ id = λ same. can.apart (same ∙ sym credit.1) in
+          elim (eqb_tells e.debit_account.id id) [
+            | inl debit ↦ absurd (not_debit debit.1)
+            | inr debit ↦ credited credit.0 debit.0 credit.1
+          ]
       | inr credit ↦ elim (eqb_tells e.debit_account.id id) [
         | inl debit ↦ debited credit.0 debit.0 debit.1 credit.1
         | inr debit ↦ neither credit.0 debit.0 debit.1 credit.1
