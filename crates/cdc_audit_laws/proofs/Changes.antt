@@ -1,14 +1,13 @@
 -- A balance that another one replaces, and a change that is left out.
-use Rattle.std.proofs.Common.{◌≡◌, ◌≢◌, ℕ, ◌+◌, Bool, true, false, List, [], ◌∷◌, ◌++◌, Option, Some, None, is_none, refl, sym, ap, ap₂, ◌∙◌, subst, inl, inr, arith, append_assoc, append-nil}
-use Rattle.std.specs.Prelude.{◌==◌, ◌&&◌, ◌||◌, find, if◌then◌else◌, option_map, unwrap_or}
-use Rattle.std.specs.List.{AllByRecursion, list_any}
+use Rattle.std.proofs.Common.{◌≡◌, ◌≢◌, ℕ, Bool, true, false, List, [], ◌∷◌, ◌++◌, Option, Some, None, is_none, refl, sym, ap, ap₂, ◌∙◌, subst, inl, inr, arith, append_assoc, append-nil}
+use Rattle.std.specs.Prelude.{◌==◌, ◌&&◌, find, if◌then◌else◌, option_map, unwrap_or}
+use Rattle.std.specs.List.{AllByRecursion}
 use Rattle.std.specs.Option.{option_or}
-use Rattle.std.proofs.lemmas.Bool.{and_from, and_parts, eq-eqb, eqb-true, false_from_ne_true, false≢true, or_left, or_right}
+use Rattle.std.proofs.lemmas.Bool.{and_from, and_parts, eqb-true, false_from_ne_true, false≢true, or_left, or_right}
 use Rattle.std.proofs.lemmas.Bool.Decides.{eqb_tells}
 use Rattle.std.proofs.lemmas.List.Folds.{find-append, list_any-append}
 use Rattle.cdc_types.specs.declared.accounts.Balances.{Balances}
 use Rattle.cdc_types.specs.declared.events.Event.{Event}
-use Rattle.cdc_types.specs.declared.events.EventAccount.{EventAccount}
 use Rattle.cdc_ledger.specs.Kinds.{holds, moves, settles, stores}
 use Rattle.cdc_ledger.proofs.BalanceLaws.{stores-holds}
 use Rattle.cdc_audit.specs.Audits.{follows_on, is_accepted}

@@ -1,8 +1,8 @@
 -- What the events of entries show of transfers: those of the ledger.
-use Rattle.std.proofs.Common.{◌≡◌, ℕ, ◌<◌, ◌≤◌, Bool, true, false, List, [], ◌∷◌, Option, Some, None, map, refl, sym, ap, ap₂, ◌∙◌, arith, le-leb}
-use Rattle.std.specs.Prelude.{◌==◌, ◌&&◌, ◌||◌, nat_le, find, if◌then◌else◌}
+use Rattle.std.proofs.Common.{◌≡◌, ℕ, ◌≤◌, Bool, true, false, List, [], ◌∷◌, Some, None, map, refl, sym, ap, ◌∙◌, arith, le-leb}
+use Rattle.std.specs.Prelude.{◌==◌, ◌&&◌, nat_le, find, if◌then◌else◌}
 use Rattle.std.specs.List.{AllByRecursion, list_any}
-use Rattle.std.proofs.lemmas.Bool.{and_from, and_left, and_parts, or_from, or_parts}
+use Rattle.std.proofs.lemmas.Bool.{and_from, and_parts, or_from, or_parts}
 use Rattle.cdc_types.specs.declared.events.Entry.{Entry}
 use Rattle.cdc_types.specs.declared.events.Event.{Event}
 use Rattle.cdc_types.specs.declared.events.EventKind.{EventKind}

@@ -1,13 +1,11 @@
 -- The events of a ledger are accepted.
-use Rattle.std.proofs.Common.{◌≡◌, ◌≢◌, ℕ, ◌+◌, ◌-◌, ◌<◌, ◌≤◌, Bool, true, false, List, [], ◌∷◌, ◌++◌, Option, Some, None, is_none, refl, sym, ap, ap₂, ◌∙◌, subst, inl, inr, arith}
+use Rattle.std.proofs.Common.{◌≡◌, ◌≢◌, ℕ, ◌<◌, ◌≤◌, Bool, true, false, List, [], ◌∷◌, ◌++◌, Option, Some, None, is_none, refl, sym, ap, ap₂, ◌∙◌, inl, inr, arith}
 use Rattle.std.specs.Prelude.{◌==◌, ◌&&◌, IsSome, if◌then◌else◌, unwrap_or}
 use Rattle.std.proofs.lemmas.Bool.{and_left, and_parts, eq-eqb, eqb-true, ne_eqb}
 use Rattle.std.proofs.lemmas.Bool.Decides.{eqb_tells}
 use Rattle.cdc_types.specs.declared.accounts.Balances.{Balances}
 use Rattle.cdc_types.specs.declared.events.Entry.{Entry}
 use Rattle.cdc_types.specs.declared.events.Event.{Event}
-use Rattle.cdc_types.specs.declared.transfers.Transfer.{Transfer}
-use Rattle.cdc_types.specs.Timestamps.{last_timestamp}
 use Rattle.cdc_ledger.specs.Balances.{balances}
 use Rattle.cdc_ledger.specs.Changes.{pushed, timed, with_account}
 use Rattle.cdc_ledger.specs.Effects.{amount_of, balances_after_entry, effect_of, part}
@@ -17,7 +15,6 @@ use Rattle.cdc_ledger.specs.Follows.{Follows, SettlesOpen}
 use Rattle.cdc_ledger.specs.History.{History, Opened, empty_history, opened}
 use Rattle.cdc_ledger.specs.Kinds.{settled_id, settles, stores}
 use Rattle.cdc_ledger.specs.Sound.{IsSound}
-use Rattle.cdc_ledger.specs.Submit.{IsLegal}
 use Rattle.cdc_ledger.proofs.BalanceLaws.{balances-pushed, balances_later, released_credit, released_debit, same_balances, settled_by_is, settled_by_none}
 use Rattle.cdc_ledger.proofs.Elements.{AllByRecursion-every}
 use Rattle.cdc_ledger.proofs.EventLaws.{events-pushed, events-with_account}
@@ -25,13 +22,13 @@ use Rattle.cdc_ledger.proofs.OpenedLaws.{opened_id}
 use Rattle.cdc_ledger.proofs.StoredLaws.{find_all, is_stored as stores_id}
 use Rattle.cdc_audit.specs.Audits.{is_accepted}
 use Rattle.cdc_audit.specs.Known.{balances_after, is_settled, is_stored, pending_amount, settled_id_by}
-use Rattle.cdc_audit.specs.Rules.{held, posted, released}
+use Rattle.cdc_audit.specs.Rules.{released}
 use Rattle.cdc_audit_laws.specs.Laws.{LedgersAreAccepted}
 use Rattle.cdc_audit_laws.proofs.Entries.{last_timestamp-events, pending_amount-events, settled_id-shown, unsettled, unstored}
 use Rattle.cdc_audit_laws.proofs.Following.{CanFollow, IsCredited, IsDebited}
 use Rattle.cdc_audit_laws.proofs.Keeping.{kept_by_legal}
 use Rattle.cdc_audit_laws.proofs.Shown.{balances_after-credited, balances_after-debited, balances_after-other}
-use Rattle.cdc_audit_laws.proofs.Streams.{accepted-push, accepted-take, none_follows}
+use Rattle.cdc_audit_laws.proofs.Streams.{accepted-push, none_follows, prefixes_are_accepted}
 
 -- the events of a history are accepted, and show last the balances of each account
 record IsAudited (h : History) : Type 0 where
@@ -277,4 +274,4 @@ pub ledgers_are_accepted : LedgersAreAccepted
 ledgers_are_accepted h count legal =
     let audited : IsAudited h =
     kept_by_legal IsAudited audited-empty audited-pushed audited-account audited-timed audited-closed h legal in
-    accepted-take count (events h) audited.accepted
+    prefixes_are_accepted (events h) count audited.accepted

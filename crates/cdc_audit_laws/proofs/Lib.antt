@@ -6,3 +6,4 @@ pub mod Changes
 pub mod Keeping
 pub mod Entries
 pub mod Ledgers
+mod Examples

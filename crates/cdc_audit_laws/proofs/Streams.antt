@@ -1,11 +1,11 @@
 -- Streams of events that are accepted: of two parts, and of all but the last event.
-use Rattle.std.proofs.Common.{◌≡◌, zero, suc, ℕ, Bool, true, false, List, [], ◌∷◌, ◌++◌, Option, Some, None, is_none, take, refl, sym, ap, ap₂, ◌∙◌, append_assoc, append-nil}
-use Rattle.std.specs.Prelude.{◌&&◌}
+use Rattle.std.proofs.Common.{◌≡◌, zero, suc, ℕ, true, List, [], ◌∷◌, ◌++◌, Option, Some, None, is_none, take, refl, ap, append_assoc, append-nil}
 use Rattle.std.proofs.lemmas.Bool.{and_from, and_parts}
 use Rattle.cdc_types.specs.declared.events.Event.{Event}
 use Rattle.cdc_audit.specs.declared.refusals.Refusal.{Refusal}
 use Rattle.cdc_audit.specs.Audits.{follows_on, is_accepted}
 use Rattle.cdc_audit.specs.Rules.{refusal}
+use Rattle.cdc_audit_laws.specs.Laws.{PrefixesAreAccepted}
 use Rattle.cdc_audit_laws.proofs.Following.{CanFollow, no_refusal, unrefused}
 
 -- no refusal
@@ -75,5 +75,5 @@ prefix_follows (suc count) past (e ∷ rest) all =
     follows_first past e (take count rest) first.0 (prefix_follows count (past ++ e ∷ []) rest first.1)
 
 -- so each prefix of an accepted stream is accepted
-pub accepted-take : (count : ℕ) (events : List Event) → is_accepted events ≡ true → is_accepted (take count events) ≡ true
-accepted-take count events all = prefix_follows count [] events all
+pub prefixes_are_accepted : PrefixesAreAccepted
+prefixes_are_accepted events count all = prefix_follows count [] events all

@@ -1,8 +1,7 @@
 -- What an audit shows of a stream.
-use Rattle.std.specs.Prelude.{◌≡◌, ◌≢◌, ◌⊎◌, ℕ, ◌==◌, Bool, true, false, List, [], ◌∷◌, ◌++◌, take, sum_by, if◌then◌else◌}
+use Rattle.std.specs.Prelude.{◌≡◌, ◌≢◌, ◌⊎◌, ℕ, ◌==◌, true, false, List, [], ◌∷◌, ◌++◌, take, sum_by, if◌then◌else◌}
 use Rattle.std.specs.List.{AllByRecursion}
 use Rattle.cdc_types.specs.declared.events.Event.{Event}
-use Rattle.cdc_types.specs.declared.events.EventAccount.{EventAccount}
 use Rattle.cdc_ledger.specs.Events.{events}
 use Rattle.cdc_ledger.specs.History.{History}
 use Rattle.cdc_ledger.specs.Submit.{IsLegal}
@@ -17,6 +16,12 @@ Shows id e = (e.debit_account.id ≡ id) ⊎ (e.credit_account.id ≡ id)
 -- a ledger's events are accepted, whole and every prefix
 abbrev pub LedgersAreAccepted : Type 0
 LedgersAreAccepted = (h : History) (count : ℕ) → IsLegal h → is_accepted (take count (events h)) ≡ true
+
+-- each prefix of an accepted stream is accepted; so what holds of the last event of each accepted stream holds of every
+-- event
+abbrev pub PrefixesAreAccepted : Type 0
+PrefixesAreAccepted = (events : List Event) (count : ℕ) → is_accepted events ≡ true
+    → is_accepted (take count events) ≡ true
 
 -- an event that changed the balances of an account can't be left out: the next event of that account is refused, unless
 -- one before it is

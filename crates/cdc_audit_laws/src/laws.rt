@@ -1,10 +1,16 @@
 //! What an audit shows of a stream. The laws are the postconditions of functions that do nothing.
 
-ghost use Rattle.cdc_audit_laws.specs.Laws.{AChangeShows, BalancesAreSums, LedgersAreAccepted, NoOtherBalances, WhatIsLeftOutMovedNothing};
+ghost use Rattle.cdc_audit_laws.specs.Laws.{AChangeShows, BalancesAreSums, LedgersAreAccepted, NoOtherBalances, PrefixesAreAccepted, WhatIsLeftOutMovedNothing};
 
 /// Does nothing. Every stream that a ledger's events make is accepted, whole and every prefix of it.
 pub fn ledgers_are_accepted()
     ensures { LedgersAreAccepted }
+{}
+
+/// Does nothing. Each prefix of an accepted stream is accepted. So what the other laws promise of the last event of a
+/// stream holds of every event.
+pub fn prefixes_are_accepted()
+    ensures { PrefixesAreAccepted }
 {}
 
 /// Does nothing. If an event is left out that changed an account's balances, the next event of that account is
