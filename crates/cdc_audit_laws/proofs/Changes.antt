@@ -101,7 +101,8 @@ abbrev is_pending : ℕ → Event → Bool
 is_pending id e = holds e.kind && (e.transfer.id == id)
 
 -- a stored id stays stored
-stored_still : (past : List Event) (e : Event) (id : ℕ) → is_stored past id ≡ true → is_stored (past ++ e ∷ []) id ≡ true
+stored_still : (past : List Event) (e : Event) (id : ℕ) → is_stored past id ≡ true
+    → is_stored (past ++ e ∷ []) id ≡ true
 stored_still past e id there =
     list_any-append (λ x. stores x.kind && (x.transfer.id == id)) past (e ∷ [])
     ∙ or_left (is_stored past id) _ there
@@ -140,10 +141,12 @@ same_pending front between lost id all there =
     (by (is_pending id lost) (find (is_pending id) front) refl refl)
   where
     whole : find (is_pending id) (front ++ lost ∷ between)
-        ≡ option_or (find (is_pending id) front) (if is_pending id lost then Some lost else find (is_pending id) between)
+        ≡ option_or (find (is_pending id) front)
+        (if is_pending id lost then Some lost else find (is_pending id) between)
     whole = find-append (is_pending id) front (lost ∷ between)
 
-    rest : find (is_pending id) (front ++ between) ≡ option_or (find (is_pending id) front) (find (is_pending id) between)
+    rest : find (is_pending id) (front ++ between)
+        ≡ option_or (find (is_pending id) front) (find (is_pending id) between)
     rest = find-append (is_pending id) front between
 
     by : (b : Bool) (o : Option Event) → is_pending id lost ≡ b → find (is_pending id) front ≡ o
@@ -157,7 +160,8 @@ same_pending front between lost id all there =
     by true None is found =
         let none : find (is_pending id) (front ++ between) ≡ None =
         rest ∙ ap₂ option_or found (none_again (front ++ lost ∷ []) between id (stored_then front lost id is) all) in
-        absurd (false≢true (sym there ∙ ap (λ (o : Option Event). is_none (option_map (λ e. e.transfer.amount) o)) none))
+        absurd (false≢true (sym there
+        ∙ ap (λ (o : Option Event). is_none (option_map (λ e. e.transfer.amount) o)) none))
 
 -- so an event that follows with and without the lost one releases the same
 same_released_without : (front between : List Event) (lost next : Event)

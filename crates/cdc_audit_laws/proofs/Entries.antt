@@ -80,7 +80,8 @@ settled_id-shown TwoPhaseExpired x = refl
 -- entries of which none resolves a transfer have events of which none settles it
 unsettled_from : (h : History) (p : Transfer) (t : ℕ) (es : List Entry) → AllByRecursion (λ e. e.timestamp ≤ t) es
     → list_any (λ e. nat_le e.timestamp t && resolves p e) es ≡ false
-    → list_any (λ (e : Event). settles e.kind && (settled_id_by e.kind e.transfer == p.id)) (map (event_of h) es) ≡ false
+    → list_any (λ (e : Event). settles e.kind && (settled_id_by e.kind e.transfer == p.id)) (map (event_of h) es)
+    ≡ false
 unsettled_from h p t [] within none = refl
 unsettled_from h p t (e ∷ es) within none =
     let parts = or_parts (nat_le e.timestamp t && resolves p e)

@@ -76,6 +76,14 @@ paid_after_post = event SinglePhase 2005 11 0 1 (account 1 0 14 0 0) (account 2 
 abbrev paid_after_void : Event
 paid_after_void = event SinglePhase 2005 11 0 1 (account 1 0 11 0 0) (account 2 0 0 0 11)
 
+-- account 3 pays 6 to account 4
+abbrev paid_by_another : Event
+paid_by_another = event SinglePhase 2004 10 0 6 (account 3 0 6 0 0) (account 4 0 0 0 6)
+
+-- the first event with another timestamp and another id
+abbrev paid_otherwise : Event
+paid_otherwise = event SinglePhase 2000 6 0 10 (account 1 0 10 0 0) (account 2 0 0 0 10)
+
 -- a stream, and what it moved
 abbrev whole : List Event
 whole = paid ∷ held ∷ posted ∷ paid_nothing ∷ paid_after_post ∷ []
@@ -111,12 +119,12 @@ unfolding follows_on refusal
 held_and_voided = (refl, refl)
 
 -- nor is the last event of an account
-last_of_account : (is_accepted (paid ∷ held ∷ posted ∷ event SinglePhase 2004 10 0 6 (account 3 0 6 0 0) (account 4 0 0 0 6)
-    ∷ paid_after_post ∷ []) ≡ true) × (is_accepted (paid ∷ held ∷ posted ∷ paid_after_post ∷ []) ≡ true)
+last_of_account : (is_accepted (paid ∷ held ∷ posted ∷ paid_by_another ∷ paid_after_post ∷ []) ≡ true)
+    × (is_accepted (paid ∷ held ∷ posted ∷ paid_after_post ∷ []) ≡ true)
 unfolding follows_on refusal
 last_of_account = (refl, refl)
 
 -- nor is another id, or another timestamp between those of its neighbours
-other_id : is_accepted (event SinglePhase 2000 6 0 10 (account 1 0 10 0 0) (account 2 0 0 0 10) ∷ held ∷ posted ∷ []) ≡ true
+other_id : is_accepted (paid_otherwise ∷ held ∷ posted ∷ []) ≡ true
 unfolding follows_on refusal
 other_id = refl

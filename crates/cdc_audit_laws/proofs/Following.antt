@@ -31,7 +31,8 @@ no_first_line [] none = refl
 no_first_line (line ∷ lines) none = rw none.0 (no_first_line lines none.1)
 
 -- a balance that follows: what is shown and what is released are what was before and what is added
-not_balanced : (shown before added less : ℕ) → not (shown + less == before + added) ≡ false → shown + less ≡ before + added
+not_balanced : (shown before added less : ℕ) → not (shown + less == before + added) ≡ false
+    → shown + less ≡ before + added
 not_balanced shown before added less line = eqb-true (shown + less) (before + added) (not-false _ line)
 
 -- and the other way round

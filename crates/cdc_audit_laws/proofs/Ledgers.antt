@@ -72,14 +72,17 @@ module _ (h : History) (e : Entry) (sound : IsSound h) (follows : Follows h e) (
   apart : event.debit_account.id ≢ event.credit_account.id
   apart same = follows.apart (sym debit_id ∙ same ∙ credit_id)
 
-  -- it names the same pending transfer
-  same_id : settled_id_by event.kind event.transfer ≡ settled_id e.kind e.transfer
+  -- the id of the pending transfer that it settles
+  abbrev named_id : ℕ
+  named_id = settled_id_by event.kind event.transfer
+
+  -- is the one that its entry names
+  same_id : named_id ≡ settled_id e.kind e.transfer
   same_id = settled_id-shown e.kind e.transfer
 
   -- the amount of the pending transfer that it settles
   amount_of_settled : (is : settles e.kind ≡ true)
-      → pending_amount (events h) (settled_id_by event.kind event.transfer)
-      ≡ Some (follows.settling is).pending.transfer.amount
+      → pending_amount (events h) named_id ≡ Some (follows.settling is).pending.transfer.amount
   amount_of_settled is =
       let of : SettlesOpen h e = follows.settling is in
       ap (pending_amount (events h)) same_id
@@ -94,20 +97,18 @@ module _ (h : History) (e : Entry) (sound : IsSound h) (follows : Follows h e) (
       by false is = and_left (stores e.kind) _ is
 
   -- the transfer that it settles is pending
-  is_pending : (settles event.kind && is_none (pending_amount (events h) (settled_id_by event.kind event.transfer))) ≡ false
+  is_pending : (settles event.kind && is_none (pending_amount (events h) named_id)) ≡ false
   is_pending = by (settles e.kind) refl
     where
-      by : (b : Bool) → settles e.kind ≡ b
-          → (settles e.kind && is_none (pending_amount (events h) (settled_id_by event.kind event.transfer))) ≡ false
+      by : (b : Bool) → settles e.kind ≡ b → (settles e.kind && is_none (pending_amount (events h) named_id)) ≡ false
       by true is = ap₂ (λ b (o : Option ℕ). b && is_none o) is (amount_of_settled is)
       by false is = and_left (settles e.kind) _ is
 
   -- and no event settled it
-  is_unsettled : (settles event.kind && is_settled (events h) (settled_id_by event.kind event.transfer)) ≡ false
+  is_unsettled : (settles event.kind && is_settled (events h) named_id) ≡ false
   is_unsettled = by (settles e.kind) refl
     where
-      by : (b : Bool) → settles e.kind ≡ b
-          → (settles e.kind && is_settled (events h) (settled_id_by event.kind event.transfer)) ≡ false
+      by : (b : Bool) → settles e.kind ≡ b → (settles e.kind && is_settled (events h) named_id) ≡ false
       by true is =
           let of : SettlesOpen h e = follows.settling is in
           let named : of.pending.transfer.id ≡ settled_id e.kind e.transfer =
@@ -127,7 +128,7 @@ module _ (h : History) (e : Entry) (sound : IsSound h) (follows : Follows h e) (
           ap₂ (λ b o. if b then unwrap_or o 0 else 0) is (amount_of_settled is)
           ∙ sym (ap amount_of (settled_by_is h e of.pending is of.settles))
       by false is =
-          ap (λ b. if b then unwrap_or (pending_amount (events h) (settled_id_by event.kind event.transfer)) 0 else 0) is
+          ap (λ b. if b then unwrap_or (pending_amount (events h) named_id) 0 else 0) is
           ∙ sym (ap amount_of (settled_by_none h e is))
 
   -- the balances of an account right after the entry

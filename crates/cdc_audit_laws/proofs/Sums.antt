@@ -31,7 +31,8 @@ credits-push events e id = sum_by_push (λ x. credited_by x id) events e
 
 -- and the posted sums that are shown rise by as much
 pub record Adds (past : List Event) (e : Event) (id : ℕ) : Type 0 where
-  pub debits : (balances_after (past ++ e ∷ []) id).debits_posted ≡ (balances_after past id).debits_posted + debited_by e id
+  pub debits : (balances_after (past ++ e ∷ []) id).debits_posted
+      ≡ (balances_after past id).debits_posted + debited_by e id
   pub credits : (balances_after (past ++ e ∷ []) id).credits_posted
       ≡ (balances_after past id).credits_posted + credited_by e id
 
@@ -54,7 +55,8 @@ adds past e id can =
     credited : (e.credit_account.id == id) ≡ true → (e.debit_account.id == id) ≡ false → e.credit_account.id ≡ id
         → Adds past e id
     credited c d is =
-        let now : balances_after (past ++ e ∷ []) id ≡ balances_of e.credit_account = balances_after-credited past e id is in
+        let now : balances_after (past ++ e ∷ []) id ≡ balances_of e.credit_account =
+        balances_after-credited past e id is in
         let follows = subst (λ (n : ℕ). IsCredited past e (balances_after past n)) is can.credited in
         record {
           debits = rw (now, d) (let same = follows.debits_posted in omega arith);
