@@ -1,5 +1,5 @@
 -- A balance that another one replaces, and a change that is left out.
-use Rattle.std.proofs.Common.{◌≡◌, ◌≢◌, ℕ, Bool, true, false, List, [], ◌∷◌, ◌++◌, Option, Some, None, is_none, refl, sym, ap, ap₂, ◌∙◌, subst, inl, inr, arith, append_assoc, append-nil}
+use Rattle.std.proofs.Common.{◌≡◌, ◌≢◌, ℕ, Bool, true, false, List, [], ◌∷◌, ◌++◌, Option, Some, None, is_none, refl, sym, ap, ap₂, ◌∙◌, subst, inl, inr, ⊎_elim, ◌⊎◌, arith, append_assoc, append-nil}
 use Rattle.std.specs.Prelude.{◌==◌, ◌&&◌, find, if◌then◌else◌, option_map, unwrap_or}
 use Rattle.std.specs.List.{AllByRecursion}
 use Rattle.std.specs.Option.{option_or}
@@ -10,6 +10,7 @@ use Rattle.cdc_types.specs.declared.accounts.Balances.{Balances}
 use Rattle.cdc_types.specs.declared.events.Event.{Event}
 use Rattle.cdc_ledger.specs.Kinds.{holds, moves, settles, stores}
 use Rattle.cdc_ledger.proofs.BalanceLaws.{stores-holds}
+use Rattle.cdc_ledger.proofs.Elements.{AllByRecursion_push}
 use Rattle.cdc_audit.specs.Audits.{follows_on, is_accepted}
 use Rattle.cdc_audit.specs.Known.{balances_after, is_stored, pending_amount, settled_id, settled_id_by}
 use Rattle.cdc_audit.specs.Rules.{held, posted, released}
@@ -194,9 +195,13 @@ same_before one other next id can_one can_other release (inr is) =
     (omega (arith, a.debits_pending, b.debits_pending)) (omega (arith, a.debits_posted, b.debits_posted))
     (omega (arith, a.credits_pending, b.credits_pending)) (omega (arith, a.credits_posted, b.credits_posted))
 
--- so an event that changed an account can't be left out before the account's next event
-pub a_change_shows : AChangeShows
-a_change_shows front between lost next id all none shows changed =
+-- so if an event that changed an account is left out, the account's next event is refused, or one before it
+next_is_refused : (front between : List Event) (lost next : Event) (id : ℕ)
+    → is_accepted (front ++ lost ∷ (between ++ next ∷ [])) ≡ true
+    → AllByRecursion (λ e. Shows id e → ⊥) between → Shows id next
+    → balances_after (front ++ lost ∷ []) id ≢ balances_after front id
+    → is_accepted (front ++ between ++ next ∷ []) ≡ false
+next_is_refused front between lost next id all none shows changed =
     false_from_ne_true (is_accepted (front ++ between ++ next ∷ [])) (λ is.
     let whole : is_accepted ((front ++ lost ∷ between) ++ next ∷ []) ≡ true = rw append_assoc all in
     let with_lost = last_follows (front ++ lost ∷ between) next whole in
@@ -209,3 +214,58 @@ a_change_shows front between lost next id all none shows changed =
     ∙ same_before (front ++ lost ∷ between) (front ++ between) next id with_lost.1 without.1
     (same_released_without front between lost next parts without.1) shows
     ∙ kept_between front between id none))
+
+-- an event has an account, or not
+shows_or_not : (id : ℕ) (e : Event) → Shows id e ⊎ (Shows id e → ⊥)
+shows_or_not id e =
+    elim (eqb_tells e.debit_account.id id) [
+      | inl debit ↦ inl (inl debit.1)
+      | inr debit ↦ elim (eqb_tells e.credit_account.id id) [
+        | inl credit ↦ inl (inr credit.1)
+        | inr credit ↦ inr (λ shows. ⊎_elim (λ is. debit.1 is) (λ is. credit.1 is) shows)
+      ]
+    ]
+
+-- a stream with a prefix that is refused is refused
+refused_on : (front back : List Event) → is_accepted front ≡ false → is_accepted (front ++ back) ≡ false
+refused_on front back refused =
+    false_from_ne_true (is_accepted (front ++ back))
+    (λ all. false≢true (sym refused ∙ (parts_follow [] front back all).0))
+
+-- so it is refused by the time of any later event of the account: among these events is its next one
+later_is_refused : (front none between : List Event) (lost later : Event) (id : ℕ)
+    → is_accepted (front ++ lost ∷ (none ++ (between ++ later ∷ []))) ≡ true
+    → AllByRecursion (λ e. Shows id e → ⊥) none → Shows id later
+    → balances_after (front ++ lost ∷ []) id ≢ balances_after front id
+    → is_accepted (front ++ none ++ (between ++ later ∷ [])) ≡ false
+later_is_refused front none [] lost later id all others shows changed =
+    next_is_refused front none lost later id all others shows changed
+later_is_refused front none (e ∷ between) lost later id all others shows changed =
+    let split : (none ++ e ∷ []) ++ (between ++ later ∷ []) ≡ none ++ e ∷ (between ++ later ∷ []) =
+    append_assoc none (e ∷ []) (between ++ later ∷ []) in
+    let whole : is_accepted (front ++ lost ∷ ((none ++ e ∷ []) ++ (between ++ later ∷ []))) ≡ true = rw split all in
+    elim (shows_or_not id e) [
+      | inl here ↦
+          let start : is_accepted (front ++ lost ∷ (none ++ e ∷ [])) ≡ true =
+          (parts_follow [] (front ++ lost ∷ (none ++ e ∷ [])) (between ++ later ∷ []) (rw append_assoc whole)).0 in
+          let refused : is_accepted ((front ++ none ++ e ∷ []) ++ (between ++ later ∷ [])) ≡ false =
+          refused_on (front ++ none ++ e ∷ []) (between ++ later ∷ [])
+          (next_is_refused front none lost e id start others here changed) in
+          subst (λ (es : List Event). is_accepted es ≡ false)
+          (append_assoc (front ++ none) (e ∷ []) (between ++ later ∷ [])) refused
+      | inr away ↦
+          let refused : is_accepted (front ++ (none ++ e ∷ []) ++ (between ++ later ∷ [])) ≡ false =
+          later_is_refused front (none ++ e ∷ []) between lost later id whole
+          (AllByRecursion_push (λ x. Shows id x → ⊥) none e others away) shows changed in
+          subst (λ (es : List Event). is_accepted es ≡ false)
+          (append_assoc front (none ++ e ∷ []) (between ++ later ∷ []) ∙ ap (λ (es : List Event). front ++ es) split
+          ∙ sym (append_assoc front none (e ∷ (between ++ later ∷ [])))) refused
+    ]
+
+-- so a change can't be left out
+pub a_change_shows : AChangeShows
+a_change_shows front between lost later id all shows changed =
+    subst (λ (es : List Event). is_accepted es ≡ false)
+    (ap (λ (es : List Event). es ++ (between ++ later ∷ [])) (append-nil front)
+    ∙ sym (append_assoc front between (later ∷ [])))
+    (later_is_refused front [] between lost later id all tt shows changed)

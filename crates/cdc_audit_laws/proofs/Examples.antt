@@ -1,6 +1,8 @@
 -- The laws at work in short streams: what an audit finds, and what it can't find by nature.
-use Rattle.std.specs.Prelude.{ℕ, ◌≡◌, true, false, List, [], ◌∷◌, Some}
-use Rattle.std.proofs.Common.{refl}
+use Rattle.std.specs.Prelude.{ℕ, ◌≡◌, ◌≢◌, true, false, List, [], ◌∷◌, ◌++◌, Some}
+use Rattle.std.proofs.Common.{refl, sym, ap, inl, arith}
+use Rattle.std.proofs.lemmas.Bool.{false≢true}
+use Rattle.cdc_types.specs.declared.accounts.Balances.{Balances}
 use Rattle.cdc_types.specs.declared.events.Event.{Event}
 use Rattle.cdc_types.specs.declared.events.EventAccount.{EventAccount}
 use Rattle.cdc_types.specs.declared.events.EventKind.{EventKind}
@@ -8,8 +10,9 @@ use Rattle.cdc_types.specs.declared.events.EventKind.TheVariants.{SinglePhase, T
 use Rattle.cdc_audit.specs.declared.refusals.BalanceField.TheVariants.{DebitsPosted}
 use Rattle.cdc_audit.specs.declared.refusals.Refusal.TheVariants.{Balance, NotPending}
 use Rattle.cdc_audit.specs.Audits.{follows_on, is_accepted}
+use Rattle.cdc_audit.specs.Known.{balances_after}
 use Rattle.cdc_audit.specs.Rules.{refusal}
-use Rattle.cdc_audit_laws.specs.Laws.{credits_posted_by, debits_posted_by}
+use Rattle.cdc_audit_laws.specs.Laws.{Shows, credits_posted_by, debits_posted_by}
 
 -- an account as an event shows it
 abbrev account : ℕ → ℕ → ℕ → ℕ → ℕ → EventAccount
@@ -128,3 +131,38 @@ last_of_account = (refl, refl)
 other_id : is_accepted (paid_otherwise ∷ held ∷ posted ∷ []) ≡ true
 unfolding follows_on refusal
 other_id = refl
+
+-- ---- laws that promise too much
+
+-- that each loss shows, whether the lost event changed balances or not
+abbrev EachLossShows : Type 0
+EachLossShows = (front between : List Event) (lost later : Event) (id : ℕ)
+    → is_accepted (front ++ lost ∷ (between ++ later ∷ [])) ≡ true → Shows id later
+    → is_accepted (front ++ between ++ later ∷ []) ≡ false
+
+not_each_loss_shows : EachLossShows → ⊥
+unfolding follows_on refusal
+not_each_loss_shows law =
+    false≢true (sym (law (paid ∷ held ∷ posted ∷ []) [] paid_nothing paid_after_post 1 refl (inl refl)))
+
+-- that a change shows without a later event of its account
+abbrev EachChangeShows : Type 0
+EachChangeShows = (front between : List Event) (lost : Event) (id : ℕ)
+    → is_accepted (front ++ lost ∷ between) ≡ true
+    → balances_after (front ++ lost ∷ []) id ≢ balances_after front id
+    → is_accepted (front ++ between) ≡ false
+
+not_each_change_shows : EachChangeShows → ⊥
+unfolding follows_on refusal
+not_each_change_shows law =
+    false≢true (sym (law (paid ∷ held ∷ posted ∷ []) (paid_after_post ∷ []) paid_by_another 3 refl
+    (λ same. let six : 6 ≡ 0 = ap (λ (b : Balances). b.debits_posted) same in omega arith)))
+
+-- that an event more than a ledger has is accepted
+abbrev AnotherIsAccepted : Type 0
+AnotherIsAccepted = (events : List Event) (another : Event) → is_accepted events ≡ true
+    → is_accepted (events ++ another ∷ []) ≡ true
+
+not_another : AnotherIsAccepted → ⊥
+unfolding follows_on refusal
+not_another law = false≢true (law (paid ∷ []) paid refl)

@@ -13,8 +13,8 @@ pub fn prefixes_are_accepted()
     ensures { PrefixesAreAccepted }
 {}
 
-/// Does nothing. If an event is left out that changed an account's balances, the next event of that account is
-/// refused, or one before it.
+/// Does nothing. If an event that changed an account's balances is left out, and the account has a later event, the stream
+/// is refused: at the account's next event, or before it.
 pub fn a_change_shows()
     ensures { AChangeShows }
 {}
