@@ -2,10 +2,12 @@
 use Rattle.std.proofs.Common.{◌≡◌, zero, suc, ℕ, true, List, [], ◌∷◌, ◌++◌, Option, Some, None, is_none, take, refl, ap, append_assoc, append-nil}
 use Rattle.std.proofs.lemmas.Bool.{and_from, and_parts}
 use Rattle.cdc_types.specs.declared.events.Event.{Event}
+use Rattle.cdc_types.specs.Timestamps.{RiseFrom, last_timestamp}
+use Rattle.cdc_types.proofs.Rising.{last_timestamp_from-push}
 use Rattle.cdc_audit.specs.declared.refusals.Refusal.{Refusal}
 use Rattle.cdc_audit.specs.Audits.{follows_on, is_accepted}
 use Rattle.cdc_audit.specs.Rules.{refusal}
-use Rattle.cdc_audit_laws.specs.Laws.{PrefixesAreAccepted}
+use Rattle.cdc_audit_laws.specs.Laws.{AcceptedEventsRise, PrefixesAreAccepted}
 use Rattle.cdc_audit_laws.proofs.Following.{CanFollow, no_refusal, unrefused}
 
 -- no refusal
@@ -77,3 +79,14 @@ prefix_follows (suc count) past (e ∷ rest) all =
 -- so each prefix of an accepted stream is accepted
 pub prefixes_are_accepted : PrefixesAreAccepted
 prefixes_are_accepted events count all = prefix_follows count [] events all
+
+-- events that follow others rise from the last timestamp of these
+rise_on : (past rest : List Event) → follows_on past rest ≡ true → RiseFrom (last_timestamp past) rest
+rise_on past [] all = tt
+rise_on past (e ∷ rest) all =
+    let first = first_follows past e rest all in
+    (first.0.later, rw last_timestamp_from-push at (rise_on (past ++ e ∷ []) rest first.1))
+
+-- so accepted events rise
+pub accepted_events_rise : AcceptedEventsRise
+accepted_events_rise events all = rise_on [] events all

@@ -1,6 +1,7 @@
 -- What an audit shows of a stream.
 use Rattle.std.specs.Prelude.{◌≡◌, ◌≢◌, ◌⊎◌, ℕ, ◌==◌, true, false, List, [], ◌∷◌, ◌++◌, take, sum_by, if◌then◌else◌}
 use Rattle.cdc_types.specs.declared.events.Event.{Event}
+use Rattle.cdc_types.specs.Timestamps.{RiseFrom}
 use Rattle.cdc_ledger.specs.Events.{events}
 use Rattle.cdc_ledger.specs.History.{History}
 use Rattle.cdc_ledger.specs.Submit.{IsLegal}
@@ -22,8 +23,12 @@ abbrev pub PrefixesAreAccepted : Type 0
 PrefixesAreAccepted = (events : List Event) (count : ℕ) → is_accepted events ≡ true
     → is_accepted (take count events) ≡ true
 
--- an event that changed the balances of an account can't be left out before a later event of that account: the account's
--- next event is refused, unless one before it is
+-- the timestamps of accepted events rise from above 0; so no event occurs twice, and no two are swapped
+abbrev pub AcceptedEventsRise : Type 0
+AcceptedEventsRise = (events : List Event) → is_accepted events ≡ true → RiseFrom 0 events
+
+-- an event that changed the balances of an account can't be left out before a later event of that account: the
+-- account's next event is refused, unless one before it is
 abbrev pub AChangeShows : Type 0
 AChangeShows = (front between : List Event) (lost later : Event) (id : ℕ)
     → is_accepted (front ++ lost ∷ (between ++ later ∷ [])) ≡ true → Shows id later

@@ -1,6 +1,7 @@
 //! What an audit shows of a stream. The laws are the postconditions of functions that do nothing.
 
-ghost use Rattle.cdc_audit_laws.specs.Laws.{AChangeShows, BalancesAreSums, LedgersAreAccepted, NoOtherBalances, PrefixesAreAccepted, WhatIsLeftOutMovedNothing};
+ghost use Rattle.cdc_audit_laws.specs.Laws.{AChangeShows, AcceptedEventsRise, BalancesAreSums, LedgersAreAccepted, NoOtherBalances};
+ghost use Rattle.cdc_audit_laws.specs.Laws.{PrefixesAreAccepted, WhatIsLeftOutMovedNothing};
 
 /// Does nothing. Every stream that a ledger's events make is accepted, whole and every prefix of it.
 pub fn ledgers_are_accepted()
@@ -13,8 +14,13 @@ pub fn prefixes_are_accepted()
     ensures { PrefixesAreAccepted }
 {}
 
-/// Does nothing. If an event that changed an account's balances is left out, and the account has a later event, the stream
-/// is refused: at the account's next event, or before it.
+/// Does nothing. The timestamps of accepted events rise from above 0. So no event occurs twice, and no two are swapped.
+pub fn accepted_events_rise()
+    ensures { AcceptedEventsRise }
+{}
+
+/// Does nothing. If an event that changed an account's balances is left out, and the account has a later event, the
+/// stream is refused: at the account's next event, or before it.
 pub fn a_change_shows()
     ensures { AChangeShows }
 {}
