@@ -1,8 +1,7 @@
 -- What an audit shows of a stream.
-use Rattle.std.specs.Prelude.{◌≡◌, ◌≢◌, ◌⊎◌, ℕ, ◌==◌, Bool, true, false, List, [], ◌∷◌, ◌++◌, take, sum_by, if◌then◌else◌}
-use Rattle.std.specs.List.{AllByRecursion}
+use Rattle.std.specs.Prelude.{◌≡◌, ◌≢◌, ◌⊎◌, ℕ, ◌==◌, true, false, List, [], ◌∷◌, ◌++◌, take, sum_by, if◌then◌else◌}
 use Rattle.cdc_types.specs.declared.events.Event.{Event}
-use Rattle.cdc_types.specs.declared.events.EventAccount.{EventAccount}
+use Rattle.cdc_types.specs.Timestamps.{RiseFrom}
 use Rattle.cdc_ledger.specs.Events.{events}
 use Rattle.cdc_ledger.specs.History.{History}
 use Rattle.cdc_ledger.specs.Submit.{IsLegal}
@@ -18,14 +17,23 @@ Shows id e = (e.debit_account.id ≡ id) ⊎ (e.credit_account.id ≡ id)
 abbrev pub LedgersAreAccepted : Type 0
 LedgersAreAccepted = (h : History) (count : ℕ) → IsLegal h → is_accepted (take count (events h)) ≡ true
 
--- an event that changed the balances of an account can't be left out: the next event of that account is refused, unless
--- one before it is
+-- each prefix of an accepted stream is accepted; so what holds of the last event of each accepted stream holds of every
+-- event
+abbrev pub PrefixesAreAccepted : Type 0
+PrefixesAreAccepted = (events : List Event) (count : ℕ) → is_accepted events ≡ true
+    → is_accepted (take count events) ≡ true
+
+-- the timestamps of accepted events rise from above 0; so no event occurs twice, and no two are swapped
+abbrev pub AcceptedEventsRise : Type 0
+AcceptedEventsRise = (events : List Event) → is_accepted events ≡ true → RiseFrom 0 events
+
+-- an event that changed the balances of an account can't be left out before a later event of that account: the
+-- account's next event is refused, unless one before it is
 abbrev pub AChangeShows : Type 0
-AChangeShows = (front between : List Event) (lost next : Event) (id : ℕ)
-    → is_accepted (front ++ lost ∷ (between ++ next ∷ [])) ≡ true
-    → AllByRecursion (λ e. Shows id e → ⊥) between → Shows id next
+AChangeShows = (front between : List Event) (lost later : Event) (id : ℕ)
+    → is_accepted (front ++ lost ∷ (between ++ later ∷ [])) ≡ true → Shows id later
     → balances_after (front ++ lost ∷ []) id ≢ balances_after front id
-    → is_accepted (front ++ between ++ next ∷ []) ≡ false
+    → is_accepted (front ++ between ++ later ∷ []) ≡ false
 
 -- what these events added to the posted debits of an account, and to its posted credits
 abbrev pub debits_posted_by : List Event → ℕ → ℕ

@@ -1,14 +1,26 @@
 //! What an audit shows of a stream. The laws are the postconditions of functions that do nothing.
 
-ghost use Rattle.cdc_audit_laws.specs.Laws.{AChangeShows, BalancesAreSums, LedgersAreAccepted, NoOtherBalances, WhatIsLeftOutMovedNothing};
+ghost use Rattle.cdc_audit_laws.specs.Laws.{AChangeShows, AcceptedEventsRise, BalancesAreSums, LedgersAreAccepted, NoOtherBalances};
+ghost use Rattle.cdc_audit_laws.specs.Laws.{PrefixesAreAccepted, WhatIsLeftOutMovedNothing};
 
 /// Does nothing. Every stream that a ledger's events make is accepted, whole and every prefix of it.
 pub fn ledgers_are_accepted()
     ensures { LedgersAreAccepted }
 {}
 
-/// Does nothing. If an event is left out that changed an account's balances, the next event of that account is
-/// refused, or one before it.
+/// Does nothing. Each prefix of an accepted stream is accepted. So what the other laws promise of the last event of a
+/// stream holds of every event.
+pub fn prefixes_are_accepted()
+    ensures { PrefixesAreAccepted }
+{}
+
+/// Does nothing. The timestamps of accepted events rise from above 0. So no event occurs twice, and no two are swapped.
+pub fn accepted_events_rise()
+    ensures { AcceptedEventsRise }
+{}
+
+/// Does nothing. If an event that changed an account's balances is left out, and the account has a later event, the
+/// stream is refused: at the account's next event, or before it.
 pub fn a_change_shows()
     ensures { AChangeShows }
 {}

@@ -3,4 +3,7 @@
 
 mod laws;
 
-pub use laws::{a_change_shows, balances_are_sums, ledgers_are_accepted, no_other_balances};
+pub use laws::{
+    a_change_shows, accepted_events_rise, balances_are_sums, ledgers_are_accepted,
+    no_other_balances, prefixes_are_accepted,
+};

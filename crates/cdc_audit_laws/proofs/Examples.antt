@@ -1,0 +1,168 @@
+-- The laws at work in short streams: what an audit finds, and what it can't find by nature.
+use Rattle.std.specs.Prelude.{ℕ, ◌≡◌, ◌≢◌, true, false, List, [], ◌∷◌, ◌++◌, Some}
+use Rattle.std.proofs.Common.{refl, sym, ap, inl, arith}
+use Rattle.std.proofs.lemmas.Bool.{false≢true}
+use Rattle.cdc_types.specs.declared.accounts.Balances.{Balances}
+use Rattle.cdc_types.specs.declared.events.Event.{Event}
+use Rattle.cdc_types.specs.declared.events.EventAccount.{EventAccount}
+use Rattle.cdc_types.specs.declared.events.EventKind.{EventKind}
+use Rattle.cdc_types.specs.declared.events.EventKind.TheVariants.{SinglePhase, TwoPhasePending, TwoPhasePosted, TwoPhaseVoided}
+use Rattle.cdc_audit.specs.declared.refusals.BalanceField.TheVariants.{DebitsPosted}
+use Rattle.cdc_audit.specs.declared.refusals.Refusal.TheVariants.{Balance, NotPending}
+use Rattle.cdc_audit.specs.Audits.{follows_on, is_accepted}
+use Rattle.cdc_audit.specs.Known.{balances_after}
+use Rattle.cdc_audit.specs.Rules.{refusal}
+use Rattle.cdc_audit_laws.specs.Laws.{Shows, credits_posted_by, debits_posted_by}
+
+-- an account as an event shows it
+abbrev account : ℕ → ℕ → ℕ → ℕ → ℕ → EventAccount
+account id debits_pending debits_posted credits_pending credits_posted = record {
+  id = id;
+  debits_pending = debits_pending;
+  debits_posted = debits_posted;
+  credits_pending = credits_pending;
+  credits_posted = credits_posted;
+  user_data_128 = 0;
+  user_data_64 = 0;
+  user_data_32 = 0;
+  code = 10;
+  flags = 0;
+  timestamp = 1000;
+}
+
+-- an event of this kind: its timestamp, the transfer's id and pending id, its amount, and the two accounts
+abbrev event : EventKind → ℕ → ℕ → ℕ → ℕ → EventAccount → EventAccount → Event
+event kind timestamp id pending_id amount debit credit = record {
+  timestamp = timestamp;
+  kind = kind;
+  ledger = 700;
+  transfer = record {
+    id = id;
+    amount = amount;
+    pending_id = pending_id;
+    user_data_128 = 0;
+    user_data_64 = 0;
+    user_data_32 = 0;
+    timeout = 0;
+    code = 1;
+    flags = 0;
+    timestamp = timestamp;
+  };
+  debit_account = debit;
+  credit_account = credit;
+}
+
+-- account 1 pays 10 to account 2
+abbrev paid : Event
+paid = event SinglePhase 2001 7 0 10 (account 1 0 10 0 0) (account 2 0 0 0 10)
+
+-- it holds 5 for account 2
+abbrev held : Event
+held = event TwoPhasePending 2002 8 0 5 (account 1 5 10 0 0) (account 2 0 0 5 10)
+
+-- 3 of these are posted
+abbrev posted : Event
+posted = event TwoPhasePosted 2003 9 8 3 (account 1 0 13 0 0) (account 2 0 0 0 13)
+
+-- or they are voided
+abbrev voided : Event
+voided = event TwoPhaseVoided 2003 9 8 5 (account 1 0 10 0 0) (account 2 0 0 0 10)
+
+-- it pays 0
+abbrev paid_nothing : Event
+paid_nothing = event SinglePhase 2004 10 0 0 (account 1 0 13 0 0) (account 2 0 0 0 13)
+
+-- it pays 1, after the post, and after the void
+abbrev paid_after_post : Event
+paid_after_post = event SinglePhase 2005 11 0 1 (account 1 0 14 0 0) (account 2 0 0 0 14)
+
+abbrev paid_after_void : Event
+paid_after_void = event SinglePhase 2005 11 0 1 (account 1 0 11 0 0) (account 2 0 0 0 11)
+
+-- account 3 pays 6 to account 4
+abbrev paid_by_another : Event
+paid_by_another = event SinglePhase 2004 10 0 6 (account 3 0 6 0 0) (account 4 0 0 0 6)
+
+-- the first event with another timestamp and another id
+abbrev paid_otherwise : Event
+paid_otherwise = event SinglePhase 2000 6 0 10 (account 1 0 10 0 0) (account 2 0 0 0 10)
+
+-- a stream, and what it moved
+abbrev whole : List Event
+whole = paid ∷ held ∷ posted ∷ paid_nothing ∷ paid_after_post ∷ []
+
+accepted : (is_accepted whole ≡ true) × (debits_posted_by whole 1 ≡ 14) × (credits_posted_by whole 2 ≡ 14)
+    × (debits_posted_by whole 2 ≡ 0)
+unfolding follows_on refusal
+accepted = (refl, refl, refl, refl)
+
+-- an event that changed balances is found when it is left out, and so is a pending one that is settled later
+found : (refusal [] held
+    ≡ Some (Balance (record {
+      account = 1;
+      field = DebitsPosted;
+      shown = 10;
+      before = 0;
+      added = 0;
+      released = 0;
+    }))) × (refusal (paid ∷ []) posted ≡ Some (NotPending 8))
+    × (is_accepted (paid ∷ posted ∷ paid_nothing ∷ paid_after_post ∷ []) ≡ false)
+unfolding follows_on refusal
+found = (refl, refl, refl)
+
+-- an event of the amount 0 isn't found: it changed no balances
+amount_of_zero : is_accepted (paid ∷ held ∷ posted ∷ paid_after_post ∷ []) ≡ true
+unfolding follows_on refusal
+amount_of_zero = refl
+
+-- nor is a pending one that is left out together with its void: together they changed no balances
+held_and_voided : (is_accepted (paid ∷ held ∷ voided ∷ paid_after_void ∷ []) ≡ true)
+    × (is_accepted (paid ∷ paid_after_void ∷ []) ≡ true)
+unfolding follows_on refusal
+held_and_voided = (refl, refl)
+
+-- nor is the last event of an account
+last_of_account : (is_accepted (paid ∷ held ∷ posted ∷ paid_by_another ∷ paid_after_post ∷ []) ≡ true)
+    × (is_accepted (paid ∷ held ∷ posted ∷ paid_after_post ∷ []) ≡ true)
+unfolding follows_on refusal
+last_of_account = (refl, refl)
+
+-- nor is another id, or another timestamp between those of its neighbours
+other_id : is_accepted (paid_otherwise ∷ held ∷ posted ∷ []) ≡ true
+unfolding follows_on refusal
+other_id = refl
+
+-- ---- laws that promise too much
+
+-- that each loss shows, whether the lost event changed balances or not
+abbrev EachLossShows : Type 0
+EachLossShows = (front between : List Event) (lost later : Event) (id : ℕ)
+    → is_accepted (front ++ lost ∷ (between ++ later ∷ [])) ≡ true → Shows id later
+    → is_accepted (front ++ between ++ later ∷ []) ≡ false
+
+not_each_loss_shows : EachLossShows → ⊥
+unfolding follows_on refusal
+not_each_loss_shows law =
+    false≢true (sym (law (paid ∷ held ∷ posted ∷ []) [] paid_nothing paid_after_post 1 refl (inl refl)))
+
+-- that a change shows without a later event of its account
+abbrev EachChangeShows : Type 0
+EachChangeShows = (front between : List Event) (lost : Event) (id : ℕ)
+    → is_accepted (front ++ lost ∷ between) ≡ true
+    → balances_after (front ++ lost ∷ []) id ≢ balances_after front id
+    → is_accepted (front ++ between) ≡ false
+
+not_each_change_shows : EachChangeShows → ⊥
+unfolding follows_on refusal
+not_each_change_shows law =
+    false≢true (sym (law (paid ∷ held ∷ posted ∷ []) (paid_after_post ∷ []) paid_by_another 3 refl
+    (λ same. let six : 6 ≡ 0 = ap (λ (b : Balances). b.debits_posted) same in omega arith)))
+
+-- that an event more than a ledger has is accepted
+abbrev AnotherIsAccepted : Type 0
+AnotherIsAccepted = (events : List Event) (another : Event) → is_accepted events ≡ true
+    → is_accepted (events ++ another ∷ []) ≡ true
+
+not_another : AnotherIsAccepted → ⊥
+unfolding follows_on refusal
+not_another law = false≢true (law (paid ∷ []) paid refl)

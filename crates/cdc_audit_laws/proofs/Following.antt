@@ -1,0 +1,131 @@
+-- What an event that follows others has, in equations.
+use Rattle.std.proofs.Common.{◌≡◌, ◌≢◌, ℕ, ◌+◌, ◌<◌, Bool, true, false, not, List, [], ◌∷◌, Some, None, is_none, if◌then◌else◌, refl}
+use Rattle.std.specs.Prelude.{◌==◌, ◌&&◌}
+use Rattle.std.proofs.lemmas.Bool.{eq-eqb, eqb-false, eqb-true, lt-ltb, ltb-true, ne_eqb, not-false, not_from_true}
+use Rattle.cdc_types.specs.declared.accounts.Balances.{Balances}
+use Rattle.cdc_types.specs.declared.events.Event.{Event}
+use Rattle.cdc_types.specs.Lines.{first_line}
+use Rattle.cdc_types.specs.Timestamps.{last_timestamp}
+use Rattle.cdc_ledger.specs.Kinds.{settles, stores}
+use Rattle.cdc_audit.specs.Known.{balances_after, is_settled, is_stored, pending_amount, settled_id}
+use Rattle.cdc_audit.specs.Rules.{credit_lines, event_lines, held, posted, refusal, released}
+
+-- no line applies
+abbrev NoneApplies : {R : Type 0} → List (Bool × R) → Type 0
+NoneApplies [] = Unit {0}
+NoneApplies (line ∷ lines) = (line.0 ≡ false) × NoneApplies lines
+
+-- if there is no first line that applies, none does
+none_applies : {R : Type 0} (lines : List (Bool × R)) → first_line lines ≡ None → NoneApplies lines
+none_applies [] none = tt
+none_applies {R = R} (line ∷ lines) none = by line.0 refl none (none_applies lines)
+  where
+    by : (b : Bool) → line.0 ≡ b → (if b then Some line.1 else first_line lines) ≡ None
+        → (first_line lines ≡ None → NoneApplies lines) → (line.0 ≡ false) × NoneApplies lines
+    by true is first rest = cc
+    by false is first rest = (is, rest first)
+
+-- and the other way round
+no_first_line : {R : Type 0} (lines : List (Bool × R)) → NoneApplies lines → first_line lines ≡ None
+no_first_line [] none = refl
+no_first_line (line ∷ lines) none = rw none.0 (no_first_line lines none.1)
+
+-- a balance that follows: what is shown and what is released are what was before and what is added
+not_balanced : (shown before added less : ℕ) → not (shown + less == before + added) ≡ false
+    → shown + less ≡ before + added
+not_balanced shown before added less line = eqb-true (shown + less) (before + added) (not-false _ line)
+
+-- and the other way round
+balanced : (shown before added less : ℕ) → shown + less ≡ before + added → not (shown + less == before + added) ≡ false
+balanced shown before added less same = not_from_true _ (eq-eqb (shown + less) (before + added) same)
+
+-- the account that an event debits has balances that follow from these, and its credits stay
+pub record IsDebited (past : List Event) (e : Event) (before : Balances) : Type 0 where
+  pub debits_pending : e.debit_account.debits_pending + released past e ≡ before.debits_pending + held e
+  pub debits_posted : e.debit_account.debits_posted + 0 ≡ before.debits_posted + posted e
+  pub credits_pending : e.debit_account.credits_pending + 0 ≡ before.credits_pending + 0
+  pub credits_posted : e.debit_account.credits_posted + 0 ≡ before.credits_posted + 0
+
+-- so has the account that it credits, and its debits stay
+pub record IsCredited (past : List Event) (e : Event) (before : Balances) : Type 0 where
+  pub debits_pending : e.credit_account.debits_pending + 0 ≡ before.debits_pending + 0
+  pub debits_posted : e.credit_account.debits_posted + 0 ≡ before.debits_posted + 0
+  pub credits_pending : e.credit_account.credits_pending + released past e ≡ before.credits_pending + held e
+  pub credits_posted : e.credit_account.credits_posted + 0 ≡ before.credits_posted + posted e
+
+-- an event that no rule refuses
+pub record CanFollow (past : List Event) (e : Event) : Type 0 where
+  pub later : last_timestamp past < e.timestamp
+  pub apart : e.debit_account.id ≢ e.credit_account.id
+  pub new : (stores e.kind && is_stored past e.transfer.id) ≡ false
+  pub pending : (settles e.kind && is_none (pending_amount past (settled_id e))) ≡ false
+  pub unsettled : (settles e.kind && is_settled past (settled_id e)) ≡ false
+  pub debited : IsDebited past e (balances_after past e.debit_account.id)
+  pub credited : IsCredited past e (balances_after past e.credit_account.id)
+
+-- an event that isn't refused is one
+pub unrefused : (past : List Event) (e : Event) → refusal past e ≡ None → CanFollow past e
+unfolding refusal
+unrefused past e none =
+    let all : NoneApplies (event_lines past e) = none_applies (event_lines past e) none in
+    let transfer = all.1.1 in
+    let debit = transfer.1.1.1 in
+    let credit = debit.1.1.1.1 in
+    record {
+      later = ltb-true (last_timestamp past) e.timestamp (not-false _ all.0);
+      apart = eqb-false e.debit_account.id e.credit_account.id all.1.0;
+      new = transfer.0;
+      pending = transfer.1.0;
+      unsettled = transfer.1.1.0;
+      debited = record {
+        debits_pending = not_balanced _ _ _ _ debit.0;
+        debits_posted = not_balanced _ _ _ _ debit.1.0;
+        credits_pending = not_balanced _ _ _ _ debit.1.1.0;
+        credits_posted = not_balanced _ _ _ _ debit.1.1.1.0;
+      };
+      credited = record {
+        debits_pending = not_balanced _ _ _ _ credit.0;
+        debits_posted = not_balanced _ _ _ _ credit.1.0;
+        credits_pending = not_balanced _ _ _ _ credit.1.1.0;
+        credits_posted = not_balanced _ _ _ _ credit.1.1.1.0;
+      };
+    }
+
+-- and such an event isn't refused
+pub no_refusal : (past : List Event) (e : Event) → CanFollow past e → refusal past e ≡ None
+unfolding refusal
+no_refusal past e can =
+    let debited = can.debited in
+    let credited = can.credited in
+    let credit : NoneApplies (credit_lines past e) = (
+      balanced _ _ _ _ credited.debits_pending,
+      (
+        balanced _ _ _ _ credited.debits_posted,
+        (balanced _ _ _ _ credited.credits_pending, (balanced _ _ _ _ credited.credits_posted, tt)),
+      ),
+    ) in
+    no_first_line (event_lines past e) (
+      not_from_true _ (lt-ltb (last_timestamp past) e.timestamp can.later),
+      (
+        ne_eqb e.debit_account.id e.credit_account.id can.apart,
+        (
+          can.new,
+          (
+            can.pending,
+            (
+              can.unsettled,
+              (
+                balanced _ _ _ _ debited.debits_pending,
+                (
+                  balanced _ _ _ _ debited.debits_posted,
+                  (
+                    balanced _ _ _ _ debited.credits_pending,
+                    (balanced _ _ _ _ debited.credits_posted, credit),
+                  ),
+                ),
+              ),
+            ),
+          ),
+        ),
+      ),
+    )

@@ -1,0 +1,138 @@
+-- What each change of a sound history keeps holds of every legal history.
+use Rattle.std.proofs.Common.{ℕ, ◌+◌, ◌<◌, ◌≤◌, Bool, false, List, [], ◌∷◌, ◌≡◌, ◌≢◌, Result, Ok, Err, ◌||◌, refl, sym, ap₂, ◌∙◌, subst, arith, length}
+use Rattle.std.specs.List.{AllByRecursion}
+use Rattle.std.proofs.lemmas.Bool.{ne_eqb}
+use Rattle.cdc_types.specs.declared.accounts.NewAccount.{NewAccount}
+use Rattle.cdc_types.specs.declared.batches.Batch.{Batch}
+use Rattle.cdc_types.specs.declared.batches.Batch.TheVariants as batch
+use Rattle.cdc_types.specs.declared.batches.BatchResults.{BatchResults}
+use Rattle.cdc_types.specs.declared.events.Entry.{Entry}
+use Rattle.cdc_types.specs.declared.transfers.NewTransfer.{NewTransfer}
+use Rattle.cdc_types.specs.declared.transfers.Transfer.{Transfer}
+use Rattle.cdc_ledger.specs.declared.errors.BatchError.{BatchError}
+use Rattle.cdc_ledger.specs.Changes.{expiry, pushed, timed, with_account}
+use Rattle.cdc_ledger.specs.Due.{due}
+use Rattle.cdc_ledger.specs.Follows.{Follows}
+use Rattle.cdc_ledger.specs.History.{History, Opened, empty_history}
+use Rattle.cdc_ledger.specs.Sound.{IsSound}
+use Rattle.cdc_ledger.specs.Submit.{IsLegal, account_rules, accounts_from, after_batches, base, entry_of, expiries_from, history_or, is_past_the_end, opened_by, submit, taken, transfer_rules, transfers_from}
+use Rattle.cdc_ledger.specs.Verdict.{max_timestamp}
+use Rattle.cdc_ledger.proofs.AcceptedLaws.{Follows-accepted, accepted_account}
+use Rattle.cdc_ledger.proofs.BalanceLaws.{resolved_then}
+use Rattle.cdc_ledger.proofs.ChainLaws.{items_from-keeps}
+use Rattle.cdc_ledger.proofs.Elements.{AllByRecursion-both, AllByRecursion-weaker}
+use Rattle.cdc_ledger.proofs.KeptLaws.{after_last, submit_parts, within_end}
+use Rattle.cdc_ledger.proofs.PulseLaws.{Follows-open, HaveOwnIds, IsOpen, due_ids, due_open}
+use Rattle.cdc_ledger.proofs.SoundLaws.{IsSound-empty, IsSound-pushed, IsSound-timed, IsSound-with_account}
+use Rattle.cdc_ledger.proofs.StoredLaws.{stored-pushed_kept}
+
+-- the expiry of one transfer leaves another one open
+open_after : (h : History) (p q : Transfer) (t : ℕ) → IsSound h → h.last < t → p.id ≢ q.id → IsOpen h q
+    → IsOpen (pushed h (expiry p t)) q
+open_after h p q t sound later other open_one = record {
+  pending = open_one.pending;
+  there = stored-pushed_kept h (expiry p t) open_one.pending q.id open_one.there;
+  same = open_one.same;
+  holding = open_one.holding;
+  unsettled = resolved_then h (expiry p t) q sound.past later
+      ∙ ap₂ (λ b c. b || c) open_one.unsettled (ne_eqb p.id q.id other);
+}
+
+module _ (P : History → Type 0) (on_empty : P empty_history)
+    (on_pushed : (h : History) (e : Entry) → IsSound h → Follows h e → h.last < e.timestamp → P h → P (pushed h e))
+    (on_account : (h : History) (o : Opened) → IsSound h → h.last ≤ o.timestamp → P h → P (with_account h o))
+    (on_timed : (h : History) (t : ℕ) → IsSound h → h.last ≤ t → P h → P (timed h t))
+    (on_closed : (h : History) (closed : Bool) → P h → P (record h { closed = closed })) where
+  -- the history is sound, and has the property
+  abbrev Keeps : History → Type 0
+  Keeps h = IsSound h × P h
+
+  -- an entry that may come next
+  keeps-pushed : (h : History) (e : Entry) → Keeps h → Follows h e → h.last < e.timestamp
+      → e.timestamp ≤ max_timestamp → Keeps (pushed h e)
+  keeps-pushed h e keeps follows later within =
+      (IsSound-pushed h e keeps.0 follows later within, on_pushed h e keeps.0 follows later keeps.1)
+
+  -- requests for accounts
+  keeps-accounts : (h : History) (t : ℕ) (rs : List NewAccount) → Keeps h → h.last < t
+      → (0 < length rs → t + length rs ≤ max_timestamp + 1) → Keeps (accounts_from h t rs).1
+  keeps-accounts h t rs keeps later fits =
+      items_from-keeps account_rules Keeps (λ n. n ≤ max_timestamp)
+      (λ g a n so_far later' within none. (
+        IsSound-with_account g (opened_by a n) so_far.0 (accepted_account g a none).1 (omega arith) within,
+        on_account g (opened_by a n) so_far.0 (omega arith) so_far.1,
+      ))
+      (λ g n so_far later' within. (
+        IsSound-timed g n so_far.0 (omega arith) within,
+        on_timed g n so_far.0 (omega arith) so_far.1,
+      ))
+      (λ g a n. refl) h t rs keeps later
+      (λ n from below. let whole : t + length rs ≤ max_timestamp + 1 = fits (omega arith) in omega arith)
+
+  -- requests for transfers
+  keeps-transfers : (h : History) (t : ℕ) (rs : List NewTransfer) → Keeps h → h.last < t
+      → (0 < length rs → t + length rs ≤ max_timestamp + 1) → Keeps (transfers_from h t rs).1
+  keeps-transfers h t rs keeps later fits =
+      items_from-keeps transfer_rules Keeps (λ n. n ≤ max_timestamp)
+      (λ g r n so_far later' within none.
+      keeps-pushed g (entry_of g r n) so_far (Follows-accepted g r n so_far.0 later' none) later' within)
+      (λ g n so_far later' within. (
+        IsSound-timed g n so_far.0 (omega arith) within,
+        on_timed g n so_far.0 (omega arith) so_far.1,
+      ))
+      (λ g r n. refl) h t rs keeps later
+      (λ n from below. let whole : t + length rs ≤ max_timestamp + 1 = fits (omega arith) in omega arith)
+
+  -- open transfers that expire one after another
+  keeps-expiries : (h : History) (t : ℕ) (ps : List Transfer) → Keeps h → AllByRecursion (IsOpen h) ps
+      → HaveOwnIds ps → h.last < t → (0 < length ps → t + length ps ≤ max_timestamp + 1)
+      → Keeps (expiries_from h t ps)
+  keeps-expiries h t [] keeps all own later fits = keeps
+  keeps-expiries h t (p ∷ ps) keeps all own later fits =
+      let whole : t + length (p ∷ ps) ≤ max_timestamp + 1 = fits (omega arith) in
+      keeps-expiries (pushed h (expiry p t)) (t + 1) ps
+      (keeps-pushed h (expiry p t) keeps (Follows-open h p t keeps.0 all.0) later (omega arith))
+      (AllByRecursion-weaker (λ q. (p.id ≢ q.id) × IsOpen h q) (IsOpen (pushed h (expiry p t)))
+      (λ q at. open_after h p q t keeps.0 later at.0 at.1) ps
+      (AllByRecursion-both (λ q. p.id ≢ q.id) (IsOpen h) ps own.0 all.1))
+      own.1 (omega arith) (λ some. omega arith)
+
+  -- a batch that is answered
+  keeps-submit : (h : History) (b : Batch) (answer : BatchResults × History) → Keeps h → submit h b ≡ Ok answer
+      → Keeps answer.1
+  keeps-submit h (batch.Accounts now items) answer keeps e =
+      let parts : (is_past_the_end h now (length items) ≡ false) ×
+      (taken h (batch.Accounts now items) ≡ answer) = submit_parts h (batch.Accounts now items) answer e in
+      subst (λ (a : BatchResults × History). Keeps a.1) parts.1
+      (keeps-accounts h (base h now) items keeps (after_last h now) (within_end h now (length items) parts.0))
+  keeps-submit h (batch.Transfers now items) answer keeps e =
+      let parts : (is_past_the_end h now (length items) ≡ false) ×
+      (taken h (batch.Transfers now items) ≡ answer) = submit_parts h (batch.Transfers now items) answer e in
+      subst (λ (a : BatchResults × History). Keeps a.1) parts.1
+      (keeps-transfers h (base h now) items keeps (after_last h now) (within_end h now (length items) parts.0))
+  keeps-submit h (batch.Pulse now) answer keeps e =
+      let parts : (is_past_the_end h now (length (due h now)) ≡ false) × (taken h (batch.Pulse now) ≡ answer) =
+      submit_parts h (batch.Pulse now) answer e in
+      subst (λ (a : BatchResults × History). Keeps a.1) parts.1
+      (keeps-expiries h (base h now) (due h now) keeps (due_open h now keeps.0) (due_ids h now keeps.0)
+      (after_last h now) (within_end h now (length (due h now)) parts.0))
+
+  -- any batch, answered or refused
+  keeps-or : (h : History) (b : Batch) (r : Result (BatchResults × History) BatchError) → submit h b ≡ r → Keeps h
+      → Keeps (history_or h r)
+  keeps-or h b (Ok answer) e keeps = keeps-submit h b answer keeps e
+  keeps-or h b (Err error) e keeps = keeps
+
+  -- and any number of batches
+  keeps-after_batches : (h : History) (bs : List Batch) → Keeps h → Keeps (after_batches h bs)
+  keeps-after_batches h [] keeps = keeps
+  keeps-after_batches h (b ∷ bs) keeps =
+      keeps-after_batches (history_or h (submit h b)) bs (keeps-or h b (submit h b) refl keeps)
+
+  -- so every history that batches make has the property
+  pub kept_by_legal : (h : History) → IsLegal h → P h
+  kept_by_legal h legal =
+      let before : History = after_batches empty_history legal.batches in
+      subst P (sym legal.made)
+      (on_closed before (legal.close || before.closed)
+      (keeps-after_batches empty_history legal.batches (IsSound-empty, on_empty)).1)

@@ -1,0 +1,278 @@
+-- The events of a ledger are accepted.
+use Rattle.std.proofs.Common.{◌≡◌, ◌≢◌, ℕ, ◌<◌, ◌≤◌, Bool, true, false, List, [], ◌∷◌, ◌++◌, Option, Some, None, is_none, refl, sym, ap, ap₂, ◌∙◌, inl, inr, arith}
+use Rattle.std.specs.Prelude.{◌==◌, ◌&&◌, IsSome, if◌then◌else◌, unwrap_or}
+use Rattle.std.proofs.lemmas.Bool.{and_left, and_parts, eq-eqb, eqb-true, ne_eqb}
+use Rattle.std.proofs.lemmas.Bool.Decides.{eqb_tells}
+use Rattle.cdc_types.specs.declared.accounts.Balances.{Balances}
+use Rattle.cdc_types.specs.declared.events.Entry.{Entry}
+use Rattle.cdc_types.specs.declared.events.Event.{Event}
+use Rattle.cdc_ledger.specs.Balances.{balances}
+use Rattle.cdc_ledger.specs.Changes.{pushed, timed, with_account}
+use Rattle.cdc_ledger.specs.Effects.{amount_of, balances_after_entry, effect_of, part}
+use Rattle.cdc_ledger.specs.Events.{event_of, events, nobody}
+use Rattle.cdc_ledger.specs.Filling.{stored}
+use Rattle.cdc_ledger.specs.Follows.{Follows, SettlesOpen}
+use Rattle.cdc_ledger.specs.History.{History, Opened, empty_history, opened}
+use Rattle.cdc_ledger.specs.Kinds.{settled_id, settles, stores}
+use Rattle.cdc_ledger.specs.Sound.{IsSound}
+use Rattle.cdc_ledger.proofs.BalanceLaws.{balances-pushed, balances_later, released_credit, released_debit, same_balances, settled_by_is, settled_by_none}
+use Rattle.cdc_ledger.proofs.Elements.{AllByRecursion-every}
+use Rattle.cdc_ledger.proofs.EventLaws.{events-pushed, events-with_account}
+use Rattle.cdc_ledger.proofs.OpenedLaws.{opened_id}
+use Rattle.cdc_ledger.proofs.StoredLaws.{find_all, is_stored as stores_id}
+use Rattle.cdc_audit.specs.Audits.{is_accepted}
+use Rattle.cdc_audit.specs.Known.{balances_after, is_settled, is_stored, pending_amount, settled_id_by}
+use Rattle.cdc_audit.specs.Rules.{released}
+use Rattle.cdc_audit_laws.specs.Laws.{LedgersAreAccepted}
+use Rattle.cdc_audit_laws.proofs.Entries.{last_timestamp-events, pending_amount-events, settled_id-shown, unsettled, unstored}
+use Rattle.cdc_audit_laws.proofs.Following.{CanFollow, IsCredited, IsDebited}
+use Rattle.cdc_audit_laws.proofs.Keeping.{kept_by_legal}
+use Rattle.cdc_audit_laws.proofs.Shown.{balances_after-credited, balances_after-debited, balances_after-other}
+use Rattle.cdc_audit_laws.proofs.Streams.{accepted-push, none_follows, prefixes_are_accepted}
+
+-- the events of a history are accepted, and show last the balances of each account
+record IsAudited (h : History) : Type 0 where
+  accepted : is_accepted (events h) ≡ true
+  shown : (id : ℕ) → balances_after (events h) id ≡ balances h id h.last
+
+-- an account that is there is shown under its id
+id_found : (h : History) (id : ℕ) (o : Option Opened) → opened h id ≡ o → IsSome o
+    → (unwrap_or o nobody).request.id ≡ id
+id_found h id None is found = cc
+id_found h id (Some x) is found = opened_id h x id is
+
+-- what is stored under an id has this id
+stored_id : (h : History) (id : ℕ) (x : Entry) → stored h id ≡ Some x → x.transfer.id ≡ id
+stored_id h id x there =
+    let passes = find_all (stores_id id) (λ e. Unit {0}) h.entries x
+    (AllByRecursion-every (λ e. Unit {0}) (λ e. tt) h.entries) there in
+    eqb-true x.transfer.id id (and_parts (stores x.kind) (x.transfer.id == id) passes.0).1
+
+-- the share of the account on a side, and of another one
+part_own : (a n : ℕ) → part a a n ≡ n
+part_own a n = rw (eq-eqb a a refl) refl
+
+part_other : (side a n : ℕ) → side ≢ a → part side a n ≡ 0
+part_other side a n other = rw (ne_eqb side a other) refl
+
+-- one more entry
+module _ (h : History) (e : Entry) (sound : IsSound h) (follows : Follows h e) (after : h.last < e.timestamp)
+    (audited : IsAudited h) where
+  -- its event
+  abbrev event : Event
+  event = event_of (pushed h e) e
+
+  -- has its accounts
+  debit_id : event.debit_account.id ≡ e.transfer.debit_account_id
+  debit_id = id_found h e.transfer.debit_account_id _ refl follows.accounts.0
+
+  credit_id : event.credit_account.id ≡ e.transfer.credit_account_id
+  credit_id = id_found h e.transfer.credit_account_id _ refl follows.accounts.1
+
+  apart : event.debit_account.id ≢ event.credit_account.id
+  apart same = follows.apart (sym debit_id ∙ same ∙ credit_id)
+
+  -- the id of the pending transfer that it settles
+  abbrev named_id : ℕ
+  named_id = settled_id_by event.kind event.transfer
+
+  -- is the one that its entry names
+  same_id : named_id ≡ settled_id e.kind e.transfer
+  same_id = settled_id-shown e.kind e.transfer
+
+  -- the amount of the pending transfer that it settles
+  amount_of_settled : (is : settles e.kind ≡ true)
+      → pending_amount (events h) named_id ≡ Some (follows.settling is).pending.transfer.amount
+  amount_of_settled is =
+      let of : SettlesOpen h e = follows.settling is in
+      ap (pending_amount (events h)) same_id
+      ∙ pending_amount-events h (settled_id e.kind e.transfer) of.pending of.settles.named of.settles.pending
+
+  -- a transfer that it stores is new
+  is_new : (stores event.kind && is_stored (events h) event.transfer.id) ≡ false
+  is_new = by (stores e.kind) refl
+    where
+      by : (b : Bool) → stores e.kind ≡ b → (stores e.kind && is_stored (events h) e.transfer.id) ≡ false
+      by true is = ap₂ (λ b c. b && c) is (unstored h e.transfer.id (follows.fresh is))
+      by false is = and_left (stores e.kind) _ is
+
+  -- the transfer that it settles is pending
+  is_pending : (settles event.kind && is_none (pending_amount (events h) named_id)) ≡ false
+  is_pending = by (settles e.kind) refl
+    where
+      by : (b : Bool) → settles e.kind ≡ b → (settles e.kind && is_none (pending_amount (events h) named_id)) ≡ false
+      by true is = ap₂ (λ b (o : Option ℕ). b && is_none o) is (amount_of_settled is)
+      by false is = and_left (settles e.kind) _ is
+
+  -- and no event settled it
+  is_unsettled : (settles event.kind && is_settled (events h) named_id) ≡ false
+  is_unsettled = by (settles e.kind) refl
+    where
+      by : (b : Bool) → settles e.kind ≡ b → (settles e.kind && is_settled (events h) named_id) ≡ false
+      by true is =
+          let of : SettlesOpen h e = follows.settling is in
+          let named : of.pending.transfer.id ≡ settled_id e.kind e.transfer =
+          stored_id h (settled_id e.kind e.transfer) of.pending of.settles.named in
+          ap₂ (λ b c. b && c) is
+          (ap (is_settled (events h)) (same_id ∙ sym named)
+          ∙ unsettled h of.pending.transfer sound.past of.unsettled)
+      by false is = and_left (settles e.kind) _ is
+
+  -- it releases what its entry releases
+  same_released : released (events h) event ≡ (effect_of h e).released
+  same_released = by (settles e.kind) refl
+    where
+      by : (b : Bool) → settles e.kind ≡ b → released (events h) event ≡ (effect_of h e).released
+      by true is =
+          let of : SettlesOpen h e = follows.settling is in
+          ap₂ (λ b o. if b then unwrap_or o 0 else 0) is (amount_of_settled is)
+          ∙ sym (ap amount_of (settled_by_is h e of.pending is of.settles))
+      by false is =
+          ap (λ b. if b then unwrap_or (pending_amount (events h) named_id) 0 else 0) is
+          ∙ sym (ap amount_of (settled_by_none h e is))
+
+  -- the balances of an account right after the entry
+  now : (a : ℕ) → balances (pushed h e) a e.timestamp ≡ balances_after_entry h e a (balances h a h.last)
+  now a = balances-pushed h e a sound follows after
+
+  -- those of the debited account follow
+  debited : IsDebited (events h) event (balances_after (events h) event.debit_account.id)
+  debited =
+      let d = e.transfer.debit_account_id in
+      let c = e.transfer.credit_account_id in
+      let f = effect_of h e in
+      let not : c ≢ d = λ same. follows.apart (sym same) in
+      let shows : balances_after (events h) event.debit_account.id ≡ balances h d h.last =
+      ap (balances_after (events h)) debit_id ∙ audited.shown d in
+      let enough = released_debit h e sound follows after in
+      let release = same_released in
+      rw shows (record {
+        debits_pending =
+            let is = ap (λ (b : Balances). b.debits_pending) (now d) in
+            omega (arith, is, part_own d f.held, part_own d f.released);
+        debits_posted =
+            let is = ap (λ (b : Balances). b.debits_posted) (now d) in
+            omega (arith, is, part_own d f.moved);
+        credits_pending =
+            let is = ap (λ (b : Balances). b.credits_pending) (now d) in
+            omega (arith, is, part_other c d f.held not, part_other c d f.released not);
+        credits_posted =
+            let is = ap (λ (b : Balances). b.credits_posted) (now d) in
+            omega (arith, is, part_other c d f.moved not);
+      })
+
+  -- and those of the credited one
+  credited : IsCredited (events h) event (balances_after (events h) event.credit_account.id)
+  credited =
+      let d = e.transfer.debit_account_id in
+      let c = e.transfer.credit_account_id in
+      let f = effect_of h e in
+      let not : d ≢ c = follows.apart in
+      let shows : balances_after (events h) event.credit_account.id ≡ balances h c h.last =
+      ap (balances_after (events h)) credit_id ∙ audited.shown c in
+      let enough = released_credit h e sound follows after in
+      let release = same_released in
+      rw shows (record {
+        debits_pending =
+            let is = ap (λ (b : Balances). b.debits_pending) (now c) in
+            omega (arith, is, part_other d c f.held not, part_other d c f.released not);
+        debits_posted =
+            let is = ap (λ (b : Balances). b.debits_posted) (now c) in
+            omega (arith, is, part_other d c f.moved not);
+        credits_pending =
+            let is = ap (λ (b : Balances). b.credits_pending) (now c) in
+            omega (arith, is, part_own c f.held, part_own c f.released);
+        credits_posted =
+            let is = ap (λ (b : Balances). b.credits_posted) (now c) in
+            omega (arith, is, part_own c f.moved);
+      })
+
+  -- so the event follows
+  event_follows : CanFollow (events h) event
+  event_follows =
+      let past = last_timestamp-events h sound.past in
+      record {
+        later = omega (arith, past, after);
+        apart = apart;
+        new = is_new;
+        pending = is_pending;
+        unsettled = is_unsettled;
+        debited = debited;
+        credited = credited;
+      }
+
+  -- an account that it doesn't have keeps its balances
+  others : (a : ℕ) → e.transfer.debit_account_id ≢ a → e.transfer.credit_account_id ≢ a
+      → balances (pushed h e) a e.timestamp ≡ balances h a h.last
+  others a not_debited not_credited =
+      let d = e.transfer.debit_account_id in
+      let c = e.transfer.credit_account_id in
+      let f = effect_of h e in
+      now a
+      ∙ same_balances _ _ _ _ _ _ _ _
+      (omega (arith, part_other d a f.held not_debited, part_other d a f.released not_debited))
+      (omega (arith, part_other d a f.moved not_debited))
+      (omega (arith, part_other c a f.held not_credited, part_other c a f.released not_credited))
+      (omega (arith, part_other c a f.moved not_credited))
+
+  -- the balances of each account are shown
+  shown_then : (id : ℕ) → balances_after (events h ++ event ∷ []) id ≡ balances (pushed h e) id e.timestamp
+  shown_then id =
+      elim (eqb_tells event.credit_account.id id) [
+        | inl credit ↦
+            balances_after-credited (events h) event id credit.1
+            ∙ ap (λ n. balances (pushed h e) n e.timestamp) (sym credit_id ∙ credit.1)
+        | inr credit ↦ elim (eqb_tells event.debit_account.id id) [
+          | inl debit ↦
+              balances_after-debited (events h) event id debit.1 credit.1
+              ∙ ap (λ n. balances (pushed h e) n e.timestamp) (sym debit_id ∙ debit.1)
+          | inr debit ↦
+              balances_after-other (events h) event id debit.1 credit.1
+              ∙ audited.shown id
+              ∙ sym (others id (λ same. debit.1 (debit_id ∙ same)) (λ same. credit.1 (credit_id ∙ same)))
+        ]
+      ]
+
+  -- so the events of the history with the entry are accepted too
+  audited-pushed : IsAudited (pushed h e)
+  audited-pushed =
+      let longer = events-pushed h e sound.past after in
+      record {
+        accepted = rw longer (accepted-push (events h) event audited.accepted event_follows);
+        shown = λ id. ap (λ (es : List Event). balances_after es id) longer ∙ shown_then id;
+      }
+
+-- ---- the other changes of a history
+
+-- the history of a new ledger
+audited-empty : IsAudited empty_history
+audited-empty = record { accepted = none_follows []; shown = λ id. refl }
+
+-- a timestamp that is taken
+audited-timed : (h : History) (t : ℕ) → IsSound h → h.last ≤ t → IsAudited h → IsAudited (timed h t)
+audited-timed h t sound later audited = record {
+  accepted = audited.accepted;
+  shown = λ id. audited.shown id ∙ sym (balances_later h id h.last t sound.past later);
+}
+
+-- an account that is opened
+audited-account : (h : History) (o : Opened) → IsSound h → h.last ≤ o.timestamp → IsAudited h
+    → IsAudited (with_account h o)
+audited-account h o sound later audited =
+    let same = events-with_account h o sound.known in
+    record {
+      accepted = rw same audited.accepted;
+      shown = λ id. ap (λ (es : List Event). balances_after es id) same ∙ audited.shown id
+          ∙ sym (balances_later h id h.last o.timestamp sound.past later);
+    }
+
+-- a ledger that is closed, or not
+audited-closed : (h : History) (closed : Bool) → IsAudited h → IsAudited (record h { closed = closed })
+audited-closed h closed audited = record { accepted = audited.accepted; shown = audited.shown }
+
+-- so the events of every legal history are accepted, and each prefix of them
+pub ledgers_are_accepted : LedgersAreAccepted
+ledgers_are_accepted h count legal =
+    let audited : IsAudited h =
+    kept_by_legal IsAudited audited-empty audited-pushed audited-account audited-timed audited-closed h legal in
+    prefixes_are_accepted (events h) count audited.accepted

@@ -1,0 +1,9 @@
+pub mod Shown
+pub mod Following
+pub mod Streams
+pub mod Sums
+pub mod Changes
+pub mod Keeping
+pub mod Entries
+pub mod Ledgers
+mod Examples

@@ -1,0 +1,67 @@
+-- What events show of an account after one more event.
+use Rattle.std.proofs.Common.{◌≡◌, ◌≢◌, ℕ, List, [], ◌∷◌, ◌++◌, refl, inl, inr}
+use Rattle.std.specs.Prelude.{◌==◌, find, reverse, Option}
+use Rattle.std.specs.List.{flat_map}
+use Rattle.std.specs.Option.{option_or}
+use Rattle.std.proofs.lemmas.Bool.Decides.{eqb_tells}
+use Rattle.std.proofs.lemmas.Grind.{flat_map-append}
+use Rattle.std.proofs.lemmas.List.{reverse-append}
+use Rattle.std.proofs.lemmas.List.Folds.{find-append}
+use Rattle.cdc_types.specs.declared.accounts.Balances.{Balances}
+use Rattle.cdc_types.specs.declared.events.Event.{Event}
+use Rattle.cdc_types.specs.declared.events.EventAccount.{EventAccount}
+use Rattle.cdc_subscriber.specs.declared.book.BookEntry.{BookEntry}
+use Rattle.cdc_subscriber.specs.Book.{entry_of, sides}
+use Rattle.cdc_audit.specs.Known.{balances_after}
+
+-- the balances that an event shows of one of its accounts
+abbrev pub balances_of : EventAccount → Balances
+balances_of account = (entry_of account).balances
+
+-- what events show last of the account of this id
+abbrev seen : ℕ → List Event → Option BookEntry
+seen id es = find (λ entry. entry.id == id) (reverse (flat_map sides es))
+
+-- what one event shows of it: the credited side comes after the debited one
+abbrev shown : ℕ → Event → Option BookEntry
+shown id e = find (λ entry. entry.id == id) (entry_of e.credit_account ∷ entry_of e.debit_account ∷ [])
+
+-- one more event
+seen-push : (id : ℕ) (es : List Event) (e : Event) → seen id (es ++ e ∷ []) ≡ option_or (shown id e) (seen id es)
+seen-push id es e =
+    rw (flat_map-append sides es (e ∷ []), reverse-append (flat_map sides es) (sides e))
+    (find-append (λ entry. entry.id == id) (entry_of e.credit_account ∷ entry_of e.debit_account ∷ [])
+    (reverse (flat_map sides es)))
+
+-- the account that it credits has the balances that it shows
+pub balances_after-credited : (past : List Event) (e : Event) (id : ℕ) → e.credit_account.id ≡ id
+    → balances_after (past ++ e ∷ []) id ≡ balances_of e.credit_account
+balances_after-credited past e id is =
+    rw (seen-push id past e) (elim (eqb_tells e.credit_account.id id) [
+      | inl same ↦ rw same.0 refl
+      | inr other ↦ absurd (other.1 is)
+    ])
+
+-- so has the account that it debits
+pub balances_after-debited : (past : List Event) (e : Event) (id : ℕ) → e.debit_account.id ≡ id
+    → e.credit_account.id ≢ id → balances_after (past ++ e ∷ []) id ≡ balances_of e.debit_account
+balances_after-debited past e id is not =
+    rw (seen-push id past e) (elim (eqb_tells e.credit_account.id id) [
+      | inl same ↦ absurd (not same.1)
+      | inr other ↦ elim (eqb_tells e.debit_account.id id) [
+        | inl same ↦ rw (other.0, same.0) refl
+        | inr neither ↦ absurd (neither.1 is)
+      ]
+    ])
+
+-- every other account has those that it had
+pub balances_after-other : (past : List Event) (e : Event) (id : ℕ) → e.debit_account.id ≢ id
+    → e.credit_account.id ≢ id → balances_after (past ++ e ∷ []) id ≡ balances_after past id
+balances_after-other past e id not_debited not_credited =
+    rw (seen-push id past e) (elim (eqb_tells e.credit_account.id id) [
+      | inl same ↦ absurd (not_credited same.1)
+      | inr other ↦ elim (eqb_tells e.debit_account.id id) [
+        | inl same ↦ absurd (not_debited same.1)
+        | inr neither ↦ rw (other.0, neither.0) refl
+      ]
+    ])

@@ -1,0 +1,5 @@
+use Rattle.cdc_audit_laws.proofs.Ledgers.{ledgers_are_accepted}
+use Rattle.cdc_audit_laws.proofs.laws.ledgers_are_accepted.Goals as goal
+
+pub returns : goal.returns
+returns c = ledgers_are_accepted
