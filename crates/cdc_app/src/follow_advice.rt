@@ -57,7 +57,12 @@ fn advise_on_gap(
 }
 
 /// Reports why the line of this number is no entry of a stream.
-pub fn advise_on_line(rt: &HostRuntime, place: &str, line: u64, error: LineError) -> io::Result<()> {
+pub fn advise_on_line(
+    rt: &HostRuntime,
+    place: &str,
+    line: u64,
+    error: LineError,
+) -> io::Result<()> {
     let name = error.name();
     match error {
         LineError::Decode(why) => match field_of(why) {

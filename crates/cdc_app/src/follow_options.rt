@@ -109,7 +109,11 @@ pub fn follow_plan<'a>(
         .collect(alloc)?;
     Ok(FollowPlan {
         rules,
-        binding: asked_binding(alloc, arguments.get_str("binding").unwrap_or("all"), parts.as_slice())?,
+        binding: asked_binding(
+            alloc,
+            arguments.get_str("binding").unwrap_or("all"),
+            parts.as_slice(),
+        )?,
         binding_text: joined(alloc, parts.as_slice())?,
         book: arguments.get_str("book"),
         every: asked_every(alloc, arguments)?,

@@ -72,11 +72,7 @@ fn push_accepted(text: &mut Vec<u8>, subscriber: &Subscriber) -> Result<(), Allo
 }
 
 /// Adds the lines of the subscriber, which has the number 1, if they are asked for.
-fn push_book(
-    text: &mut Vec<u8>,
-    shows: bool,
-    subscriber: &Subscriber,
-) -> Result<(), AllocError>
+fn push_book(text: &mut Vec<u8>, shows: bool, subscriber: &Subscriber) -> Result<(), AllocError>
     ensures { OnOk result (text.new.items ≡ text.old.items ++ book_text shows subscriber.now) }
 {
     if !shows {

@@ -39,11 +39,7 @@ pub fn push_accepted(
 }
 
 /// Adds the line of why auditing stopped; none at the end.
-pub fn push_audit_stop(
-    alloc: Global,
-    lines: &mut Lines,
-    stop: AuditStop,
-) -> Result<(), AllocError>
+pub fn push_audit_stop(alloc: Global, lines: &mut Lines, stop: AuditStop) -> Result<(), AllocError>
     ensures { OnOk result (lines.new.text.items
         ≡ lines.old.text.items ++ audit_stop_lines stop) }
 {
@@ -55,12 +51,7 @@ pub fn push_audit_stop(
 }
 
 /// Adds the line of an event that is refused, on the line of this number.
-fn push_refused(
-    alloc: Global,
-    lines: &mut Lines,
-    line: u64,
-    why: Refusal,
-) -> Result<(), AllocError>
+fn push_refused(alloc: Global, lines: &mut Lines, line: u64, why: Refusal) -> Result<(), AllocError>
     ensures { OnOk result (lines.new.text.items
         ≡ lines.old.text.items ++ json_line (refused_value line why)) }
 {
