@@ -1,9 +1,10 @@
 //! The command `follow`: follows a stream up to its end, and saves and prints its book.
 
-ghost use Rattle.std.specs.Prelude.{◌≡◌, Some, IfOk, IfSome, OnOk};
+ghost use Rattle.std.specs.Prelude.{◌≡◌, Some, is_some, IfOk, IfSome, OnOk};
 ghost use Rattle.cdc_follow.specs.Saved.{book_text};
 ghost use Rattle.cdc_follow.specs.Stops.{bytes_followed};
-ghost use Rattle.cdc_follow_command.specs.Saving.{IfStopped, IsPrintedLast, PrintsEnd, PrintsFailure, PrintsFollowing, PrintsSaves, UnlessWriteFails};
+ghost use Rattle.cdc_follow_command.specs.Saving.{IfStopped, IsPrintedLast, PrintsEnd, PrintsFailure};
+ghost use Rattle.cdc_follow_command.specs.Saving.{PrintsAllSaves, PrintsFollowing, PrintsSaves};
 
 use crate::endings::{FollowEnding, fault_of};
 use crate::forms::FollowForm;
@@ -18,7 +19,8 @@ use std::io;
 use std::io::{ErrorKind, Write};
 
 /// Follows the lines of a reader, numbered from 1, and saves the book after every so many lines, each time that no
-/// whole line is waiting, and at the end.
+/// whole line is waiting, and at the end. Each save is reported once the store holds its book (clause `saved` of
+/// `Saver::save`), by the last event that it has seen.
 pub fn follow_stream<F: FollowForm, B: LineReader, W: Write, K: BookStore>(
     form: &F,
     alloc: Global,
@@ -32,11 +34,13 @@ pub fn follow_stream<F: FollowForm, B: LineReader, W: Write, K: BookStore>(
     ensures stops { IfOk result (λ stop. IfSome (B.remaining reader.old) (λ bytes.
         bytes_followed binding.now rules follower.old bytes
         ≡ record { state = follower.new; stop = stop })) }
+    ensures store { is_some saver.new.store ≡ is_some saver.old.store }
     ensures saved { OnOk result (IfSome saver.new.store (λ store.
         K.held store
         ≡ Some (book_text saver.old.chained saver.old.binding.items follower.new))) }
-    ensures printed { UnlessWriteFails result
-        (PrintsSaves F.prints_saved (W.contents writer.old) (W.contents writer.new)) }
+    ensures printed { PrintsAllSaves (PrintsSaves F.prints_saved (is_some saver.old.store) binding.now rules
+        follower.old (B.remaining reader.old) (W.contents writer.old))
+        (W.contents writer.new) follower.new result }
 {
     let mut line = Vec::new(alloc);
     for number in 1..u64::MAX {
@@ -75,11 +79,13 @@ pub fn follow_command<F: Form + FollowForm, B: LineReader, W: Write, K: BookStor
     ensures stops { IfStopped result (λ stop. IfSome (B.remaining reader.old) (λ bytes.
         bytes_followed binding.now rules follower.old bytes
         ≡ record { state = follower.new; stop = stop })) }
+    ensures store { is_some saver.new.store ≡ is_some saver.old.store }
     ensures saved { IfStopped result (λ _. IfSome saver.new.store (λ store.
         K.held store
         ≡ Some (book_text saver.old.chained saver.old.binding.items follower.new))) }
-    ensures printed { PrintsFollowing F.prints_saved F.prints_end F.prints_fault
-        (W.contents writer.old) (W.contents writer.new) follower.new result }
+    ensures printed { PrintsFollowing (PrintsSaves F.prints_saved (is_some saver.old.store) binding.now rules
+        follower.old (B.remaining reader.old) (W.contents writer.old))
+        F.prints_end F.prints_fault (W.contents writer.new) follower.new result }
 {
     match follow_stream(form, alloc, reader, writer, saver, binding, rules, follower) {
         Ok(stop) => print_end(form, alloc, writer, follower, stop),
