@@ -1,8 +1,11 @@
-use Rattle.std.proofs.Common.{Some, true, refl, ap, ◌∙◌}
+use Rattle.std.proofs.Common.{Some, true, refl, ap, ◌∙◌, arith}
 use Rattle.std.specs.Prelude.{is_some}
+use Rattle.cdc_follow.specs.Stops.{stop_of}
+use Rattle.cdc_follow_command.proofs.GapLemmas.{fewer_on, skipped_begins, skipped_on, skipped_stops}
+use Rattle.cdc_follow_command.proofs.KeptLemmas.{keeps_follow}
 use Rattle.cdc_follow_command.proofs.RunLemmas.{run_begins, run_ends, run_fails, run_on, run_printed, run_saves, run_saves_last}
 use Rattle.cdc_follow_command.proofs.follow.follow_stream.Goals as goal
-use Rattle.cdc_follow_command.proofs.follow.follow_stream.Goals.{in-Ok-Some, in-Err-follow_line}
+use Rattle.cdc_follow_command.proofs.follow.follow_stream.Goals.{in-Ok-Stops, in-Err-follow_line}
 
 pub loop-number-init : goal.loop-number-init
 loop-number-init g c = record {
@@ -11,6 +14,8 @@ loop-number-init g c = record {
   binding = refl;
   run = run_begins g.F.FollowForm.prints_saved (is_some c.args.saver.now.store) c.args.binding.now c.args.rules
       c.args.follower.now (g.B.Read.remaining c.args.reader.now) (g.W.Write.contents c.args.writer.now);
+  skipped = skipped_begins c.args.binding.now c.args.rules c.args.follower.now (g.B.Read.remaining c.args.reader.now);
+  fewer = omega arith;
 }
 
 pub returns-in-Err-clause-printed : goal.returns-in-Err-clause-printed
@@ -28,7 +33,7 @@ loop-number-preserved g c = record {
   binding = c.count_line.ensures.binding ∙ c.in_default.ensures.binding ∙ c.loop-number.invariant.binding;
   run = run_on g.F.FollowForm.prints_saved (is_some c.args.saver.now.store) c.args.binding.now c.args.rules
       c.args.follower.now (g.B.Read.remaining c.args.reader.now) (g.W.Write.contents c.args.writer.now)
-      c.loop-number.follower c.follow_line.new.follower c.loop-number.number c.in-Ok-None.field-0
+      c.loop-number.follower c.follow_line.new.follower c.loop-number.number (stop_of c.in-Ok-GoesOn.field-0)
       (g.B.Read.remaining c.loop-number.reader) (g.B.Read.remaining c.follow_line.new.reader)
       (g.W.Write.contents c.save_if_due.new.writer)
       (run_saves g.F.FollowForm.prints_saved (is_some c.args.saver.now.store) c.args.binding.now c.args.rules
@@ -37,7 +42,17 @@ loop-number-preserved g c = record {
       (g.B.Read.remaining c.loop-number.reader) (g.W.Write.contents c.loop-number.writer)
       (g.W.Write.contents c.save_if_due.new.writer) c.loop-number.invariant.run c.loop-number.invariant.store
       (c.in_default.ensures.printed refl))
-      c.in-Ok-None.field-0-is c.in-Ok-None.ensures.leads;
+      (ap stop_of c.in-Ok-GoesOn.field-0-is) c.in-Ok-GoesOn.ensures.leads;
+  skipped = skipped_on c.args.binding.now c.args.rules c.args.follower.now c.loop-number.follower
+      c.follow_line.new.follower c.loop-number.number c.loop-number.gaps c.from.result
+      c.in-Ok-GoesOn.skipped (g.B.Read.remaining c.args.reader.now) (g.B.Read.remaining c.loop-number.reader)
+      (g.B.Read.remaining c.follow_line.new.reader) c.from.ensures c.loop-number.invariant.skipped
+      (keeps_follow c.args.binding.now c.args.rules c.args.follower.now c.loop-number.follower c.loop-number.number
+      (g.B.Read.remaining c.args.reader.now) (g.B.Read.remaining c.loop-number.reader)
+      c.loop-number.invariant.run.states c.loop-number.invariant.run.keeps)
+      (rw c.in-Ok-GoesOn.field-0-is at c.in-Ok-GoesOn.ensures.skips);
+  fewer = fewer_on c.args.binding.now c.args.rules c.args.follower.now c.loop-number.gaps c.loop-number.number
+      c.from.result c.in-Ok-GoesOn.skipped c.loop-number.invariant.fewer c.from.ensures;
 }
 
 pub returns-in-Err-save-clause-printed : goal.returns-in-Err-save-clause-printed
@@ -64,15 +79,15 @@ returns-in-loop-number-clause-printed g c fine =
         (g.W.Write.contents c.save_if_due.new.writer) c.loop-number.invariant.run c.loop-number.invariant.store
         (c.in_default.ensures.printed refl) in
     elim c.match-follow_line.branch [
-      in-Ok-Some w ↦ rw w.ended-is
+      in-Ok-Stops w ↦ rw w.ended-is
         (run_ends g.F.FollowForm.prints_saved (is_some c.args.saver.now.store) c.args.binding.now c.args.rules
         c.args.follower.now (g.B.Read.remaining c.args.reader.now) (g.W.Write.contents c.args.writer.now)
         c.in_default-save.field-0 (is_some c.save_if_due.new.self.store) c.loop-number.follower
-        c.follow_line.new.follower c.loop-number.number w.in-Ok-Some.stop (g.B.Read.remaining c.loop-number.reader)
+        c.follow_line.new.follower c.loop-number.number w.in-Ok-Stops.stop (g.B.Read.remaining c.loop-number.reader)
         (g.B.Read.remaining c.follow_line.new.reader) (g.W.Write.contents c.save_if_due.new.writer)
         (g.W.Write.contents c.save.new.writer) saved
         (c.in_default.ensures.store ∙ c.loop-number.invariant.store)
-        (rw w.in-Ok-Some.field-0-is at w.in-Ok-Some.ensures.leads)
+        (rw w.in-Ok-Stops.field-0-is at w.in-Ok-Stops.ensures.leads)
         (c.in_default-save.ensures.printed refl))
     | in-Err-follow_line w ↦ rw w.ended-is
         (run_saves_last g.F.FollowForm.prints_saved (is_some c.args.saver.now.store) c.args.binding.now c.args.rules
@@ -91,3 +106,18 @@ returns-clause-printed g c fine =
     c.args.follower.now (g.B.Read.remaining c.args.reader.now) (g.W.Write.contents c.args.writer.now)
     c.loop-number.follower c.loop-number.number (g.B.Read.remaining c.loop-number.reader)
     (g.W.Write.contents c.loop-number.writer) c.loop-number.invariant.run
+
+pub returns-in-loop-number-clause-gaps : goal.returns-in-loop-number-clause-gaps
+returns-in-loop-number-clause-gaps g c =
+    elim c.match-follow_line.branch [
+      in-Ok-Stops w ↦ rw w.ended-is
+        (skipped_stops c.args.binding.now c.args.rules c.args.follower.now c.loop-number.follower
+        c.follow_line.new.follower c.loop-number.number c.loop-number.gaps w.in-Ok-Stops.stop
+        (g.B.Read.remaining c.args.reader.now) (g.B.Read.remaining c.loop-number.reader)
+        (g.B.Read.remaining c.follow_line.new.reader) c.loop-number.invariant.skipped
+        (keeps_follow c.args.binding.now c.args.rules c.args.follower.now c.loop-number.follower c.loop-number.number
+        (g.B.Read.remaining c.args.reader.now) (g.B.Read.remaining c.loop-number.reader)
+        c.loop-number.invariant.run.states c.loop-number.invariant.run.keeps)
+        (rw w.in-Ok-Stops.field-0-is at w.in-Ok-Stops.ensures.skips))
+    | in-Err-follow_line w ↦ rw w.ended-is tt
+    ]
