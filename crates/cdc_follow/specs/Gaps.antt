@@ -29,8 +29,8 @@ gaps_skipped binding rules state number lines =
 abbrev pub bytes_skipped : Arguments → Rules → FollowState → List ℕ → ℕ
 bytes_skipped binding rules state bytes = gaps_skipped binding rules state 1 (lines_of bytes)
 
--- the line of this number has at most one of the gaps that are skipped, whatever lines come after it; or none is skipped
--- any more, since following stops
+-- the line of this number has at most one of the gaps that are skipped, whatever lines come after it; or following
+-- stops at it, and none is skipped any more
 abbrev pub LineSkips : Arguments → Rules → ℕ → List ℕ → FollowState → Turn → FollowState → Type 0
 LineSkips binding rules number line old (GoesOn skipped) new =
     (rest : List (List ℕ)) → gaps_skipped binding rules old number (line ∷ rest)

@@ -1,5 +1,6 @@
 -- How many gaps were skipped so far.
-use Rattle.std.proofs.Common.{◌≡◌, ℕ, ◌+◌, ◌<◌, List, Bool, true, false, Option, None, Some, refl, sym, ap, ◌∙◌, add_assoc, zero-add, add-zero, arith}
+use Rattle.std.proofs.Common.{◌≡◌, ℕ, ◌+◌, ◌<◌, List, Bool, true, false, Option, None, Some, refl, sym, ap, ◌∙◌}
+use Rattle.std.proofs.Common.{add_assoc, zero-add, add-zero, arith}
 use Rattle.std.specs.Prelude.{IfSome}
 use Rattle.std.specs.Int.{from_bool}
 use Rattle.cdc_match.specs.Arguments.{Arguments}
@@ -36,7 +37,8 @@ module _ (binding : Arguments) (rules : Rules) (start : FollowState) where
   -- one more line was followed
   pub skipped_on : (before after : FollowState) (number gaps added : ℕ) (skipped : Bool)
       (known mid left : Option (List ℕ)) → added ≡ from_bool skipped
-      → HasSkipped binding rules start known gaps before number mid → Follows binding rules start known before number mid
+      → HasSkipped binding rules start known gaps before number mid
+      → Follows binding rules start known before number mid
       → IfSome mid (λ bytes. StepSkips binding rules number before bytes (GoesOn skipped) after left)
       → HasSkipped binding rules start known (gaps + added) after (number + 1) left
   skipped_on before after number gaps added skipped None mid left is has follows step = tt
@@ -49,7 +51,8 @@ module _ (binding : Arguments) (rules : Rules) (start : FollowState) where
 
   -- following stops
   pub skipped_stops : (before after : FollowState) (number gaps : ℕ) (stop : Stop) (known mid left : Option (List ℕ))
-      → HasSkipped binding rules start known gaps before number mid → Follows binding rules start known before number mid
+      → HasSkipped binding rules start known gaps before number mid
+      → Follows binding rules start known before number mid
       → IfSome mid (λ bytes. StepSkips binding rules number before bytes (Stops stop) after left)
       → IfSome known (λ bytes. gaps ≡ bytes_skipped binding rules start bytes)
   skipped_stops before after number gaps stop None mid left has follows step = tt

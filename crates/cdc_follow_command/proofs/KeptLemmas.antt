@@ -1,22 +1,22 @@
 -- What following keeps while a stream is followed, by how many entries the lines before have.
-use Rattle.std.proofs.Common.{◌≡◌, ℕ, ◌+◌, ◌≤◌, List, [], ◌∷◌, ◌++◌, length, take, append-nil, append_assoc, Bool, Option, None, Some, Result, Ok, Err, refl, sym, ap, ◌∙◌, subst, arith}
+use Rattle.std.proofs.Common.{◌≡◌, ℕ, ◌+◌, ◌≤◌, List, [], ◌∷◌, ◌++◌, length, take, append-nil, append_assoc, Bool}
+use Rattle.std.proofs.Common.{Option, None, Some, Result, Ok, Err, refl, sym, ap, ◌∙◌, subst, arith}
 use Rattle.std.specs.Prelude.{IfSome}
 use Rattle.std.proofs.Math.Nat.{le_refl}
-use Rattle.std.proofs.Math.Seq.{take-append_seam, take-length}
+use Rattle.std.proofs.Math.Seq.{take-append_seam}
 use Rattle.std.proofs.lemmas.List.{length-append}
 use Rattle.cdc_match.specs.Arguments.{Arguments}
 use Rattle.cdc_follow.specs.declared.entries.Entry.{Entry}
 use Rattle.cdc_follow.specs.declared.errors.LineError.{LineError}
 use Rattle.cdc_follow.specs.declared.streams.Rules.{Rules}
 use Rattle.cdc_follow.specs.declared.streams.Stop.{Stop}
-use Rattle.cdc_follow.specs.declared.streams.Stop.TheVariants as stop
 use Rattle.cdc_follow.specs.Entries.{line_entry}
-use Rattle.cdc_follow.specs.Following.{FollowState, Followed, follow}
+use Rattle.cdc_follow.specs.Following.{FollowState, follow}
 use Rattle.cdc_follow.specs.Lines.{lines_of}
-use Rattle.cdc_follow.specs.Stops.{LineLeadsTo, StepLeadsTo, Stopped, bytes_followed, lines_followed}
-use Rattle.cdc_follow.specs.Streams.{NumberedEntry, Stream, stream_of, stream_of_lines, stream_with}
+use Rattle.cdc_follow.specs.Stops.{LineLeadsTo, StepLeadsTo, Stopped, lines_followed}
+use Rattle.cdc_follow.specs.Streams.{NumberedEntry, Stream, stream_of_lines, stream_with}
 use Rattle.cdc_follow.proofs.StopLemmas.{Follows, FollowsTo, follows_stop, stream_first}
-use Rattle.cdc_follow_command.specs.Saving.{AreKept, EndWith, kept_after}
+use Rattle.cdc_follow_command.specs.Saving.{AreKept, kept_after}
 
 -- ---- the entries of some lines are the first ones of those of more lines
 
@@ -44,12 +44,13 @@ none_of_none chained number = refl
 entries_begin : (chained : Bool) (number : ℕ) (front rest : List (List ℕ))
     → BeginWith (entries_of chained number (front ++ rest)) (entries_of chained number front)
 entries_begin chained number [] rest =
-    (entries_of chained number rest, ap (λ none. none ++ entries_of chained number rest) (sym (none_of_none chained number)))
+    let others = entries_of chained number rest in
+    (others, ap (λ none. none ++ others) (sym (none_of_none chained number)))
 entries_begin chained number (line ∷ front) rest =
     let first = ap (λ (all : Stream). all.entries) (stream_first chained number line front) in
     let all = ap (λ (all : Stream). all.entries) (stream_first chained number line (front ++ rest)) in
     let begin = begin_line number (line_entry chained line) (stream_of_lines chained (number + 1) (front ++ rest))
-        (stream_of_lines chained (number + 1) front) (entries_begin chained (number + 1) front rest) in
+    (stream_of_lines chained (number + 1) front) (entries_begin chained (number + 1) front rest) in
     (begin.0, all ∙ begin.1 ∙ ap (λ entries. entries ++ begin.0) (sym first))
 
 -- how many entries these lines have, numbered from 1
@@ -74,9 +75,9 @@ lines_keep binding rules start bytes front rest whole =
     let first = entries_of rules.chained 1 front in
     let begin = entries_begin rules.chained 1 front rest in
     let all : entries_of rules.chained 1 (lines_of bytes) ≡ first ++ begin.0 =
-        ap (entries_of rules.chained 1) whole ∙ begin.1 in
+    ap (entries_of rules.chained 1) whole ∙ begin.1 in
     let taken : take (length first) (entries_of rules.chained 1 (lines_of bytes)) ≡ first =
-        ap (take (length first)) all ∙ take-append_seam first begin.0 in
+    ap (take (length first)) all ∙ take-append_seam first begin.0 in
     ap (λ entries. (follow binding rules.skips_gaps start entries).state) (sym taken)
 
 none_followed : (binding : Arguments) (rules : Rules) (state : FollowState) (number : ℕ)
@@ -98,7 +99,8 @@ follower_keeps binding rules start state number bytes left follows =
 
 abbrev AreKeptTo : (ℕ → FollowState) → ℕ → ℕ → List FollowState → Type 0
 AreKeptTo kept from to [] = from ≤ to
-AreKeptTo kept from to (state ∷ later) = (count : ℕ) × (from ≤ count) × (state ≡ kept count) × AreKeptTo kept count to later
+AreKeptTo kept from to (state ∷ later) =
+    (count : ℕ) × (from ≤ count) × (state ≡ kept count) × AreKeptTo kept count to later
 
 are_kept : (kept : ℕ → FollowState) (from to : ℕ) (states : List FollowState) → AreKeptTo kept from to states
     → AreKept kept from states
@@ -146,7 +148,8 @@ keeps_begin binding rules state (Some bytes) = record {
 
 -- the present state is one of them, too
 pub keeps_now : (binding : Arguments) (rules : Rules) (start state : FollowState) (number : ℕ)
-    (known left : Option (List ℕ)) (states : List FollowState) → Keeps binding rules start known state number left states
+    (known left : Option (List ℕ)) (states : List FollowState)
+    → Keeps binding rules start known state number left states
     → Keeps binding rules start known state number left (states ++ state ∷ [])
 keeps_now binding rules start state number None left states keeps = tt
 keeps_now binding rules start state number (Some bytes) None states keeps = absurd keeps
@@ -177,7 +180,8 @@ keeps_line binding rules start old new number bytes mid line rest states keeps i
     }
 
 keeps_more : (binding : Arguments) (rules : Rules) (start old new : FollowState) (number : ℕ)
-    (known mid left : Option (List ℕ)) (states : List FollowState) → Keeps binding rules start known old number mid states
+    (known mid left : Option (List ℕ)) (states : List FollowState)
+    → Keeps binding rules start known old number mid states
     → IfSome mid (λ bytes. StepLeadsTo binding rules number old bytes None new left)
     → Keeps binding rules start known new (number + 1) left states
 keeps_more binding rules start old new number None mid left states keeps step = tt
@@ -187,7 +191,8 @@ keeps_more binding rules start old new number (Some bytes) (Some rest) left stat
     (keeps_line binding rules start old new number bytes rest step.0 step.1 states keeps step.3 step.4)
 
 pub keeps_on : (binding : Arguments) (rules : Rules) (start old new : FollowState) (number : ℕ) (stops : Option Stop)
-    (known mid left : Option (List ℕ)) (states : List FollowState) → Keeps binding rules start known old number mid states
+    (known mid left : Option (List ℕ)) (states : List FollowState)
+    → Keeps binding rules start known old number mid states
     → stops ≡ None → IfSome mid (λ bytes. StepLeadsTo binding rules number old bytes stops new left)
     → Keeps binding rules start known new (number + 1) left states
 keeps_on binding rules start old new number stops known mid left states keeps is step =
@@ -196,7 +201,8 @@ keeps_on binding rules start old new number stops known mid left states keeps is
 
 -- the lines were followed
 pub keeps_follow : (binding : Arguments) (rules : Rules) (start state : FollowState) (number : ℕ)
-    (known left : Option (List ℕ)) (states : List FollowState) → Keeps binding rules start known state number left states
+    (known left : Option (List ℕ)) (states : List FollowState)
+    → Keeps binding rules start known state number left states
     → Follows binding rules start known state number left
 keeps_follow binding rules start state number None left states keeps = tt
 keeps_follow binding rules start state number (Some bytes) None states keeps = absurd keeps
@@ -204,16 +210,19 @@ keeps_follow binding rules start state number (Some bytes) (Some left) states ke
 
 -- the states are kept, whenever the loop is left
 pub keeps_states : (binding : Arguments) (rules : Rules) (start state : FollowState) (number : ℕ)
-    (known left : Option (List ℕ)) (states : List FollowState) → Keeps binding rules start known state number left states
+    (known left : Option (List ℕ)) (states : List FollowState)
+    → Keeps binding rules start known state number left states
     → IfSome known (λ bytes. AreKept (kept_after binding rules start bytes) 0 states)
 keeps_states binding rules start state number None left states keeps = tt
 keeps_states binding rules start state number (Some bytes) None states keeps = absurd keeps
 keeps_states binding rules start state number (Some bytes) (Some left) states keeps =
-    are_kept (kept_after binding rules start bytes) 0 (entry_count rules.chained keeps.follows.front) states keeps.are_kept
+    are_kept (kept_after binding rules start bytes) 0 (entry_count rules.chained keeps.follows.front) states
+    keeps.are_kept
 
 -- following stops, and what it keeps then is the last of the states
 pub keeps_last : (binding : Arguments) (rules : Rules) (start old new : FollowState) (number : ℕ) (stop : Stop)
-    (known mid left : Option (List ℕ)) (states : List FollowState) → Keeps binding rules start known old number mid states
+    (known mid left : Option (List ℕ)) (states : List FollowState)
+    → Keeps binding rules start known old number mid states
     → IfSome mid (λ bytes. StepLeadsTo binding rules number old bytes (Some stop) new left)
     → IfSome known (λ bytes. AreKept (kept_after binding rules start bytes) 0 (states ++ new ∷ []))
 keeps_last binding rules start old new number stop None mid left states keeps step = tt
@@ -223,11 +232,11 @@ keeps_last binding rules start old new number stop (Some bytes) (Some rest) left
     let front = keeps.follows.front in
     let all = entry_count rules.chained (lines_of bytes) in
     let within : entry_count rules.chained front ≤ all =
-        subst (λ lines. entry_count rules.chained front ≤ entry_count rules.chained lines) (sym keeps.follows.whole)
-        (count_grows rules.chained front (lines_of rest)) in
+    subst (λ lines. entry_count rules.chained front ≤ entry_count rules.chained lines) (sym keeps.follows.whole)
+    (count_grows rules.chained front (lines_of rest)) in
     let ends = follows_stop binding rules start old new number stop (Some bytes) (Some rest) left keeps.follows step in
     let is : new ≡ kept all =
-        sym (ap (λ (s : Stopped). s.state) ends)
-        ∙ lines_keep binding rules start bytes (lines_of bytes) [] (sym (append-nil (lines_of bytes))) in
+    sym (ap (λ (s : Stopped). s.state) ends)
+    ∙ lines_keep binding rules start bytes (lines_of bytes) [] (sym (append-nil (lines_of bytes))) in
     are_kept kept 0 all (states ++ new ∷ [])
     (kept_more kept 0 (entry_count rules.chained front) all states new keeps.are_kept within is)

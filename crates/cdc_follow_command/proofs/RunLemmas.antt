@@ -1,6 +1,7 @@
 -- What a run has kept and printed so far: the states of its saves, and their lines.
-use Rattle.std.proofs.Common.{◌≡◌, ℕ, ◌+◌, List, [], ◌∷◌, ◌++◌, Bool, true, false, Option, None, Some, Result, Ok, Err, refl, sym, subst, ap, ◌∙◌}
-use Rattle.std.specs.Prelude.{IfOk, IfSome, if◌then◌else◌}
+use Rattle.std.proofs.Common.{◌≡◌, ℕ, ◌+◌, List, [], ◌∷◌, ◌++◌, Bool, true, false, Option, None, Some, Ok}
+use Rattle.std.proofs.Common.{Err, refl, sym, subst, ap, ◌∙◌}
+use Rattle.std.specs.Prelude.{IfSome, if◌then◌else◌}
 use Rattle.std.specs.Io.KnownBytes.{Appends}
 use Rattle.cdc_commands.specs.declared.faults.ProgramFault.{ProgramFault}
 use Rattle.cdc_match.specs.Arguments.{Arguments}
@@ -10,7 +11,8 @@ use Rattle.cdc_follow.specs.Following.{FollowState}
 use Rattle.cdc_follow.specs.Stops.{StepLeadsTo}
 use Rattle.cdc_follow_command.specs.Saving.{EndWith, PrintsSaves, save_text, saves_text}
 use Rattle.cdc_follow_command.proofs.KeptLemmas.{Keeps, keeps_begin, keeps_last, keeps_now, keeps_on, keeps_states}
-use Rattle.cdc_follow_command.proofs.SavingLemmas.{appends_nothing, last_save, prints_more, prints_same, save_done, save_failed, saves_none}
+use Rattle.cdc_follow_command.proofs.SavingLemmas.{appends_nothing, last_save, prints_more, prints_same, save_done}
+use Rattle.cdc_follow_command.proofs.SavingLemmas.{save_failed, saves_none}
 
 -- states that were kept one after another up to this one, and the lines of their saves, which were printed
 pub record HasRun (prints : ℕ → List ℕ) (kept : Bool) (binding : Arguments) (rules : Rules) (start : FollowState)

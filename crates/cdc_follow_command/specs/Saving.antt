@@ -1,6 +1,7 @@
 -- Saving a book now and then, and what the command prints.
-use Rattle.std.specs.Prelude.{◌≡◌, ◌≢◌, ◌⊎◌, ◌&&◌, ◌||◌, nat_le, nat_lt, ℕ, ◌≤◌, Bool, true, false, List, [], ◌∷◌, ◌++◌, take}
-use Rattle.std.specs.Prelude.{Option, Some, None, IfSome, Result, Ok, Err, IfOk, if◌then◌else◌}
+use Rattle.std.specs.Prelude.{◌≡◌, ◌≢◌, ◌⊎◌, ◌&&◌, ◌||◌, nat_le, nat_lt, ℕ, ◌≤◌, Bool, true, false, List, [], ◌∷◌}
+use Rattle.std.specs.Prelude.{◌++◌, take}
+use Rattle.std.specs.Prelude.{Option, Some, IfSome, Result, Ok, Err, IfOk}
 use Rattle.std.specs.List.{flat_map}
 use Rattle.std.specs.Io.KnownBytes.{Appends}
 use Rattle.cdc_commands.specs.declared.endings.Ending.{Ending}

@@ -84,8 +84,8 @@ impl<K: BookStore> Saver<K> {
         }
     }
 
-    /// Saves the book, if it is kept, and then reports the save, by the timestamp of the last event seen. After an error
-    /// the store holds the old text or the new one, and nothing is reported.
+    /// Saves the book, if it is kept, and then reports the save, by the timestamp of the last event seen. After an
+    /// error the store holds the old text or the new one, and nothing is reported.
     pub(crate) fn save<F: FollowForm, W: Write>(
         &mut self,
         form: &F,
@@ -159,8 +159,8 @@ pub fn begin(alloc: Global) -> Follower
     Follower::new(Subscriber::new(alloc), 0)
 }
 
-/// The follower of a book with this text. `BadRecord`: the text isn't one of a book, or it is one of another binding, or
-/// of a chained stream where this one isn't, or the other way round.
+/// The follower of a book with this text. `BadRecord`: the text isn't one of a book, or it is one of another binding,
+/// or of a chained stream where this one isn't, or the other way round.
 pub fn resume(
     alloc: Global,
     text: &[u8],
