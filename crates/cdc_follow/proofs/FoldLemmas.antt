@@ -4,7 +4,8 @@ use Rattle.std.specs.List.{AllByRecursion}
 use Rattle.cdc_types.specs.declared.events.Event.{Event}
 use Rattle.cdc_match.specs.Arguments.{Arguments}
 use Rattle.cdc_follow.specs.Following.{FollowState, Followed, follow, next_follow}
-use Rattle.cdc_follow.specs.Laws.{FoldsTo, FollowedQueuesKeepAPrefix, FollowingFolds, IsOfQueue, KeepsPrefix, entries_in}
+use Rattle.cdc_follow.specs.Laws.{FoldsTo, FollowedQueuesKeepAPrefix, FollowingFolds, IsOfQueue, KeepsPrefix}
+use Rattle.cdc_follow.specs.Laws.{entries_in}
 use Rattle.cdc_follow.specs.Streams.{NumberedEntry}
 use Rattle.cdc_follow.proofs.QueueLemmas.{goes_on}
 use Rattle.cdc_follow.proofs.StopLemmas.{follow-first, follow-none}

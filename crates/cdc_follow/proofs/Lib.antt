@@ -1,6 +1,7 @@
 pub mod EntryLemmas
 mod Examples
 pub mod FoldLemmas
+pub mod GapLemmas
 pub mod LineLemmas
 pub mod OnceLemmas
 pub mod PlainLemmas

@@ -1,5 +1,8 @@
 -- Lines, where their first one is known up to its line feed, up to the end, or in part.
-use Rattle.std.proofs.Common.{◌≡◌, ◌≢◌, ℕ, ◌<◌, ◌≤◌, ◌+◌, List, [], ◌∷◌, ◌++◌, length, take, drop, refl, sym, ap, subst, ◌∙◌, arith, ne_eqb, eq-eqb, zero-le, get_or-take, length-take-le, take-append-drop, append_assoc, append-nil, length-append, true, Bool, None, Some, Option}
+use Rattle.std.proofs.Common.{◌≡◌, ◌≢◌, ℕ, ◌<◌, ◌≤◌, ◌+◌, List, [], ◌∷◌, ◌++◌, length, take, drop, refl, sym, ap}
+use Rattle.std.proofs.Common.{subst, ◌∙◌, arith, ne_eqb, eq-eqb, zero-le, get_or-take, length-take-le}
+use Rattle.std.proofs.Common.{take-append-drop, append_assoc, append-nil, length-append, true, Bool, None, Some}
+use Rattle.std.proofs.Common.{Option}
 use Rattle.std.specs.Prelude.{◌==◌, IfSome, not}
 use Rattle.std.specs.Io.{StartsWith}
 use Rattle.std.specs.Io.KnownBytes.{Consumes, IsAtEnd}

@@ -1,5 +1,6 @@
 -- A follower that is handed entries again changes nothing.
-use Rattle.std.proofs.Common.{◌≡◌, ℕ, zero, suc, ◌<◌, ◌≤◌, List, [], ◌∷◌, length, Bool, true, false, cond, Some, None, Option, refl, sym, ap, ◌∙◌, arith, subst, le-leb, leb-false}
+use Rattle.std.proofs.Common.{◌≡◌, ℕ, zero, suc, ◌<◌, ◌≤◌, List, [], ◌∷◌, length, Bool, true, false, cond, Some, None}
+use Rattle.std.proofs.Common.{Option, refl, sym, ap, ◌∙◌, arith, subst, le-leb, leb-false}
 use Rattle.std.proofs.lemmas.Bool.{false≢true}
 use Rattle.std.specs.Prelude.{◌&&◌, ◌||◌, not, nat_le, is_none, Contains, slice_index_or}
 use Rattle.std.specs.List.{AllByRecursion}
@@ -16,7 +17,8 @@ use Rattle.cdc_subscriber.specs.SubscriberState.{SubscriberState}
 use Rattle.cdc_follow.specs.declared.entries.Content.{Content}
 use Rattle.cdc_follow.specs.declared.entries.Content.TheVariants as content
 use Rattle.cdc_follow.specs.declared.entries.Entry.{Entry}
-use Rattle.cdc_follow.specs.Following.{FollowState, comes_early, content_outcome, follow_all, is_gap, next_follow, outcome_of, state_by}
+use Rattle.cdc_follow.specs.Following.{FollowState, comes_early, content_outcome, follow_all, is_gap, next_follow}
+use Rattle.cdc_follow.specs.Following.{outcome_of, state_by}
 use Rattle.cdc_follow.specs.Laws.{GoingOnIsOnce, HasNoGap}
 use Rattle.cdc_follow.proofs.StepLemmas.{le_longer, next-closed, next-open, outcome-open}
 

@@ -1,5 +1,7 @@
 -- A follower of a chained queue keeps a prefix of it.
-use Rattle.std.proofs.Common.{◌≡◌, ◌⊎◌, inl, inr, ℕ, ◌+◌, ◌<◌, ◌≤◌, length, length-append, min, List, [], ◌∷◌, ◌++◌, Bool, true, false, cond, Some, Option, refl, sym, ap, ◌∙◌, arith, subst, append-nil, append_assoc, leb-false, ltb-false}
+use Rattle.std.proofs.Common.{◌≡◌, ◌⊎◌, inl, inr, ℕ, ◌+◌, ◌<◌, ◌≤◌, length, length-append, min, List, [], ◌∷◌, ◌++◌}
+use Rattle.std.proofs.Common.{Bool, true, false, cond, Some, Option, refl, sym, ap, ◌∙◌, arith, subst, append-nil}
+use Rattle.std.proofs.Common.{append_assoc, leb-false, ltb-false}
 use Rattle.std.specs.Prelude.{nat_le, nat_lt, filter}
 use Rattle.std.specs.List.{AllByRecursion}
 use Rattle.std.proofs.lemmas.List.Elements.{filter-append}
@@ -22,7 +24,8 @@ use Rattle.cdc_follow.specs.declared.entries.Content.{Content}
 use Rattle.cdc_follow.specs.declared.entries.Content.TheVariants as content
 use Rattle.cdc_follow.specs.declared.entries.Entry.{Entry}
 use Rattle.cdc_follow.specs.Following.{FollowState, content_outcome, follow_all, next_follow, next_outcome, state_by}
-use Rattle.cdc_follow.specs.Laws.{ChainedFollowersGoOn, ChainedFollowersKeepAPrefix, IsContentOf, IsOfQueue, KeepsPrefix, begins, kept_after, taken_by}
+use Rattle.cdc_follow.specs.Laws.{ChainedFollowersGoOn, ChainedFollowersKeepAPrefix, IsContentOf, IsOfQueue}
+use Rattle.cdc_follow.specs.Laws.{KeepsPrefix, begins, kept_after, taken_by}
 use Rattle.cdc_follow.proofs.StepLemmas.{next-closed, next-open}
 
 -- ---- where an event stands in a queue, against a prefix of it

@@ -1,5 +1,6 @@
 -- What was printed of a book is read back.
-use Rattle.std.proofs.Common.{◌≡◌, ◌≢◌, ℕ, ◌+◌, ◌<◌, ◌≤◌, ◌^◌, List, [], ◌∷◌, ◌++◌, length, take, drop, Bool, true, false, cond, Some, refl, sym, ap, ◌∙◌, arith, subst, append_assoc, append-nil, le-leb}
+use Rattle.std.proofs.Common.{◌≡◌, ◌≢◌, ℕ, ◌+◌, ◌<◌, ◌≤◌, ◌^◌, List, [], ◌∷◌, ◌++◌, length, take, drop, Bool, true}
+use Rattle.std.proofs.Common.{false, cond, Some, refl, sym, ap, ◌∙◌, arith, subst, append_assoc, append-nil, le-leb}
 use Rattle.std.specs.Prelude.{◌&&◌, ◌==◌, not, codes, decimal, unwrap_or}
 use Rattle.std.specs.Char.{is_ascii_digit}
 use Rattle.std.specs.List.{AllByRecursion, flat_map, list_all, prefix_len}
@@ -17,7 +18,8 @@ use Rattle.cdc_subscriber.specs.SubscriberState.{SubscriberState}
 use Rattle.cdc_follow.specs.declared.saved.Front.{Front}
 use Rattle.cdc_follow.specs.Following.{FollowState}
 use Rattle.cdc_follow.specs.Saved.{AreBook, CanBeSaved, EntryFits, book_text, heading, is_in_line}
-use Rattle.cdc_follow.specs.SavedParts.{FrontParts, IsFront, Part, account_at, flag_at, front_at, line_at, number_at, small}
+use Rattle.cdc_follow.specs.SavedParts.{FrontParts, IsFront, Part, account_at, flag_at, front_at, line_at, number_at}
+use Rattle.cdc_follow.specs.SavedParts.{small}
 
 both_left : (a b : Bool) → (a && b) ≡ true → a ≡ true
 both_left true b is = refl

@@ -1,5 +1,7 @@
 -- What a first line makes of a stream.
-use Rattle.std.proofs.Common.{◌≡◌, ◌≢◌, inl, inr, ℕ, suc, ◌+◌, ◌<◌, List, [], ◌∷◌, ◌++◌, length, take, append-nil, append_assoc, Bool, true, false, Some, None, Option, Result, Ok, Err, refl, sym, ap, ◌∙◌, cond, subst}
+use Rattle.std.proofs.Common.{◌≡◌, ◌≢◌, inl, inr, ℕ, suc, ◌+◌, ◌<◌, List, [], ◌∷◌, ◌++◌, length, take, append-nil}
+use Rattle.std.proofs.Common.{append_assoc, Bool, true, false, Some, None, Option, Result, Ok, Err, refl, sym, ap}
+use Rattle.std.proofs.Common.{◌∙◌, cond, subst}
 use Rattle.std.specs.Prelude.{◌&&◌, not, IfOk, IfSome, OnErr}
 use Rattle.std.proofs.lemmas.Bool.{lt-ltb}
 use Rattle.cdc_match.specs.Arguments.{Arguments}
@@ -14,11 +16,14 @@ use Rattle.cdc_follow.specs.declared.streams.FollowError.{FollowError}
 use Rattle.cdc_follow.specs.declared.streams.Rules.{Rules}
 use Rattle.cdc_follow.specs.declared.streams.Stop.{Stop}
 use Rattle.cdc_follow.specs.declared.streams.Stop.TheVariants as stop
+use Rattle.cdc_follow.specs.declared.streams.Turn.{Turn}
+use Rattle.cdc_follow.specs.declared.streams.Turn.TheVariants as turn
 use Rattle.cdc_follow.specs.Entries.{line_entry}
 use Rattle.cdc_follow.specs.Following.{FollowState, Followed, follow, is_gap, next_follow, outcome_of, state_by}
 use Rattle.cdc_follow.specs.LineErrors.{GivesUnlessMemory}
 use Rattle.cdc_follow.specs.Lines.{FirstLineIsLong, TakesLine, lines_of}
-use Rattle.cdc_follow.specs.Stops.{KeepsFirst, LineLeadsTo, StepLeadsTo, Stopped, bytes_followed, followed, lines_followed, stopped}
+use Rattle.cdc_follow.specs.Stops.{KeepsFirst, LineLeadsTo, StepLeadsTo, Stopped, bytes_followed, followed}
+use Rattle.cdc_follow.specs.Stops.{lines_followed, stop_of, stopped}
 use Rattle.cdc_follow.specs.Streams.{Stream, NumberedEntry, stream_of_lines, stream_with}
 use Rattle.cdc_follow.proofs.LineLemmas.{lines_of-none}
 
@@ -307,7 +312,8 @@ follows_keeps binding rules start state number (Some bytes) (Some left) follows 
     ∙ none_followed binding rules state number in (
       some.0,
       sym (ap (λ (s : Stopped). s.state) all) ∙ some.1
-          ∙ ap (λ lines. kept_first binding rules.skips_gaps start some.0 (stream_of_lines rules.chained 1 lines).entries)
+          ∙ ap (λ lines.
+          kept_first binding rules.skips_gaps start some.0 (stream_of_lines rules.chained 1 lines).entries)
           (sym follows.whole),
     )
 
@@ -343,11 +349,11 @@ module _ (binding : Arguments) (rules : Rules) (number : ℕ) (line : List ℕ) 
       ∙ ap (λ (read : Option Entry). let answer : Result (Option Entry) LineError = Ok read in answer) is)
 
   pub leads_when_bad : (error : LineError) → GivesUnlessMemory (Err error) (line_entry rules.chained line)
-      → (answer : Result (Option Stop) FollowError)
-      → IfOk answer (λ stops. (stops ≡ Some (stop.BadLine number error)) × (error ≢ OutOfMemory))
-      → IfOk answer (λ stops. LineLeadsTo binding rules number line old stops old)
-  leads_when_bad error gives (Ok stops) is =
-      subst (λ stops. LineLeadsTo binding rules number line old stops old) (sym is.0)
+      → (answer : Result Turn FollowError)
+      → IfOk answer (λ made. (made ≡ turn.Stops (stop.BadLine number error)) × (error ≢ OutOfMemory))
+      → IfOk answer (λ made. LineLeadsTo binding rules number line old (stop_of made) old)
+  leads_when_bad error gives (Ok made) is =
+      subst (λ made. LineLeadsTo binding rules number line old (stop_of made) old) (sym is.0)
       (leads_to_bad binding rules number line old error
       (gives_err error (line_entry rules.chained line) gives is.1))
   leads_when_bad error gives (Err failed) is = tt

@@ -1,5 +1,6 @@
 -- The content of a line of a stream.
-use Rattle.std.specs.Prelude.{ℕ, List, Bool, false, ◌||◌, ◌==◌, codes, nat_eq, nat_le, nat_lt, length, if◌then◌else◌, Option, Some, None, unwrap_or, Result, Ok, Err}
+use Rattle.std.specs.Prelude.{ℕ, List, Bool, false, ◌||◌, ◌==◌, codes, nat_eq, nat_le, nat_lt, length, if◌then◌else◌}
+use Rattle.std.specs.Prelude.{Option, Some, None, unwrap_or, Result, Ok, Err}
 use Rattle.std.specs.List.{list_all, starts_with}
 use Rattle.serde_json.specs.Data.{Data}
 use Rattle.serde_json.specs.Find.{as_bool, get}
@@ -13,7 +14,8 @@ use Rattle.cdc_follow.specs.declared.entries.Content.TheVariants as content
 use Rattle.cdc_follow.specs.declared.entries.Entry.{Entry}
 use Rattle.cdc_follow.specs.declared.entries.TheConstants.{LONGEST_LINE}
 use Rattle.cdc_follow.specs.declared.errors.LineError.{LineError}
-use Rattle.cdc_follow.specs.declared.errors.LineError.TheVariants.{TooLong, Decode, PreviousMissing, PreviousWrongType, PreviousOutOfRange}
+use Rattle.cdc_follow.specs.declared.errors.LineError.TheVariants.{TooLong, Decode, PreviousMissing}
+use Rattle.cdc_follow.specs.declared.errors.LineError.TheVariants.{PreviousWrongType, PreviousOutOfRange}
 use Rattle.cdc_follow.specs.LineErrors.{decoding_error}
 
 -- what has been read, or the first error

@@ -1,5 +1,6 @@
 -- A follower: what it keeps, and what it makes of each entry.
-use Rattle.std.specs.Prelude.{ℕ, List, [], ◌∷◌, Bool, true, false, ◌&&◌, not, nat_le, nat_lt, fold, if◌then◌else◌, Option, Some, None}
+use Rattle.std.specs.Prelude.{ℕ, List, [], ◌∷◌, Bool, true, false, ◌&&◌, not, nat_le, nat_lt, fold, if◌then◌else◌}
+use Rattle.std.specs.Prelude.{Option, Some, None}
 use Rattle.cdc_types.specs.declared.events.Event.{Event}
 use Rattle.cdc_message.specs.declared.items.Item.TheVariants as item
 use Rattle.cdc_message.specs.Headers.{headers_of_event}

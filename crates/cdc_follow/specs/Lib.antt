@@ -1,5 +1,6 @@
 pub mod Entries
 pub mod Following
+pub mod Gaps
 pub mod Laws
 pub mod LineErrors
 pub mod LineParts

@@ -4,7 +4,8 @@ use Rattle.cdc_message.specs.Errors.{error_name}
 use Rattle.cdc_message.specs.declared.errors.DecodeError.{DecodeError}
 use Rattle.cdc_message.specs.declared.errors.DecodeError.TheVariants as read
 use Rattle.cdc_follow.specs.declared.errors.LineError.{LineError}
-use Rattle.cdc_follow.specs.declared.errors.LineError.TheVariants.{TooLong, Decode, PreviousMissing, PreviousWrongType, PreviousOutOfRange, OutOfMemory}
+use Rattle.cdc_follow.specs.declared.errors.LineError.TheVariants.{TooLong, Decode, PreviousMissing}
+use Rattle.cdc_follow.specs.declared.errors.LineError.TheVariants.{PreviousWrongType, PreviousOutOfRange, OutOfMemory}
 
 -- a line's error for an error of its body
 abbrev pub decoding_error : DecodeError → LineError

@@ -1,5 +1,6 @@
 -- Reading the parts of a saved book's text, whatever the text is. Cited by private contracts alone.
-use Rattle.std.specs.Prelude.{◌≡◌, ℕ, Bool, true, false, List, codes, nat_eq, nat_le, take, drop, unwrap_or, if◌then◌else◌}
+use Rattle.std.specs.Prelude.{◌≡◌, ℕ, Bool, true, false, List, codes, nat_eq, nat_le, take, drop, unwrap_or}
+use Rattle.std.specs.Prelude.{if◌then◌else◌}
 use Rattle.std.specs.Char.{is_ascii_digit}
 use Rattle.std.specs.List.{prefix_len, starts_with}
 use Rattle.cdc_types.specs.Widths.{max_64, max_128}

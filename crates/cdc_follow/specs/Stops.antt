@@ -4,6 +4,8 @@ use Rattle.cdc_match.specs.Arguments.{Arguments}
 use Rattle.cdc_follow.specs.declared.streams.Rules.{Rules}
 use Rattle.cdc_follow.specs.declared.streams.Stop.{Stop}
 use Rattle.cdc_follow.specs.declared.streams.Stop.TheVariants.{AtEnd, Gap, BadLine}
+use Rattle.cdc_follow.specs.declared.streams.Turn.{Turn}
+use Rattle.cdc_follow.specs.declared.streams.Turn.TheVariants.{GoesOn, Stops}
 use Rattle.cdc_follow.specs.Following.{FollowState, Followed, follow}
 use Rattle.cdc_follow.specs.Lines.{lines_of}
 use Rattle.cdc_follow.specs.Streams as streams
@@ -40,6 +42,11 @@ bytes_followed binding rules state bytes = lines_followed binding rules state 1 
 abbrev pub KeepsFirst : Arguments → Rules → FollowState → List ℕ → FollowState → Type 0
 KeepsFirst binding rules old bytes new = (count : ℕ)
     × (new ≡ (follow binding rules.skips_gaps old (take count (stream_of rules.chained bytes).entries)).state)
+
+-- why following stops at a line, if it does
+abbrev pub stop_of : Turn → Option Stop
+stop_of (GoesOn skipped) = None
+stop_of (Stops stop) = Some stop
 
 -- the line of this number leads from one state to the next, whatever lines come after it; or following stops at it
 abbrev pub LineLeadsTo : Arguments → Rules → ℕ → List ℕ → FollowState → Option Stop → FollowState → Type 0

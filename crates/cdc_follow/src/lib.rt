@@ -14,4 +14,4 @@ pub use errors::LineError;
 pub use follower::{Follower, Following};
 pub use lines::{ReadError, read_line};
 pub use saved::{BOOK_MARK, SavedBook, read_book, write_book};
-pub use streams::{FollowError, Rules, Stop, follow, follow_line};
+pub use streams::{FollowError, Rules, Stop, Turn, follow, follow_line};

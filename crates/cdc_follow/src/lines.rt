@@ -101,8 +101,8 @@ fn add_part<B: BufRead>(reader: &mut B, line: &mut Vec<u8>) -> Result<PartEnd, R
     Ok(part.end)
 }
 
-/// Reads the next line, without its line feed, into the buffer, whose bytes before are dropped; returns whether there is
-/// one. A line with too many bytes is an error as soon as that shows, so the buffer never holds more than
+/// Reads the next line, without its line feed, into the buffer, whose bytes before are dropped; returns whether there
+/// is one. A line with too many bytes is an error as soon as that shows, so the buffer never holds more than
 /// `LONGEST_LINE`.
 pub fn read_line<B: BufRead>(reader: &mut B, line: &mut Vec<u8>) -> Result<bool, ReadError>
     ensures line { IfOk result (λ more. IfSome (B.remaining reader.old) (λ bytes.

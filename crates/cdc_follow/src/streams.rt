@@ -1,8 +1,10 @@
 //! Following a reader: its lines one after another, up to a gap, a line that is no entry, or the end.
 
-ghost use Rattle.std.specs.Prelude.{◌≡◌, ◌≢◌, ◌&&◌, not, Some, IfOk, IfSome, OnErr};
+ghost use Rattle.std.specs.Prelude.{◌≡◌, ◌≢◌, ◌&&◌, not, IfOk, IfSome, OnErr};
 ghost use Rattle.cdc_follow.specs.Following.{is_gap as is_behind_gap};
-ghost use Rattle.cdc_follow.specs.Stops.{KeepsFirst, LineLeadsTo, StepLeadsTo, bytes_followed};
+ghost use Rattle.cdc_follow.specs.Gaps.{LineSkips, StepSkips};
+ghost use Rattle.cdc_follow.specs.Stops.{KeepsFirst, LineLeadsTo, StepLeadsTo};
+ghost use Rattle.cdc_follow.specs.Stops.{bytes_followed, stop_of};
 
 use crate::entries::{Entry, read_entry};
 use crate::errors::LineError;
@@ -32,6 +34,15 @@ pub enum Stop {
     Gap(u64, Entry),
     /// The line of this number is no entry, for this reason.
     BadLine(u64, LineError),
+}
+
+/// What comes of a line.
+#[derive(Clone, Copy, Debug, PartialEq, Eq)]
+pub enum Turn {
+    /// The lines after it are to be followed too. `skipped`: its entry came too early, and was skipped.
+    GoesOn { skipped: bool },
+    /// Following stops at it.
+    Stops(Stop),
 }
 
 /// Why following failed.
@@ -74,16 +85,17 @@ fn stops_at(following: Following, rules: Rules) -> bool
 }
 
 // Stops at the line of this number, which isn't read for this reason.
-fn stop_at_line(number: u64, error: LineError) -> Result<Option<Stop>, FollowError>
-    ensures { IfOk result (λ stop. (stop ≡ Some (Stop.BadLine number error)) × (error ≢ LineError.OutOfMemory)) }
+fn stop_at_line(number: u64, error: LineError) -> Result<Turn, FollowError>
+    ensures { IfOk result (λ turn. (turn ≡ Turn.Stops (Stop.BadLine number error))
+        × (error ≢ LineError.OutOfMemory)) }
 {
     match error {
         LineError::OutOfMemory => Err(FollowError::OutOfMemory),
-        _ => Ok(Some(Stop::BadLine(number, error))),
+        _ => Ok(Turn::Stops(Stop::BadLine(number, error))),
     }
 }
 
-// Follows the line of this number. `None`: what comes after it is to be followed too.
+// Follows the line of this number.
 fn follow_bytes(
     alloc: Global,
     line: &[u8],
@@ -91,25 +103,27 @@ fn follow_bytes(
     binding: &Binding,
     rules: Rules,
     follower: &mut Follower,
-) -> Result<Option<Stop>, FollowError>
-    ensures leads { IfOk result (λ stop.
-        LineLeadsTo binding.now rules number line.now follower.old stop follower.new) }
+) -> Result<Turn, FollowError>
+    ensures leads { IfOk result (λ turn.
+        LineLeadsTo binding.now rules number line.now follower.old (stop_of turn) follower.new) }
+    ensures skips { IfOk result (λ turn.
+        LineSkips binding.now rules number line.now follower.old turn follower.new) }
     ensures err { OnErr result (follower.new ≡ follower.old) }
 {
     let entry = match read_entry(alloc, line, rules.chained) {
         Ok(Some(entry)) => entry,
-        Ok(None) => return Ok(None),
+        Ok(None) => return Ok(Turn::GoesOn { skipped: false }),
         Err(error) => return stop_at_line(number, error),
     };
     let following = follower.take(binding, &entry)?;
     if stops_at(following, rules) {
-        return Ok(Some(Stop::Gap(number, entry)));
+        return Ok(Turn::Stops(Stop::Gap(number, entry)));
     }
-    Ok(None)
+    let skipped = is_gap(following);
+    Ok(Turn::GoesOn { skipped })
 }
 
-/// Reads the line of this number into the buffer and follows it. `None`: the lines after it are to be followed too.
-/// After an error the follower is as it was.
+/// Reads the line of this number into the buffer and follows it. After an error the follower is as it was.
 pub fn follow_line<B: BufRead>(
     alloc: Global,
     reader: &mut B,
@@ -118,15 +132,17 @@ pub fn follow_line<B: BufRead>(
     binding: &Binding,
     rules: Rules,
     follower: &mut Follower,
-) -> Result<Option<Stop>, FollowError>
-    ensures leads { IfOk result (λ stop. IfSome (B.remaining reader.old) (λ bytes. StepLeadsTo binding.now rules number
-        follower.old bytes stop follower.new (B.remaining reader.new))) }
+) -> Result<Turn, FollowError>
+    ensures leads { IfOk result (λ turn. IfSome (B.remaining reader.old) (λ bytes. StepLeadsTo binding.now rules number
+        follower.old bytes (stop_of turn) follower.new (B.remaining reader.new))) }
+    ensures skips { IfOk result (λ turn. IfSome (B.remaining reader.old) (λ bytes. StepSkips binding.now rules number
+        follower.old bytes turn follower.new (B.remaining reader.new))) }
     ensures err { OnErr result (follower.new ≡ follower.old) }
 {
     match read_line(reader, line) {
         Ok(true) => follow_bytes(alloc, line, number, binding, rules, follower),
-        Ok(false) => Ok(Some(Stop::AtEnd)),
-        Err(ReadError::TooLong) => Ok(Some(Stop::BadLine(number, LineError::TooLong))),
+        Ok(false) => Ok(Turn::Stops(Stop::AtEnd)),
+        Err(ReadError::TooLong) => Ok(Turn::Stops(Stop::BadLine(number, LineError::TooLong))),
         Err(ReadError::Read(error)) => Err(FollowError::Read(error)),
         Err(ReadError::OutOfMemory) => Err(FollowError::OutOfMemory),
     }
@@ -148,8 +164,8 @@ pub fn follow<B: BufRead>(
 {
     let mut line = Vec::new(alloc);
     for number in 1..u64::MAX {
-        let next = follow_line(alloc, reader, &mut line, number, binding, rules, follower)?;
-        if let Some(stop) = next {
+        let turn = follow_line(alloc, reader, &mut line, number, binding, rules, follower)?;
+        if let Turn::Stops(stop) = turn {
             return Ok(stop);
         }
     }

@@ -1,1 +1,4 @@
+pub mod GapLemmas
+pub mod KeptLemmas
+pub mod RunLemmas
 pub mod SavingLemmas

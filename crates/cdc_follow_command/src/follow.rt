@@ -1,9 +1,11 @@
 //! The command `follow`: follows a stream up to its end, and saves and prints its book.
 
-ghost use Rattle.std.specs.Prelude.{◌≡◌, Some, IfOk, IfSome, OnOk};
+ghost use Rattle.std.specs.Prelude.{◌≡◌, Some, is_some, IfOk, IfSome, OnOk};
+ghost use Rattle.cdc_follow.specs.Gaps.{bytes_skipped};
 ghost use Rattle.cdc_follow.specs.Saved.{book_text};
 ghost use Rattle.cdc_follow.specs.Stops.{bytes_followed};
-ghost use Rattle.cdc_follow_command.specs.Saving.{IfStopped, IsPrintedLast, PrintsEnd, PrintsFailure, PrintsFollowing, PrintsSaves, UnlessWriteFails};
+ghost use Rattle.cdc_follow_command.specs.Saving.{IfStopped, IsPrintedLast, PrintsEnd, PrintsFailure};
+ghost use Rattle.cdc_follow_command.specs.Saving.{PrintsAllSaves, PrintsFollowing, PrintsSaves};
 
 use crate::endings::{FollowEnding, fault_of};
 use crate::forms::FollowForm;
@@ -11,14 +13,15 @@ use crate::readers::LineReader;
 use crate::savers::{Saver, report};
 use crate::stores::BookStore;
 use cdc_commands::{Form, ProgramFault};
-use cdc_follow::{Follower, Rules, Stop, follow_line};
+use cdc_follow::{Follower, Rules, Stop, Turn, follow_line};
 use cdc_match::Binding;
 use std::alloc::Global;
 use std::io;
 use std::io::{ErrorKind, Write};
 
 /// Follows the lines of a reader, numbered from 1, and saves the book after every so many lines, each time that no
-/// whole line is waiting, and at the end.
+/// whole line is waiting, and at the end. Each save is reported once the store holds its book (clause `saved` of
+/// `Saver::save`), by the last event that it has seen. `gaps`: how many entries came too early and were skipped.
 pub fn follow_stream<F: FollowForm, B: LineReader, W: Write, K: BookStore>(
     form: &F,
     alloc: Global,
@@ -28,28 +31,35 @@ pub fn follow_stream<F: FollowForm, B: LineReader, W: Write, K: BookStore>(
     binding: &Binding,
     rules: Rules,
     follower: &mut Follower,
+    gaps: &mut u64,
 ) -> Result<Stop, ProgramFault>
     ensures stops { IfOk result (λ stop. IfSome (B.remaining reader.old) (λ bytes.
         bytes_followed binding.now rules follower.old bytes
         ≡ record { state = follower.new; stop = stop })) }
+    ensures gaps { OnOk result (IfSome (B.remaining reader.old) (λ bytes.
+        gaps.new ≡ bytes_skipped binding.now rules follower.old bytes)) }
+    ensures store { is_some saver.new.store ≡ is_some saver.old.store }
     ensures saved { OnOk result (IfSome saver.new.store (λ store.
         K.held store
         ≡ Some (book_text saver.old.chained saver.old.binding.items follower.new))) }
-    ensures printed { UnlessWriteFails result
-        (PrintsSaves F.prints_saved (W.contents writer.old) (W.contents writer.new)) }
+    ensures printed { PrintsAllSaves (PrintsSaves F.prints_saved (is_some saver.old.store) binding.now rules
+        follower.old (B.remaining reader.old) (W.contents writer.old))
+        (W.contents writer.new) follower.new result }
 {
     let mut line = Vec::new(alloc);
+    *gaps = 0;
     for number in 1..u64::MAX {
         let waits = !reader.has_line();
         if let Err(fault) = saver.save_if_due(form, alloc, writer, follower, waits) {
             return Err(fault);
         }
         let ended = match follow_line(alloc, reader, &mut line, number, binding, rules, follower) {
-            Ok(None) => {
+            Ok(Turn::GoesOn { skipped }) => {
                 saver.count_line();
+                *gaps += u64::from(skipped);
                 continue;
             }
-            Ok(Some(stop)) => Ok(stop),
+            Ok(Turn::Stops(stop)) => Ok(stop),
             Err(error) => Err(fault_of(error)),
         };
         if let Err(fault) = saver.save(form, alloc, writer, follower) {
@@ -61,7 +71,8 @@ pub fn follow_stream<F: FollowForm, B: LineReader, W: Write, K: BookStore>(
 }
 
 /// Follows a stream, and prints each save, and at the end the book and why following stopped; or the fault of a
-/// command that failed. Nothing is written after a write that failed.
+/// command that failed. Nothing is written after a write that failed. `gaps`: how many entries came too early and were
+/// skipped.
 pub fn follow_command<F: Form + FollowForm, B: LineReader, W: Write, K: BookStore>(
     form: &F,
     alloc: Global,
@@ -71,17 +82,24 @@ pub fn follow_command<F: Form + FollowForm, B: LineReader, W: Write, K: BookStor
     binding: &Binding,
     rules: Rules,
     follower: &mut Follower,
+    gaps: &mut u64,
 ) -> FollowEnding
     ensures stops { IfStopped result (λ stop. IfSome (B.remaining reader.old) (λ bytes.
         bytes_followed binding.now rules follower.old bytes
         ≡ record { state = follower.new; stop = stop })) }
+    ensures gaps { IfStopped result (λ _. IfSome (B.remaining reader.old) (λ bytes.
+        gaps.new ≡ bytes_skipped binding.now rules follower.old bytes)) }
+    ensures store { is_some saver.new.store ≡ is_some saver.old.store }
     ensures saved { IfStopped result (λ _. IfSome saver.new.store (λ store.
         K.held store
         ≡ Some (book_text saver.old.chained saver.old.binding.items follower.new))) }
-    ensures printed { PrintsFollowing F.prints_saved F.prints_end F.prints_fault
-        (W.contents writer.old) (W.contents writer.new) follower.new result }
+    ensures printed { PrintsFollowing (PrintsSaves F.prints_saved (is_some saver.old.store) binding.now rules
+        follower.old (B.remaining reader.old) (W.contents writer.old))
+        F.prints_end F.prints_fault (W.contents writer.new) follower.new result }
 {
-    match follow_stream(form, alloc, reader, writer, saver, binding, rules, follower) {
+    match follow_stream(
+        form, alloc, reader, writer, saver, binding, rules, follower, gaps,
+    ) {
         Ok(stop) => print_end(form, alloc, writer, follower, stop),
         Err(fault) => fail(form, writer, fault),
     }

@@ -1,10 +1,12 @@
 //! Saving a follower's book now and then.
 
-ghost use Rattle.std.specs.Prelude.{◌≡◌, Some, IfOk, IfSome, IsTrue, OnOk};
+ghost use Rattle.std.specs.Prelude.{◌≡◌, ◌↔◌, [], Some, is_some, if◌then◌else◌};
+ghost use Rattle.std.specs.Prelude.{IfOk, IfErr, IfSome, IsTrue, OnOk, OnErr};
 ghost use Rattle.std.specs.Io.KnownBytes.{Appends};
 ghost use Rattle.cdc_follow.specs.Laws.{begins};
 ghost use Rattle.cdc_follow.specs.Saved.{book_text};
-ghost use Rattle.cdc_follow_command.specs.Saving.{PrintsSaves, UnlessWriteFails};
+ghost use Rattle.cdc_follow_command.specs.Saving.{HoldsOldOr, IsRefused, UnlessWriteFails};
+ghost use Rattle.cdc_follow_command.specs.Saving.{is_due as due, save_text};
 
 use crate::forms::FollowForm;
 use crate::stores::BookStore;
@@ -37,6 +39,8 @@ impl<K: BookStore> Saver<K> {
         ensures store { result.store ≡ store }
         ensures chained { result.chained ≡ chained }
         ensures binding { result.binding.items ≡ binding.items }
+        ensures every { result.every ≡ every }
+        ensures unsaved { result.unsaved ≡ 0 }
     {
         Saver {
             store,
@@ -48,7 +52,9 @@ impl<K: BookStore> Saver<K> {
     }
 
     /// Whether the book is to be saved before the next line is read. `waits`: no whole line has come yet.
-    fn is_due(&self, waits: bool) -> bool {
+    fn is_due(&self, waits: bool) -> bool
+        ensures { result ≡ due self.now.every self.now.unsaved waits }
+    {
         self.unsaved >= self.every || waits && self.unsaved > 0
     }
 
@@ -61,10 +67,15 @@ impl<K: BookStore> Saver<K> {
         follower: &Follower,
         waits: bool,
     ) -> Result<(), ProgramFault>
+        ensures store { is_some self.new.store ≡ is_some self.old.store }
         ensures chained { self.new.chained ≡ self.old.chained }
         ensures binding { self.new.binding.items ≡ self.old.binding.items }
-        ensures printed { UnlessWriteFails result
-            (PrintsSaves F.prints_saved (W.contents writer.old) (W.contents writer.new)) }
+        ensures saved { IsTrue (due self.old.every self.old.unsaved waits)
+            → OnOk result (IfSome self.new.store (λ store. K.held store
+            ≡ Some (book_text self.old.chained self.old.binding.items follower.now))) }
+        ensures printed { UnlessWriteFails result (Appends (W.contents writer.old) (W.contents writer.new)
+            (if due self.old.every self.old.unsaved waits
+            then save_text F.prints_saved (is_some self.old.store) follower.now result else [])) }
     {
         if self.is_due(waits) {
             self.save(form, alloc, writer, follower)
@@ -73,7 +84,8 @@ impl<K: BookStore> Saver<K> {
         }
     }
 
-    /// Saves the book, if it is kept, and reports the save.
+    /// Saves the book, if it is kept, and then reports the save, by the timestamp of the last event seen. After an
+    /// error the store holds the old text or the new one, and nothing is reported.
     pub(crate) fn save<F: FollowForm, W: Write>(
         &mut self,
         form: &F,
@@ -81,13 +93,16 @@ impl<K: BookStore> Saver<K> {
         writer: &mut W,
         follower: &Follower,
     ) -> Result<(), ProgramFault>
+        ensures store { is_some self.new.store ≡ is_some self.old.store }
+        ensures chained { self.new.chained ≡ self.old.chained }
+        ensures binding { self.new.binding.items ≡ self.old.binding.items }
         ensures saved { OnOk result (IfSome self.new.store (λ store.
             K.held store
             ≡ Some (book_text self.old.chained self.old.binding.items follower.now))) }
-        ensures chained { self.new.chained ≡ self.old.chained }
-        ensures binding { self.new.binding.items ≡ self.old.binding.items }
-        ensures printed { UnlessWriteFails result
-            (PrintsSaves F.prints_saved (W.contents writer.old) (W.contents writer.new)) }
+        ensures refused { OnErr result (HoldsOldOr K.held self.old.store self.new.store
+            (book_text self.old.chained self.old.binding.items follower.now)) }
+        ensures printed { UnlessWriteFails result (Appends (W.contents writer.old) (W.contents writer.new)
+            (save_text F.prints_saved (is_some self.old.store) follower.now result)) }
     {
         let Some(store) = &mut self.store else {
             return Ok(());
@@ -144,15 +159,16 @@ pub fn begin(alloc: Global) -> Follower
     Follower::new(Subscriber::new(alloc), 0)
 }
 
-/// The follower of a book with this text. `BadRecord`: the text isn't one of a book, or it is one of another binding, or
-/// of a chained stream where this one isn't, or the other way round.
+/// The follower of a book with this text. `BadRecord`: the text isn't one of a book, or it is one of another binding,
+/// or of a chained stream where this one isn't, or the other way round.
 pub fn resume(
     alloc: Global,
     text: &[u8],
     chained: bool,
     binding: &[u8],
 ) -> Result<Follower, StoreError>
-    ensures { IfOk result (λ follower. text.now ≡ book_text chained binding.now follower) }
+    ensures resumed { IfOk result (λ follower. text.now ≡ book_text chained binding.now follower) }
+    ensures refused { IfErr result (IsRefused chained binding.now text.now) }
 {
     match read_book(alloc, text)? {
         Some(saved) if is_of(&saved, chained, binding) => Ok(saved.follower),
@@ -162,7 +178,7 @@ pub fn resume(
 
 /// Whether a book is of such a stream and of this binding.
 fn is_of(book: &SavedBook, chained: bool, binding: &[u8]) -> bool
-    ensures { IsTrue result → (book.now.chained ≡ chained) × (book.now.binding.items ≡ binding.now) }
+    ensures { IsTrue result ↔ ((book.now.chained ≡ chained) × (book.now.binding.items ≡ binding.now)) }
 {
     book.chained == chained && book.binding.as_slice() == binding
 }

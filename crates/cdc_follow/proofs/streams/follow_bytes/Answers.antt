@@ -1,3 +1,5 @@
+use Rattle.cdc_follow.specs.declared.streams.Stop.TheVariants as stop
+use Rattle.cdc_follow.proofs.GapLemmas.{skips_when_bad, skips_when_gap, skips_when_none, skips_when_on}
 use Rattle.cdc_follow.proofs.StopLemmas.{leads_when_bad, leads_when_gap, leads_when_none, leads_when_on}
 use Rattle.cdc_follow.proofs.streams.follow_bytes.Goals as goal
 
@@ -22,3 +24,25 @@ returns-clause-leads c =
     leads_when_on c.args.binding.now c.args.rules c.args.number c.args.line.now c.args.follower.now
     c.in-Ok-Some.field-0 c.in-Ok-Some.entry c.in_ok-following.following c.take.new.self c.in-Ok-Some.ensures
     c.in-Ok-Some.field-0-is c.in_ok-following.ensures.answer c.in_ok-following.ensures.state c.if-stops_at.ensures
+
+pub returns-in-Ok-None-clause-skips : goal.returns-in-Ok-None-clause-skips
+returns-in-Ok-None-clause-skips c =
+    skips_when_none c.args.binding.now c.args.rules c.args.number c.args.line.now c.args.follower.now
+    c.in-Ok-None.field-0 c.in-Ok-None.ensures c.in-Ok-None.field-0-is
+
+pub returns-in-Err-clause-skips : goal.returns-in-Err-clause-skips
+returns-in-Err-clause-skips c =
+    skips_when_bad c.args.binding.now c.args.rules c.args.number c.args.line.now c.args.follower.now c.in-Err.error
+    c.in-Err.ensures c.stop_at_line.result c.stop_at_line.ensures
+
+pub returns-then-stops_at-clause-skips : goal.returns-then-stops_at-clause-skips
+returns-then-stops_at-clause-skips c =
+    skips_when_gap c.args.binding.now c.args.rules c.args.number c.args.line.now c.args.follower.now
+    c.in_ok-following.following (stop.Gap c.args.number c.in-Ok-Some.entry) c.take.new.self c.if-stops_at.ensures
+
+pub returns-clause-skips : goal.returns-clause-skips
+returns-clause-skips c =
+    skips_when_on c.args.binding.now c.args.rules c.args.number c.args.line.now c.args.follower.now
+    c.in-Ok-Some.field-0 c.in-Ok-Some.entry c.in_ok-following.following c.take.new.self _ c.in-Ok-Some.ensures
+    c.in-Ok-Some.field-0-is c.in_ok-following.ensures.answer c.in_ok-following.ensures.state c.if-stops_at.ensures
+    c.is_gap-skipped.ensures
