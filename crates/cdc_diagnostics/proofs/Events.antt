@@ -1,8 +1,8 @@
 -- How an event is found in a log by its timestamp, and how many are no later than one.
-use Rattle.std.proofs.Common.{◌≡◌, ◌⊎◌, ℕ, suc, zero, ◌-◌, ◌+◌, ◌<◌, ◌≤◌, Bool, true, false, cond, not, List, [], ◌∷◌, drop, filter, length, refl, arith, sym, ◌∙◌, ap, subst, inl, inr, nat_lt, nat_le, nat_eq, length-drop}
-use Rattle.std.specs.Prelude.{Option, Some, None, slice_get, count_by}
-use Rattle.std.proofs.lemmas.Bool.{eq-eqb, ne_eqb}
-use Rattle.std.proofs.lemmas.Bool.Decides.{eqb_tells, nat_tests}
+use Rattle.std.proofs.Common.{◌≡◌, ◌⊎◌, ℕ, suc, zero, ◌-◌, ◌<◌, ◌≤◌, Bool, true, false, cond, not, List, [], ◌∷◌, drop, length, refl, arith, sym, ◌∙◌, ap, inl, inr, nat_lt, nat_le, nat_eq, length-drop}
+use Rattle.std.specs.Prelude.{Option, Some, None, slice_get}
+use Rattle.std.proofs.lemmas.Bool.{ne_eqb}
+use Rattle.std.proofs.lemmas.Bool.Decides.{nat_tests}
 use Rattle.std.proofs.lemmas.List.Sums.{length-filter}
 use Rattle.std.proofs.lemmas.List.Filters.{length-filter_both}
 use Rattle.cdc_types.specs.declared.events.Event.{Event}
@@ -69,13 +69,13 @@ first_at-later from t [] rising = refl
 first_at-later from t (e ∷ es) rising =
     let rest : first_at t (events_after (t - 1) es) ≡ event_at t es = first_at-later e.timestamp t es rising.1 in
     elim (lt_or_not (nat_lt (t - 1) e.timestamp)) [
-      inl later ↦
-        ap (λ b. first_at t (cond b (e ∷ events_after (t - 1) es) (events_after (t - 1) es))) later
-        ∙ first_at-found t e es (nat_eq e.timestamp t) refl
+      | inl later ↦
+          ap (λ b. first_at t (cond b (e ∷ events_after (t - 1) es) (events_after (t - 1) es))) later
+          ∙ first_at-found t e es (nat_eq e.timestamp t) refl
           (event_at-before e.timestamp t es rising.1 (not_earlier e.timestamp t later))
       | inr early ↦
-        ap (λ b. first_at t (cond b (e ∷ events_after (t - 1) es) (events_after (t - 1) es))) early
-        ∙ (rest ∙ sym (event_at-other t e es (not_at from e.timestamp t rising.0 early)))
+          ap (λ b. first_at t (cond b (e ∷ events_after (t - 1) es) (events_after (t - 1) es))) early
+          ∙ (rest ∙ sym (event_at-other t e es (not_at from e.timestamp t rising.0 early)))
     ]
   where
     lt_or_not : (b : Bool) → (b ≡ true) ⊎ (b ≡ false)

@@ -1,5 +1,6 @@
 pub mod Diagrams
 pub mod Movements
+pub mod Recordings
 pub mod Sentences
 pub mod StepTexts
 pub mod Texts

@@ -1,13 +1,11 @@
 -- The trace of a simulation: a line for each step, with what it did.
-use Rattle.std.specs.Prelude.{ℕ, ◌+◌, ◌-◌, Bool, true, false, ◌==◌, nat_le, List, [], ◌∷◌, ◌++◌, codes, count_by, decimal, if◌then◌else◌, length, option_map, Option, None, Some, unwrap_or}
+use Rattle.std.specs.Prelude.{ℕ, ◌+◌, ◌-◌, Bool, false, ◌==◌, nat_le, List, [], ◌∷◌, ◌++◌, codes, count_by, decimal, if◌then◌else◌, length, option_map, Option, None, Some, unwrap_or}
 use Rattle.std.specs.Option.{option_and_then}
 use Rattle.cdc_types.specs.declared.batches.Batch.{Batch}
 use Rattle.cdc_types.specs.declared.batches.Batch.TheVariants as batch
 use Rattle.cdc_types.specs.declared.batches.BatchResults.{BatchResults}
 use Rattle.cdc_types.specs.declared.batches.BatchResults.TheVariants as results
 use Rattle.cdc_types.specs.declared.events.Event.{Event}
-use Rattle.cdc_types.specs.declared.results.AccountResult.{AccountResult}
-use Rattle.cdc_types.specs.declared.results.TransferResult.{TransferResult}
 use Rattle.cdc_types.specs.Results.{account_number, transfer_number}
 use Rattle.cdc_types.specs.declared.steps.Step.{Step}
 use Rattle.cdc_types.specs.declared.steps.Step.TheVariants as step
@@ -76,7 +74,7 @@ offer_words count first last complete =
     if count == 0 then (if complete then codes "no event follows" else codes "no event yet")
     else if count == 1 then codes "event " ++ decimal first ++ (if complete then codes ", the last one" else [])
     else decimal count ++ codes " events, " ++ decimal first ++ codes " to " ++ decimal last
-      ++ (if complete then codes ", the last ones" else [])
+    ++ (if complete then codes ", the last ones" else [])
 
 -- whether a confirm counted
 abbrev pub has_counted : Did → Bool

@@ -1,6 +1,6 @@
 //! The steps of a simulation as a sequence diagram, in Mermaid's text (Mermaid, Sequence diagrams).
 
-ghost use Rattle.std.specs.Prelude.{◌≡◌, ◌++◌, ℕ, List, [], if◌then◌else◌, Err, Ok, alloc_error};
+ghost use Rattle.std.specs.Prelude.{◌≡◌, ◌++◌, ℕ, List, [], IfOk, string_bytes};
 ghost use Rattle.cdc_diagnostics.specs.Diagrams as said;
 ghost use Rattle.cdc_diagnostics.specs.Diagrams.{arrival_label, arrow_words, diagram_head, diagram_line, label_words};
 ghost use Rattle.cdc_diagnostics.specs.Sentences.{sentence_text};
@@ -45,8 +45,8 @@ impl Diagram {
 
     /// The text. Fails if memory ran out for it.
     pub(crate) fn finish(self) -> Result<String, AllocError>
-        ensures { result
-            ≡ (if self.text.is_out_of_memory then Err alloc_error else Ok self.text.pieces) }
+        ensures { (bytes : List ℕ) → Holds self.text bytes
+            → IfOk result (λ text. string_bytes text ≡ bytes) }
     {
         let Diagram { text } = self;
         text.finish()
@@ -69,13 +69,7 @@ impl Diagram {
 fn participant(number: u128) -> Sentence
     ensures { sentence_text result ≡ said.participant number }
 {
-    Sentence::Two(
-        "    participant S",
-        number,
-        " as subscriber ",
-        number,
-        "\n",
-    )
+    Sentence::Two("    participant S", number, " as subscriber ", number, "\n")
 }
 
 /// The arrow or the note of a step, and the label up to what the step did.
@@ -153,13 +147,7 @@ fn queue_arrow(i: u64, step: &Step, moved: Moved) -> Sentence
 {
     match step {
         Step::Ack(_, k) => {
-            Sentence::Two(
-                "S",
-                i.into(),
-                "-->>B: acknowledgement ",
-                (*k).into(),
-                ", ",
-            )
+            Sentence::Two("S", i.into(), "-->>B: acknowledgement ", (*k).into(), ", ")
         }
         _ => delivery_arrow(i, moved),
     }

@@ -1,6 +1,6 @@
 //! Texts that are built piece by piece.
 
-ghost use Rattle.std.specs.Prelude.{◌≡◌, ◌++◌, ℕ, List, if◌then◌else◌, Err, IsFalse, IsTrue, Ok, [], alloc_error, decimal, string_bytes};
+ghost use Rattle.std.specs.Prelude.{◌≡◌, ◌++◌, ℕ, List, if◌then◌else◌, Err, IfOk, IsFalse, IsTrue, Ok, [], alloc_error, decimal, string_bytes};
 ghost use Rattle.cdc_diagnostics.specs.Sentences.{sentence_text};
 ghost use Rattle.cdc_diagnostics.specs.Texts.{Holds};
 
@@ -126,7 +126,9 @@ impl Text {
 
     /// The whole text. Fails if memory ran out for a piece.
     pub(crate) fn finish(self) -> Result<String, AllocError>
-        ensures { result ≡ (if self.is_out_of_memory then Err alloc_error else Ok self.pieces) }
+        ensures whole { result ≡ (if self.is_out_of_memory then Err alloc_error else Ok self.pieces) }
+        ensures holds { (bytes : List ℕ) → Holds self bytes
+            → IfOk result (λ text. string_bytes text ≡ bytes) }
     {
         let Text {
             pieces,
