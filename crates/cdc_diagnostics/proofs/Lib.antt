@@ -1,2 +1,3 @@
+mod Examples
 pub mod Events
-pub mod Growth
+pub mod OneMoreStep

@@ -94,13 +94,18 @@ saved_words session timestamp = codes "session " ++ decimal session ++ codes " i
 
 -- ---- packets
 
+-- a packet that publishes the event of this timestamp
+abbrev pub publish_words : ℕ → ℕ → ℕ → ℕ → List ℕ
+publish_words number session tag timestamp =
+    codes "packet " ++ decimal number ++ codes ", event " ++ decimal timestamp ++ codes " under tag " ++ decimal tag
+    ++ codes " of session " ++ decimal session
+
 -- a packet under its number
 abbrev pub packet_words : ℕ → PacketName → List ℕ
 packet_words number (packet.Connect session) =
     codes "packet " ++ decimal number ++ codes ", connect of session " ++ decimal session
 packet_words number (packet.Publish session tag (item.Event timestamp)) =
-    codes "packet " ++ decimal number ++ codes ", event " ++ decimal timestamp ++ codes " under tag " ++ decimal tag
-    ++ codes " of session " ++ decimal session
+    publish_words number session tag timestamp
 packet_words number (packet.Publish session tag item.EndMark) =
     codes "packet " ++ decimal number ++ codes ", end mark under tag " ++ decimal tag
 

@@ -4,7 +4,7 @@ ghost use Rattle.std.specs.Prelude.{◌≡◌, ◌++◌, ℕ, List, codes, decim
 ghost use Rattle.cdc_ledger.specs.Events.{events};
 ghost use Rattle.cdc_diagnostics.specs.Sentences.{sentence_text};
 ghost use Rattle.cdc_diagnostics.specs.Texts.{Holds};
-ghost use Rattle.cdc_diagnostics.specs.Traces.{acknowledged_words, batch_words, begin_words, confirm_words, did_words, end_words, event_words, ignored_words, lost_words, money_words, moved_words, offer_words, packet_words, position_words, saved_words, seen_of, start_words, taken_words, taking_words, trace_line};
+ghost use Rattle.cdc_diagnostics.specs.Traces.{acknowledged_words, batch_words, begin_words, confirm_words, did_words, end_words, event_words, ignored_words, lost_words, money_words, moved_words, offer_words, packet_words, position_words, publish_words, saved_words, seen_of, start_words, taken_words, taking_words, trace_line};
 ghost use Rattle.cdc_diagnostics.specs.Traces as said;
 
 use crate::movements::Movement;
@@ -299,6 +299,7 @@ fn events_sentence(count: usize, first: u64, last: u64, after: &'static str) -> 
     )
 }
 
+/// A packet under its number.
 pub(crate) fn packet_sentence(number: u64, packet: PacketName) -> Sentence
     ensures { sentence_text result ≡ packet_words number packet }
 {
@@ -316,16 +317,7 @@ pub(crate) fn packet_sentence(number: u64, packet: PacketName) -> Sentence
             session,
             tag,
             item: ItemName::Event(timestamp),
-        } => Sentence::Four(
-            "packet ",
-            number.into(),
-            ", event ",
-            timestamp.into(),
-            " under tag ",
-            tag.into(),
-            " of session ",
-            session.into(),
-        ),
+        } => publish_sentence(number, session, tag, timestamp),
         PacketName::Publish {
             session: _,
             tag,
@@ -338,6 +330,22 @@ pub(crate) fn packet_sentence(number: u64, packet: PacketName) -> Sentence
             "",
         ),
     }
+}
+
+/// A packet that publishes the event of this timestamp.
+fn publish_sentence(number: u64, session: u64, tag: u64, timestamp: u64) -> Sentence
+    ensures { sentence_text result ≡ publish_words number session tag timestamp }
+{
+    Sentence::Four(
+        "packet ",
+        number.into(),
+        ", event ",
+        timestamp.into(),
+        " under tag ",
+        tag.into(),
+        " of session ",
+        session.into(),
+    )
 }
 
 /// That the broker took a packet.

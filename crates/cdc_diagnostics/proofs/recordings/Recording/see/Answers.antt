@@ -3,7 +3,7 @@ use Rattle.cdc_commands.specs.Seen.{Seen}
 use Rattle.cdc_diagnostics.specs.Diagrams.{diagram_line, diagram_text}
 use Rattle.cdc_diagnostics.specs.Recordings.{if_asked, taken_after}
 use Rattle.cdc_diagnostics.specs.Traces.{taken_with, trace_line, trace_text}
-use Rattle.cdc_diagnostics.proofs.Growth.{diagram_text-more, if_asked-more, taken_after-more, taken_after-most, trace_after-more}
+use Rattle.cdc_diagnostics.proofs.OneMoreStep.{diagram_text-more, if_asked-more, taken_after-more, taken_after-most, trace_after-more}
 use Rattle.cdc_diagnostics.proofs.recordings.Recording.see.Goals as goal
 
 -- a step more is a line more of each text that is asked for
