@@ -1,13 +1,18 @@
 //! An observer of a simulation: why items weren't accepted, what each step did, and why one was refused, as texts.
 
-use crate::diagram::Diagram;
+ghost use Rattle.std.specs.Prelude.{◌≡◌, ◌^◌, ◌<◌, ℕ, List, [], ◌∷◌, ◌++◌, IfSome, length, string_bytes};
+ghost use Rattle.cdc_commands.specs.Seen.{Seen};
+ghost use Rattle.cdc_diagnostics.specs.Diagrams.{diagram_text};
+ghost use Rattle.cdc_diagnostics.specs.Recordings.{HasSeen, if_asked};
+ghost use Rattle.cdc_diagnostics.specs.Traces.{trace_text};
+
 use crate::items::ItemLines;
 use crate::reasons::{reason, start_reason};
+use crate::recordings::{Asked, Recorded, Recording};
 use crate::results::batch_sentence;
 use crate::sentences::Sentence;
 use crate::steps::step_text;
 use crate::texts::Text;
-use crate::traces::Done;
 use cdc_commands::Observer;
 use cdc_ledger::{BatchError, Ledger};
 use cdc_progress::MemoryStore;
@@ -16,34 +21,19 @@ use cdc_types::{Batch, Step};
 use cdc_world::{Did, Moved, StepError, World};
 use std::alloc::{AllocError, Global};
 
-/// What an observer writes of a simulation, besides why a step was refused.
-#[derive(Clone, Copy, Debug, PartialEq, Eq)]
-pub struct Asked {
-    /// Whether to write why items weren't accepted.
-    pub items: bool,
-    /// Whether to write what each step did.
-    pub trace: bool,
-    /// Whether to write a diagram of the steps.
-    pub diagram: bool,
-}
-
 /// An observer of a simulation. It writes what is asked for while the steps run.
 #[derive(Drop)]
 pub struct Observation<'a> {
     /// Names the script in each line.
     name: &'a str,
-    asked: Asked,
+    /// What each step did.
+    recording: Recording,
     /// Why items weren't accepted. None before the simulation has begun, or if it isn't asked for.
     items: Option<ItemLines<'a>>,
-    /// A line for each step.
-    trace: Text,
-    diagram: Diagram,
     /// The line of each step in the step file. None if memory ran out for them.
     lines: Option<Vec<u32>>,
     /// How many steps succeeded.
     steps: usize,
-    /// How many batches the ledger took.
-    batches: usize,
     /// The session and the timestamp that are saved. None if no progress is.
     saved: Option<(u64, u64)>,
     /// The timestamp that the first session started after; 0 if none was given.
@@ -77,16 +67,15 @@ pub struct RefusedStep {
 
 impl<'a> Observation<'a> {
     /// An observer that has seen nothing. `name` names the script in its texts.
-    pub fn new(alloc: Global, name: &'a str, asked: Asked) -> Observation<'a> {
+    pub fn new(alloc: Global, name: &'a str, asked: Asked) -> Observation<'a>
+        ensures { result.recording.asked ≡ asked }
+    {
         Observation {
             name,
-            asked,
+            recording: Recording::new(alloc, asked),
             items: None,
             lines: None,
-            trace: Text::new(alloc),
-            diagram: Diagram::new(alloc),
             steps: 0,
-            batches: 0,
             saved: None,
             start: 0,
             is_refused: false,
@@ -95,11 +84,18 @@ impl<'a> Observation<'a> {
     }
 
     /// What it has written of a simulation. None if memory ran out for a part of it.
-    pub fn finish(self, alloc: Global) -> Option<Observed> {
+    pub fn finish(self, alloc: Global) -> Option<Observed>
+        ensures trace { (seen : List Seen) → HasSeen self.entry.recording seen
+            → length seen < 2 ^ 64 → IfSome result (λ observed. string_bytes observed.trace
+            ≡ if_asked self.entry.recording.asked.trace (trace_text seen)) }
+        ensures diagram { (seen : List Seen) → HasSeen self.entry.recording seen
+            → length seen < 2 ^ 64 → IfSome result (λ observed. string_bytes observed.diagram
+            ≡ if_asked self.entry.recording.asked.diagram
+            (diagram_text self.entry.recording.subscribers seen)) }
+    {
         let Observation {
+            recording,
             items,
-            trace,
-            diagram,
             lines,
             steps,
             is_refused,
@@ -112,10 +108,13 @@ impl<'a> Observation<'a> {
         };
         let lines = lines?;
         let why = why.finish().ok()?;
+        let Some(Recorded { trace, diagram }) = recording.finish() else {
+            return None;
+        };
         Some(Observed {
             items,
-            trace: trace.finish().ok()?,
-            diagram: diagram.finish().ok()?,
+            trace,
+            diagram,
             refusal: is_refused.then_some(RefusedStep {
                 line: lines.get(steps).copied().unwrap_or(0),
                 why,
@@ -123,25 +122,23 @@ impl<'a> Observation<'a> {
         })
     }
 
-    /// Writes what is asked for of a step.
-    fn push(&mut self, done: Done<'_>) {
+    /// Writes why items of a batch weren't accepted, if it is asked for.
+    fn push_items(&mut self, step: &Step, did: &Did, ledger: &Ledger)
+        ensures { self.new.recording ≡ self.old.recording }
+    {
         if let (Step::Submit(batch), Did::Submitted(results), Some(items)) = (
-            done.step,
-            done.did,
+            step,
+            did,
             &mut self.items,
         ) {
-            items.push_results(batch, results, done.ledger);
-        }
-        if self.asked.trace {
-            done.push_to(&mut self.trace);
-        }
-        if self.asked.diagram {
-            self.diagram.push(done);
+            items.push_results(batch, results, ledger);
         }
     }
 
     /// Keeps what is saved, and after which timestamp the first session started.
-    fn follow(&mut self, step: &Step, moved: Moved) {
+    fn follow(&mut self, step: &Step, moved: Moved)
+        ensures { self.new.recording ≡ self.old.recording }
+    {
         match moved {
             Moved::SessionStarted { session, after } => {
                 self.saved = Some((session, after));
@@ -155,7 +152,9 @@ impl<'a> Observation<'a> {
     }
 
     /// Writes why a step is refused. A step that memory ran out for makes the text fail.
-    fn push_why(&mut self, step: &Step, refusal: StepError, world: &World<MemoryStore>) {
+    fn push_why(&mut self, step: &Step, refusal: StepError, world: &World<MemoryStore>)
+        ensures { self.new.recording ≡ self.old.recording }
+    {
         match (refusal, step) {
             (StepError::OutOfMemory, _) => self.why.abort(),
             (StepError::Refused(answer), Step::Submit(batch)) => {
@@ -170,7 +169,9 @@ impl<'a> Observation<'a> {
     }
 
     /// Writes why a step other than a batch is refused.
-    fn push_refusal(&mut self, step: &Step, refusal: StepError, world: &World<MemoryStore>) {
+    fn push_refusal(&mut self, step: &Step, refusal: StepError, world: &World<MemoryStore>)
+        ensures { self.new.recording ≡ self.old.recording }
+    {
         match refusal {
             StepError::NotEnabled => {
                 self.why.push("not enabled: ");
@@ -192,37 +193,27 @@ impl<'a> Observation<'a> {
 }
 
 impl Observer for Observation<'_> {
-    ghost has_seen = { λ observation seen. Unit {0} };
+    ghost has_seen = { λ observation seen. HasSeen observation.recording seen };
 
     fn begin(&mut self, alloc: Global, script: &Script, steps: &StepFile) {
         self.lines = steps.lines.clone().ok();
-        if self.asked.items {
+        if self.recording.asked.items {
             match copy_lines(alloc, &script.lines) {
                 Ok(lines) => self.items = Some(ItemLines::new(alloc, self.name, lines)),
                 Err(_) => self.lines = None,
             }
         }
-        if self.asked.diagram {
-            self.diagram.begin(script.bindings.as_slice().len());
-        }
+        self.recording
+            .begin(alloc, script.bindings.as_slice().len());
     }
 
     fn see(&mut self, step: &Step, did: &Did, moved: Option<Moved>, ledger: &Ledger) {
         self.steps = self.steps.saturating_add(1);
-        if let Step::Submit(_) = step {
-            self.batches = self.batches.saturating_add(1);
-        }
         if let Some(moved) = moved {
             self.follow(step, moved);
         }
-        let batches = self.batches;
-        self.push(Done {
-            step,
-            did,
-            moved,
-            ledger,
-            batches,
-        });
+        self.push_items(step, did, ledger);
+        self.recording.see(step, did, moved, ledger);
     }
 
     fn refuse(&mut self, step: Option<&Step>, why: StepError, world: &World<MemoryStore>) {
@@ -232,7 +223,7 @@ impl Observer for Observation<'_> {
             // (all batches of the script were taken before)
             None => self.why.push_sentence(Sentence::One(
                 "batch: not enabled: no batch is left of the script's ",
-                self.batches as u128,
+                self.recording.batches as u128,
                 "",
             )),
         }

@@ -1,6 +1,9 @@
 //! What each result of an item that wasn't accepted means: a sentence for each, with the numbers of the request and
 //! of the ledger that it refers to.
 
+ghost use Rattle.std.specs.Prelude.{◌≡◌};
+ghost use Rattle.cdc_diagnostics.specs.Traces as said;
+
 use crate::sentences::Sentence;
 use cdc_ledger::{BatchError, Ledger};
 use cdc_types::{
@@ -297,7 +300,9 @@ pub(crate) fn batch_sentence(refusal: BatchError, batch: &Batch) -> Sentence {
 }
 
 /// The number of items in a batch; a pulse has none.
-pub(crate) fn item_count(batch: &Batch) -> usize {
+pub(crate) fn item_count(batch: &Batch) -> usize
+    ensures { result ≡ said.item_count batch.now }
+{
     match batch {
         Batch::Accounts { items, .. } => items.as_slice().len(),
         Batch::Transfers { items, .. } => items.as_slice().len(),
@@ -306,17 +311,19 @@ pub(crate) fn item_count(batch: &Batch) -> usize {
 }
 
 /// The number of accepted items in a batch.
-pub(crate) fn accepted_count(results: &BatchResults) -> usize {
+pub(crate) fn accepted_count(results: &BatchResults) -> usize
+    ensures { result ≡ said.accepted_count results.now }
+{
     match results {
         BatchResults::Accounts(results) => results
             .as_slice()
             .iter()
-            .filter(|answer| **answer == AccountResult::Accepted)
+            .filter(|answer| answer.number() == 0)
             .count(),
         BatchResults::Transfers(results) => results
             .as_slice()
             .iter()
-            .filter(|answer| **answer == TransferResult::Accepted)
+            .filter(|answer| answer.number() == 0)
             .count(),
         BatchResults::Pulsed(_) => 0,
     }

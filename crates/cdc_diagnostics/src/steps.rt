@@ -1,10 +1,16 @@
 //! A step in words, as a step file has them.
 
+ghost use Rattle.std.specs.Prelude.{◌≡◌};
+ghost use Rattle.cdc_diagnostics.specs.Sentences.{sentence_text};
+ghost use Rattle.cdc_diagnostics.specs.StepTexts.{step_line};
+
 use crate::sentences::Sentence;
 use cdc_types::Step;
 
 /// The line of a step file for this step.
-pub fn step_text(step: &Step) -> Sentence {
+pub fn step_text(step: &Step) -> Sentence
+    ensures { sentence_text result ≡ step_line step.now }
+{
     match step {
         Step::Submit(_) => Sentence::Plain("batch"),
         Step::CloseLedger => Sentence::Plain("close_ledger"),

@@ -1,6 +1,8 @@
 //! Texts that are built piece by piece.
 
-ghost use Rattle.std.specs.Prelude.{◌≡◌, ◌++◌, if◌then◌else◌, Err, IsFalse, IsTrue, Ok, [], alloc_error, string_bytes};
+ghost use Rattle.std.specs.Prelude.{◌≡◌, ◌++◌, ℕ, List, if◌then◌else◌, Err, IfOk, IsFalse, IsTrue, Ok, [], alloc_error, decimal, string_bytes};
+ghost use Rattle.cdc_diagnostics.specs.Sentences.{sentence_text};
+ghost use Rattle.cdc_diagnostics.specs.Texts.{Holds};
 
 use crate::letters::is_printable;
 use crate::sentences::Sentence;
@@ -24,6 +26,7 @@ impl Text {
     pub(crate) fn new(alloc: Global) -> Text
         ensures empty { string_bytes result.pieces ≡ [] }
         ensures memory { IsFalse result.is_out_of_memory }
+        ensures holds { Holds result [] }
     {
         Text {
             pieces: String::new(alloc),
@@ -35,6 +38,7 @@ impl Text {
         ensures added { IsFalse self.new.is_out_of_memory
             → string_bytes self.new.pieces ≡ string_bytes self.old.pieces ++ words.now }
         ensures kept { IsTrue self.old.is_out_of_memory → self.new ≡ self.old }
+        ensures holds { (bytes : List ℕ) → Holds self.old bytes → Holds self.new (bytes ++ words.now) }
     {
         if self.is_out_of_memory {
             return;
@@ -45,7 +49,10 @@ impl Text {
     }
 
     /// Adds a number in decimal digits.
-    pub(crate) fn push_number(&mut self, number: u128) {
+    pub(crate) fn push_number(&mut self, number: u128)
+        ensures { (bytes : List ℕ) → Holds self.old bytes
+            → Holds self.new (bytes ++ decimal number) }
+    {
         let mut buffer = Buffer::new();
         self.push(buffer.format(number));
     }
@@ -69,30 +76,43 @@ impl Text {
         }
     }
 
-    pub(crate) fn push_sentence(&mut self, sentence: Sentence) {
+    /// Adds a sentence.
+    pub(crate) fn push_sentence(&mut self, sentence: Sentence)
+        ensures { (bytes : List ℕ) → Holds self.old bytes
+            → Holds self.new (bytes ++ sentence_text sentence) }
+    {
         match sentence {
             Sentence::Plain(words) => self.push(words),
-            Sentence::One(before, number, after) => self.push_between(before, number, after),
-            Sentence::Two(before, first, between, second, after) => {
-                self.push_between(before, first, between);
-                self.push_between("", second, after);
+            Sentence::One(a, first, b) => {
+                self.push(a);
+                self.push_with(first, b);
+            }
+            Sentence::Two(a, first, b, second, c) => {
+                self.push(a);
+                self.push_with(first, b);
+                self.push_with(second, c);
             }
             Sentence::Three(a, first, b, second, c, third, d) => {
-                self.push_between(a, first, b);
-                self.push_between("", second, c);
-                self.push_between("", third, d);
+                self.push(a);
+                self.push_with(first, b);
+                self.push_with(second, c);
+                self.push_with(third, d);
             }
             Sentence::Four(a, first, b, second, c, third, d, fourth) => {
-                self.push_between(a, first, b);
-                self.push_between("", second, c);
-                self.push_between("", third, d);
+                self.push(a);
+                self.push_with(first, b);
+                self.push_with(second, c);
+                self.push_with(third, d);
                 self.push_number(fourth);
             }
         }
     }
 
-    fn push_between(&mut self, before: &str, number: u128, after: &str) {
-        self.push(before);
+    /// Adds a number and the words after it.
+    fn push_with(&mut self, number: u128, after: &str)
+        ensures { (bytes : List ℕ) → Holds self.old bytes
+            → Holds self.new (bytes ++ decimal number ++ after.now) }
+    {
         self.push_number(number);
         self.push(after);
     }
@@ -106,7 +126,9 @@ impl Text {
 
     /// The whole text. Fails if memory ran out for a piece.
     pub(crate) fn finish(self) -> Result<String, AllocError>
-        ensures { result ≡ (if self.is_out_of_memory then Err alloc_error else Ok self.pieces) }
+        ensures whole { result ≡ (if self.is_out_of_memory then Err alloc_error else Ok self.pieces) }
+        ensures holds { (bytes : List ℕ) → Holds self bytes
+            → IfOk result (λ text. string_bytes text ≡ bytes) }
     {
         let Text {
             pieces,

@@ -1,5 +1,12 @@
 //! A step of a simulation in words: what it did and what it moved.
 
+ghost use Rattle.std.specs.Prelude.{◌≡◌, ◌++◌, ℕ, List, codes, decimal};
+ghost use Rattle.cdc_ledger.specs.Events.{events};
+ghost use Rattle.cdc_diagnostics.specs.Sentences.{sentence_text};
+ghost use Rattle.cdc_diagnostics.specs.Texts.{Holds};
+ghost use Rattle.cdc_diagnostics.specs.Traces.{acknowledged_words, batch_words, begin_words, confirm_words, did_words, end_words, event_words, ignored_words, lost_words, money_words, moved_words, offer_words, packet_words, position_words, publish_words, saved_words, seen_of, start_words, taken_words, taking_words, trace_line};
+ghost use Rattle.cdc_diagnostics.specs.Traces as said;
+
 use crate::movements::Movement;
 use crate::results::{accepted_count, item_count};
 use crate::sentences::Sentence;
@@ -26,7 +33,10 @@ pub(crate) struct Done<'a> {
 
 impl Done<'_> {
     /// Adds the step's line to a trace.
-    pub(crate) fn push_to(self, trace: &mut Text) {
+    pub(crate) fn push_to(self, trace: &mut Text)
+        ensures { (bytes : List ℕ) → Holds trace.old bytes
+            → Holds trace.new (bytes ++ trace_line self.entry.batches (seen_of self.entry)) }
+    {
         trace.push_sentence(step_text(self.step));
         trace.push(": ");
         trace.push_sentence(self.sentence());
@@ -35,7 +45,9 @@ impl Done<'_> {
     }
 
     /// What the step did, in words.
-    pub(crate) fn sentence(self) -> Sentence {
+    pub(crate) fn sentence(self) -> Sentence
+        ensures { sentence_text result ≡ did_words self.entry.batches (seen_of self.entry) }
+    {
         match (self.step, self.moved) {
             (Step::Submit(batch), _) => submitted_sentence(batch, self.did, self.batches),
             (Step::CloseLedger, _) => Sentence::Plain("the ledger takes no more batches"),
@@ -46,8 +58,14 @@ impl Done<'_> {
     }
 
     /// Adds the money that the step's event moves, if it has exactly one.
-    pub(crate) fn push_movement(self, text: &mut Text) {
-        let Some(timestamp) = self.moved.and_then(event_moved) else {
+    pub(crate) fn push_movement(self, text: &mut Text)
+        ensures { (bytes : List ℕ) → Holds text.old bytes
+            → Holds text.new (bytes ++ money_words (seen_of self.entry)) }
+    {
+        let Some(moved) = self.moved else {
+            return;
+        };
+        let Some(timestamp) = event_moved(moved) else {
             return;
         };
         if let Some(movement) = Movement::at(self.ledger, timestamp) {
@@ -57,12 +75,17 @@ impl Done<'_> {
     }
 
     /// Whether the step took a confirm that counted.
-    pub(crate) fn has_counted(self) -> bool {
+    pub(crate) fn has_counted(self) -> bool
+        ensures { result ≡ said.has_counted self.entry.did.now }
+    {
         matches!(self.did, Did::Counted(true))
     }
 
     /// What the step moved, in words.
-    fn moved_sentence(self, moved: Moved) -> Sentence {
+    fn moved_sentence(self, moved: Moved) -> Sentence
+        ensures { sentence_text result ≡ moved_words self.entry.step.now self.entry.did.now
+            (events self.entry.ledger.now) moved }
+    {
         match moved {
             Moved::SessionStarted { session, after } => self.started_sentence(session, after),
             Moved::SessionLost { session } => {
@@ -86,57 +109,35 @@ impl Done<'_> {
                 tag,
                 running,
             } => self.confirm_sentence(session, tag, running),
-            Moved::ProgressSaved { session, timestamp } => Sentence::Two(
-                "session ",
-                session.into(),
-                " is confirmed up to ",
-                timestamp.into(),
-                "",
-            ),
+            Moved::ProgressSaved { session, timestamp } => saved_sentence(session, timestamp),
             Moved::DeliverySent { position, item } => position_sentence(position, item),
             Moved::QueueRewound { acked } => {
                 Sentence::One("begins again at position ", u128::from(acked) + 1, "")
             }
-            Moved::FlightLost { count, acked } => Sentence::Two(
-                "lost on the way ",
-                count as u128,
-                ", begins again at position ",
-                u128::from(acked) + 1,
-                "",
-            ),
+            Moved::FlightLost { count, acked } => lost_sentence(count, acked),
             Moved::DeliveryTaken { item, .. } => self.taking_sentence(item),
-            Moved::Acknowledged { acked } => Sentence::One(
-                "counted, all up to position ",
-                acked.into(),
-                " are acknowledged",
-            ),
+            Moved::Acknowledged { acked } => acknowledged_sentence(acked),
         }
     }
 
     /// That a session started. If a timestamp was given, also how many events are left out so far.
-    fn started_sentence(self, session: u64, after: u64) -> Sentence {
-        if let Step::StartAt(_) = self.step {
-            return Sentence::Three(
-                "session ",
-                session.into(),
-                " begins after ",
-                after.into(),
-                ", events left out so far: ",
-                self.ledger.log().first_after(after) as u128,
-                "",
-            );
+    fn started_sentence(self, session: u64, after: u64) -> Sentence
+        ensures { sentence_text result ≡ start_words self.entry.step.now session after
+            (events self.entry.ledger.now) }
+    {
+        match self.step {
+            Step::StartAt(_) => {
+                let left_out = self.ledger.log().first_after(after);
+                late_start_sentence(session, after, left_out)
+            }
+            _ => start_sentence(session, after),
         }
-        Sentence::Two(
-            "session ",
-            session.into(),
-            " begins after ",
-            after.into(),
-            "",
-        )
     }
 
     /// That the session `running` received a confirm: it counted, or why it didn't.
-    fn confirm_sentence(self, session: u64, tag: u64, running: u64) -> Sentence {
+    fn confirm_sentence(self, session: u64, tag: u64, running: u64) -> Sentence
+        ensures { sentence_text result ≡ confirm_words self.entry.did.now session tag running }
+    {
         if self.has_counted() {
             return Sentence::Plain("counted");
         }
@@ -153,7 +154,9 @@ impl Done<'_> {
     }
 
     /// What a subscriber did with an item.
-    fn taking_sentence(self, item: ItemName) -> Sentence {
+    fn taking_sentence(self, item: ItemName) -> Sentence
+        ensures { sentence_text result ≡ taking_words self.entry.did.now item }
+    {
         let Did::Took(taking) = self.did else {
             return Sentence::Plain("done");
         };
@@ -164,8 +167,52 @@ impl Done<'_> {
     }
 }
 
+/// That a session started after a timestamp.
+fn start_sentence(session: u64, after: u64) -> Sentence
+    ensures { sentence_text result ≡ begin_words session after }
+{
+    Sentence::Two(
+        "session ",
+        session.into(),
+        " begins after ",
+        after.into(),
+        "",
+    )
+}
+
+/// That a session started after a timestamp that was given. So many events are left out so far.
+fn late_start_sentence(session: u64, after: u64, left_out: usize) -> Sentence
+    ensures { sentence_text result ≡ begin_words session after
+        ++ codes ", events left out so far: " ++ decimal left_out }
+{
+    Sentence::Three(
+        "session ",
+        session.into(),
+        " begins after ",
+        after.into(),
+        ", events left out so far: ",
+        left_out as u128,
+        "",
+    )
+}
+
+/// That a session saved its progress.
+fn saved_sentence(session: u64, timestamp: u64) -> Sentence
+    ensures { sentence_text result ≡ saved_words session timestamp }
+{
+    Sentence::Two(
+        "session ",
+        session.into(),
+        " is confirmed up to ",
+        timestamp.into(),
+        "",
+    )
+}
+
 /// The timestamp of a step's event. None if it has no event or several.
-fn event_moved(moved: Moved) -> Option<u64> {
+fn event_moved(moved: Moved) -> Option<u64>
+    ensures { result ≡ said.event_moved moved }
+{
     match moved {
         Moved::EventsOffered {
             count: 1,
@@ -182,7 +229,9 @@ fn event_moved(moved: Moved) -> Option<u64> {
 }
 
 /// The timestamp of an item. None for an end mark.
-fn event_named(item: ItemName) -> Option<u64> {
+fn event_named(item: ItemName) -> Option<u64>
+    ensures { result ≡ said.item_event item }
+{
     match item {
         ItemName::Event(timestamp) => Some(timestamp),
         ItemName::EndMark => None,
@@ -190,7 +239,9 @@ fn event_named(item: ItemName) -> Option<u64> {
 }
 
 /// That the ledger took the batch of this number.
-fn submitted_sentence(batch: &Batch, did: &Did, number: usize) -> Sentence {
+fn submitted_sentence(batch: &Batch, did: &Did, number: usize) -> Sentence
+    ensures { sentence_text result ≡ batch_words number batch.now did.now }
+{
     match did {
         Did::Submitted(BatchResults::Pulsed(expired)) => {
             Sentence::Two(
@@ -220,7 +271,9 @@ fn submitted_sentence(batch: &Batch, did: &Did, number: usize) -> Sentence {
 }
 
 /// What a session was offered: `count` events, from timestamp `first` to `last`.
-fn offer_sentence(count: usize, first: u64, last: u64, complete: bool) -> Sentence {
+fn offer_sentence(count: usize, first: u64, last: u64, complete: bool) -> Sentence
+    ensures { sentence_text result ≡ offer_words count first last complete }
+{
     match (count, complete) {
         (0, false) => Sentence::Plain("no event yet"),
         (0, true) => Sentence::Plain("no event follows"),
@@ -231,7 +284,10 @@ fn offer_sentence(count: usize, first: u64, last: u64, complete: bool) -> Senten
     }
 }
 
-fn events_sentence(count: usize, first: u64, last: u64, after: &'static str) -> Sentence {
+fn events_sentence(count: usize, first: u64, last: u64, after: &'static str) -> Sentence
+    ensures { sentence_text result ≡ decimal count ++ codes " events, " ++ decimal first
+        ++ codes " to " ++ decimal last ++ after.now }
+{
     Sentence::Three(
         "",
         count as u128,
@@ -243,7 +299,10 @@ fn events_sentence(count: usize, first: u64, last: u64, after: &'static str) -> 
     )
 }
 
-pub(crate) fn packet_sentence(number: u64, packet: PacketName) -> Sentence {
+/// A packet under its number.
+pub(crate) fn packet_sentence(number: u64, packet: PacketName) -> Sentence
+    ensures { sentence_text result ≡ packet_words number packet }
+{
     match packet {
         PacketName::Connect { session } => {
             Sentence::Two(
@@ -258,16 +317,7 @@ pub(crate) fn packet_sentence(number: u64, packet: PacketName) -> Sentence {
             session,
             tag,
             item: ItemName::Event(timestamp),
-        } => Sentence::Four(
-            "packet ",
-            number.into(),
-            ", event ",
-            timestamp.into(),
-            " under tag ",
-            tag.into(),
-            " of session ",
-            session.into(),
-        ),
+        } => publish_sentence(number, session, tag, timestamp),
         PacketName::Publish {
             session: _,
             tag,
@@ -282,8 +332,26 @@ pub(crate) fn packet_sentence(number: u64, packet: PacketName) -> Sentence {
     }
 }
 
+/// A packet that publishes the event of this timestamp.
+fn publish_sentence(number: u64, session: u64, tag: u64, timestamp: u64) -> Sentence
+    ensures { sentence_text result ≡ publish_words number session tag timestamp }
+{
+    Sentence::Four(
+        "packet ",
+        number.into(),
+        ", event ",
+        timestamp.into(),
+        " under tag ",
+        tag.into(),
+        " of session ",
+        session.into(),
+    )
+}
+
 /// That the broker took a packet.
-fn arrival_sentence(packet: PacketName) -> Sentence {
+fn arrival_sentence(packet: PacketName) -> Sentence
+    ensures { sentence_text result ≡ taken_words packet }
+{
     match packet {
         PacketName::Connect { session } => {
             Sentence::One("taken, session ", session.into(), " is connected")
@@ -297,7 +365,9 @@ fn arrival_sentence(packet: PacketName) -> Sentence {
 }
 
 /// Why the broker ignored a packet, with this connection and this next tag.
-fn ignored_sentence(packet: PacketName, connection: u64, next_tag: Option<u64>) -> Sentence {
+fn ignored_sentence(packet: PacketName, connection: u64, next_tag: Option<u64>) -> Sentence
+    ensures { sentence_text result ≡ ignored_words packet connection next_tag }
+{
     match packet {
         _ if connection == 0 => Sentence::Plain("ignored, no session is connected"),
         PacketName::Publish { session, tag, .. } if session == connection => match next_tag {
@@ -310,7 +380,9 @@ fn ignored_sentence(packet: PacketName, connection: u64, next_tag: Option<u64>) 
     }
 }
 
-fn position_sentence(position: u64, item: ItemName) -> Sentence {
+fn position_sentence(position: u64, item: ItemName) -> Sentence
+    ensures { sentence_text result ≡ position_words position item }
+{
     match item {
         ItemName::Event(timestamp) => {
             Sentence::Two(
@@ -325,8 +397,34 @@ fn position_sentence(position: u64, item: ItemName) -> Sentence {
     }
 }
 
+/// That a queue lost so many deliveries in flight.
+fn lost_sentence(count: usize, acked: u64) -> Sentence
+    ensures { sentence_text result ≡ lost_words count acked }
+{
+    Sentence::Two(
+        "lost on the way ",
+        count as u128,
+        ", begins again at position ",
+        u128::from(acked) + 1,
+        "",
+    )
+}
+
+/// That a queue counted an acknowledgement.
+fn acknowledged_sentence(acked: u64) -> Sentence
+    ensures { sentence_text result ≡ acknowledged_words acked }
+{
+    Sentence::One(
+        "counted, all up to position ",
+        acked.into(),
+        " are acknowledged",
+    )
+}
+
 /// What a subscriber did with the event of this timestamp.
-fn event_sentence(timestamp: u64, taking: Taking) -> Sentence {
+fn event_sentence(timestamp: u64, taking: Taking) -> Sentence
+    ensures { sentence_text result ≡ event_words taking timestamp }
+{
     let words = match taking {
         Taking::Applied => "applied ",
         Taking::Repeat => "repeat of ",
@@ -337,7 +435,9 @@ fn event_sentence(timestamp: u64, taking: Taking) -> Sentence {
 }
 
 /// What a subscriber did with an end mark.
-fn end_sentence(taking: Taking) -> Sentence {
+fn end_sentence(taking: Taking) -> Sentence
+    ensures { sentence_text result ≡ end_words taking }
+{
     Sentence::Plain(match taking {
         Taking::Applied => "applied the end mark",
         Taking::Repeat => "repeat of the end mark",

@@ -1,0 +1,3 @@
+mod Examples
+pub mod Events
+pub mod OneMoreStep

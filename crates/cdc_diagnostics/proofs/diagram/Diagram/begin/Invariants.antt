@@ -1,0 +1,9 @@
+use Rattle.std.proofs.Common.{◌++◌, List, ℕ}
+use Rattle.cdc_diagnostics.specs.Diagrams.{diagram_head}
+use Rattle.cdc_diagnostics.specs.Texts.{Holds}
+use Rattle.cdc_diagnostics.proofs.diagram.Diagram.begin.Given as goal
+
+-- the actors, and the subscribers so far
+abbrev pub invariant-loop-place : goal.invariant-loop-place
+invariant-loop-place l =
+    (bytes : List ℕ) → Holds l.fn.self.text bytes → Holds l.self.text (bytes ++ diagram_head l.place)
