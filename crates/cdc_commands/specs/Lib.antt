@@ -4,6 +4,7 @@ pub mod Faults
 pub mod Feeds
 pub mod Held
 pub mod Messages
+pub mod Observed
 pub mod Outcomes
 pub mod Printed
 pub mod Private

@@ -7,7 +7,9 @@ ghost use Rattle.cdc_script.specs.declared.step_files.Act.{Act};
 ghost use Rattle.cdc_script.specs.Scripts.{max_bytes, script_of};
 ghost use Rattle.cdc_script.specs.StepFiles.{acts_of};
 ghost use Rattle.cdc_types.specs.Windows.{IsWindow};
+ghost use Rattle.cdc_commands.specs.Observed.{SawSteps};
 ghost use Rattle.cdc_commands.specs.Outcomes.{IsSimulationFault, MayFailScript, Writes};
+ghost use Rattle.cdc_commands.specs.Seen.{Seen};
 ghost use Rattle.cdc_commands.specs.Simulated.{PrintsPlan};
 
 use crate::endings::Ending;
@@ -24,8 +26,8 @@ use std::io::{Read, Write};
 
 /// What `simulate` prints for the bytes of a script and of a step file, and how it ends. The steps are taken in
 /// order, up to the first that is refused. It prints the results of the batches that were taken, how many steps were
-/// done, what the session has saved, and the book of each subscriber; or the fault of a bad script or step file.
-/// Fails if memory runs out.
+/// done, what the session has saved, and the book of each subscriber; or the fault of a bad script or step file. The
+/// observer has seen just the steps that were taken. Fails if memory runs out.
 pub fn simulation_of<F: Form, O: Observer>(
     form: &F,
     alloc: Global,
@@ -38,6 +40,9 @@ pub fn simulation_of<F: Form, O: Observer>(
     ensures output { IfOk result (λ output. PrintsPlan F.prints_simulation F.prints_fault
         (record { window = window; script = Some script.now; steps = Some (acts_of steps.now) })
         output.ending output.text.items) }
+    ensures seen { IfOk result (λ output. SawSteps (O.has_seen observer.new)
+        (record { window = window; script = Some script.now; steps = Some (acts_of steps.now) })
+        output.ending) }
     ensures fault { IfErr result IsSimulationFault }
 {
     match parse_script(alloc, script) {
@@ -61,6 +66,9 @@ pub fn simulation_of_steps<F: Form, O: Observer>(
     ensures output { IfOk result (λ output. PrintsPlan F.prints_simulation F.prints_fault
         (record { window = window; script = Some script.now; steps = Some (Ok steps.now.acts.items) })
         output.ending output.text.items) }
+    ensures seen { IfOk result (λ output. SawSteps (O.has_seen observer.new)
+        (record { window = window; script = Some script.now; steps = Some (Ok steps.now.acts.items) })
+        output.ending) }
     ensures fault { IfErr result IsSimulationFault }
 {
     match parse_script(alloc, script) {
@@ -84,6 +92,10 @@ fn script_simulation<F: Form, O: Observer>(
         → IfOk result (λ output. PrintsPlan F.prints_simulation F.prints_fault
         (record { window = window; script = Some bytes; steps = Some (acts_of steps.now) })
         output.ending output.text.items) }
+    ensures seen { (bytes : List ℕ) → script_of bytes ≡ Ok script
+        → IfOk result (λ output. SawSteps (O.has_seen observer.new)
+        (record { window = window; script = Some bytes; steps = Some (acts_of steps.now) })
+        output.ending) }
     ensures fault { IfErr result IsSimulationFault }
 {
     let stated = match parse_steps(alloc, steps) {
@@ -110,6 +122,10 @@ fn steps_simulation<F: Form, O: Observer>(
         → IfOk result (λ output. PrintsPlan F.prints_simulation F.prints_fault
         (record { window = window; script = Some bytes; steps = Some (Ok steps.now.acts.items) })
         output.ending output.text.items) }
+    ensures seen { (bytes : List ℕ) → script_of bytes ≡ Ok script
+        → IfOk result (λ output. SawSteps (O.has_seen observer.new)
+        (record { window = window; script = Some bytes; steps = Some (Ok steps.now.acts.items) })
+        output.ending) }
     ensures fault { IfErr result IsSimulationFault }
 {
     let notes = Notes::of(alloc, &script);
@@ -144,6 +160,14 @@ pub fn simulate<F: Form, R: Read, Q: Read, W: Write, O: Observer>(
           steps = option_map acts_of (Q.remaining steps.old);
         }))
         (W.contents writer.old) (W.contents writer.new) result.ending }
+    ensures seen { Writes (λ ending _. SawSteps (O.has_seen observer.new)
+        (record {
+          window = window;
+          script = R.remaining script.old;
+          steps = option_map acts_of (Q.remaining steps.old);
+        })
+        ending)
+        (W.contents writer.old) (W.contents writer.new) result.ending }
     ensures script { ConsumesAtMost (max_bytes + 1)
         (R.remaining script.old) (R.remaining script.new) }
     ensures steps { ConsumesAtMost (max_bytes + 1) (Q.remaining steps.old) (Q.remaining steps.new) }
@@ -169,6 +193,13 @@ fn read_simulation<F: Form, R: Read, Q: Read, O: Observer>(
           steps = option_map acts_of (Q.remaining steps.old);
         })
         output.ending output.text.items) }
+    ensures seen { IfOk result (λ output. SawSteps (O.has_seen observer.new)
+        (record {
+          window = window;
+          script = R.remaining script.old;
+          steps = option_map acts_of (Q.remaining steps.old);
+        })
+        output.ending) }
     ensures fault { IfErr result MayFailScript }
     ensures script { ConsumesAtMost (max_bytes + 1)
         (R.remaining script.old) (R.remaining script.new) }
@@ -192,6 +223,9 @@ fn unread_steps<F: Form>(
         → IfOk result (λ output. PrintsPlan F.prints_simulation F.prints_fault
         (record { window = window; script = Some script.now; steps = steps })
         output.ending output.text.items) }
+    ensures seen { (window : ℕ) → (steps : Option (Result (List Act) ScriptFault)) → (HasSeen : List Seen → Type 0)
+        → IfOk result (λ output. SawSteps HasSeen
+        (record { window = window; script = Some script.now; steps = steps }) output.ending) }
     ensures fault { IfErr result MayFailScript }
 {
     match parse_script(alloc, script) {

@@ -1,8 +1,9 @@
-use Rattle.std.proofs.Common.{Some}
+use Rattle.std.proofs.Common.{List, Some, []}
 use Rattle.std.specs.Prelude.{option_map}
 use Rattle.std.proofs.lemmas.Result.{IfErr-weaker}
 use Rattle.cdc_script.specs.StepFiles.{acts_of}
 use Rattle.cdc_commands.specs.declared.output.Output.{Output}
+use Rattle.cdc_commands.specs.Observed.{SawPlan}
 use Rattle.cdc_commands.specs.Outcomes.{IsSimulationFault, MayFailScript}
 use Rattle.cdc_commands.proofs.OutputLemmas.{made_of_script, made_of_steps, may_fail}
 use Rattle.cdc_commands.proofs.simulate.read_simulation.Goals as goal
@@ -29,3 +30,25 @@ returns-clause-output g c =
 pub returns-in-Ok-clause-fault : goal.returns-in-Ok-clause-fault
 returns-in-Ok-clause-fault g c =
     IfErr-weaker c.simulation_of.result IsSimulationFault MayFailScript may_fail c.simulation_of.ensures.fault
+
+pub returns-in-Ok-clause-seen : goal.returns-in-Ok-clause-seen
+returns-in-Ok-clause-seen g c =
+    let steps = g.Q.Read.remaining c.args.steps.now in
+    let saw = λ plan refusal printed. SawPlan (g.O.Observer.has_seen c.simulation_of.new.observer) plan refusal in
+    made_of_script saw (λ fault printed. Unit {0}) (λ (o : Output). o.ending) (λ (o : Output). [])
+    c.args.window c.deref.result.now c.in_ok-script.script.items
+    (g.R.Read.remaining c.args.script.now) (option_map acts_of steps) c.simulation_of.result c.deref.ensures.value
+    c.in_ok-script.ensures.script
+    (made_of_steps saw (λ fault printed. Unit {0}) (λ (o : Output). o.ending) (λ (o : Output). [])
+    c.args.window (Some c.deref.result.now) c.deref-in-Ok.result.now c.in-Ok.steps.items steps
+    c.simulation_of.result c.deref-in-Ok.ensures.value c.in-Ok.ensures.steps c.simulation_of.ensures.seen)
+
+pub returns-clause-seen : goal.returns-clause-seen
+returns-clause-seen g c =
+    let steps = option_map acts_of (g.Q.Read.remaining c.args.steps.now) in
+    made_of_script (λ plan refusal printed. SawPlan (g.O.Observer.has_seen c.args.observer.now) plan refusal)
+    (λ fault printed. Unit {0}) (λ (o : Output). o.ending) (λ (o : Output). [])
+    c.args.window c.deref-in-Err.result.now c.in_ok-script.script.items
+    (g.R.Read.remaining c.args.script.now) steps c.unread_steps.result c.deref-in-Err.ensures.value
+    c.in_ok-script.ensures.script
+    (c.unread_steps.ensures.seen c.args.window steps (g.O.Observer.has_seen c.args.observer.now))
