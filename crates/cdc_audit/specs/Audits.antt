@@ -54,7 +54,7 @@ abbrev pub stop_at : Option BadLine → AuditStop
 stop_at None = stop.AtEnd
 stop_at (Some bad) = stop.BadLine bad.line bad.error
 
--- the audit of entries, behind which the stream stops so
+-- the audit of entries, after which the stream stops so
 unfoldable pub audit_entries : AuditState → AuditStop → List NumberedEntry → Audited
 audit_entries state end [] = record { state = state; stop = end }
 audit_entries state end (numbered ∷ rest) =
