@@ -7,7 +7,7 @@ use std::time::Instant;
 /// The name of the member that names a message's predecessor, as JSON has it.
 const PREVIOUS: &[u8] = b"\"previous\"";
 
-/// A stream, and what standard error reports of it while it is read: at most once that its lines have a member
+/// A stream, and what standard error reports of it while it is read: once, that its first lines have a member
 /// `previous`, which nobody reads; and, if standard error is a terminal, each second how many lines were read.
 #[derive(Drop)]
 pub struct Watched<'a, T> {
@@ -15,7 +15,7 @@ pub struct Watched<'a, T> {
     inner: T,
     /// The stream's name, as standard error shows it.
     place: &'a str,
-    /// Whether a first line that has a member `previous` is to be reported. False once it was looked at.
+    /// Whether a member `previous` is to be reported. False once the first lines were looked at.
     notices: bool,
     /// Since when the stream is read, if its progress is to be reported.
     start: Option<Instant>,
@@ -44,7 +44,7 @@ impl<'a, T> Watched<'a, T> {
         }
     }
 
-    /// Looks at bytes that were read, up to the end of the first line.
+    /// Looks at the first bytes that were read, at least one line, for a member `previous`.
     fn look(&mut self, piece: &[u8]) {
         if !self.notices {
             return;
