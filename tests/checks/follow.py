@@ -3,11 +3,12 @@
 
   tests/checks/follow.py [PROGRAM] [--streams N]    PROGRAM: crates/cdc_app/out/cdc_app; N random streams, 300 by default
 
-By hand: each kind of line, each fault, each status, and where a line ends. Random streams of a queue are lost, repeated,
-shuffled and merged from two publishers; what is printed has to be what a small model prints, which reads JSON by Python's
-own parser. Killed: the program ends at each read, write, sync and rename of a stream with a book, and is started again with
-the lines from an earlier `saved` on; it has to come to the book of a run without a stop. Refused: each allocation, read, write,
-open, sync and rename is refused in turn; the book has to be the old one or a later one, and whole.
+By hand: each kind of line, each fault, each status, where a line ends, and what standard error reports. Random streams of a
+queue are lost, repeated, shuffled and merged from two publishers; what is printed, and what standard error reports of gaps,
+has to be that of a small model, which reads JSON by Python's own parser. Killed: the program ends at each read, write, sync
+and rename of a stream with a book, and is started again with the lines from an earlier `saved` on; it has to come to the book
+of a run without a stop. Refused: each allocation, read, write, open, sync and rename is refused in turn; the book has to be
+the old one or a later one, and whole.
 
 Killed and Refused need a C compiler, `cc`. The last line is `follow: N passed, M failed`; the status is 1 where one failed.
 """
@@ -122,7 +123,7 @@ class Model:
 
     def __init__(self, is_chained, ledger=None):
         self.is_chained, self.ledger = is_chained, ledger
-        self.applied = self.last = self.seen = 0
+        self.applied = self.last = self.seen = self.gaps = 0
         self.ended = False
         self.book = {}
 
@@ -135,6 +136,7 @@ class Model:
         if self.ended or timestamp is not None and timestamp <= self.seen:
             return None
         if previous > self.seen:
+            self.gaps += 1
             return f"gap: line {number}: after {previous}, expected after {self.seen}\n"
         if timestamp is None:
             self.ended = True
@@ -162,7 +164,13 @@ class Model:
 NOTHING = "subscriber 1 applied 0 last 0 ended no closed no\n"
 ONE = "subscriber 1 applied 1 last 10 ended no closed no\naccount 1 0 5 0 0\naccount 2 0 0 0 5\n"
 TWO = "subscriber 1 applied 2 last 20 ended no closed no\naccount 1 0 9 0 0\naccount 2 0 0 0 9\n"
+UNREAD = "standard input: lines have previous, which is ignored without --chained\n"
 FIRST, SECOND = event(10), event(20, balances=((0, 9, 0, 0), (0, 0, 0, 9)))
+
+
+def skipped(gaps):
+    """What standard error reports of so many gaps that were skipped."""
+    return {0: "", 1: "standard input: 1 gap was skipped\n"}.get(gaps, f"standard input: {gaps} gaps were skipped\n")
 
 
 def without(body, *names):
@@ -191,7 +199,8 @@ def padded(body, length):
 
 
 def rows():
-    """Each row: what it is, the arguments, the stream, what is printed, the status, and a part of standard error."""
+    """Each row: what it is, the arguments, the stream, what is printed, the status, and a part of standard error: all
+    of it where the status is 0."""
     first, second = own(FIRST), own(SECOND)
     lines = lambda *given: "".join(f"{it}\n" for it in given).encode()
     yield "an empty stream", [], b"", NOTHING, 0, ""
@@ -245,7 +254,23 @@ def rows():
     ), 1, "gap"
     yield "an event after a gap that is skipped", [*chain, "--skip-gaps"], lines(
         chained(10, SECOND), chained(0, FIRST), chained(10, SECOND)
-    ), TWO, 0, ""
+    ), TWO, 0, skipped(1)
+    yield "three gaps that are skipped", [*chain, "--skip-gaps"], lines(chained(10, SECOND), end(10), chained(5, FIRST)), (
+        NOTHING
+    ), 0, skipped(3)
+    yield "a gap that is skipped twice", [*chain, "--skip-gaps"], lines(
+        chained(0, FIRST), chained(15, SECOND), chained(15, SECOND)
+    ), ONE, 0, skipped(2)
+    yield "duplicates are no gaps", [*chain, "--skip-gaps"], lines(chained(0, FIRST), chained(7, FIRST), chained(90, FIRST)), ONE, 0, ""
+    yield "nothing is a gap after the end", [*chain, "--skip-gaps"], lines(chained(0, FIRST), end(10), chained(90, SECOND)), (
+        ONE.replace("ended no", "ended yes")
+    ), 0, ""
+    yield "a gap that is skipped before a bad line", [*chain, "--skip-gaps"], lines(chained(10, SECOND), "x"), (
+        NOTHING + "fault: line 2: not_json\n"
+    ), 2, skipped(1)
+    yield "predecessors that nobody reads", [], lines(chained(0, FIRST), chained(15, SECOND)), TWO, 0, UNREAD
+    yield "an end with a predecessor that nobody reads", [], lines(end(10)), NOTHING.replace("ended no", "ended yes"), 0, UNREAD
+    yield "a predecessor of a body, that nobody reads", [], lines(json.dumps({**FIRST, "previous": "9"})), ONE, 0, UNREAD
     yield "a duplicate whose predecessor is missing", chain, lines(chained(0, FIRST), chained(10, SECOND), chained(7, FIRST)), TWO, 0, ""
     yield "no predecessor", chain, lines(first), NOTHING + "fault: line 1: missing\n", 2, "previous"
     yield "a predecessor that is no number", chain, lines(json.dumps({"previous": "x", "body": FIRST})), (
@@ -287,7 +312,7 @@ USAGE = [["--skip-gaps"], ["--every", "0"], ["--every", "x"], ["--binding", ""],
 def by_hand(folder):
     for name, arguments, stream, printed, status, said in rows():
         found = run(arguments, stream)
-        is_right = found[:2] == (status, printed) and said in found[2] and (status != 0 or not found[2])
+        is_right = found[:2] == (status, printed) and said in found[2] and (status != 0 or found[2] == said)
         check(name, is_right, found)
         file = os.path.join(folder, "stream")
         with open(file, "wb") as it:
@@ -356,7 +381,11 @@ def random_stream(seed):
     arguments = ["--chained"] * is_chained + ["--skip-gaps"] * (is_chained and skips)
     arguments += ["--binding", f"all ledger={ledger}"] if ledger else []
     found = run(arguments, "".join(f"{it}\n" for it in lines).encode())
-    return None if found[:2] == (status, model.text() + printed) else f"seed {seed}: {arguments}: {found!r}, not {model.text() + printed!r}"
+    expected = (status, model.text() + printed)
+    said = "" if is_chained or not lines else UNREAD
+    said += skipped(model.gaps) if skips else ""
+    is_right = found[:2] == expected and (status != 0 or found[2] == said)
+    return None if is_right else f"seed {seed}: {arguments}: {found!r}, not {expected!r} and {said!r}"
 
 
 def random_streams(count):

@@ -1,10 +1,11 @@
 //! The command `follow`: a stream in, and its book out.
 
 use crate::advice::shown_name;
-use crate::follow_advice::{advise_on_book, advise_on_stream};
+use crate::follow_advice::{advise_on_book, advise_on_gaps, advise_on_stream};
 use crate::follow_options::FollowPlan;
 use crate::options::Form;
 use crate::sources::Source;
+use crate::watched::Watched;
 use cdc_commands::{ProgramFault, Text, print_fault};
 use cdc_follow::Follower;
 use cdc_follow_command::{
@@ -32,12 +33,18 @@ pub fn run_follow(rt: &HostRuntime, file: &str, plan: FollowPlan<'_>, form: Form
         Ok(opened) => opened,
         Err(error) => return refuse_book(rt, file, book, error, form),
     };
-    let source = Source::of_script(rt, file);
+    let source = Watched::new(
+        rt,
+        Source::of_script(rt, file),
+        shown_name(file),
+        rules.chained,
+    );
     let Ok(mut reader) = BufReader::with_capacity(rt.alloc(), BUFFER_BYTES, source) else {
         return refuse_book(rt, file, book, StoreError::OutOfMemory, form);
     };
     let mut saver = Saver::new(store, rules.chained, binding_text, every);
     let mut follower = follower;
+    let mut gaps = 0;
     let mut writer = io::writer(rt);
     let ending = match form {
         Form::Text => follow_command(
@@ -49,6 +56,7 @@ pub fn run_follow(rt: &HostRuntime, file: &str, plan: FollowPlan<'_>, form: Form
             &binding,
             rules,
             &mut follower,
+            &mut gaps,
         ),
         Form::Json => follow_command(
             &Json,
@@ -59,8 +67,10 @@ pub fn run_follow(rt: &HostRuntime, file: &str, plan: FollowPlan<'_>, form: Form
             &binding,
             rules,
             &mut follower,
+            &mut gaps,
         ),
     };
+    advise_on_gaps(rt, file, gaps);
     advise_on_stream(rt, file, book, &follower, ending);
     ending
 }

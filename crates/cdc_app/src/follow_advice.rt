@@ -30,6 +30,16 @@ pub fn advise_on_stream(
     };
 }
 
+/// Reports how many gaps were skipped in the stream in the file of this name; nothing if none was.
+pub fn advise_on_gaps(rt: &HostRuntime, file: &str, gaps: u64) {
+    let place = shown_name(file);
+    let _ = match gaps {
+        0 => Ok(()),
+        1 => eprintln!(rt; "{place}: 1 gap was skipped"),
+        _ => eprintln!(rt; "{place}: {gaps} gaps were skipped"),
+    };
+}
+
 /// Reports why the command failed.
 pub fn advise_on_book(rt: &HostRuntime, place: &str, book: Option<&str>, fault: ProgramFault) {
     if let (Some(book), ProgramFault::Store(error)) = (book, fault) {
@@ -109,8 +119,8 @@ fn trouble(rt: &HostRuntime, book: &str, error: StoreError) -> &'static str {
              change the file, and what stands at its name with .new behind it has to be what a save left"
         }
         StoreError::BadRecord => {
-            "it holds no book, or one that was saved with another --binding, or with --chained where that isn't given now, \
-             or the other way round: name its options, or another file"
+            "it holds no book, or one that was saved with another --binding, or with --chained where that isn't given \
+             now, or the other way round: name its options, or another file"
         }
         StoreError::OutOfMemory => "no memory was left",
     }

@@ -25,6 +25,7 @@ mod run_traces;
 mod run_turns;
 mod slips;
 mod sources;
+mod watched;
 
 use advice::{advise, advise_on_run, advise_on_script, advise_on_steps, shown_name};
 use audit::run_audit;
