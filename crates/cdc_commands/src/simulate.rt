@@ -1,6 +1,6 @@
 //! The command `simulate`: takes a script's batches and a session's packets step by step.
 
-ghost use Rattle.std.specs.Prelude.{◌≡◌, ◌+◌, ℕ, List, Option, Result, IfErr, IfOk, Ok, Some, option_map};
+ghost use Rattle.std.specs.Prelude.{◌≡◌, ◌+◌, ℕ, List, Option, Result, Err, IfErr, IfOk, Ok, Some, option_map};
 ghost use Rattle.cdc_script.specs.Reading.{ConsumesAtMost};
 ghost use Rattle.cdc_script.specs.declared.faults.ScriptFault.{ScriptFault};
 ghost use Rattle.cdc_script.specs.declared.step_files.Act.{Act};
@@ -9,7 +9,6 @@ ghost use Rattle.cdc_script.specs.StepFiles.{acts_of};
 ghost use Rattle.cdc_types.specs.Windows.{IsWindow};
 ghost use Rattle.cdc_commands.specs.Observed.{SawSteps};
 ghost use Rattle.cdc_commands.specs.Outcomes.{IsSimulationFault, MayFailScript, Writes};
-ghost use Rattle.cdc_commands.specs.Seen.{Seen};
 ghost use Rattle.cdc_commands.specs.Simulated.{PrintsPlan};
 
 use crate::endings::Ending;
@@ -223,9 +222,8 @@ fn unread_steps<F: Form>(
         → IfOk result (λ output. PrintsPlan F.prints_simulation F.prints_fault
         (record { window = window; script = Some script.now; steps = steps })
         output.ending output.text.items) }
-    ensures seen { (window : ℕ) → (steps : Option (Result (List Act) ScriptFault)) → (HasSeen : List Seen → Type 0)
-        → IfOk result (λ output. SawSteps HasSeen
-        (record { window = window; script = Some script.now; steps = steps }) output.ending) }
+    ensures ending { IfOk result (λ output. (at : ScriptFault)
+        × ((output.ending ≡ Ending.BadScript at) × (script_of script.now ≡ Err at))) }
     ensures fault { IfErr result MayFailScript }
 {
     match parse_script(alloc, script) {
