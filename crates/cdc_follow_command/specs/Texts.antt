@@ -1,9 +1,8 @@
 -- What `follow` prints as text.
 use Rattle.std.specs.Prelude.{ℕ, List, [], ◌++◌, codes, decimal, unwrap_or}
-use Rattle.cdc_subscriber.specs.Lines.{named, subscriber_text}
+use Rattle.cdc_subscriber.specs.Lines.{subscriber_text}
 use Rattle.cdc_follow.specs.Following.{FollowState}
 use Rattle.cdc_follow.specs.LineErrors.{line_error_name}
-use Rattle.cdc_follow.specs.declared.entries.Entry.{Entry}
 use Rattle.cdc_follow.specs.declared.streams.Stop.{Stop}
 use Rattle.cdc_follow.specs.declared.streams.Stop.TheVariants.{AtEnd, Gap, BadLine}
 
