@@ -6,7 +6,7 @@ use Rattle.cdc_world.specs.declared.moved.Moved.{Moved}
 use Rattle.cdc_world.specs.declared.moved.Moved.TheVariants.{EventsOffered, PacketSent, PacketTaken, ProgressSaved, DeliverySent, FlightLost, DeliveryTaken}
 use Rattle.cdc_world.specs.declared.steps.Did.{Did}
 use Rattle.cdc_commands.specs.Seen.{Seen}
-use Rattle.cdc_diagnostics.specs.Traces.{did_words, has_counted, money_words, packet_words, taken_with}
+use Rattle.cdc_diagnostics.specs.Traces.{did_text, has_counted, money_text, packet_text, taken_with}
 
 -- ---- the actors: the ledger is L, the connector C, the broker B, and subscriber i is Si
 
@@ -80,15 +80,15 @@ arrow_of step did None = still_arrow step
 arrow_of step did (Some moved) = arrow_at (queue_of step) step did moved
 
 -- the arrow or the note of a step
-abbrev pub arrow_words : Seen → List ℕ
-arrow_words seen = arrow_of seen.step seen.did seen.moved
+abbrev pub arrow_text : Seen → List ℕ
+arrow_text seen = arrow_of seen.step seen.did seen.moved
 
 -- ---- lines
 
 -- a packet that arrived: what it is, if the broker took it
 abbrev pub arrival_label : ℕ → List ℕ → Option Moved → List ℕ
 arrival_label k did None = did
-arrival_label k did (Some (PacketTaken packet)) = packet_words k packet
+arrival_label k did (Some (PacketTaken packet)) = packet_text k packet
 arrival_label k did (Some _) = did
 
 abbrev pub label_of : Step → List ℕ → Option Moved → List ℕ
@@ -96,12 +96,12 @@ label_of (Arrive k) did moved = arrival_label k did moved
 label_of _ did moved = did
 
 -- what a step did, or the packet that it took
-abbrev pub label_words : ℕ → Seen → List ℕ
-label_words n seen = label_of seen.step (did_words n seen) seen.moved
+abbrev pub label_text : ℕ → Seen → List ℕ
+label_text n seen = label_of seen.step (did_text n seen) seen.moved
 
 -- the line of a step; the ledger has taken n batches, with this one
 abbrev pub diagram_line : ℕ → Seen → List ℕ
-diagram_line n seen = codes "    " ++ arrow_words seen ++ label_words n seen ++ money_words seen ++ codes "\n"
+diagram_line n seen = codes "    " ++ arrow_text seen ++ label_text n seen ++ money_text seen ++ codes "\n"
 
 -- the lines of steps; the ledger took n batches before them
 abbrev pub diagram_after : ℕ → List Seen → List ℕ

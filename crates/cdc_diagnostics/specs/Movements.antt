@@ -17,17 +17,17 @@ movement_of event = record {
 }
 
 -- what happened to a transfer; a post and a void name the pending one
-abbrev pub kind_words : EventKind → ℕ → List ℕ
-kind_words SinglePhase pending = []
-kind_words TwoPhasePending pending = codes " pending"
-kind_words TwoPhasePosted pending = codes " posts " ++ decimal pending
-kind_words TwoPhaseVoided pending = codes " voids " ++ decimal pending
-kind_words TwoPhaseExpired pending = codes " expired"
+abbrev pub kind_text : EventKind → ℕ → List ℕ
+kind_text SinglePhase pending = []
+kind_text TwoPhasePending pending = codes " pending"
+kind_text TwoPhasePosted pending = codes " posts " ++ decimal pending
+kind_text TwoPhaseVoided pending = codes " voids " ++ decimal pending
+kind_text TwoPhaseExpired pending = codes " expired"
 
 -- such as `transfer 7 pending, 100 from 1 to 2`
 abbrev pub movement_text : Movement → List ℕ
 movement_text m =
-    codes "transfer " ++ decimal m.transfer ++ kind_words m.kind m.pending ++ codes ", " ++ decimal m.amount
+    codes "transfer " ++ decimal m.transfer ++ kind_text m.kind m.pending ++ codes ", " ++ decimal m.amount
     ++ codes " from " ++ decimal m.debit ++ codes " to " ++ decimal m.credit
 
 -- the event of this timestamp, if there is one

@@ -3,7 +3,7 @@ use Rattle.std.specs.Prelude.{ℕ, List, ◌++◌, decimal}
 use Rattle.cdc_diagnostics.specs.declared.sentences.Sentence.{Sentence}
 use Rattle.cdc_diagnostics.specs.declared.sentences.Sentence.TheVariants.{Plain, One, Two, Three, Four}
 
--- the words of a sentence, with the numbers between them in decimal digits
+-- the text of a sentence: its pieces, with the numbers between them in decimal digits
 abbrev pub sentence_text : Sentence → List ℕ
 sentence_text (Plain words) = words.now
 sentence_text (One before number after) = before.now ++ decimal number ++ after.now

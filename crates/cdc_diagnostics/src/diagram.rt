@@ -1,11 +1,11 @@
 //! The steps of a simulation as a sequence diagram, in Mermaid's text (Mermaid, Sequence diagrams).
 
 ghost use Rattle.std.specs.Prelude.{◌≡◌, ◌++◌, ℕ, List, [], IfOk, string_bytes};
-ghost use Rattle.cdc_diagnostics.specs.Diagrams as said;
-ghost use Rattle.cdc_diagnostics.specs.Diagrams.{arrival_label, arrow_words, diagram_head, diagram_line, label_words};
+ghost use Rattle.cdc_diagnostics.specs.Diagrams as spec;
+ghost use Rattle.cdc_diagnostics.specs.Diagrams.{arrival_label, arrow_text, diagram_head, diagram_line, label_text};
 ghost use Rattle.cdc_diagnostics.specs.Sentences.{sentence_text};
 ghost use Rattle.cdc_diagnostics.specs.Texts.{Holds};
-ghost use Rattle.cdc_diagnostics.specs.Traces.{did_words, seen_of};
+ghost use Rattle.cdc_diagnostics.specs.Traces.{did_text, seen_of};
 
 use crate::sentences::Sentence;
 use crate::texts::Text;
@@ -67,14 +67,14 @@ impl Diagram {
 
 /// A subscriber in the head of a diagram.
 fn participant(number: u128) -> Sentence
-    ensures { sentence_text result ≡ said.participant number }
+    ensures { sentence_text result ≡ spec.participant number }
 {
     Sentence::Two("    participant S", number, " as subscriber ", number, "\n")
 }
 
 /// The arrow or the note of a step, and the label up to what the step did.
 fn arrow(done: Done<'_>) -> Sentence
-    ensures { sentence_text result ≡ arrow_words (seen_of done.entry) }
+    ensures { sentence_text result ≡ arrow_text (seen_of done.entry) }
 {
     let Some(moved) = done.moved else {
         return still_arrow(done.step);
@@ -87,7 +87,7 @@ fn arrow(done: Done<'_>) -> Sentence
 
 /// The note of a step that moved nothing.
 fn still_arrow(step: &Step) -> Sentence
-    ensures { sentence_text result ≡ said.still_arrow step.now }
+    ensures { sentence_text result ≡ spec.still_arrow step.now }
 {
     match step {
         Step::Close(i) => Sentence::One("Note over S", (*i).into(), ": "),
@@ -97,7 +97,7 @@ fn still_arrow(step: &Step) -> Sentence
 
 /// The number of the queue and the subscriber that a step is about. None if it is about no queue.
 fn queue_of(step: &Step) -> Option<u64>
-    ensures { result ≡ said.queue_of step.now }
+    ensures { result ≡ spec.queue_of step.now }
 {
     match step {
         Step::Send(i) => Some(*i),
@@ -112,7 +112,7 @@ fn queue_of(step: &Step) -> Option<u64>
 /// The arrow or the note of a step that is about no queue.
 fn connector_arrow(done: Done<'_>, moved: Moved) -> Sentence
     ensures { sentence_text result
-        ≡ said.connector_arrow done.entry.step.now done.entry.did.now moved }
+        ≡ spec.connector_arrow done.entry.step.now done.entry.did.now moved }
 {
     match moved {
         Moved::PacketSent { .. } => Sentence::Plain("Note over C: sent: "),
@@ -125,7 +125,7 @@ fn connector_arrow(done: Done<'_>, moved: Moved) -> Sentence
 
 /// The arrow of a packet that the broker ignored or of a confirm. Other steps are notes.
 fn answer_arrow(done: Done<'_>) -> Sentence
-    ensures { sentence_text result ≡ said.answer_arrow done.entry.step.now done.entry.did.now }
+    ensures { sentence_text result ≡ spec.answer_arrow done.entry.step.now done.entry.did.now }
 {
     match done.step {
         Step::Arrive(k) => Sentence::One("C-xB: packet ", (*k).into(), ", "),
@@ -143,7 +143,7 @@ fn answer_arrow(done: Done<'_>) -> Sentence
 
 /// The arrow or the note of a step that is about queue and subscriber `i`.
 fn queue_arrow(i: u64, step: &Step, moved: Moved) -> Sentence
-    ensures { sentence_text result ≡ said.queue_arrow i step.now moved }
+    ensures { sentence_text result ≡ spec.queue_arrow i step.now moved }
 {
     match step {
         Step::Ack(_, k) => {
@@ -155,7 +155,7 @@ fn queue_arrow(i: u64, step: &Step, moved: Moved) -> Sentence
 
 /// The arrow of a delivery to subscriber `i`, or a note.
 fn delivery_arrow(i: u64, moved: Moved) -> Sentence
-    ensures { sentence_text result ≡ said.delivery_arrow i moved }
+    ensures { sentence_text result ≡ spec.delivery_arrow i moved }
 {
     match moved {
         Moved::DeliverySent { .. } => Sentence::One("B-)S", i.into(), ": "),
@@ -175,7 +175,7 @@ fn delivery_arrow(i: u64, moved: Moved) -> Sentence
 
 /// The label of a step: the packet if one is taken, otherwise what the step did.
 fn label(done: Done<'_>) -> Sentence
-    ensures { sentence_text result ≡ label_words done.entry.batches (seen_of done.entry) }
+    ensures { sentence_text result ≡ label_text done.entry.batches (seen_of done.entry) }
 {
     match done.step {
         Step::Arrive(k) => arrival_sentence(done, *k),
@@ -186,7 +186,7 @@ fn label(done: Done<'_>) -> Sentence
 /// The label of a step that packet `k` arrived in.
 fn arrival_sentence(done: Done<'_>, k: u64) -> Sentence
     ensures { sentence_text result ≡ arrival_label k
-        (did_words done.entry.batches (seen_of done.entry)) done.entry.moved }
+        (did_text done.entry.batches (seen_of done.entry)) done.entry.moved }
 {
     match done.moved {
         Some(Moved::PacketTaken { packet }) => packet_sentence(k, packet),

@@ -3,7 +3,7 @@
 ghost use Rattle.std.specs.Prelude.{◌≡◌, ◌++◌, ℕ, List, decimal, option_map};
 ghost use Rattle.std.specs.Option.{option_copied};
 ghost use Rattle.cdc_ledger.specs.Events.{events};
-ghost use Rattle.cdc_diagnostics.specs.Movements.{event_at, kind_words, movement_of, movement_text};
+ghost use Rattle.cdc_diagnostics.specs.Movements.{event_at, kind_text, movement_of, movement_text};
 ghost use Rattle.cdc_diagnostics.specs.Texts.{Holds};
 
 use crate::texts::Text;
@@ -67,7 +67,7 @@ impl Movement {
     /// Adds what happened to the transfer.
     fn push_kind(self, text: &mut Text)
         ensures { (bytes : List ℕ) → Holds text.old bytes
-            → Holds text.new (bytes ++ kind_words self.kind self.pending) }
+            → Holds text.new (bytes ++ kind_text self.kind self.pending) }
     {
         match self.kind {
             EventKind::SinglePhase => {}

@@ -5,7 +5,7 @@ ghost use Rattle.cdc_commands.specs.Seen.{Seen};
 ghost use Rattle.cdc_diagnostics.specs.Diagrams.{diagram_line, diagram_text};
 ghost use Rattle.cdc_diagnostics.specs.Recordings.{HasSeen, if_asked};
 ghost use Rattle.cdc_diagnostics.specs.Texts.{Holds};
-ghost use Rattle.cdc_diagnostics.specs.Traces as said;
+ghost use Rattle.cdc_diagnostics.specs.Traces as spec;
 ghost use Rattle.cdc_diagnostics.specs.Traces.{seen_of, trace_line, trace_text};
 
 use crate::diagram::Diagram;
@@ -151,7 +151,7 @@ fn push_diagram(is_asked: bool, done: Done<'_>, diagram: &mut Diagram)
 
 /// How many batches the ledger has taken with this step, if it took so many before.
 fn taken_with(batches: usize, step: &Step) -> usize
-    ensures { batches + 1 < 2 ^ 64 → result ≡ said.taken_with batches step.now }
+    ensures { batches + 1 < 2 ^ 64 → result ≡ spec.taken_with batches step.now }
 {
     match step {
         Step::Submit(_) => batches.saturating_add(1),

@@ -2,7 +2,7 @@
 //! of the ledger that it refers to.
 
 ghost use Rattle.std.specs.Prelude.{◌≡◌};
-ghost use Rattle.cdc_diagnostics.specs.Traces as said;
+ghost use Rattle.cdc_diagnostics.specs.Traces as spec;
 
 use crate::sentences::Sentence;
 use cdc_ledger::{BatchError, Ledger};
@@ -301,7 +301,7 @@ pub(crate) fn batch_sentence(refusal: BatchError, batch: &Batch) -> Sentence {
 
 /// The number of items in a batch; a pulse has none.
 pub(crate) fn item_count(batch: &Batch) -> usize
-    ensures { result ≡ said.item_count batch.now }
+    ensures { result ≡ spec.item_count batch.now }
 {
     match batch {
         Batch::Accounts { items, .. } => items.as_slice().len(),
@@ -312,7 +312,7 @@ pub(crate) fn item_count(batch: &Batch) -> usize
 
 /// The number of accepted items in a batch.
 pub(crate) fn accepted_count(results: &BatchResults) -> usize
-    ensures { result ≡ said.accepted_count results.now }
+    ensures { result ≡ spec.accepted_count results.now }
 {
     match results {
         BatchResults::Accounts(results) => results

@@ -4,8 +4,8 @@ ghost use Rattle.std.specs.Prelude.{◌≡◌, ◌++◌, ℕ, List, codes, decim
 ghost use Rattle.cdc_ledger.specs.Events.{events};
 ghost use Rattle.cdc_diagnostics.specs.Sentences.{sentence_text};
 ghost use Rattle.cdc_diagnostics.specs.Texts.{Holds};
-ghost use Rattle.cdc_diagnostics.specs.Traces.{acknowledged_words, batch_words, begin_words, confirm_words, did_words, end_words, event_words, ignored_words, lost_words, money_words, moved_words, offer_words, packet_words, position_words, publish_words, saved_words, seen_of, start_words, taken_words, taking_words, trace_line};
-ghost use Rattle.cdc_diagnostics.specs.Traces as said;
+ghost use Rattle.cdc_diagnostics.specs.Traces.{acknowledged_text, batch_text, begin_text, confirm_text, did_text, end_text, event_text, ignored_text, lost_text, money_text, moved_text, offer_text, packet_text, position_text, publish_text, saved_text, seen_of, start_text, taken_text, taking_text, trace_line};
+ghost use Rattle.cdc_diagnostics.specs.Traces as spec;
 
 use crate::movements::Movement;
 use crate::results::{accepted_count, item_count};
@@ -46,7 +46,7 @@ impl Done<'_> {
 
     /// What the step did, in words.
     pub(crate) fn sentence(self) -> Sentence
-        ensures { sentence_text result ≡ did_words self.entry.batches (seen_of self.entry) }
+        ensures { sentence_text result ≡ did_text self.entry.batches (seen_of self.entry) }
     {
         match (self.step, self.moved) {
             (Step::Submit(batch), _) => submitted_sentence(batch, self.did, self.batches),
@@ -60,7 +60,7 @@ impl Done<'_> {
     /// Adds the money that the step's event moves, if it has exactly one.
     pub(crate) fn push_movement(self, text: &mut Text)
         ensures { (bytes : List ℕ) → Holds text.old bytes
-            → Holds text.new (bytes ++ money_words (seen_of self.entry)) }
+            → Holds text.new (bytes ++ money_text (seen_of self.entry)) }
     {
         let Some(moved) = self.moved else {
             return;
@@ -76,14 +76,14 @@ impl Done<'_> {
 
     /// Whether the step took a confirm that counted.
     pub(crate) fn has_counted(self) -> bool
-        ensures { result ≡ said.has_counted self.entry.did.now }
+        ensures { result ≡ spec.has_counted self.entry.did.now }
     {
         matches!(self.did, Did::Counted(true))
     }
 
     /// What the step moved, in words.
     fn moved_sentence(self, moved: Moved) -> Sentence
-        ensures { sentence_text result ≡ moved_words self.entry.step.now self.entry.did.now
+        ensures { sentence_text result ≡ moved_text self.entry.step.now self.entry.did.now
             (events self.entry.ledger.now) moved }
     {
         match moved {
@@ -122,7 +122,7 @@ impl Done<'_> {
 
     /// That a session started. If a timestamp was given, also how many events are left out so far.
     fn started_sentence(self, session: u64, after: u64) -> Sentence
-        ensures { sentence_text result ≡ start_words self.entry.step.now session after
+        ensures { sentence_text result ≡ start_text self.entry.step.now session after
             (events self.entry.ledger.now) }
     {
         match self.step {
@@ -136,7 +136,7 @@ impl Done<'_> {
 
     /// That the session `running` received a confirm: it counted, or why it didn't.
     fn confirm_sentence(self, session: u64, tag: u64, running: u64) -> Sentence
-        ensures { sentence_text result ≡ confirm_words self.entry.did.now session tag running }
+        ensures { sentence_text result ≡ confirm_text self.entry.did.now session tag running }
     {
         if self.has_counted() {
             return Sentence::Plain("counted");
@@ -155,7 +155,7 @@ impl Done<'_> {
 
     /// What a subscriber did with an item.
     fn taking_sentence(self, item: ItemName) -> Sentence
-        ensures { sentence_text result ≡ taking_words self.entry.did.now item }
+        ensures { sentence_text result ≡ taking_text self.entry.did.now item }
     {
         let Did::Took(taking) = self.did else {
             return Sentence::Plain("done");
@@ -169,7 +169,7 @@ impl Done<'_> {
 
 /// That a session started after a timestamp.
 fn start_sentence(session: u64, after: u64) -> Sentence
-    ensures { sentence_text result ≡ begin_words session after }
+    ensures { sentence_text result ≡ begin_text session after }
 {
     Sentence::Two(
         "session ",
@@ -182,7 +182,7 @@ fn start_sentence(session: u64, after: u64) -> Sentence
 
 /// That a session started after a timestamp that was given. So many events are left out so far.
 fn late_start_sentence(session: u64, after: u64, left_out: usize) -> Sentence
-    ensures { sentence_text result ≡ begin_words session after
+    ensures { sentence_text result ≡ begin_text session after
         ++ codes ", events left out so far: " ++ decimal left_out }
 {
     Sentence::Three(
@@ -198,7 +198,7 @@ fn late_start_sentence(session: u64, after: u64, left_out: usize) -> Sentence
 
 /// That a session saved its progress.
 fn saved_sentence(session: u64, timestamp: u64) -> Sentence
-    ensures { sentence_text result ≡ saved_words session timestamp }
+    ensures { sentence_text result ≡ saved_text session timestamp }
 {
     Sentence::Two(
         "session ",
@@ -211,7 +211,7 @@ fn saved_sentence(session: u64, timestamp: u64) -> Sentence
 
 /// The timestamp of a step's event. None if it has no event or several.
 fn event_moved(moved: Moved) -> Option<u64>
-    ensures { result ≡ said.event_moved moved }
+    ensures { result ≡ spec.event_moved moved }
 {
     match moved {
         Moved::EventsOffered {
@@ -230,7 +230,7 @@ fn event_moved(moved: Moved) -> Option<u64>
 
 /// The timestamp of an item. None for an end mark.
 fn event_named(item: ItemName) -> Option<u64>
-    ensures { result ≡ said.item_event item }
+    ensures { result ≡ spec.item_event item }
 {
     match item {
         ItemName::Event(timestamp) => Some(timestamp),
@@ -240,7 +240,7 @@ fn event_named(item: ItemName) -> Option<u64>
 
 /// That the ledger took the batch of this number.
 fn submitted_sentence(batch: &Batch, did: &Did, number: usize) -> Sentence
-    ensures { sentence_text result ≡ batch_words number batch.now did.now }
+    ensures { sentence_text result ≡ batch_text number batch.now did.now }
 {
     match did {
         Did::Submitted(BatchResults::Pulsed(expired)) => {
@@ -272,7 +272,7 @@ fn submitted_sentence(batch: &Batch, did: &Did, number: usize) -> Sentence
 
 /// What a session was offered: `count` events, from timestamp `first` to `last`.
 fn offer_sentence(count: usize, first: u64, last: u64, complete: bool) -> Sentence
-    ensures { sentence_text result ≡ offer_words count first last complete }
+    ensures { sentence_text result ≡ offer_text count first last complete }
 {
     match (count, complete) {
         (0, false) => Sentence::Plain("no event yet"),
@@ -301,7 +301,7 @@ fn events_sentence(count: usize, first: u64, last: u64, after: &'static str) -> 
 
 /// A packet under its number.
 pub(crate) fn packet_sentence(number: u64, packet: PacketName) -> Sentence
-    ensures { sentence_text result ≡ packet_words number packet }
+    ensures { sentence_text result ≡ packet_text number packet }
 {
     match packet {
         PacketName::Connect { session } => {
@@ -334,7 +334,7 @@ pub(crate) fn packet_sentence(number: u64, packet: PacketName) -> Sentence
 
 /// A packet that publishes the event of this timestamp.
 fn publish_sentence(number: u64, session: u64, tag: u64, timestamp: u64) -> Sentence
-    ensures { sentence_text result ≡ publish_words number session tag timestamp }
+    ensures { sentence_text result ≡ publish_text number session tag timestamp }
 {
     Sentence::Four(
         "packet ",
@@ -350,7 +350,7 @@ fn publish_sentence(number: u64, session: u64, tag: u64, timestamp: u64) -> Sent
 
 /// That the broker took a packet.
 fn arrival_sentence(packet: PacketName) -> Sentence
-    ensures { sentence_text result ≡ taken_words packet }
+    ensures { sentence_text result ≡ taken_text packet }
 {
     match packet {
         PacketName::Connect { session } => {
@@ -366,7 +366,7 @@ fn arrival_sentence(packet: PacketName) -> Sentence
 
 /// Why the broker ignored a packet, with this connection and this next tag.
 fn ignored_sentence(packet: PacketName, connection: u64, next_tag: Option<u64>) -> Sentence
-    ensures { sentence_text result ≡ ignored_words packet connection next_tag }
+    ensures { sentence_text result ≡ ignored_text packet connection next_tag }
 {
     match packet {
         _ if connection == 0 => Sentence::Plain("ignored, no session is connected"),
@@ -381,7 +381,7 @@ fn ignored_sentence(packet: PacketName, connection: u64, next_tag: Option<u64>) 
 }
 
 fn position_sentence(position: u64, item: ItemName) -> Sentence
-    ensures { sentence_text result ≡ position_words position item }
+    ensures { sentence_text result ≡ position_text position item }
 {
     match item {
         ItemName::Event(timestamp) => {
@@ -399,7 +399,7 @@ fn position_sentence(position: u64, item: ItemName) -> Sentence
 
 /// That a queue lost so many deliveries in flight.
 fn lost_sentence(count: usize, acked: u64) -> Sentence
-    ensures { sentence_text result ≡ lost_words count acked }
+    ensures { sentence_text result ≡ lost_text count acked }
 {
     Sentence::Two(
         "lost on the way ",
@@ -412,7 +412,7 @@ fn lost_sentence(count: usize, acked: u64) -> Sentence
 
 /// That a queue counted an acknowledgement.
 fn acknowledged_sentence(acked: u64) -> Sentence
-    ensures { sentence_text result ≡ acknowledged_words acked }
+    ensures { sentence_text result ≡ acknowledged_text acked }
 {
     Sentence::One(
         "counted, all up to position ",
@@ -423,7 +423,7 @@ fn acknowledged_sentence(acked: u64) -> Sentence
 
 /// What a subscriber did with the event of this timestamp.
 fn event_sentence(timestamp: u64, taking: Taking) -> Sentence
-    ensures { sentence_text result ≡ event_words taking timestamp }
+    ensures { sentence_text result ≡ event_text taking timestamp }
 {
     let words = match taking {
         Taking::Applied => "applied ",
@@ -436,7 +436,7 @@ fn event_sentence(timestamp: u64, taking: Taking) -> Sentence
 
 /// What a subscriber did with an end mark.
 fn end_sentence(taking: Taking) -> Sentence
-    ensures { sentence_text result ≡ end_words taking }
+    ensures { sentence_text result ≡ end_text taking }
 {
     Sentence::Plain(match taking {
         Taking::Applied => "applied the end mark",

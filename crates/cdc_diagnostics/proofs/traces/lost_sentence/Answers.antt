@@ -1,7 +1,7 @@
 use Rattle.std.proofs.lemmas.List.{append-nil}
-use Rattle.cdc_diagnostics.specs.Traces.{lost_words}
+use Rattle.cdc_diagnostics.specs.Traces.{lost_text}
 use Rattle.cdc_diagnostics.proofs.traces.lost_sentence.Goals as goal
 
 -- nothing follows the last number
 pub returns : goal.returns
-returns c = rw c.from.ensures (append-nil (lost_words c.args.count c.args.acked))
+returns c = rw c.from.ensures (append-nil (lost_text c.args.count c.args.acked))

@@ -1,12 +1,12 @@
 use Rattle.std.proofs.Common.{◌++◌, List, ℕ, append_assoc, codes, decimal}
-use Rattle.cdc_diagnostics.specs.Movements.{kind_words}
+use Rattle.cdc_diagnostics.specs.Movements.{kind_text}
 use Rattle.cdc_diagnostics.proofs.movements.Movement.push_to.Goals as goal
 
 pub returns : goal.returns
 returns c bytes held kept =
     let one : List ℕ = bytes ++ codes "transfer " in
     let two : List ℕ = one ++ decimal c.args.self.transfer in
-    let three : List ℕ = two ++ kind_words c.args.self.kind c.args.self.pending in
+    let three : List ℕ = two ++ kind_text c.args.self.kind c.args.self.pending in
     let four : List ℕ = three ++ codes ", " in
     let five : List ℕ = four ++ decimal c.args.self.amount in
     let six : List ℕ = five ++ codes " from " in
