@@ -129,7 +129,7 @@ def main(arguments):
             for found in pool.map(lambda name: helps(name, env), names):
                 for it in found:
                     same(*it)
-    same("there are scripts in each folder", {"tests", "checks", "bench", "common", "faults", "rabbitmq"},
+    same("there are scripts in each folder", {"tests", "tools", "checks", "bench", "common", "faults", "rabbitmq"},
          {os.path.basename(os.path.dirname(it)) for it in names})
     parts_left_out()
     for it in failures:
