@@ -67,7 +67,7 @@ ENDINGS = "antt|args|c|edit|errors|fish|bash|md|patch|progress|py|rt|script|sh|s
 QUOTED = re.compile(r"`([^`\n]+)`")
 LOOKS_LIKE_A_FILE = re.compile(rf"\.?[\w./*-]+\.(?:{ENDINGS})|\.?[\w.-]+(?:/[\w.*-]+)+/?")
 # Names for any name, and what the documents call a file that a command is given, or makes.
-STAND_INS = re.compile(r"NAME|CRATE|FUNCTION|METHOD|FILE|STEPS|PATH|PROGRESS|\bout/|^/|^\d|\.\.\.?$")
+STAND_INS = re.compile(r"NAME|CRATE|FUNCTION|METHOD|FILE|STEPS|PATH|PROGRESS|\b(?:out|play)/|^/|^\d|\.\.\.?$")
 # What is of the toolchain or of a format, and stands in no source here.
 OF_OTHERS = {"CRATES.md", "application/json", "fast_float"}
 # The files that are looked at for terms, besides the documents; and those of which only the name is: edits, which have code
