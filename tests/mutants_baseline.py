@@ -1,5 +1,5 @@
 """The mutation baseline, tests/mutants.txt: how each mutant was answered, on what that rests, and which of its answers are
-tried again. tests/mutants.py reads and writes it; docs/GATE.md, "The mutation baseline", has the rules.
+tried again. tests/mutants.py reads and writes it; CONTRIBUTING.md, "The mutation baseline", has the rules.
 
 No answer is decided here. Needs no toolchain, and Python 3.8 or later.
 """
@@ -18,7 +18,7 @@ from collections import namedtuple
 FILE = "tests/mutants.txt"
 HEAD = """\
 # How each mutant was answered, by the group in which it was tried. `tests/mutants.py --write` writes this file;
-# docs/GATE.md, "The mutation baseline", has what the digests are of.
+# CONTRIBUTING.md, "The mutation baseline", has what the digests are of.
 """
 REFUSED = "refused"
 # One in so many groups is tried again for each commit.

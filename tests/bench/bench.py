@@ -11,8 +11,8 @@ doesn't change; `run` looks for messages while it waits, so its instructions say
 system has of a run (spent.c, which wants `cc`). For the wall-clock times the commands of a script are run in turn, --times
 times (15, and no fewer count as a measure): the least and the median, with the load before and after.
 
-The table is compared with the last one of docs/MEASURED.md: what takes a fiftieth more instructions or memory is named.
-With --write it is put there, at the top, with the commit. Limits that fail are those of tests/checks/cost.py, which the gate
+The table is compared with that of docs/MEASURED.md: what takes a fiftieth more instructions or memory is named. With --write it
+replaces that one, with the commit. Limits that fail are those of tests/checks/cost.py, which the gate
 runs.
 """
 import concurrent.futures
@@ -37,6 +37,7 @@ from build.jobs import OPTIMISING
 from build.program import Program
 
 MEASURED = rooms.TOP / 'docs/MEASURED.md'
+TITLE = '## Speed and memory'
 HEAD = '| Script | Command | Instructions | of each event | Memory, MB | Least, s | Median, s | Processors, s |'
 # What may be more than in the last table before it is named.
 MORE = 1.02
@@ -198,9 +199,12 @@ def commit():
 
 
 def write(block):
-    """Puts a block at the top of docs/MEASURED.md, behind what stands before the first one."""
-    head, rest = MEASURED.read_text(encoding='utf-8').split('\n## ', 1)
-    MEASURED.write_text(f'{head}\n{block}\n## {rest}', encoding='utf-8')
+    """Replaces the last table in docs/MEASURED.md, with its title and the lines above it."""
+    text = MEASURED.read_text(encoding='utf-8')
+    before, _, rest = text.partition(f'{TITLE}\n')
+    rest = rest.partition(HEAD)[2]
+    after = rest[re.match(r'.*\n(?:\|.*\n)*', rest).end() :]
+    MEASURED.write_text(f'{before}{block}{after}', encoding='utf-8')
 
 
 def optimised():
@@ -228,14 +232,14 @@ def main(arguments):
             else:
                 bench.measure(name, *script_of(name))
     processors = len(os.sched_getaffinity(0))
-    title = f'## `{commit()}`, {datetime.date.today()}: the benchmark\n'
     load = f'a load of {before:.1f} before and {os.getloadavg()[0]:.1f} after'
-    about = f'By `tests/bench/bench.py`, {options.times} wall-clock runs of each, {processors} processors, {load}.\n'
+    by = f'By `tests/bench/bench.py` over the program of `{commit()}`, {datetime.date.today()}'
+    about = f'{by}: {options.times} wall-clock runs of each, {processors} processors, {load}. `--write` replaces this table.\n'
     print(bench.table(), end='')
     more = [*changes(bench.rows, last_table())]
     print('\n'.join(['bench: more than in the last table:', *more] if more else ['bench: nothing takes more than in the last table']))
     if options.write:
-        write(f'{title}\n{about}\n{bench.table()}')
+        write(f'{TITLE}\n\n{about}\n{bench.table()}')
 
 
 if __name__ == '__main__':

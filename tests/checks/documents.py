@@ -1,14 +1,16 @@
 #!/usr/bin/env python3
-"""The documents beside the repository: what they name exists, the tables of promises stay short, and the terms are the field's.
+"""The documents: what they name and link exists, they stay short, and the terms are the field's.
 
-- Each word in backquotes that looks like a file of this repository is one, in README.md, docs/*.md and the other pages
-  of OF_TODAY; each name in backquotes that has an underscore, a capital inside or `::` stands in some source.
-  docs/MEASURED.md is left out of both: each of its blocks is of a commit of its own.
-- A clause that docs/PROOFS.md names is one of some function; a cell of a table there has at most 300 characters.
-- The files of definitions that PROOFS.md has a reader believe, and the definitions that it picks of them, stand in
-  docs/DEFINITIONS.md.
-- No identifier, comment, diagnostic, help text or name of a file uses a term of tests/checks/terms.txt. Of must-fail/ only
-  the names are looked at, and the documents (*.md) only with --prose.
+- No document has more than its BUDGET of words; those of NOT_YET may have as many as they have today, and can only shrink. A
+  word has a letter or a digit, so the bars of a table are none.
+- Each link within the repository leads to a file, and to a heading in it. Each document is linked from README.md, or from one
+  that is.
+- In the documents each text in backquotes that looks like a file is one, and each name in backquotes that has an underscore, a
+  capital inside or `::` is in some source; not in those OF_OTHER_DAYS, which describe earlier commits.
+- A clause that docs/PROOFS.md names is one of some function; a cell of a table there has at most 300 characters. The files of
+  definitions that it has a reader believe, and the definitions that it picks of them, are in what tools/definitions prints.
+- No identifier, comment, diagnostic, help text, document or name of a file uses a term of tests/checks/terms.txt. Of must-fail/
+  only the names are looked at; the documents NOT_REWRITTEN yet only with --prose.
 
   tests/checks/documents.py [--prose]
   tests/checks/documents.py --terms [--prose] [PATH..]    only the terms, in these files and folders, and each place
@@ -20,6 +22,7 @@ import fnmatch
 import itertools
 import os
 import re
+import subprocess
 import sys
 
 sys.dont_write_bytecode = True
@@ -29,13 +32,42 @@ import ending
 import terms
 
 MOST = 300
-OF_TODAY = ["README.md", "docs/*.md", "contrib/*/README.md"]
-OF_OTHER_DAYS = "docs/MEASURED.md"
+# How many words a document may have; more where it isn't rewritten yet. Documents of one line share their words.
+BUDGETS = [
+    (450, "README.md"),
+    (1_600, "docs/GUIDE.md"),
+    (600, "docs/TESTING-A-CONSUMER.md"),
+    (1_000, "docs/EXACTLY-ONCE.md"),
+    (500, "docs/AUDIT.md"),
+    (2_500, "docs/REFERENCE.md"),
+    (5_500, "docs/FORMATS.md"),
+    (2_800, "docs/PROOFS.md"),
+    (1_800, "docs/ARCHITECTURE.md"),
+    (2_500, "CONTRIBUTING.md"),
+    (2_000, "docs/DECISIONS.md"),
+    (700, "docs/MEASURED.md"),
+    (800, "CHANGELOG.md", "ROADMAP.md"),
+    (600, "contrib/rabbitmq/README.md"),
+]
+NOT_YET = {
+    "README.md": 797,
+    "docs/GUIDE.md": 1_988,
+    "docs/REFERENCE.md": 4_620,
+    "docs/FORMATS.md": 6_802,
+    "docs/PROOFS.md": 11_231,
+    "contrib/rabbitmq/README.md": 1_518,
+}
+# The documents that don't use the field's terms throughout yet.
+NOT_REWRITTEN = list(NOT_YET)
+FIRST = "README.md"
+# The documents whose names may be of another day.
+OF_OTHER_DAYS = ["docs/MEASURED.md", "CHANGELOG.md"]
+LINK = re.compile(r"(?<!!)\[[^\]]+\]\(([^)\s]+)\)")
 ENDINGS = "antt|args|c|edit|errors|fish|bash|md|patch|progress|py|rt|script|sh|status|stdout|steps|txt|tar\\.xz|1"
 QUOTED = re.compile(r"`([^`\n]+)`")
 LOOKS_LIKE_A_FILE = re.compile(rf"\.?[\w./*-]+\.(?:{ENDINGS})|\.?[\w.-]+(?:/[\w.*-]+)+/?")
 # Names for any name, and what the documents call a file that a command is given, or makes.
-STAND_INS = re.compile(r"NAME|CRATE|FUNCTION|METHOD|FILE|STEPS|PATH|PROGRESS|\bout/|^/|^\d|\.\.\.?$")
+STAND_INS = re.compile(r"NAME|CRATE|FUNCTION|METHOD|FILE|STEPS|PATH|PROGRESS|\b(?:out|play)/|^/|^\d|\.\.\.?$")
 # What is of the toolchain or of a format, and stands in no source here.
 OF_OTHERS = {"CRATES.md", "application/json", "fast_float"}
 # The files that are looked at for terms, besides the documents; and those of which only the name is: edits, which have code
@@ -103,8 +135,50 @@ class Tree:
         return not is_name or all(it in self.names for it in names)
 
 
-def pages(tree):
-    return [it for it in tree.files if any(fnmatch.fnmatch(it, of) for of in OF_TODAY) and it != OF_OTHER_DAYS]
+def documents(tree):
+    return [it for it in tree.files if it.endswith(".md")]
+
+
+def words_in(text):
+    return sum(bool(re.search(r"[^\W_]", it)) for it in text.split())
+
+
+def anchors_in(text):
+    """Returns the names by which the headings of a document are linked."""
+    headings = re.findall(r"(?m)^#+ (.*)$", re.sub(r"(?ms)^```.*?^```$", "", text))
+    return {re.sub(r"[^\w\- ]", "", it.lower()).replace(" ", "-") for it in headings}
+
+
+def links_in(page):
+    """Gives the links of a document within the repository: the line, the file from the top, and the heading or ''."""
+    for at, line in enumerate(re.sub(r"`[^`\n]*`", "", read(page)).split("\n"), 1):
+        for link in LINK.findall(line):
+            if not re.match(r"\w+:", link):
+                path, _, anchor = link.partition("#")
+                yield at, os.path.normpath(f"{os.path.dirname(page)}/{path}" if path else page).lstrip("/"), anchor
+
+
+def checks_of_pages(tree):
+    """Gives a check for the length of each document, for each link, and for each document that has to be linked."""
+    every = documents(tree)
+    for limit, *pages in BUDGETS:
+        count = sum(words_in(read(it)) for it in pages if it in every)
+        limit = NOT_YET.get(pages[0], limit)
+        yield count <= limit, f"{' and '.join(pages)}: {count} words, {limit} at most"
+    for it in every:
+        yield any(it in pages for _, *pages in BUDGETS), f"{it} has no budget of words"
+    linked, open_ones = set(), [FIRST]
+    while open_ones:
+        page = open_ones.pop()
+        linked.add(page)
+        open_ones += {path for _, path, _ in links_in(page) if path in every} - linked
+    for page in every:
+        yield page in linked, f"{page} isn't linked from {FIRST}, nor from a document that is"
+        for at, path, anchor in links_in(page):
+            is_right = path in tree.files or path in tree.folders
+            yield is_right, f"{page}:{at}: there is no {path}"
+            if anchor and is_right:
+                yield anchor in anchors_in(read(path)), f"{page}:{at}: {path} has no heading #{anchor}"
 
 
 def cells_of(line):
@@ -113,7 +187,8 @@ def cells_of(line):
 
 def checks(tree):
     """Gives each check: whether it passed, and what is said where it failed."""
-    for page in pages(tree):
+    yield from checks_of_pages(tree)
+    for page in [it for it in documents(tree) if it not in OF_OTHER_DAYS]:
         for at, word in quoted_in(read(page)):
             if STAND_INS.search(word) or word in OF_OTHERS:
                 continue
@@ -121,7 +196,8 @@ def checks(tree):
                 yield tree.has_file(word), f"{page}:{at}: there is no {word}"
             else:
                 yield tree.has_names(word), f"{page}:{at}: no source has {word}"
-    proofs, definitions = read("docs/PROOFS.md"), read("docs/DEFINITIONS.md")
+    proofs = read("docs/PROOFS.md")
+    definitions = subprocess.run([f"{TOP}/tools/definitions"], stdout=subprocess.PIPE, check=True).stdout.decode()
     for at, line in enumerate(proofs.split("\n"), 1):
         for names in re.findall(r"clauses? ((?:`\w+`(?:, | and )?)+)", line):
             for it in re.findall(r"\w+", names.replace(" and ", " ")):
@@ -131,9 +207,9 @@ def checks(tree):
     for crate, file, names in believed_in(proofs):
         of_crate = definitions.partition(f"## `{crate}`\n")[2].partition("\n## ")[0]
         part = of_crate.partition(f"### {file}\n")[2].partition("\n###")[0]
-        yield bool(part), f"docs/PROOFS.md has a reader believe {file} of {crate}, which isn't in docs/DEFINITIONS.md"
+        yield bool(part), f"docs/PROOFS.md has a reader believe {file} of {crate}, which tools/definitions doesn't print"
         for it in names:
-            yield f"**{it}**" in part, f"docs/PROOFS.md has a reader believe {it} of {crate}, which isn't in docs/DEFINITIONS.md"
+            yield f"**{it}**" in part, f"docs/PROOFS.md has a reader believe {it} of {crate}, which tools/definitions doesn't print"
 
 
 def believed_in(proofs):
@@ -150,7 +226,7 @@ def believed_in(proofs):
 def with_terms(tree, paths, prose):
     """Returns the files whose text is looked at for terms, and the files and folders whose name is."""
     is_asked = lambda path: not paths or any(path == it or path.startswith(f"{it}/") for it in paths)
-    is_prose = lambda path: prose and path.endswith(".md")
+    is_prose = lambda path: path.endswith(".md") and (prose or path not in NOT_REWRITTEN)
     has_terms = lambda path: is_prose(path) or any(fnmatch.fnmatch(path, it) for it in WITH_TERMS)
     files = [it for it in tree.files if is_asked(it) and has_terms(it)]
     folders = {it[:at] for it in files for at in range(len(it)) if it[at] == "/"}
@@ -177,7 +253,7 @@ def checks_of_terms(tree, paths, prose, most):
 
 def main(arguments):
     parser = argparse.ArgumentParser(description=__doc__, formatter_class=argparse.RawDescriptionHelpFormatter)
-    parser.add_argument("--prose", action="store_true", help="looks for the terms in the documents too")
+    parser.add_argument("--prose", action="store_true", help="looks for the terms in all documents")
     parser.add_argument("--terms", action="store_true", help="looks only for the terms, and prints each place")
     parser.add_argument("paths", nargs="*", metavar="PATH", help="with --terms: only in these files and folders")
     asked = parser.parse_args(arguments)

@@ -1,5 +1,5 @@
 #!/usr/bin/env python3
-"""Tests of the scripts in tests/ and contrib/ as commands, over no program.
+"""Tests of the scripts in tests/ and contrib/, and of two in tools/, as commands, over no program.
 
   tests/checks/scripts_test.py
 
@@ -44,8 +44,8 @@ def same(what, wanted, found):
 
 
 def scripts():
-    """Returns the files below tests/ and contrib/ that begin with `#!` and may be executed."""
-    found = ["tests/run"]
+    """Returns the files below tests/ and contrib/ that begin with `#!` and may be executed, and others without an ending."""
+    found = ["tests/run", "tools/definitions", "tools/promises"]
     for folder in ("tests", "contrib"):
         for at, _, names in os.walk(f"{TOP}/{folder}"):
             for path in (f"{at}/{it}" for it in names if it.endswith((".py", ".sh"))):
@@ -129,7 +129,7 @@ def main(arguments):
             for found in pool.map(lambda name: helps(name, env), names):
                 for it in found:
                     same(*it)
-    same("there are scripts in each folder", {"tests", "checks", "bench", "common", "faults", "rabbitmq"},
+    same("there are scripts in each folder", {"tests", "tools", "checks", "bench", "common", "faults", "rabbitmq"},
          {os.path.basename(os.path.dirname(it)) for it in names})
     parts_left_out()
     for it in failures:
