@@ -1,6 +1,6 @@
 -- Examples: lines of traces and diagrams as the documents show them. The ledger has moved 100 from account 90 to
 -- account 1 by transfer 1, at timestamp 2000.
-use Rattle.std.specs.Prelude.{ℕ, ◌≡◌, ◌+◌, true, false, List, [], ◌∷◌, ◌++◌, codes, Option, None, Some}
+use Rattle.std.specs.Prelude.{ℕ, ◌≡◌, true, [], ◌∷◌, ◌++◌, codes, Option, None, Some}
 use Rattle.std.proofs.Common.{refl}
 use Rattle.std.specs.Fmt.{digits}
 use Rattle.cdc_types.specs.declared.accounts.NewAccount.{NewAccount}
@@ -9,14 +9,13 @@ use Rattle.cdc_types.specs.declared.batches.Batch.TheVariants as batch
 use Rattle.cdc_types.specs.declared.batches.BatchResults.TheVariants as results
 use Rattle.cdc_types.specs.declared.results.TransferResult.TheVariants.{Accepted}
 use Rattle.cdc_types.specs.declared.steps.Step.{Step}
-use Rattle.cdc_types.specs.declared.steps.Step.TheVariants.{Submit, StartAt, Publish, Arrive, Answer, Send, Take, Ack}
-use Rattle.cdc_types.specs.declared.transfers.NewTransfer.{NewTransfer}
+use Rattle.cdc_types.specs.declared.steps.Step.TheVariants.{Submit, StartAt, Publish, Arrive, Answer, Send, Take}
 use Rattle.cdc_ledger.specs.History.{History, empty_history}
 use Rattle.cdc_ledger.specs.Submit.{after_batches}
 use Rattle.cdc_subscriber.specs.declared.subscriber.Taking.TheVariants.{Applied, Repeat}
 use Rattle.cdc_world.specs.declared.moved.ItemName.TheVariants.{Event}
 use Rattle.cdc_world.specs.declared.moved.Moved.{Moved}
-use Rattle.cdc_world.specs.declared.moved.Moved.TheVariants.{SessionStarted, PacketSent, PacketTaken, PacketIgnored, ConfirmReceived, DeliverySent, DeliveryTaken, Acknowledged}
+use Rattle.cdc_world.specs.declared.moved.Moved.TheVariants.{SessionStarted, PacketSent, PacketTaken, ConfirmReceived, DeliverySent, DeliveryTaken}
 use Rattle.cdc_world.specs.declared.moved.PacketName.{PacketName}
 use Rattle.cdc_world.specs.declared.moved.PacketName.TheVariants.{Publish as PublishOf}
 use Rattle.cdc_world.specs.declared.steps.Did.{Did}
