@@ -34,9 +34,6 @@ is_settled-push past e id =
     list_any-append (λ (f : Event). settles f.kind && (settled_id f == id)) past (e ∷ [])
     ∙ ap (λ b. is_settled past id || b) (or_false (settles e.kind && (settled_id e == id)))
 
-amount_of_found : Option Event → Option ℕ
-amount_of_found found = option_map (λ (e : Event). e.transfer.amount) found
-
 amount-or : (one other : Option Event)
     → option_map (λ (e : Event). e.transfer.amount) (option_or one other)
     ≡ option_or (option_map (λ (e : Event). e.transfer.amount) one) (option_map (λ (e : Event). e.transfer.amount) other)
@@ -71,9 +68,9 @@ pending_amount-push past e id =
 
 eqb_same : (n : ℕ) → (n == n) ≡ true
 eqb_same n = elim (eqb_tells n n) [
-    | inl same ↦ same.0
-    | inr other ↦ absurd (other.1 refl)
-  ]
+  | inl same ↦ same.0
+  | inr other ↦ absurd (other.1 refl)
+]
 
 -- what is known under an id after an insertion
 stored_under-insert : (transfers : List (ℕ × Stored)) (key : ℕ) (stored : Stored) (id : ℕ)
@@ -180,9 +177,9 @@ both_true false b is = cc
 
 same_id : (a b : ℕ) → (a == b) ≡ true → a ≡ b
 same_id a b is = elim (eqb_tells a b) [
-    | inl same ↦ same.1
-    | inr other ↦ cc
-  ]
+  | inl same ↦ same.1
+  | inr other ↦ cc
+]
 
 -- nothing is stored under an id that isn't known
 unknown : (counts : Bool) (known : Option Stored) → (counts && is_some (cond counts known None)) ≡ false

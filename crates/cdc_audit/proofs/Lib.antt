@@ -1,3 +1,5 @@
 pub mod KnownLemmas
 pub mod StandLemmas
 pub mod AuditLemmas
+pub mod TextLemmas
+mod Examples

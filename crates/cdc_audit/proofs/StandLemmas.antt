@@ -158,7 +158,12 @@ answers_ended auditor state e ended stands =
 
 kept_same : (book book2 : List BookEntry) (last last2 applied applied2 : ℕ) → book ≡ book2 → last ≡ last2
     → applied ≡ applied2 → (let one : SubscriberState = record {
-      book = book; last = last; applied = applied; ended = false; closed = false } in one)
+      book = book;
+      last = last;
+      applied = applied;
+      ended = false;
+      closed = false;
+    } in one)
     ≡ record { book = book2; last = last2; applied = applied2; ended = false; closed = false }
 kept_same book book2 last last2 applied applied2 p q r = cc
 

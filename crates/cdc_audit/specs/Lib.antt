@@ -4,5 +4,6 @@ pub mod Rules
 pub mod Audits
 pub mod Standing
 pub mod Stops
+pub mod Texts
 -- private: what the code's own contracts cite
 pub mod Checks

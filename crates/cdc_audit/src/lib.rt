@@ -5,8 +5,10 @@ pub mod auditor;
 pub mod checks;
 pub mod refusals;
 pub mod streams;
+pub mod texts;
 
 pub use auditor::Auditor;
 pub use checks::Stored;
 pub use refusals::{BalanceField, Mismatch, Refusal};
 pub use streams::{AuditStop, audit, audit_line};
+pub use texts::push_refusal;

@@ -1,5 +1,8 @@
 //! Why an event is refused: it can't follow the events before it.
 
+ghost use Rattle.std.specs.Prelude.{◌≡◌};
+ghost use Rattle.cdc_audit.specs.Texts.{field_name, refusal_name};
+
 /// One of the four balances of an account.
 #[derive(Clone, Copy, Debug, PartialEq, Eq)]
 pub enum BalanceField {
@@ -42,4 +45,35 @@ pub enum Refusal {
     Settled(u128),
     /// A balance doesn't follow.
     Balance(Mismatch),
+}
+
+impl BalanceField {
+    /// The balance's name, as messages have it.
+    pub fn name(self) -> &'static str
+        ensures { result.now ≡ field_name self }
+    {
+        match self {
+            BalanceField::DebitsPending => "debits_pending",
+            BalanceField::DebitsPosted => "debits_posted",
+            BalanceField::CreditsPending => "credits_pending",
+            BalanceField::CreditsPosted => "credits_posted",
+        }
+    }
+}
+
+impl Refusal {
+    /// The name of the rule that the event breaks.
+    pub fn name(self) -> &'static str
+        ensures { result.now ≡ refusal_name self }
+    {
+        match self {
+            Refusal::AfterEnd(_) => "end",
+            Refusal::NotLater(_, _) => "timestamps",
+            Refusal::OneAccount(_) => "accounts",
+            Refusal::KnownId(_) => "id",
+            Refusal::NotPending(_) => "pending",
+            Refusal::Settled(_) => "ended",
+            Refusal::Balance(_) => "balances",
+        }
+    }
 }

@@ -1,0 +1,194 @@
+-- Streams of a few events: one that is accepted, one that each rule refuses, and the texts of the refusals.
+use Rattle.std.proofs.Common.{◌≡◌, ℕ, true, false, [], ◌∷◌, Some, refl}
+use Rattle.std.specs.Prelude.{codes}
+use Rattle.std.specs.Fmt.{digits}
+use Rattle.cdc_types.specs.declared.events.Event.{Event}
+use Rattle.cdc_types.specs.declared.events.EventAccount.{EventAccount}
+use Rattle.cdc_types.specs.declared.events.EventKind.{EventKind}
+use Rattle.cdc_types.specs.declared.events.EventKind.TheVariants.{SinglePhase, TwoPhasePending, TwoPhasePosted, TwoPhaseVoided, TwoPhaseExpired}
+use Rattle.cdc_follow.specs.declared.entries.Content.TheVariants as content
+use Rattle.cdc_audit.specs.declared.refusals.BalanceField.TheVariants.{DebitsPosted, DebitsPending}
+use Rattle.cdc_audit.specs.declared.refusals.Refusal.TheVariants.{AfterEnd, NotLater, OneAccount, KnownId, NotPending, Settled, Balance}
+use Rattle.cdc_audit.specs.Audits.{entry_refusal, follows_on, is_accepted}
+use Rattle.cdc_audit.specs.Rules.{refusal}
+use Rattle.cdc_audit.specs.Texts.{refusal_text}
+
+-- an account that is debited, and one that is credited, with their pending and posted sums
+abbrev debited : ℕ → ℕ → ℕ → EventAccount
+debited id pending posted = record {
+  id = id;
+  debits_pending = pending;
+  debits_posted = posted;
+  credits_pending = 0;
+  credits_posted = 0;
+  user_data_128 = 0;
+  user_data_64 = 0;
+  user_data_32 = 0;
+  code = 1;
+  flags = 0;
+  timestamp = 1;
+}
+
+abbrev credited : ℕ → ℕ → ℕ → EventAccount
+credited id pending posted = record {
+  id = id;
+  debits_pending = 0;
+  debits_posted = 0;
+  credits_pending = pending;
+  credits_posted = posted;
+  user_data_128 = 0;
+  user_data_64 = 0;
+  user_data_32 = 0;
+  code = 1;
+  flags = 0;
+  timestamp = 2;
+}
+
+-- an event at this time, of this kind, with the id, the pending id and the amount of its transfer, and with the same
+-- sums of both accounts
+abbrev event : ℕ → EventKind → ℕ → ℕ → ℕ → ℕ → ℕ → Event
+event timestamp kind id pending_id amount pending posted = record {
+  timestamp = timestamp;
+  kind = kind;
+  ledger = 1;
+  transfer = record {
+    id = id;
+    amount = amount;
+    pending_id = pending_id;
+    user_data_128 = 0;
+    user_data_64 = 0;
+    user_data_32 = 0;
+    timeout = 0;
+    code = 1;
+    flags = 0;
+    timestamp = timestamp;
+  };
+  debit_account = debited 1 pending posted;
+  credit_account = credited 2 pending posted;
+}
+
+-- five are moved at once, seven are held back, and six of them are posted
+abbrev moved : Event
+moved = event 1000 SinglePhase 10 0 5 0 5
+
+abbrev held_back : Event
+held_back = event 2000 TwoPhasePending 11 0 7 7 5
+
+abbrev posted_then : Event
+posted_then = event 3000 TwoPhasePosted 12 11 6 0 11
+
+accepted : is_accepted (moved ∷ held_back ∷ posted_then ∷ []) ≡ true
+unfolding refusal follows_on
+accepted = refl
+
+-- or the seven are released, by a void or by an expiry, whose transfer is the pending one
+accepted-void : is_accepted (moved ∷ held_back ∷ event 3000 TwoPhaseVoided 12 11 7 0 5 ∷ []) ≡ true
+unfolding refusal follows_on
+accepted-void = refl
+
+accepted-expiry : is_accepted (moved ∷ held_back ∷ event 3000 TwoPhaseExpired 11 0 7 0 5 ∷ []) ≡ true
+unfolding refusal follows_on
+accepted-expiry = refl
+
+-- without the event between them the third one doesn't follow from the first
+one_is_lost : is_accepted (moved ∷ posted_then ∷ []) ≡ false
+unfolding refusal follows_on
+one_is_lost = refl
+
+-- each rule refuses an event
+after_the_end : entry_refusal (record { past = moved ∷ []; ended = true }) (content.Event held_back)
+    ≡ Some (AfterEnd 2000)
+after_the_end = refl
+
+not_later : refusal (moved ∷ []) (event 1000 SinglePhase 11 0 5 0 10) ≡ Some (NotLater 1000 1000)
+unfolding refusal
+not_later = refl
+
+one_account : refusal [] (record moved { credit_account = credited 1 0 5 }) ≡ Some (OneAccount 1)
+unfolding refusal
+one_account = refl
+
+known_id : refusal (moved ∷ []) (event 2000 SinglePhase 10 0 5 0 10) ≡ Some (KnownId 10)
+unfolding refusal
+known_id = refl
+
+not_pending : refusal (moved ∷ []) (event 2000 TwoPhasePosted 11 10 5 0 10) ≡ Some (NotPending 10)
+unfolding refusal
+not_pending = refl
+
+settled_before : refusal (moved ∷ held_back ∷ posted_then ∷ []) (event 4000 TwoPhaseVoided 13 11 7 0 11)
+    ≡ Some (Settled 11)
+unfolding refusal
+settled_before = refl
+
+-- the post of six releases the seven that are held, not six
+releases_the_whole : refusal (moved ∷ held_back ∷ []) (event 3000 TwoPhasePosted 12 11 6 1 11)
+    ≡ Some (Balance (record {
+      account = 1;
+      field = DebitsPending;
+      shown = 1;
+      before = 7;
+      added = 0;
+      released = 7;
+    }))
+unfolding refusal
+releases_the_whole = refl
+
+other_balance : refusal (moved ∷ []) (event 2000 SinglePhase 11 0 5 0 11)
+    ≡ Some (Balance (record {
+      account = 1;
+      field = DebitsPosted;
+      shown = 11;
+      before = 5;
+      added = 5;
+      released = 0;
+    }))
+unfolding refusal
+other_balance = refl
+
+-- the texts
+text-balance : refusal_text (Balance (record {
+  account = 7;
+  field = DebitsPosted;
+  shown = 45;
+  before = 30;
+  added = 5;
+  released = 0;
+})) ≡ codes "balances: account 7 has debits_posted 45, after 30 and this transfer's 5"
+unfolding refusal_text digits
+text-balance = refl
+
+text-released : refusal_text (Balance (record {
+  account = 7;
+  field = DebitsPending;
+  shown = 45;
+  before = 30;
+  added = 0;
+  released = 5;
+})) ≡ codes "balances: account 7 has debits_pending 45, after 30 less the pending transfer's 5"
+unfolding refusal_text digits
+text-released = refl
+
+text-end : refusal_text (AfterEnd 2001) ≡ codes "end: event 2001 came after the end"
+unfolding refusal_text digits
+text-end = refl
+
+text-timestamps : refusal_text (NotLater 2000 2000) ≡ codes "timestamps: 2000, after 2000"
+unfolding refusal_text digits
+text-timestamps = refl
+
+text-accounts : refusal_text (OneAccount 1) ≡ codes "accounts: account 1 is debited and credited"
+unfolding refusal_text digits
+text-accounts = refl
+
+text-id : refusal_text (KnownId 7) ≡ codes "id: transfer 7 came before"
+unfolding refusal_text digits
+text-id = refl
+
+text-pending : refusal_text (NotPending 7) ≡ codes "pending: no pending transfer 7 came before"
+unfolding refusal_text digits
+text-pending = refl
+
+text-ended : refusal_text (Settled 7) ≡ codes "ended: pending transfer 7 ended before"
+unfolding refusal_text digits
+text-ended = refl

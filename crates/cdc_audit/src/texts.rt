@@ -1,0 +1,101 @@
+//! The text of a refusal.
+
+ghost use Rattle.std.specs.Prelude.{◌≡◌, ◌++◌, OnOk};
+ghost use Rattle.cdc_audit.specs.Texts as spec;
+ghost use Rattle.cdc_audit.specs.Texts.{refusal_text};
+
+use crate::refusals::{Mismatch, Refusal};
+use itoa::{Buffer, Integer};
+use std::alloc::AllocError;
+
+/// Adds the text of a refusal: the name of the rule that the event breaks, a colon, and the reason with its numbers.
+/// If memory runs out, a part of it may have been added.
+pub fn push_refusal(why: &Refusal, text: &mut Vec<u8>) -> Result<(), AllocError>
+    ensures { OnOk result (text.new.items ≡ text.old.items ++ refusal_text why.now) }
+{
+    push(text, why.name())?;
+    push(text, ": ")?;
+    push_reason(*why, text)
+}
+
+/// Adds the reason, with its numbers.
+fn push_reason(why: Refusal, text: &mut Vec<u8>) -> Result<(), AllocError>
+    ensures { OnOk result (text.new.items ≡ text.old.items ++ spec.reason_text why) }
+{
+    match why {
+        Refusal::AfterEnd(timestamp) => push_around(
+            text,
+            "event ",
+            timestamp,
+            " came after the end",
+        ),
+        Refusal::NotLater(timestamp, last) => push_order(text, timestamp, last),
+        Refusal::OneAccount(id) => push_around(text, "account ", id, " is debited and credited"),
+        Refusal::KnownId(id) => push_around(text, "transfer ", id, " came before"),
+        Refusal::NotPending(id) => push_around(text, "no pending transfer ", id, " came before"),
+        Refusal::Settled(id) => push_around(text, "pending transfer ", id, " ended before"),
+        Refusal::Balance(mismatch) => push_mismatch(&mismatch, text),
+    }
+}
+
+/// Adds two timestamps of which the first isn't later.
+fn push_order(text: &mut Vec<u8>, timestamp: u64, last: u64) -> Result<(), AllocError>
+    ensures { OnOk result (text.new.items
+        ≡ text.old.items ++ spec.reason_text (Refusal.NotLater timestamp last)) }
+{
+    push_around(text, "", timestamp, ", after ")?;
+    push_number(text, last)
+}
+
+/// Adds a balance that doesn't follow, and what it would follow from.
+fn push_mismatch(mismatch: &Mismatch, text: &mut Vec<u8>) -> Result<(), AllocError>
+    ensures { OnOk result (text.new.items ≡ text.old.items ++ spec.mismatch_text mismatch.now) }
+{
+    push_around(text, "account ", mismatch.account, " has ")?;
+    push(text, mismatch.field.name())?;
+    push_around(text, " ", mismatch.shown, ", after ")?;
+    push_number(text, mismatch.before)?;
+    push_unless_zero(text, " and this transfer's ", mismatch.added)?;
+    push_unless_zero(text, " less the pending transfer's ", mismatch.released)
+}
+
+/// Adds a part of a text.
+fn push(text: &mut Vec<u8>, part: &str) -> Result<(), AllocError>
+    ensures { OnOk result (text.new.items ≡ text.old.items ++ part.now) }
+{
+    text.extend_from_slice(part.as_bytes())
+}
+
+/// Adds a number.
+fn push_number<I: Integer>(text: &mut Vec<u8>, number: I) -> Result<(), AllocError>
+    ensures { OnOk result (text.new.items ≡ text.old.items ++ I.text number) }
+{
+    push(text, Buffer::new().format(number))
+}
+
+/// Adds a number between two texts.
+fn push_around<I: Integer>(
+    text: &mut Vec<u8>,
+    before: &str,
+    number: I,
+    after: &str,
+) -> Result<(), AllocError>
+    ensures { OnOk result (text.new.items
+        ≡ text.old.items ++ (before.now ++ (I.text number ++ after.now))) }
+{
+    push(text, before)?;
+    push_number(text, number)?;
+    push(text, after)
+}
+
+/// Adds a text and a number; nothing if the number is 0.
+fn push_unless_zero(text: &mut Vec<u8>, before: &str, number: u128) -> Result<(), AllocError>
+    ensures { OnOk result (text.new.items ≡ text.old.items ++ spec.unless_zero before.now number) }
+{
+    if number == 0 {
+        Ok(())
+    } else {
+        push(text, before)?;
+        push_number(text, number)
+    }
+}
