@@ -8,7 +8,7 @@ use Rattle.cdc_types.specs.declared.events.EventKind.{EventKind}
 use Rattle.cdc_types.specs.declared.events.EventKind.TheVariants.{SinglePhase, TwoPhasePending, TwoPhasePosted, TwoPhaseVoided, TwoPhaseExpired}
 use Rattle.cdc_follow.specs.declared.entries.Content.TheVariants as content
 use Rattle.cdc_audit.specs.declared.refusals.BalanceField.TheVariants.{DebitsPosted, DebitsPending}
-use Rattle.cdc_audit.specs.declared.refusals.Refusal.TheVariants.{AfterEnd, NotLater, OneAccount, KnownId, NotPending, Settled, Balance}
+use Rattle.cdc_audit.specs.declared.refusals.Refusal.TheVariants.{AfterEnd, NotLater, OneAccount, KnownId, NotPending, Settled, OtherFields, Amount, Balance}
 use Rattle.cdc_audit.specs.Audits.{entry_refusal, follows_on, is_accepted}
 use Rattle.cdc_audit.specs.Rules.{refusal}
 use Rattle.cdc_audit.specs.Texts.{refusal_text}
@@ -77,16 +77,25 @@ held_back = event 2000 TwoPhasePending 11 0 7 7 5
 abbrev posted_then : Event
 posted_then = event 3000 TwoPhasePosted 12 11 6 0 11
 
+-- or the whole is released, since the seven expire
+abbrev expired : Event
+expired = record held_back {
+  timestamp = 3000;
+  kind = TwoPhaseExpired;
+  debit_account = debited 1 0 5;
+  credit_account = credited 2 0 5;
+}
+
 accepted : is_accepted (moved ∷ held_back ∷ posted_then ∷ []) ≡ true
 unfolding refusal follows_on
 accepted = refl
 
--- or the seven are released, by a void or by an expiry, whose transfer is the pending one
+-- or the seven are released, by a void or by their expiry
 accepted-void : is_accepted (moved ∷ held_back ∷ event 3000 TwoPhaseVoided 12 11 7 0 5 ∷ []) ≡ true
 unfolding refusal follows_on
 accepted-void = refl
 
-accepted-expiry : is_accepted (moved ∷ held_back ∷ event 3000 TwoPhaseExpired 11 0 7 0 5 ∷ []) ≡ true
+accepted-expiry : is_accepted (moved ∷ held_back ∷ expired ∷ []) ≡ true
 unfolding refusal follows_on
 accepted-expiry = refl
 
@@ -120,6 +129,26 @@ settled_before : refusal (moved ∷ held_back ∷ posted_then ∷ []) (event 400
     ≡ Some (Settled 11)
 unfolding refusal
 settled_before = refl
+
+-- a post between other accounts than its pending transfer's, and an expiry with another code
+other_accounts : refusal (moved ∷ held_back ∷ []) (record posted_then { credit_account = credited 3 0 6 })
+    ≡ Some (OtherFields 11)
+unfolding refusal
+other_accounts = refl
+
+other_transfer : refusal (moved ∷ held_back ∷ []) (record expired { transfer = record held_back.transfer { timeout = 1 } })
+    ≡ Some (OtherFields 11)
+unfolding refusal
+other_transfer = refl
+
+-- more than the seven are posted, and not the whole of them is voided
+too_much : refusal (moved ∷ held_back ∷ []) (event 3000 TwoPhasePosted 12 11 8 0 13) ≡ Some (Amount 8 11 7)
+unfolding refusal
+too_much = refl
+
+a_part_is_voided : refusal (moved ∷ held_back ∷ []) (event 3000 TwoPhaseVoided 12 11 6 0 5) ≡ Some (Amount 6 11 7)
+unfolding refusal
+a_part_is_voided = refl
 
 -- the post of six releases the seven that are held, not six
 releases_the_whole : refusal (moved ∷ held_back ∷ []) (event 3000 TwoPhasePosted 12 11 6 1 11)
@@ -168,6 +197,15 @@ text-released : refusal_text (Balance (record {
 })) ≡ codes "balances: account 7 has debits_pending 45, after 30 less the pending transfer's 5"
 unfolding refusal_text digits
 text-released = refl
+
+text-settles : refusal_text (OtherFields 7)
+    ≡ codes "settles: pending transfer 7 has other accounts, another ledger or code"
+unfolding refusal_text digits
+text-settles = refl
+
+text-amount : refusal_text (Amount 12 7 10) ≡ codes "amount: 12 of pending transfer 7, which holds 10"
+unfolding refusal_text digits
+text-amount = refl
 
 text-end : refusal_text (AfterEnd 2001) ≡ codes "end: event 2001 came after the end"
 unfolding refusal_text digits

@@ -13,8 +13,8 @@ use Rattle.cdc_ledger.specs.Kinds.{holds, settles, stores}
 use Rattle.cdc_audit.specs.declared.checks.Stored.{Stored}
 use Rattle.cdc_audit.specs.declared.checks.Stored.TheVariants.{Plain, Pending, Settled}
 use Rattle.cdc_audit.specs.Checks.{amount_in, stored_by, was_settled}
-use Rattle.cdc_audit.specs.Known.{is_settled, is_stored, pending_amount, settled_id}
-use Rattle.cdc_audit.specs.Standing.{IsKnownOf, stored_under, with_own, with_settled}
+use Rattle.cdc_audit.specs.Known.{is_settled, is_stored, open_event, pending_amount, pending_event, settled_id}
+use Rattle.cdc_audit.specs.Standing.{IsKnownOf, open_then, open_under, stored_under, with_own, with_settled}
 
 or_false : (b : Bool) → (b || false) ≡ b
 or_false true = refl
@@ -33,6 +33,12 @@ is_settled-push : (past : List Event) (e : Event) (id : ℕ)
 is_settled-push past e id =
     list_any-append (λ (f : Event). settles f.kind && (settled_id f == id)) past (e ∷ [])
     ∙ ap (λ b. is_settled past id || b) (or_false (settles e.kind && (settled_id e == id)))
+
+-- the event that stored a pending transfer, after one more event
+pending_event-push : (past : List Event) (e : Event) (id : ℕ)
+    → pending_event (past ++ e ∷ []) id
+    ≡ option_or (pending_event past id) (cond (holds e.kind && (e.transfer.id == id)) (Some e) None)
+pending_event-push past e id = find-append (λ (f : Event). holds f.kind && (f.transfer.id == id)) past (e ∷ [])
 
 amount-or : (one other : Option Event)
     → option_map (λ (e : Event). e.transfer.amount) (option_or one other)
@@ -227,3 +233,47 @@ known-step transfers past e knows new there open_yet id =
       amount = pending_amount-push past e id ∙ step.amount ∙ sym (ap amount_in found);
       settled = is_settled-push past e id ∙ step.settled ∙ sym (ap was_settled found);
     }
+
+-- ---- the open pending transfers
+
+-- no event stored a pending transfer of which no amount is known
+no_event : (found : Option Event) → option_map (λ (e : Event). e.transfer.amount) found ≡ None → found ≡ None
+no_event None none = refl
+no_event (Some e) none = cc
+
+-- one step: the transfer is the pending one that the event settles, or a pending one that it stores, or another one
+open-step : (settled held was : Bool) (before : Option Event) (e : Event)
+    → (held ≡ true → (was ≡ false) × (before ≡ None))
+    → cond (was || settled) None (option_or before (cond held (Some e) None))
+    ≡ cond settled None (cond held (Some e) (cond was None before))
+open-step true held true before e new = refl
+open-step true held false before e new = refl
+open-step false true was before e new =
+    let is = new refl in
+    rw (is.0, is.1) refl
+open-step false false true before e new = refl
+open-step false false false None e new = refl
+open-step false false false (Some x) e new = refl
+
+-- the open pending transfer of an id after an event that an auditor accepts
+pub open_one-step : (transfers : List (ℕ × Stored)) (events : List (ℕ × Event)) (past : List Event) (e : Event)
+    → ((id : ℕ) → IsKnownOf (stored_under transfers id) past id)
+    → ((id : ℕ) → open_under events id ≡ open_event past id)
+    → (stores e.kind && is_some (cond (stores e.kind) (stored_under transfers e.transfer.id) None)) ≡ false
+    → (id : ℕ) → open_then events e id ≡ open_event (past ++ e ∷ []) id
+open_one-step transfers events past e knows opened new id =
+    let held : Bool = holds e.kind && (e.transfer.id == id) in
+    let settled : Bool = settles e.kind && (settled_id e == id) in
+    ap (λ o. cond settled None (cond held (Some e) o)) (opened id)
+    ∙ sym (open-step settled held (is_settled past id) (pending_event past id) e (λ is.
+    let both = both_true (holds e.kind) (e.transfer.id == id) is in
+    let storing = both_true (holds e.kind) (stores e.kind && (e.transfer.id == id))
+    (sym (holds_stores e.kind (e.transfer.id == id)) ∙ is) in
+    let stored : stores e.kind ≡ true = (both_true (stores e.kind) (e.transfer.id == id) storing.1).0 in
+    let none : stored_under transfers id ≡ None =
+    sym (ap (stored_under transfers) (same_id e.transfer.id id both.1))
+    ∙ unknown (stores e.kind) (stored_under transfers e.transfer.id) new stored in
+    let was = knows id in
+    (was.settled ∙ ap was_settled none, no_event (pending_event past id) (was.amount ∙ ap amount_in none))))
+    ∙ sym (ap (λ b. cond b None (pending_event (past ++ e ∷ []) id)) (is_settled-push past e id)
+    ∙ ap (λ o. cond (is_settled past id || settled) None o) (pending_event-push past e id))

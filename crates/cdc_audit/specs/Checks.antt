@@ -15,6 +15,7 @@ use Rattle.cdc_audit.specs.declared.refusals.Refusal.{Refusal}
 use Rattle.cdc_audit.specs.declared.refusals.Refusal.TheVariants.{NotLater, OneAccount, KnownId, NotPending, Settled}
 use Rattle.cdc_audit.specs.Known.{settled_id}
 use Rattle.cdc_audit.specs.Rules.{balance_line, held, posted}
+use Rattle.cdc_audit.specs.Settling.{settling_lines}
 
 -- the amount of a stored transfer that is or was pending
 abbrev pub amount_of : Stored → Option ℕ
@@ -87,4 +88,5 @@ transfer_lines facts e =
 
 -- all lines, in order
 abbrev pub lines : Facts → Event → List (Bool × Refusal)
-lines facts e = (order_lines facts.last e ++ transfer_lines facts e) ++ balances_lines facts e
+lines facts e =
+    ((order_lines facts.last e ++ transfer_lines facts e) ++ settling_lines facts.open_one e) ++ balances_lines facts e

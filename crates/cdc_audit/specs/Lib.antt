@@ -1,5 +1,6 @@
 -- what has to be believed
 pub mod Known
+pub mod Settling
 pub mod Rules
 pub mod Audits
 pub mod Standing

@@ -1,12 +1,12 @@
 -- What an auditor keeps, and for which audits it stands.
-use Rattle.std.specs.Prelude.{◌≡◌, ℕ, Bool, false, min, nat_eq, is_some, List, length, Option, None, unwrap_or, if◌then◌else◌}
+use Rattle.std.specs.Prelude.{◌≡◌, ℕ, Bool, false, ◌==◌, ◌&&◌, min, nat_eq, is_some, List, length, Option, Some, None, unwrap_or, if◌then◌else◌}
 use Rattle.std.specs.Map.{lookup}
 use Rattle.indexmap.specs.IndexMap.{insert_entry}
 use Rattle.cdc_types.specs.declared.events.Event.{Event}
 use Rattle.cdc_types.specs.Timestamps.{last_timestamp}
 use Rattle.cdc_types.specs.Widths.{max_64}
 use Rattle.cdc_ledger.specs.Accounts.{no_balances}
-use Rattle.cdc_ledger.specs.Kinds.{settles, stores}
+use Rattle.cdc_ledger.specs.Kinds.{holds, settles, stores}
 use Rattle.cdc_subscriber.specs.Book.{balances_in, book_of}
 use Rattle.cdc_subscriber.specs.SubscriberState.{SubscriberState}
 use Rattle.cdc_audit.specs.declared.checks.Facts.{Facts}
@@ -14,16 +14,22 @@ use Rattle.cdc_audit.specs.declared.checks.Stored.{Stored}
 use Rattle.cdc_audit.specs.declared.checks.Stored.TheVariants as stored
 use Rattle.cdc_audit.specs.Audits.{AuditState}
 use Rattle.cdc_audit.specs.Checks.{amount_in, stored_by, was_settled}
-use Rattle.cdc_audit.specs.Known.{is_settled, is_stored, pending_amount, settled_id}
+use Rattle.cdc_audit.specs.Known.{is_settled, is_stored, open_event, pending_amount, settled_id}
 
--- what an auditor keeps: what its subscriber keeps, and what is known of each stored transfer, by its id
+-- what an auditor keeps: what its subscriber keeps, what is known of each stored transfer, by its id, and the event of
+-- each open pending one
 pub record AuditorState : Type 0 where
   pub kept : SubscriberState
   pub transfers : List (ℕ × Stored)
+  pub open_ones : List (ℕ × Event)
 
 -- what is known of the transfer with this id, if one is stored
 abbrev pub stored_under : List (ℕ × Stored) → ℕ → Option Stored
 stored_under transfers id = lookup (nat_eq id) transfers
+
+-- the event of the open pending transfer with this id, if there is one
+abbrev pub open_under : List (ℕ × Event) → ℕ → Option Event
+open_under events id = lookup (nat_eq id) events
 
 -- what an open subscriber keeps that has applied the events of an audit
 abbrev pub kept_after : AuditState → SubscriberState
@@ -41,11 +47,12 @@ pub record IsKnownOf (known : Option Stored) (past : List Event) (id : ℕ) : Ty
   pub amount : pending_amount past id ≡ amount_in known
   pub settled : is_settled past id ≡ was_settled known
 
--- an auditor stands for an audit: it has the book, the last timestamp, the count and the end of the audited events, and
--- knows each of their transfers
+-- an auditor stands for an audit: it has the book, the last timestamp, the count and the end of the audited events,
+-- knows each of their transfers, and has the events of the open pending ones
 pub record StandsFor (auditor : AuditorState) (state : AuditState) : Type 0 where
   pub kept : auditor.kept ≡ kept_after state
   pub transfers : (id : ℕ) → IsKnownOf (stored_under auditor.transfers id) state.past id
+  pub open_ones : (id : ℕ) → open_under auditor.open_ones id ≡ open_event state.past id
 
 -- ---- private: the parts of an auditor's step
 
@@ -53,12 +60,17 @@ pub record StandsFor (auditor : AuditorState) (state : AuditState) : Type 0 wher
 abbrev pub stored_if : Bool → List (ℕ × Stored) → ℕ → Option Stored
 stored_if counts transfers id = if counts then stored_under transfers id else None
 
+-- the event under an id that counts
+abbrev pub open_if : Bool → List (ℕ × Event) → ℕ → Option Event
+open_if counts events id = if counts then open_under events id else None
+
 -- what an auditor knows of an event
 abbrev pub facts_of : AuditorState → Event → Facts
 facts_of auditor e = record {
   last = auditor.kept.last;
   own = stored_if (stores e.kind) auditor.transfers e.transfer.id;
   settled = stored_if (settles e.kind) auditor.transfers (settled_id e);
+  open_one = open_if (settles e.kind) auditor.open_ones (settled_id e);
   debited = unwrap_or (balances_in auditor.kept.book e.debit_account.id) no_balances;
   credited = unwrap_or (balances_in auditor.kept.book e.credit_account.id) no_balances;
 }
@@ -72,3 +84,10 @@ with_own transfers e =
 abbrev pub with_settled : List (ℕ × Stored) → Event → ℕ → List (ℕ × Stored)
 with_settled transfers e amount =
     if settles e.kind then insert_entry nat_eq transfers (settled_id e) (stored.Settled amount) else transfers
+
+-- the event of the open pending transfer with this id, after one more event
+abbrev pub open_then : List (ℕ × Event) → Event → ℕ → Option Event
+open_then events e id =
+    if settles e.kind && (settled_id e == id) then None
+    else if holds e.kind && (e.transfer.id == id) then Some e
+    else open_under events id

@@ -4,7 +4,7 @@ use Rattle.cdc_audit.specs.declared.refusals.BalanceField.{BalanceField}
 use Rattle.cdc_audit.specs.declared.refusals.BalanceField.TheVariants.{DebitsPending, DebitsPosted, CreditsPending, CreditsPosted}
 use Rattle.cdc_audit.specs.declared.refusals.Mismatch.{Mismatch}
 use Rattle.cdc_audit.specs.declared.refusals.Refusal.{Refusal}
-use Rattle.cdc_audit.specs.declared.refusals.Refusal.TheVariants.{AfterEnd, NotLater, OneAccount, KnownId, NotPending, Settled, Balance}
+use Rattle.cdc_audit.specs.declared.refusals.Refusal.TheVariants.{AfterEnd, NotLater, OneAccount, KnownId, NotPending, Settled, OtherFields, Amount, Balance}
 
 -- the name of the rule that the event breaks
 abbrev pub refusal_name : Refusal → List ℕ
@@ -14,6 +14,8 @@ refusal_name (OneAccount id) = codes "accounts"
 refusal_name (KnownId id) = codes "id"
 refusal_name (NotPending id) = codes "pending"
 refusal_name (Settled id) = codes "ended"
+refusal_name (OtherFields id) = codes "settles"
+refusal_name (Amount amount id held) = codes "amount"
 refusal_name (Balance mismatch) = codes "balances"
 
 -- the name of a balance
@@ -47,6 +49,9 @@ reason_text (OneAccount id) = around (codes "account ") id (codes " is debited a
 reason_text (KnownId id) = around (codes "transfer ") id (codes " came before")
 reason_text (NotPending id) = around (codes "no pending transfer ") id (codes " came before")
 reason_text (Settled id) = around (codes "pending transfer ") id (codes " ended before")
+reason_text (OtherFields id) = around (codes "pending transfer ") id (codes " has other accounts, another ledger or code")
+reason_text (Amount amount id held) =
+    around [] amount (codes " of pending transfer ") ++ (decimal id ++ (codes ", which holds " ++ decimal held))
 reason_text (Balance mismatch) = mismatch_text mismatch
 
 -- the rule's name and the reason

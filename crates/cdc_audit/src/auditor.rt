@@ -1,7 +1,8 @@
 //! An auditor: it accepts each event of a stream that follows from the events before it, and refuses the first other
 //! one.
 
-ghost use Rattle.std.specs.Prelude.{◌≡◌, ◌≤◌, ◌+◌, true, false, nat_eq, unwrap_or, Some, None, IsSome, IfOk, OnErr};
+ghost use Rattle.std.specs.Prelude.{◌≡◌, ◌≤◌, ◌+◌, ◌==◌, ℕ, true, false, nat_eq, unwrap_or, Some, None, IsSome, IfOk, OnErr};
+ghost use Rattle.std.specs.Prelude.{if◌then◌else◌};
 ghost use Rattle.indexmap.specs.IndexMap.{insert_entry, spare};
 ghost use Rattle.cdc_message.specs.declared.items.Item.TheVariants as item;
 ghost use Rattle.cdc_ledger.specs.Accounts.{no_balances};
@@ -12,7 +13,7 @@ ghost use Rattle.cdc_audit.specs.Checks as spec;
 ghost use Rattle.cdc_audit.specs.Standing as standing;
 ghost use Rattle.cdc_audit.specs.Standing.{StandsFor, kept_after};
 
-use crate::checks::{Facts, Stored, refusal_by, released, settled_id, settles, stored_by, stores};
+use crate::checks::{Facts, Stored, holds, refusal_by, released, settled_id, settles, stored_by, stores};
 use crate::refusals::Refusal;
 use cdc_follow::Content;
 use cdc_subscriber::Subscriber;
@@ -25,6 +26,8 @@ use std::marker::Model;
 pub struct Auditor {
     subscriber: Subscriber,
     transfers: IndexMap<u128, Stored>,
+    /// The events that stored the open pending transfers, by these transfers' ids.
+    open_ones: IndexMap<u128, Event>,
 }
 
 impl Drop for Auditor {
@@ -32,6 +35,7 @@ impl Drop for Auditor {
         let Auditor {
             subscriber: _,
             transfers: _,
+            open_ones: _,
         } = self;
     }
 }
@@ -41,7 +45,7 @@ impl Model for Auditor {
 
     ghost Value = { AuditorState };
 
-    ghost view = { λ a. record { kept = a.subscriber; transfers = a.transfers.entries } };
+    ghost view = { λ a. record { kept = a.subscriber; transfers = a.transfers.entries; open_ones = a.open_ones.entries } };
 }
 
 impl Auditor {
@@ -52,6 +56,7 @@ impl Auditor {
         Auditor {
             subscriber: Subscriber::new(alloc),
             transfers: IndexMap::new(alloc),
+            open_ones: IndexMap::new(alloc),
         }
     }
 
@@ -93,6 +98,17 @@ impl Auditor {
         }
     }
 
+    /// The event that stored the open pending transfer with this id, if it counts.
+    fn open_if(&self, counts: bool, id: u128) -> Option<Event>
+        ensures { result ≡ standing.open_if counts self.now.open_ones id }
+    {
+        if counts {
+            self.open_ones.get(&id).copied()
+        } else {
+            None
+        }
+    }
+
     /// The balances of an account; four zeros before its first event.
     fn balances(&self, account: u128) -> Balances
         ensures { result ≡ unwrap_or (balances_in self.now.kept.book account) no_balances }
@@ -113,6 +129,7 @@ impl Auditor {
             last: self.subscriber.last(),
             own: self.stored_if(stores(event.kind), event.transfer.id),
             settled: self.stored_if(settles(event.kind), settled_id(event)),
+            open_one: self.open_if(settles(event.kind), settled_id(event)),
             debited: self.balances(event.debit_account.id),
             credited: self.balances(event.credit_account.id),
         }
@@ -135,10 +152,12 @@ impl Auditor {
             return Ok(Some(why));
         }
         self.transfers.reserve(2)?;
+        self.open_ones.reserve(1)?;
         if self.subscriber.take_event(event).is_err() {
             return Err(AllocError);
         }
         keep(&mut self.transfers, event, released(&facts, event));
+        keep_open(&mut self.open_ones, event);
         Ok(None)
     }
 }
@@ -173,5 +192,35 @@ fn keep(transfers: &mut IndexMap<u128, Stored>, event: &Event, amount: u128)
     keep_own(transfers, event);
     if settles(event.kind) {
         put(transfers, settled_id(event), Stored::Settled(amount));
+    }
+}
+
+/// Keeps the event of the pending transfer with this id.
+fn put_open(events: &mut IndexMap<u128, Event>, id: u128, event: &Event)
+    requires { 1 ≤ spare events.old }
+    ensures { (other : ℕ) → standing.open_under events.new.entries other
+        ≡ (if id == other then Some event.now else standing.open_under events.old.entries other) }
+{
+    events.insert(id, *event).unwrap();
+}
+
+/// Forgets the event of the pending transfer with this id.
+fn remove_open(events: &mut IndexMap<u128, Event>, id: u128)
+    ensures { (other : ℕ) → standing.open_under events.new.entries other
+        ≡ (if id == other then None else standing.open_under events.old.entries other) }
+{
+    let _event = events.swap_remove(&id);
+}
+
+/// Keeps an accepted event that stores a pending transfer, and forgets the one whose pending transfer it settles.
+fn keep_open(events: &mut IndexMap<u128, Event>, event: &Event)
+    requires { 1 ≤ spare events.old }
+    ensures { (id : ℕ) → standing.open_under events.new.entries id
+        ≡ standing.open_then events.old.entries event.now id }
+{
+    if settles(event.kind) {
+        remove_open(events, settled_id(event));
+    } else if holds(event.kind) {
+        put_open(events, event.transfer.id, event);
     }
 }

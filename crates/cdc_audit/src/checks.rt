@@ -8,6 +8,7 @@ ghost use Rattle.cdc_audit.specs.Known as known;
 ghost use Rattle.cdc_audit.specs.Rules as rules;
 
 use crate::refusals::{BalanceField, Mismatch, Refusal};
+use crate::settling::settling_refusal;
 use cdc_types::{Balances, Event, EventAccount, EventKind};
 
 /// What is known of a stored transfer.
@@ -30,6 +31,8 @@ pub(crate) struct Facts {
     pub(crate) own: Option<Stored>,
     /// The transfer that is stored under the id of the pending one that the event settles.
     pub(crate) settled: Option<Stored>,
+    /// The event that stored the pending one that the event settles, if that one is open.
+    pub(crate) open_one: Option<Event>,
     /// The balances of the debited account.
     pub(crate) debited: Balances,
     /// The balances of the credited account.
@@ -65,14 +68,14 @@ pub(crate) fn settles(kind: EventKind) -> bool
 }
 
 /// Whether an event of this kind moves its amount for good.
-fn moves(kind: EventKind) -> bool
+pub(crate) fn moves(kind: EventKind) -> bool
     ensures { result ≡ kinds.moves kind }
 {
     matches!(kind, EventKind::SinglePhase | EventKind::TwoPhasePosted)
 }
 
 /// Whether an event of this kind holds its amount back.
-fn holds(kind: EventKind) -> bool
+pub(crate) fn holds(kind: EventKind) -> bool
     ensures { result ≡ kinds.holds kind }
 {
     kind == EventKind::TwoPhasePending
@@ -279,5 +282,6 @@ pub(crate) fn refusal_by(facts: &Facts, event: &Event) -> Option<Refusal>
 {
     order_refusal(facts.last, event)
         .or(transfer_refusal(facts, event))
+        .or(settling_refusal(facts.open_one, event))
         .or(balances_refusal(facts, event))
 }

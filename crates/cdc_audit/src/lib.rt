@@ -4,6 +4,7 @@
 pub mod auditor;
 pub mod checks;
 pub mod refusals;
+pub mod settling;
 pub mod streams;
 pub mod texts;
 

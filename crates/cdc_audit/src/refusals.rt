@@ -43,6 +43,12 @@ pub enum Refusal {
     NotPending(u128),
     /// It settles the pending transfer of this id, and an event before it did.
     Settled(u128),
+    /// It settles the pending transfer of this id, and its accounts, its ledger or its code are other ones. Or it is an
+    /// expiry, and another field of the transfer is another one.
+    OtherFields(u128),
+    /// It has this amount of the pending transfer of this id, which holds another amount, the last one: a post has
+    /// more, or a void or an expiry hasn't the whole.
+    Amount(u128, u128, u128),
     /// A balance doesn't follow.
     Balance(Mismatch),
 }
@@ -73,6 +79,8 @@ impl Refusal {
             Refusal::KnownId(_) => "id",
             Refusal::NotPending(_) => "pending",
             Refusal::Settled(_) => "ended",
+            Refusal::OtherFields(_) => "settles",
+            Refusal::Amount(_, _, _) => "amount",
             Refusal::Balance(_) => "balances",
         }
     }

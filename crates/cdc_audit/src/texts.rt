@@ -34,6 +34,13 @@ fn push_reason(why: Refusal, text: &mut Vec<u8>) -> Result<(), AllocError>
         Refusal::KnownId(id) => push_around(text, "transfer ", id, " came before"),
         Refusal::NotPending(id) => push_around(text, "no pending transfer ", id, " came before"),
         Refusal::Settled(id) => push_around(text, "pending transfer ", id, " ended before"),
+        Refusal::OtherFields(id) => push_around(
+            text,
+            "pending transfer ",
+            id,
+            " has other accounts, another ledger or code",
+        ),
+        Refusal::Amount(amount, id, held) => push_amount(text, amount, id, held),
         Refusal::Balance(mismatch) => push_mismatch(&mismatch, text),
     }
 }
@@ -45,6 +52,17 @@ fn push_order(text: &mut Vec<u8>, timestamp: u64, last: u64) -> Result<(), Alloc
 {
     push_around(text, "", timestamp, ", after ")?;
     push_number(text, last)
+}
+
+/// Adds an amount of a pending transfer that holds another one.
+fn push_amount(text: &mut Vec<u8>, amount: u128, id: u128, held: u128) -> Result<(), AllocError>
+    ensures { OnOk result (text.new.items
+        ≡ text.old.items ++ spec.reason_text (Refusal.Amount amount id held)) }
+{
+    push_around(text, "", amount, " of pending transfer ")?;
+    push_number(text, id)?;
+    push(text, ", which holds ")?;
+    push_number(text, held)
 }
 
 /// Adds a balance that doesn't follow, and what it would follow from.

@@ -1,5 +1,5 @@
 -- What an event that follows others has, in equations.
-use Rattle.std.proofs.Common.{◌≡◌, ◌≢◌, ℕ, ◌+◌, ◌<◌, Bool, true, false, not, List, [], ◌∷◌, Some, None, is_none, if◌then◌else◌, refl}
+use Rattle.std.proofs.Common.{◌≡◌, ◌≢◌, ℕ, ◌+◌, ◌<◌, Bool, true, false, not, List, [], ◌∷◌, ◌++◌, Some, None, is_none, if◌then◌else◌, refl}
 use Rattle.std.specs.Prelude.{◌==◌, ◌&&◌}
 use Rattle.std.proofs.lemmas.Bool.{eq-eqb, eqb-false, eqb-true, lt-ltb, ltb-true, ne_eqb, not-false, not_from_true}
 use Rattle.cdc_types.specs.declared.accounts.Balances.{Balances}
@@ -8,10 +8,11 @@ use Rattle.cdc_types.specs.Lines.{first_line}
 use Rattle.cdc_types.specs.Timestamps.{last_timestamp}
 use Rattle.cdc_ledger.specs.Kinds.{settles, stores}
 use Rattle.cdc_audit.specs.Known.{balances_after, is_settled, is_stored, pending_amount, settled_id}
-use Rattle.cdc_audit.specs.Rules.{credit_lines, event_lines, held, posted, refusal, released}
+use Rattle.cdc_audit.specs.Rules.{credit_lines, debit_lines, event_lines, held, posted, refusal, released, settled_event}
+use Rattle.cdc_audit.specs.Settling.{settling_lines}
 
 -- no line applies
-abbrev NoneApplies : {R : Type 0} → List (Bool × R) → Type 0
+abbrev pub NoneApplies : {R : Type 0} → List (Bool × R) → Type 0
 NoneApplies [] = Unit {0}
 NoneApplies (line ∷ lines) = (line.0 ≡ false) × NoneApplies lines
 
@@ -29,6 +30,20 @@ none_applies {R = R} (line ∷ lines) none = by line.0 refl none (none_applies l
 no_first_line : {R : Type 0} (lines : List (Bool × R)) → NoneApplies lines → first_line lines ≡ None
 no_first_line [] none = refl
 no_first_line (line ∷ lines) none = rw none.0 (no_first_line lines none.1)
+
+-- none of two parts of lines applies
+none_both : {R : Type 0} (first second : List (Bool × R)) → NoneApplies (first ++ second)
+    → NoneApplies first × NoneApplies second
+none_both [] second none = (tt, none)
+none_both (line ∷ first) second none =
+    let rest = none_both first second none.1 in
+    ((none.0, rest.0), rest.1)
+
+-- and the other way round
+none_of_both : {R : Type 0} (first second : List (Bool × R)) → NoneApplies first → NoneApplies second
+    → NoneApplies (first ++ second)
+none_of_both [] second none others = others
+none_of_both (line ∷ first) second none others = (none.0, none_of_both first second none.1 others)
 
 -- a balance that follows: what is shown and what is released are what was before and what is added
 not_balanced : (shown before added less : ℕ) → not (shown + less == before + added) ≡ false
@@ -60,6 +75,7 @@ pub record CanFollow (past : List Event) (e : Event) : Type 0 where
   pub new : (stores e.kind && is_stored past e.transfer.id) ≡ false
   pub pending : (settles e.kind && is_none (pending_amount past (settled_id e))) ≡ false
   pub unsettled : (settles e.kind && is_settled past (settled_id e)) ≡ false
+  pub settling : NoneApplies (settling_lines (settled_event past e) e)
   pub debited : IsDebited past e (balances_after past e.debit_account.id)
   pub credited : IsCredited past e (balances_after past e.credit_account.id)
 
@@ -69,7 +85,9 @@ unfolding refusal
 unrefused past e none =
     let all : NoneApplies (event_lines past e) = none_applies (event_lines past e) none in
     let transfer = all.1.1 in
-    let debit = transfer.1.1.1 in
+    let settling = none_both (settling_lines (settled_event past e) e) (debit_lines past e ++ credit_lines past e)
+    transfer.1.1.1 in
+    let debit = settling.1 in
     let credit = debit.1.1.1.1 in
     record {
       later = ltb-true (last_timestamp past) e.timestamp (not-false _ all.0);
@@ -77,6 +95,7 @@ unrefused past e none =
       new = transfer.0;
       pending = transfer.1.0;
       unsettled = transfer.1.1.0;
+      settling = settling.0;
       debited = record {
         debits_pending = not_balanced _ _ _ _ debit.0;
         debits_posted = not_balanced _ _ _ _ debit.1.0;
@@ -114,16 +133,17 @@ no_refusal past e can =
             can.pending,
             (
               can.unsettled,
-              (
-                balanced _ _ _ _ debited.debits_pending,
-                (
-                  balanced _ _ _ _ debited.debits_posted,
-                  (
-                    balanced _ _ _ _ debited.credits_pending,
-                    (balanced _ _ _ _ debited.credits_posted, credit),
+              none_of_both (settling_lines (settled_event past e) e) (debit_lines past e ++ credit_lines past e)
+                  can.settling (
+                    balanced _ _ _ _ debited.debits_pending,
+                    (
+                      balanced _ _ _ _ debited.debits_posted,
+                      (
+                        balanced _ _ _ _ debited.credits_pending,
+                        (balanced _ _ _ _ debited.credits_posted, credit),
+                      ),
+                    ),
                   ),
-                ),
-              ),
             ),
           ),
         ),

@@ -1,22 +1,20 @@
--- What each change of a sound history keeps holds of every legal history.
-use Rattle.std.proofs.Common.{ℕ, ◌+◌, ◌<◌, ◌≤◌, Bool, false, List, [], ◌∷◌, ◌≡◌, ◌≢◌, Result, Ok, Err, ◌||◌, refl, sym, ap₂, ◌∙◌, subst, arith, length}
+-- What each request that is accepted and each expiry keeps holds of every legal history.
+use Rattle.std.proofs.Common.{ℕ, ◌+◌, ◌<◌, ◌≤◌, Bool, false, None, List, [], ◌∷◌, ◌≡◌, ◌≢◌, Result, Ok, Err, ◌||◌, refl, sym, ap₂, ◌∙◌, subst, arith, length}
 use Rattle.std.specs.List.{AllByRecursion}
 use Rattle.std.proofs.lemmas.Bool.{ne_eqb}
 use Rattle.cdc_types.specs.declared.accounts.NewAccount.{NewAccount}
 use Rattle.cdc_types.specs.declared.batches.Batch.{Batch}
 use Rattle.cdc_types.specs.declared.batches.Batch.TheVariants as batch
 use Rattle.cdc_types.specs.declared.batches.BatchResults.{BatchResults}
-use Rattle.cdc_types.specs.declared.events.Entry.{Entry}
 use Rattle.cdc_types.specs.declared.transfers.NewTransfer.{NewTransfer}
 use Rattle.cdc_types.specs.declared.transfers.Transfer.{Transfer}
 use Rattle.cdc_ledger.specs.declared.errors.BatchError.{BatchError}
 use Rattle.cdc_ledger.specs.Changes.{expiry, pushed, timed, with_account}
 use Rattle.cdc_ledger.specs.Due.{due}
-use Rattle.cdc_ledger.specs.Follows.{Follows}
-use Rattle.cdc_ledger.specs.History.{History, Opened, empty_history}
+use Rattle.cdc_ledger.specs.History.{History, empty_history}
 use Rattle.cdc_ledger.specs.Sound.{IsSound}
 use Rattle.cdc_ledger.specs.Submit.{IsLegal, account_rules, accounts_from, after_batches, base, entry_of, expiries_from, history_or, is_past_the_end, opened_by, submit, taken, transfer_rules, transfers_from}
-use Rattle.cdc_ledger.specs.Verdict.{max_timestamp}
+use Rattle.cdc_ledger.specs.Verdict.{account_refused, max_timestamp, transfer_refused}
 use Rattle.cdc_ledger.proofs.AcceptedLaws.{Follows-accepted, accepted_account}
 use Rattle.cdc_ledger.proofs.BalanceLaws.{resolved_then}
 use Rattle.cdc_ledger.proofs.ChainLaws.{items_from-keeps}
@@ -38,20 +36,20 @@ open_after h p q t sound later other open_one = record {
       ∙ ap₂ (λ b c. b || c) open_one.unsettled (ne_eqb p.id q.id other);
 }
 
+-- the property holds of a new ledger, and each of these keeps it: a transfer that is accepted, the expiry of an open
+-- one, an account that is accepted, a timestamp that is taken, and closing the ledger
 module _ (P : History → Type 0) (on_empty : P empty_history)
-    (on_pushed : (h : History) (e : Entry) → IsSound h → Follows h e → h.last < e.timestamp → P h → P (pushed h e))
-    (on_account : (h : History) (o : Opened) → IsSound h → h.last ≤ o.timestamp → P h → P (with_account h o))
+    (on_request : (h : History) (r : NewTransfer) (t : ℕ) → IsSound h → h.last < t → transfer_refused h r t ≡ None → P h
+    → P (pushed h (entry_of h r t)))
+    (on_expiry : (h : History) (p : Transfer) (t : ℕ) → IsSound h → h.last < t → IsOpen h p → P h
+    → P (pushed h (expiry p t)))
+    (on_account : (h : History) (a : NewAccount) (t : ℕ) → IsSound h → h.last < t → account_refused h a ≡ None → P h
+    → P (with_account h (opened_by a t)))
     (on_timed : (h : History) (t : ℕ) → IsSound h → h.last ≤ t → P h → P (timed h t))
     (on_closed : (h : History) (closed : Bool) → P h → P (record h { closed = closed })) where
   -- the history is sound, and has the property
   abbrev Keeps : History → Type 0
   Keeps h = IsSound h × P h
-
-  -- an entry that may come next
-  keeps-pushed : (h : History) (e : Entry) → Keeps h → Follows h e → h.last < e.timestamp
-      → e.timestamp ≤ max_timestamp → Keeps (pushed h e)
-  keeps-pushed h e keeps follows later within =
-      (IsSound-pushed h e keeps.0 follows later within, on_pushed h e keeps.0 follows later keeps.1)
 
   -- requests for accounts
   keeps-accounts : (h : History) (t : ℕ) (rs : List NewAccount) → Keeps h → h.last < t
@@ -60,7 +58,7 @@ module _ (P : History → Type 0) (on_empty : P empty_history)
       items_from-keeps account_rules Keeps (λ n. n ≤ max_timestamp)
       (λ g a n so_far later' within none. (
         IsSound-with_account g (opened_by a n) so_far.0 (accepted_account g a none).1 (omega arith) within,
-        on_account g (opened_by a n) so_far.0 (omega arith) so_far.1,
+        on_account g a n so_far.0 later' none so_far.1,
       ))
       (λ g n so_far later' within. (
         IsSound-timed g n so_far.0 (omega arith) within,
@@ -74,8 +72,10 @@ module _ (P : History → Type 0) (on_empty : P empty_history)
       → (0 < length rs → t + length rs ≤ max_timestamp + 1) → Keeps (transfers_from h t rs).1
   keeps-transfers h t rs keeps later fits =
       items_from-keeps transfer_rules Keeps (λ n. n ≤ max_timestamp)
-      (λ g r n so_far later' within none.
-      keeps-pushed g (entry_of g r n) so_far (Follows-accepted g r n so_far.0 later' none) later' within)
+      (λ g r n so_far later' within none. (
+        IsSound-pushed g (entry_of g r n) so_far.0 (Follows-accepted g r n so_far.0 later' none) later' within,
+        on_request g r n so_far.0 later' none so_far.1,
+      ))
       (λ g n so_far later' within. (
         IsSound-timed g n so_far.0 (omega arith) within,
         on_timed g n so_far.0 (omega arith) so_far.1,
@@ -90,8 +90,10 @@ module _ (P : History → Type 0) (on_empty : P empty_history)
   keeps-expiries h t [] keeps all own later fits = keeps
   keeps-expiries h t (p ∷ ps) keeps all own later fits =
       let whole : t + length (p ∷ ps) ≤ max_timestamp + 1 = fits (omega arith) in
-      keeps-expiries (pushed h (expiry p t)) (t + 1) ps
-      (keeps-pushed h (expiry p t) keeps (Follows-open h p t keeps.0 all.0) later (omega arith))
+      keeps-expiries (pushed h (expiry p t)) (t + 1) ps (
+        IsSound-pushed h (expiry p t) keeps.0 (Follows-open h p t keeps.0 all.0) later (omega arith),
+        on_expiry h p t keeps.0 later all.0 keeps.1,
+      )
       (AllByRecursion-weaker (λ q. (p.id ≢ q.id) × IsOpen h q) (IsOpen (pushed h (expiry p t)))
       (λ q at. open_after h p q t keeps.0 later at.0 at.1) ps
       (AllByRecursion-both (λ q. p.id ≢ q.id) (IsOpen h) ps own.0 all.1))

@@ -1,32 +1,41 @@
 -- The events of a ledger are accepted.
 use Rattle.std.proofs.Common.{◌≡◌, ◌≢◌, ℕ, ◌<◌, ◌≤◌, Bool, true, false, List, [], ◌∷◌, ◌++◌, Option, Some, None, is_none, refl, sym, ap, ap₂, ◌∙◌, inl, inr, arith}
-use Rattle.std.specs.Prelude.{◌==◌, ◌&&◌, IsSome, if◌then◌else◌, unwrap_or}
-use Rattle.std.proofs.lemmas.Bool.{and_left, and_parts, eq-eqb, eqb-true, ne_eqb}
+use Rattle.std.specs.Prelude.{◌==◌, ◌&&◌, ◌||◌, IsSome, if◌then◌else◌, unwrap_or}
+use Rattle.std.proofs.lemmas.Bool.{and_from, and_left, and_parts, eq-eqb, eqb-true, ne_eqb, not_from_true}
 use Rattle.std.proofs.lemmas.Bool.Decides.{eqb_tells}
 use Rattle.cdc_types.specs.declared.accounts.Balances.{Balances}
 use Rattle.cdc_types.specs.declared.events.Entry.{Entry}
 use Rattle.cdc_types.specs.declared.events.Event.{Event}
+use Rattle.cdc_types.specs.declared.events.EventKind.{EventKind}
+use Rattle.cdc_types.specs.declared.events.EventKind.TheVariants.{SinglePhase, TwoPhasePending, TwoPhasePosted, TwoPhaseVoided, TwoPhaseExpired}
+use Rattle.cdc_types.specs.declared.events.EventTransfer.{EventTransfer}
+use Rattle.cdc_types.specs.declared.transfers.Transfer.{Transfer}
 use Rattle.cdc_ledger.specs.Balances.{balances}
-use Rattle.cdc_ledger.specs.Changes.{pushed, timed, with_account}
+use Rattle.cdc_ledger.specs.Changes.{expiry, pushed, timed, with_account}
 use Rattle.cdc_ledger.specs.Effects.{amount_of, balances_after_entry, effect_of, part}
-use Rattle.cdc_ledger.specs.Events.{event_of, events, nobody}
+use Rattle.cdc_ledger.specs.Events.{event_of, events, nobody, shown_transfer}
 use Rattle.cdc_ledger.specs.Filling.{stored}
 use Rattle.cdc_ledger.specs.Follows.{Follows, SettlesOpen}
 use Rattle.cdc_ledger.specs.History.{History, Opened, empty_history, opened}
 use Rattle.cdc_ledger.specs.Kinds.{settled_id, settles, stores}
-use Rattle.cdc_ledger.specs.Sound.{IsSound}
+use Rattle.cdc_ledger.specs.Sound.{HasAccounts, IsSound}
+use Rattle.cdc_ledger.specs.Submit.{entry_of, opened_by}
+use Rattle.cdc_ledger.proofs.AcceptedLaws.{Follows-accepted}
 use Rattle.cdc_ledger.proofs.BalanceLaws.{balances-pushed, balances_later, released_credit, released_debit, same_balances, settled_by_is, settled_by_none}
 use Rattle.cdc_ledger.proofs.Elements.{AllByRecursion-every}
 use Rattle.cdc_ledger.proofs.EventLaws.{events-pushed, events-with_account}
 use Rattle.cdc_ledger.proofs.OpenedLaws.{opened_id}
-use Rattle.cdc_ledger.proofs.StoredLaws.{find_all, is_stored as stores_id}
+use Rattle.cdc_ledger.proofs.PulseLaws.{Follows-open}
+use Rattle.cdc_ledger.proofs.StoredLaws.{find_all, is_stored as stores_id, stored_has}
 use Rattle.cdc_audit.specs.Audits.{is_accepted}
-use Rattle.cdc_audit.specs.Known.{balances_after, is_settled, is_stored, pending_amount, settled_id_by}
-use Rattle.cdc_audit.specs.Rules.{released}
+use Rattle.cdc_audit.specs.Known.{balances_after, is_settled, is_stored, open_event, pending_amount, pending_event, settled_id_by}
+use Rattle.cdc_audit.specs.Rules.{released, settled_event}
+use Rattle.cdc_audit.specs.Settling.{is_same_transfer, settling_lines}
 use Rattle.cdc_audit_laws.specs.Laws.{LedgersAreAccepted}
-use Rattle.cdc_audit_laws.proofs.Entries.{last_timestamp-events, pending_amount-events, settled_id-shown, unsettled, unstored}
-use Rattle.cdc_audit_laws.proofs.Following.{CanFollow, IsCredited, IsDebited}
+use Rattle.cdc_audit_laws.proofs.Entries.{last_timestamp-events, pending_amount-events, pending_event-events, settled_id-shown, unsettled, unstored}
+use Rattle.cdc_audit_laws.proofs.Following.{CanFollow, IsCredited, IsDebited, NoneApplies}
 use Rattle.cdc_audit_laws.proofs.Keeping.{kept_by_legal}
+use Rattle.cdc_audit_laws.proofs.Requests.{KeepsFields, KeepsSettled, keeps-accepted, keeps-expiry}
 use Rattle.cdc_audit_laws.proofs.Shown.{balances_after-credited, balances_after-debited, balances_after-other}
 use Rattle.cdc_audit_laws.proofs.Streams.{accepted-push, none_follows, prefixes_are_accepted}
 
@@ -55,9 +64,29 @@ part_own a n = rw (eq-eqb a a refl) refl
 part_other : (side a n : ℕ) → side ≢ a → part side a n ≡ 0
 part_other side a n other = rw (ne_eqb side a other) refl
 
+-- a transfer is the same as itself
+is_same : (x : EventTransfer) → is_same_transfer x x ≡ true
+is_same x =
+    and_from _ _ (and_from _ _ (and_from _ _ (and_from _ _ (and_from _ _ (and_from _ _ (and_from _ _ (and_from _ _
+    (and_from _ _ (eq-eqb x.id x.id refl) (eq-eqb x.amount x.amount refl)) (eq-eqb x.pending_id x.pending_id refl))
+    (eq-eqb x.user_data_128 x.user_data_128 refl)) (eq-eqb x.user_data_64 x.user_data_64 refl))
+    (eq-eqb x.user_data_32 x.user_data_32 refl)) (eq-eqb x.timeout x.timeout refl)) (eq-eqb x.code x.code refl))
+    (eq-eqb x.flags x.flags refl)) (eq-eqb x.timestamp x.timestamp refl)
+
+-- an expiry has the whole transfer that it settles
+whole : (k : EventKind) (x p : Transfer) → (k ≡ TwoPhaseExpired → x ≡ p)
+    → (stores k || is_same_transfer (shown_transfer x) (shown_transfer p)) ≡ true
+whole SinglePhase x p shown = refl
+whole TwoPhasePending x p shown = refl
+whole TwoPhasePosted x p shown = refl
+whole TwoPhaseVoided x p shown = refl
+whole TwoPhaseExpired x p shown =
+    ap (λ (y : Transfer). is_same_transfer (shown_transfer x) (shown_transfer y)) (sym (shown refl))
+    ∙ is_same (shown_transfer x)
+
 -- one more entry
 module _ (h : History) (e : Entry) (sound : IsSound h) (follows : Follows h e) (after : h.last < e.timestamp)
-    (audited : IsAudited h) where
+    (keeping : KeepsSettled h e) (audited : IsAudited h) where
   -- its event
   abbrev event : Event
   event = event_of (pushed h e) e
@@ -71,6 +100,14 @@ module _ (h : History) (e : Entry) (sound : IsSound h) (follows : Follows h e) (
 
   apart : event.debit_account.id ≢ event.credit_account.id
   apart same = follows.apart (sym debit_id ∙ same ∙ credit_id)
+
+  -- an entry that is stored has its accounts too, as the history has them
+  ids_of : (x : Entry) (id : ℕ) → stored h id ≡ Some x
+      → ((event_of h x).debit_account.id ≡ x.transfer.debit_account_id)
+      × ((event_of h x).credit_account.id ≡ x.transfer.credit_account_id)
+  ids_of x id there =
+      let known : HasAccounts h x = stored_has (HasAccounts h) h id x sound.known there in
+      (id_found h x.transfer.debit_account_id _ refl known.0, id_found h x.transfer.credit_account_id _ refl known.1)
 
   -- the id of the pending transfer that it settles
   abbrev named_id : ℕ
@@ -117,6 +154,34 @@ module _ (h : History) (e : Entry) (sound : IsSound h) (follows : Follows h e) (
           (ap (is_settled (events h)) (same_id ∙ sym named)
           ∙ unsettled h of.pending.transfer sound.past of.unsettled)
       by false is = and_left (settles e.kind) _ is
+
+  -- the pending transfer that it settles has its accounts, its ledger and its code, and an amount that it may have
+  is_settling : NoneApplies (settling_lines (settled_event (events h) event) event)
+  is_settling = by (settles e.kind) refl
+    where
+      by : (b : Bool) → settles e.kind ≡ b → NoneApplies (settling_lines (settled_event (events h) event) event)
+      by false is =
+          rw (ap (λ b. if b then open_event (events h) named_id else None) is) tt
+      by true is =
+          let of : SettlesOpen h e = follows.settling is in
+          let x : Entry = of.pending in
+          let kept : KeepsFields e x.transfer = keeping is x of.settles.named in
+          let ids = ids_of x (settled_id e.kind e.transfer) of.settles.named in
+          let unsettled_yet : is_settled (events h) named_id ≡ false =
+          sym (ap (λ b. b && is_settled (events h) named_id) is) ∙ is_unsettled in
+          let shown : settled_event (events h) event ≡ Some (event_of h x) =
+          ap (λ b. if b then open_event (events h) named_id else None) is
+          ∙ ap (λ b. if b then None else pending_event (events h) named_id) unsettled_yet
+          ∙ ap (pending_event (events h)) same_id
+          ∙ pending_event-events h (settled_id e.kind e.transfer) x of.settles.named of.settles.pending in
+          rw shown (
+            not_from_true _ (and_from _ _ (and_from _ _ (and_from _ _ (and_from _ _
+                (eq-eqb _ _ (debit_id ∙ of.settles.debit ∙ sym ids.0))
+                (eq-eqb _ _ (credit_id ∙ of.settles.credit ∙ sym ids.1)))
+                (eq-eqb _ _ kept.ledger)) (eq-eqb _ _ kept.code))
+                (whole e.kind e.transfer x.transfer of.settles.shown)),
+            (not_from_true _ kept.amount, tt),
+          )
 
   -- it releases what its entry releases
   same_released : released (events h) event ≡ (effect_of h e).released
@@ -197,6 +262,7 @@ module _ (h : History) (e : Entry) (sound : IsSound h) (follows : Follows h e) (
         new = is_new;
         pending = is_pending;
         unsettled = is_unsettled;
+        settling = is_settling;
         debited = debited;
         credited = credited;
       }
@@ -274,5 +340,11 @@ audited-closed h closed audited = record { accepted = audited.accepted; shown = 
 pub ledgers_are_accepted : LedgersAreAccepted
 ledgers_are_accepted h count legal =
     let audited : IsAudited h =
-    kept_by_legal IsAudited audited-empty audited-pushed audited-account audited-timed audited-closed h legal in
+    kept_by_legal IsAudited audited-empty
+    (λ g r t sound later none. audited-pushed g (entry_of g r t) sound (Follows-accepted g r t sound later none) later
+    (keeps-accepted g r t none))
+    (λ g p t sound later is_open. audited-pushed g (expiry p t) sound (Follows-open g p t sound is_open) later
+    (keeps-expiry g p t is_open))
+    (λ g a t sound later none. audited-account g (opened_by a t) sound (omega arith))
+    audited-timed audited-closed h legal in
     prefixes_are_accepted (events h) count audited.accepted

@@ -4,6 +4,7 @@ pub mod Streams
 pub mod Sums
 pub mod Changes
 pub mod Keeping
+pub mod Requests
 pub mod Entries
 pub mod Ledgers
 mod Examples
