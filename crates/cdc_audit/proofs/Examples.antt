@@ -6,9 +6,15 @@ use Rattle.cdc_types.specs.declared.events.Event.{Event}
 use Rattle.cdc_types.specs.declared.events.EventAccount.{EventAccount}
 use Rattle.cdc_types.specs.declared.events.EventKind.{EventKind}
 use Rattle.cdc_types.specs.declared.events.EventKind.TheVariants.{SinglePhase, TwoPhasePending, TwoPhasePosted, TwoPhaseVoided, TwoPhaseExpired}
+use Rattle.cdc_types.specs.declared.results.AccountResult.TheVariants as account
+use Rattle.cdc_types.specs.declared.results.TransferResult.TheVariants as transfer
+use Rattle.cdc_types.specs.Widths.{max_128}
 use Rattle.cdc_follow.specs.declared.entries.Content.TheVariants as content
 use Rattle.cdc_audit.specs.declared.refusals.BalanceField.TheVariants.{DebitsPosted, DebitsPending}
-use Rattle.cdc_audit.specs.declared.refusals.Refusal.TheVariants.{AfterEnd, NotLater, OneAccount, KnownId, NotPending, Settled, OtherFields, Amount, Balance}
+use Rattle.cdc_audit.specs.declared.refusals.FixedField.TheVariants.{Code}
+use Rattle.cdc_audit.specs.declared.refusals.Refusal.TheVariants.{AfterEnd, NotLater, OneAccount, TransferShape, OtherKind, OtherTimestamp, AccountShape, AccountField, CreatedLater}
+use Rattle.cdc_audit.specs.declared.refusals.Refusal.TheVariants.{KnownId, NotPending, Settled, OtherFields, Amount, TooLarge, Limit, Balance}
+use Rattle.cdc_audit.specs.declared.refusals.Side.TheVariants.{Debits, Credits}
 use Rattle.cdc_audit.specs.Audits.{entry_refusal, follows_on, is_accepted}
 use Rattle.cdc_audit.specs.Rules.{refusal}
 use Rattle.cdc_audit.specs.Texts.{refusal_text}
@@ -44,6 +50,14 @@ credited id pending posted = record {
   timestamp = 2;
 }
 
+-- the flags of a transfer of this kind of event
+abbrev flags_of : EventKind → ℕ
+flags_of SinglePhase = 0
+flags_of TwoPhasePending = 2
+flags_of TwoPhasePosted = 4
+flags_of TwoPhaseVoided = 8
+flags_of TwoPhaseExpired = 2
+
 -- an event at this time, of this kind, with the id, the pending id and the amount of its transfer, and with the same
 -- sums of both accounts
 abbrev event : ℕ → EventKind → ℕ → ℕ → ℕ → ℕ → ℕ → Event
@@ -60,7 +74,7 @@ event timestamp kind id pending_id amount pending posted = record {
     user_data_32 = 0;
     timeout = 0;
     code = 1;
-    flags = 0;
+    flags = flags_of kind;
     timestamp = timestamp;
   };
   debit_account = debited 1 pending posted;
@@ -130,6 +144,45 @@ settled_before : refusal (moved ∷ held_back ∷ posted_then ∷ []) (event 400
 unfolding refusal
 settled_before = refl
 
+-- a field that no ledger lets a transfer have, the flags of another kind, and another time
+shape : refusal [] (record moved { ledger = 0 }) ≡ Some (TransferShape 10 transfer.LedgerMustNotBeZero)
+unfolding refusal
+shape = refl
+
+shape-kind : refusal [] (record moved { kind = TwoPhasePending }) ≡ Some (OtherKind 10)
+unfolding refusal
+shape-kind = refl
+
+shape-timestamp : refusal [] (record moved { timestamp = 1001 }) ≡ Some (OtherTimestamp 10 1000 1001)
+unfolding refusal
+shape-timestamp = refl
+
+shape-account : refusal [] (record moved { debit_account = record (debited 1 0 5) { code = 0 } })
+    ≡ Some (AccountShape 1 account.CodeMustNotBeZero)
+unfolding refusal
+shape-account = refl
+
+-- another code of an account, and an account that was created later
+other_code : refusal (moved ∷ []) (record held_back { debit_account = record (debited 1 7 5) { code = 2 } })
+    ≡ Some (AccountField (record { account = 1; field = Code; shown = 2; before = 1 }))
+unfolding refusal
+other_code = refl
+
+created_later : refusal [] (record moved { credit_account = record (credited 2 0 5) { timestamp = 1000 } })
+    ≡ Some (CreatedLater 2 1000 1000)
+unfolding refusal
+created_later = refl
+
+-- a sum above the limit of an account whose debits must not exceed its credits, and one above 128 bits
+above_limit : refusal [] (record moved { debit_account = record (debited 1 0 5) { flags = 2 } })
+    ≡ Some (Limit (record { account = 1; side = Debits; sum = 5; limit = 0 }))
+unfolding refusal
+above_limit = refl
+
+too_large : refusal [] (record moved { credit_account = credited 2 1 max_128 }) ≡ Some (TooLarge 2 Credits)
+unfolding refusal
+too_large = refl
+
 -- a post between other accounts than its pending transfer's, and an expiry with another code
 other_accounts : refusal (moved ∷ held_back ∷ []) (record posted_then { credit_account = credited 3 0 6 })
     ≡ Some (OtherFields 11)
@@ -197,6 +250,29 @@ text-released : refusal_text (Balance (record {
 })) ≡ codes "balances: account 7 has debits_pending 45, after 30 less the pending transfer's 5"
 unfolding refusal_text digits
 text-released = refl
+
+text-shape : refusal_text (TransferShape 7 transfer.LedgerMustNotBeZero)
+    ≡ codes "shape: transfer 7 is invalid: ledger_must_not_be_zero"
+unfolding refusal_text digits
+text-shape = refl
+
+text-fields : refusal_text (AccountField (record { account = 7; field = Code; shown = 2; before = 1 }))
+    ≡ codes "fields: account 7 has code 2, after 1"
+unfolding refusal_text digits
+text-fields = refl
+
+text-created : refusal_text (CreatedLater 7 30 20) ≡ codes "created: account 7 at 30, in an event at 20"
+unfolding refusal_text digits
+text-created = refl
+
+text-limits : refusal_text (Limit (record { account = 7; side = Debits; sum = 45; limit = 30 }))
+    ≡ codes "limits: account 7 has debits of 45, above its credits of 30"
+unfolding refusal_text digits
+text-limits = refl
+
+text-too_large : refusal_text (TooLarge 7 Credits) ≡ codes "limits: account 7 has credits above 128 bits"
+unfolding refusal_text digits
+text-too_large = refl
 
 text-settles : refusal_text (OtherFields 7)
     ≡ codes "settles: pending transfer 7 has other accounts, another ledger or code"

@@ -9,6 +9,9 @@ use Rattle.cdc_audit.specs.declared.refusals.BalanceField.TheVariants.{DebitsPen
 use Rattle.cdc_audit.specs.declared.refusals.Refusal.{Refusal}
 use Rattle.cdc_audit.specs.declared.refusals.Refusal.TheVariants.{NotLater, OneAccount, KnownId, NotPending, Settled, Balance}
 use Rattle.cdc_audit.specs.Known.{balances_after, is_settled, is_stored, open_event, pending_amount, settled_id}
+use Rattle.cdc_audit.specs.EventShapes.{shape_lines}
+use Rattle.cdc_audit.specs.Fields.{created_lines, fields_before, fields_lines}
+use Rattle.cdc_audit.specs.Limits.{limits_lines}
 use Rattle.cdc_audit.specs.Settling.{settling_lines}
 
 -- what an event adds to the posted sums, adds to the pending sums and releases of the pending sums
@@ -69,13 +72,29 @@ transfer_lines past e =
 abbrev pub settled_event : List Event → Event → Option Event
 settled_event past e = if settles e.kind then open_event past (settled_id e) else None
 
+-- the lines on the fields of both accounts that never change
+abbrev pub fixed_lines : List Event → Event → List (Bool × Refusal)
+fixed_lines past e =
+    fields_lines (fields_before past e.debit_account.id) e.ledger e.debit_account
+    ++ fields_lines (fields_before past e.credit_account.id) e.ledger e.credit_account
+    ++ created_lines e
+
+-- the lines on all balances
+abbrev pub balances_lines : List Event → Event → List (Bool × Refusal)
+balances_lines past e = debit_lines past e ++ credit_lines past e
+
+-- the lines on an event's timestamp, which follows this one, and on its accounts being one
+abbrev pub order_lines : ℕ → Event → List (Bool × Refusal)
+order_lines last e =
+    (not (nat_lt last e.timestamp), NotLater e.timestamp last) ∷
+    (e.debit_account.id == e.credit_account.id, OneAccount e.debit_account.id) ∷
+    []
+
 -- all lines on an event, in order
 abbrev pub event_lines : List Event → Event → List (Bool × Refusal)
 event_lines past e =
-    (not (nat_lt (last_timestamp past) e.timestamp), NotLater e.timestamp (last_timestamp past)) ∷
-    (e.debit_account.id == e.credit_account.id, OneAccount e.debit_account.id) ∷
-    (transfer_lines past e
-    ++ (settling_lines (settled_event past e) e ++ (debit_lines past e ++ credit_lines past e)))
+    order_lines (last_timestamp past) e ++ shape_lines e ++ fixed_lines past e ++ transfer_lines past e
+    ++ settling_lines (settled_event past e) e ++ limits_lines e ++ balances_lines past e
 
 -- why an event can't follow those before it, if it can't
 unfoldable pub refusal : List Event → Event → Option Refusal

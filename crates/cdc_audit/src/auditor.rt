@@ -11,13 +11,14 @@ ghost use Rattle.cdc_subscriber.specs.Steps.{next_state};
 ghost use Rattle.cdc_audit.specs.Audits.{AuditState, begins, entry_refusal, next_audit};
 ghost use Rattle.cdc_audit.specs.Checks as spec;
 ghost use Rattle.cdc_audit.specs.Standing as standing;
-ghost use Rattle.cdc_audit.specs.Standing.{StandsFor, kept_after};
+ghost use Rattle.cdc_audit.specs.Standing.{KeepsAccounts, StandsFor, kept_after};
 
 use crate::checks::{Facts, Stored, holds, refusal_by, released, settled_id, settles, stored_by, stores};
+use crate::fields::{FixedFields, fixed_fields};
 use crate::refusals::Refusal;
 use cdc_follow::Content;
 use cdc_subscriber::Subscriber;
-use cdc_types::{Balances, Event};
+use cdc_types::{Balances, Event, EventAccount};
 use indexmap::IndexMap;
 use std::alloc::{AllocError, Global};
 use std::marker::Model;
@@ -28,6 +29,8 @@ pub struct Auditor {
     transfers: IndexMap<u128, Stored>,
     /// The events that stored the open pending transfers, by these transfers' ids.
     open_ones: IndexMap<u128, Event>,
+    /// The fields of each account that never change, as its first event shows them.
+    fields: IndexMap<u128, FixedFields>,
 }
 
 impl Drop for Auditor {
@@ -36,6 +39,7 @@ impl Drop for Auditor {
             subscriber: _,
             transfers: _,
             open_ones: _,
+            fields: _,
         } = self;
     }
 }
@@ -45,7 +49,7 @@ impl Model for Auditor {
 
     ghost Value = { AuditorState };
 
-    ghost view = { λ a. record { kept = a.subscriber; transfers = a.transfers.entries; open_ones = a.open_ones.entries } };
+    ghost view = { λ a. record { kept = a.subscriber; transfers = a.transfers.entries; open_ones = a.open_ones.entries; fields = a.fields.entries } };
 }
 
 impl Auditor {
@@ -57,6 +61,7 @@ impl Auditor {
             subscriber: Subscriber::new(alloc),
             transfers: IndexMap::new(alloc),
             open_ones: IndexMap::new(alloc),
+            fields: IndexMap::new(alloc),
         }
     }
 
@@ -109,6 +114,13 @@ impl Auditor {
         }
     }
 
+    /// The fields of an account that never change, if an event showed it.
+    fn fields_of(&self, account: u128) -> Option<FixedFields>
+        ensures { result ≡ standing.fields_under self.now.fields account }
+    {
+        self.fields.get(&account).copied()
+    }
+
     /// The balances of an account; four zeros before its first event.
     fn balances(&self, account: u128) -> Balances
         ensures { result ≡ unwrap_or (balances_in self.now.kept.book account) no_balances }
@@ -130,6 +142,8 @@ impl Auditor {
             own: self.stored_if(stores(event.kind), event.transfer.id),
             settled: self.stored_if(settles(event.kind), settled_id(event)),
             open_one: self.open_if(settles(event.kind), settled_id(event)),
+            debit_fields: self.fields_of(event.debit_account.id),
+            credit_fields: self.fields_of(event.credit_account.id),
             debited: self.balances(event.debit_account.id),
             credited: self.balances(event.credit_account.id),
         }
@@ -153,11 +167,13 @@ impl Auditor {
         }
         self.transfers.reserve(2)?;
         self.open_ones.reserve(1)?;
+        self.fields.reserve(2)?;
         if self.subscriber.take_event(event).is_err() {
             return Err(AllocError);
         }
         keep(&mut self.transfers, event, released(&facts, event));
         keep_open(&mut self.open_ones, event);
+        keep_accounts(&mut self.fields, &facts, event);
         Ok(None)
     }
 }
@@ -223,4 +239,41 @@ fn keep_open(events: &mut IndexMap<u128, Event>, event: &Event)
     } else if holds(event.kind) {
         put_open(events, event.transfer.id, event);
     }
+}
+
+/// Keeps the fields of the account with this id.
+fn put_fields(fields: &mut IndexMap<u128, FixedFields>, id: u128, shown: FixedFields)
+    requires { 1 ≤ spare fields.old }
+    ensures fields { (other : ℕ) → standing.fields_under fields.new.entries other
+        ≡ (if id == other then Some shown else standing.fields_under fields.old.entries other) }
+    ensures room { spare fields.old ≤ spare fields.new + 1 }
+{
+    fields.insert(id, shown).unwrap();
+}
+
+/// Keeps the fields of an account of this ledger, unless they are known.
+fn keep_account(
+    fields: &mut IndexMap<u128, FixedFields>,
+    known: bool,
+    ledger: u32,
+    account: &EventAccount,
+)
+    requires { 1 ≤ spare fields.old }
+    ensures fields { (id : ℕ) → standing.fields_under fields.new.entries id
+        ≡ standing.fields_then fields.old.entries known ledger account.now id }
+    ensures room { spare fields.old ≤ spare fields.new + 1 }
+{
+    if !known {
+        put_fields(fields, account.id, fixed_fields(ledger, account));
+    }
+}
+
+/// Keeps the fields of both accounts of an accepted event.
+fn keep_accounts(fields: &mut IndexMap<u128, FixedFields>, facts: &Facts, event: &Event)
+    requires { 2 ≤ spare fields.old }
+    ensures { KeepsAccounts fields.old.entries facts.now event.now fields.new.entries }
+{
+    let ledger = event.ledger;
+    keep_account(fields, facts.debit_fields.is_some(), ledger, &event.debit_account);
+    keep_account(fields, facts.credit_fields.is_some(), ledger, &event.credit_account);
 }

@@ -7,8 +7,11 @@ ghost use Rattle.cdc_audit.specs.Checks as spec;
 ghost use Rattle.cdc_audit.specs.Known as known;
 ghost use Rattle.cdc_audit.specs.Rules as rules;
 
+use crate::fields::{FixedFields, created_refusal, fields_refusal};
+use crate::limits::limits_refusal;
 use crate::refusals::{BalanceField, Mismatch, Refusal};
 use crate::settling::settling_refusal;
+use crate::shapes::shape_refusal;
 use cdc_types::{Balances, Event, EventAccount, EventKind};
 
 /// What is known of a stored transfer.
@@ -33,6 +36,10 @@ pub(crate) struct Facts {
     pub(crate) settled: Option<Stored>,
     /// The event that stored the pending one that the event settles, if that one is open.
     pub(crate) open_one: Option<Event>,
+    /// The fields of the debited account that never change, if an event before it shows the account.
+    pub(crate) debit_fields: Option<FixedFields>,
+    /// Those of the credited account.
+    pub(crate) credit_fields: Option<FixedFields>,
     /// The balances of the debited account.
     pub(crate) debited: Balances,
     /// The balances of the credited account.
@@ -249,7 +256,7 @@ fn balances_refusal(facts: &Facts, event: &Event) -> Option<Refusal>
 
 /// The refusal of an event by its timestamp, or by its two accounts being one.
 fn order_refusal(last: u64, event: &Event) -> Option<Refusal>
-    ensures { result ≡ first_line (spec.order_lines last event.now) }
+    ensures { result ≡ first_line (rules.order_lines last event.now) }
 {
     if event.timestamp <= last {
         Some(Refusal::NotLater(event.timestamp, last))
@@ -258,6 +265,16 @@ fn order_refusal(last: u64, event: &Event) -> Option<Refusal>
     } else {
         None
     }
+}
+
+/// The refusal of an event by the fields of its accounts that never change.
+fn fixed_refusal(facts: &Facts, event: &Event) -> Option<Refusal>
+    ensures { result ≡ first_line (spec.fixed_lines facts.now event.now) }
+{
+    let (debited, credited) = (&event.debit_account, &event.credit_account);
+    fields_refusal(facts.debit_fields, event.ledger, debited)
+        .or(fields_refusal(facts.credit_fields, event.ledger, credited))
+        .or(created_refusal(event))
 }
 
 /// The refusal of an event by the transfer that it stores or by the pending one that it settles.
@@ -281,7 +298,10 @@ pub(crate) fn refusal_by(facts: &Facts, event: &Event) -> Option<Refusal>
     ensures { result ≡ first_line (spec.lines facts.now event.now) }
 {
     order_refusal(facts.last, event)
+        .or(shape_refusal(event))
+        .or(fixed_refusal(facts, event))
         .or(transfer_refusal(facts, event))
         .or(settling_refusal(facts.open_one, event))
+        .or(limits_refusal(event))
         .or(balances_refusal(facts, event))
 }

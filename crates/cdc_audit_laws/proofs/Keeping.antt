@@ -39,10 +39,10 @@ open_after h p q t sound later other open_one = record {
 -- the property holds of a new ledger, and each of these keeps it: a transfer that is accepted, the expiry of an open
 -- one, an account that is accepted, a timestamp that is taken, and closing the ledger
 module _ (P : History → Type 0) (on_empty : P empty_history)
-    (on_request : (h : History) (r : NewTransfer) (t : ℕ) → IsSound h → h.last < t → transfer_refused h r t ≡ None → P h
-    → P (pushed h (entry_of h r t)))
-    (on_expiry : (h : History) (p : Transfer) (t : ℕ) → IsSound h → h.last < t → IsOpen h p → P h
-    → P (pushed h (expiry p t)))
+    (on_request : (h : History) (r : NewTransfer) (t : ℕ) → IsSound h → h.last < t → transfer_refused h r t ≡ None
+    → IsSound (pushed h (entry_of h r t)) → P h → P (pushed h (entry_of h r t)))
+    (on_expiry : (h : History) (p : Transfer) (t : ℕ) → IsSound h → h.last < t → IsOpen h p
+    → IsSound (pushed h (expiry p t)) → P h → P (pushed h (expiry p t)))
     (on_account : (h : History) (a : NewAccount) (t : ℕ) → IsSound h → h.last < t → account_refused h a ≡ None → P h
     → P (with_account h (opened_by a t)))
     (on_timed : (h : History) (t : ℕ) → IsSound h → h.last ≤ t → P h → P (timed h t))
@@ -72,10 +72,10 @@ module _ (P : History → Type 0) (on_empty : P empty_history)
       → (0 < length rs → t + length rs ≤ max_timestamp + 1) → Keeps (transfers_from h t rs).1
   keeps-transfers h t rs keeps later fits =
       items_from-keeps transfer_rules Keeps (λ n. n ≤ max_timestamp)
-      (λ g r n so_far later' within none. (
-        IsSound-pushed g (entry_of g r n) so_far.0 (Follows-accepted g r n so_far.0 later' none) later' within,
-        on_request g r n so_far.0 later' none so_far.1,
-      ))
+      (λ g r n so_far later' within none.
+      let sound : IsSound (pushed g (entry_of g r n)) =
+      IsSound-pushed g (entry_of g r n) so_far.0 (Follows-accepted g r n so_far.0 later' none) later' within in
+      (sound, on_request g r n so_far.0 later' none sound so_far.1))
       (λ g n so_far later' within. (
         IsSound-timed g n so_far.0 (omega arith) within,
         on_timed g n so_far.0 (omega arith) so_far.1,
@@ -90,10 +90,9 @@ module _ (P : History → Type 0) (on_empty : P empty_history)
   keeps-expiries h t [] keeps all own later fits = keeps
   keeps-expiries h t (p ∷ ps) keeps all own later fits =
       let whole : t + length (p ∷ ps) ≤ max_timestamp + 1 = fits (omega arith) in
-      keeps-expiries (pushed h (expiry p t)) (t + 1) ps (
-        IsSound-pushed h (expiry p t) keeps.0 (Follows-open h p t keeps.0 all.0) later (omega arith),
-        on_expiry h p t keeps.0 later all.0 keeps.1,
-      )
+      let sound : IsSound (pushed h (expiry p t)) =
+      IsSound-pushed h (expiry p t) keeps.0 (Follows-open h p t keeps.0 all.0) later (omega arith) in
+      keeps-expiries (pushed h (expiry p t)) (t + 1) ps (sound, on_expiry h p t keeps.0 later all.0 sound keeps.1)
       (AllByRecursion-weaker (λ q. (p.id ≢ q.id) × IsOpen h q) (IsOpen (pushed h (expiry p t)))
       (λ q at. open_after h p q t keeps.0 later at.0 at.1) ps
       (AllByRecursion-both (λ q. p.id ≢ q.id) (IsOpen h) ps own.0 all.1))

@@ -5,6 +5,7 @@ pub mod Sums
 pub mod Changes
 pub mod Keeping
 pub mod Requests
+pub mod Kept
 pub mod Entries
 pub mod Ledgers
 mod Examples
