@@ -222,6 +222,14 @@ class Audit:
             return f"settles: pending transfer {of} has other accounts, another ledger or code"
         if amount > held or body["type"] not in MOVES and amount < held:
             return f"amount: {amount} of pending transfer {of}, which holds {held}"
+        timestamp, timeout = int(body["timestamp"]), int(pending["transfer"]["timeout"])
+        end = int(pending["transfer"]["timestamp"]) + timeout * 10**9
+        if body["type"] not in STORES and timeout == 0:
+            return f"timeouts: pending transfer {of} has no timeout"
+        if body["type"] not in STORES and timestamp < end:
+            return f"timeouts: pending transfer {of} expires at {timestamp}, and its time is up at {end}"
+        if body["type"] in STORES and timeout and end <= timestamp:
+            return f"timeouts: pending transfer {of} is settled at {timestamp}, and its time is up at {end}"
         return None
 
     def take(self, body):
@@ -293,7 +301,10 @@ PAID = event(10, 1, SINGLE, 30, (1, 0, 30, 0, 0), (2, 0, 0, 0, 30))
 HELD = event(20, 2, PENDING, 10, (1, 10, 30, 0, 0), (2, 0, 0, 10, 30))
 POST = event(30, 3, POSTED, 4, (1, 0, 34, 0, 0), (2, 0, 0, 0, 34), 2)
 VOID = event(30, 3, VOIDED, 10, (1, 0, 30, 0, 0), (2, 0, 0, 0, 30), 2)
-EXPIRY = {**VOID, "type": EXPIRED, "transfer": HELD["transfer"]}
+# Or it holds back 10 for a second, after which they expire.
+TIMED = with_transfer(HELD, timeout=1)
+UP = 20 + 10**9
+EXPIRY = {**VOID, "timestamp": str(UP), "type": EXPIRED, "transfer": TIMED["transfer"]}
 END = {"end": True}
 
 
@@ -303,7 +314,7 @@ def rows():
     yield "one event", [PAID], "accepted 1 last 10\n", 0
     yield "a post", [PAID, HELD, POST], "accepted 3 last 30\n", 0
     yield "a void", [PAID, HELD, VOID], "accepted 3 last 30\n", 0
-    yield "an expiry", [PAID, HELD, EXPIRY], "accepted 3 last 30\n", 0
+    yield "an expiry", [PAID, TIMED, EXPIRY], f"accepted 3 last {UP}\n", 0
     yield "envelopes and the end", [{"previous": "0", "body": PAID}, END], "accepted 1 last 10\n", 0
     yield "the end twice", [PAID, END, END], "accepted 1 last 10\n", 0
     yield "an event after the end", [PAID, END, HELD], "accepted 1 last 10\nrefused: line 3: end: event 20 came after the end\n", 1
@@ -321,13 +332,12 @@ def rows():
     yield "a post of a single-phase transfer", [PAID, of_single], (
         "accepted 1 last 10\nrefused: line 2: pending: no pending transfer 1 came before\n"
     ), 1
-    late = {**EXPIRY, "timestamp": "40"}
-    yield "an expiry of what was posted", [PAID, HELD, POST, late], (
+    yield "an expiry of what was posted", [PAID, TIMED, POST, EXPIRY], (
         "accepted 3 last 30\nrefused: line 4: ended: pending transfer 2 ended before\n"
     ), 1
-    second = event(40, 4, VOIDED, 10, (1, 0, 30, 0, 0), (2, 0, 0, 0, 30), 2)
-    yield "a void of what expired", [PAID, HELD, EXPIRY, second], (
-        "accepted 3 last 30\nrefused: line 4: ended: pending transfer 2 ended before\n"
+    second = event(UP + 1, 4, VOIDED, 10, (1, 0, 30, 0, 0), (2, 0, 0, 0, 30), 2)
+    yield "a void of what expired", [PAID, TIMED, EXPIRY, second], (
+        f"accepted 3 last {UP}\nrefused: line 4: ended: pending transfer 2 ended before\n"
     ), 1
     third = event(30, 3, SINGLE, 1, (1, 0, 35, 0, 0), (2, 0, 0, 0, 35))
     yield "an event that was left out", [PAID, third], (
@@ -388,11 +398,23 @@ def rows_of_fields():
     other = event(30, 3, POSTED, 4, (1, 6, 34, 0, 0), (3, 0, 0, 0, 4), 2)
     yield "a post to another account", [PAID, HELD, other], third + settles, 1
     yield "a void with another code", [PAID, HELD, with_transfer(VOID, code=2)], third + settles, 1
-    yield "an expiry with another timeout", [PAID, HELD, with_transfer(EXPIRY, timeout=1)], third + settles, 1
+    yield "an expiry with another timeout", [PAID, TIMED, with_transfer(EXPIRY, timeout=2)], third + settles, 1
     more = event(30, 3, POSTED, 11, (1, 0, 41, 0, 0), (2, 0, 0, 0, 41), 2)
     yield "a post of more", [PAID, HELD, more], third + "amount: 11 of pending transfer 2, which holds 10\n", 1
     yield "a void of less", [PAID, HELD, with_transfer(VOID, amount="9")], (
         third + "amount: 9 of pending transfer 2, which holds 10\n"
+    ), 1
+    endless = {**EXPIRY, "transfer": HELD["transfer"]}
+    yield "an expiry without a timeout", [PAID, HELD, endless], third + "timeouts: pending transfer 2 has no timeout\n", 1
+    soon = {**EXPIRY, "timestamp": str(UP - 1)}
+    yield "an expiry too soon", [PAID, TIMED, soon], (
+        third + f"timeouts: pending transfer 2 expires at {UP - 1}, and its time is up at {UP}\n"
+    ), 1
+    last = event(UP - 1, 3, POSTED, 4, (1, 0, 34, 0, 0), (2, 0, 0, 0, 34), 2)
+    yield "a post just in time", [PAID, TIMED, last], f"accepted 3 last {UP - 1}\n", 0
+    late = event(UP, 3, POSTED, 4, (1, 0, 34, 0, 0), (2, 0, 0, 0, 34), 2)
+    yield "a post too late", [PAID, TIMED, late], (
+        third + f"timeouts: pending transfer 2 is settled at {UP}, and its time is up at {UP}\n"
     ), 1
     limited = {**PAID, "debit_account": account(1, 0, 30, 0, 0, flags=2)}
     yield "debits above credits", [limited], first + "limits: account 1 has debits of 30, above its credits of 0\n", 1
@@ -445,7 +467,10 @@ def json_rows():
     yield [PAID, PAID], {"rule": "timestamps", "timestamp": "10", "last": "10"}
     yield [one], {"rule": "accounts", "account": "1"}
     yield [PAID, again], {"rule": "id", "transfer": "1"}
-    yield [PAID, HELD, POST, {**EXPIRY, "timestamp": "40"}], {"rule": "ended", "transfer": "2"}
+    yield [PAID, TIMED, POST, EXPIRY], {"rule": "ended", "transfer": "2"}
+    yield [PAID, HELD, {**EXPIRY, "transfer": HELD["transfer"]}], {"rule": "timeouts", "transfer": "2"}
+    times = {"timestamp": str(UP - 1), "end": str(UP)}
+    yield [PAID, TIMED, {**EXPIRY, "timestamp": str(UP - 1)}], {"rule": "timeouts", "transfer": "2", **times}
     yield [{**PAID, "ledger": 0}], {"rule": "shape", "transfer": "1", "result": "ledger_must_not_be_zero"}
     yield [with_transfer(PAID, flags=2)], {"rule": "shape", "transfer": "1"}
     yield [with_transfer(PAID, timestamp="9")], {"rule": "shape", "transfer": "1", "shown": "9", "timestamp": "10"}

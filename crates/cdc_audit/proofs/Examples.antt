@@ -13,7 +13,7 @@ use Rattle.cdc_follow.specs.declared.entries.Content.TheVariants as content
 use Rattle.cdc_audit.specs.declared.refusals.BalanceField.TheVariants.{DebitsPosted, DebitsPending}
 use Rattle.cdc_audit.specs.declared.refusals.FixedField.TheVariants.{Code}
 use Rattle.cdc_audit.specs.declared.refusals.Refusal.TheVariants.{AfterEnd, NotLater, OneAccount, TransferShape, OtherKind, OtherTimestamp, AccountShape, AccountField, CreatedLater}
-use Rattle.cdc_audit.specs.declared.refusals.Refusal.TheVariants.{KnownId, NotPending, Settled, OtherFields, Amount, TooLarge, Limit, Balance}
+use Rattle.cdc_audit.specs.declared.refusals.Refusal.TheVariants.{KnownId, NotPending, Settled, OtherFields, Amount, NoTimeout, TooSoon, TooLate, TooLarge, Limit, Balance}
 use Rattle.cdc_audit.specs.declared.refusals.Side.TheVariants.{Debits, Credits}
 use Rattle.cdc_audit.specs.Audits.{entry_refusal, follows_on, is_accepted}
 use Rattle.cdc_audit.specs.Rules.{refusal}
@@ -91,10 +91,13 @@ held_back = event 2000 TwoPhasePending 11 0 7 7 5
 abbrev posted_then : Event
 posted_then = event 3000 TwoPhasePosted 12 11 6 0 11
 
--- or the whole is released, since the seven expire
+-- or they are held back for a second, and the whole is released as they expire
+abbrev held_timed : Event
+held_timed = record held_back { transfer = record held_back.transfer { timeout = 1 } }
+
 abbrev expired : Event
-expired = record held_back {
-  timestamp = 3000;
+expired = record held_timed {
+  timestamp = 1000002000;
   kind = TwoPhaseExpired;
   debit_account = debited 1 0 5;
   credit_account = credited 2 0 5;
@@ -109,7 +112,7 @@ accepted-void : is_accepted (moved ∷ held_back ∷ event 3000 TwoPhaseVoided 1
 unfolding refusal follows_on
 accepted-void = refl
 
-accepted-expiry : is_accepted (moved ∷ held_back ∷ expired ∷ []) ≡ true
+accepted-expiry : is_accepted (moved ∷ held_timed ∷ expired ∷ []) ≡ true
 unfolding refusal follows_on
 accepted-expiry = refl
 
@@ -189,7 +192,7 @@ other_accounts : refusal (moved ∷ held_back ∷ []) (record posted_then { cred
 unfolding refusal
 other_accounts = refl
 
-other_transfer : refusal (moved ∷ held_back ∷ []) (record expired { transfer = record held_back.transfer { timeout = 1 } })
+other_transfer : refusal (moved ∷ held_timed ∷ []) (record expired { transfer = record held_back.transfer { timeout = 2 } })
     ≡ Some (OtherFields 11)
 unfolding refusal
 other_transfer = refl
@@ -202,6 +205,21 @@ too_much = refl
 a_part_is_voided : refusal (moved ∷ held_back ∷ []) (event 3000 TwoPhaseVoided 12 11 6 0 5) ≡ Some (Amount 6 11 7)
 unfolding refusal
 a_part_is_voided = refl
+
+-- what has no timeout expires, or something expires a nanosecond too soon, or is posted when its time is up
+no_timeout : refusal (moved ∷ held_back ∷ []) (record expired { transfer = held_back.transfer }) ≡ Some (NoTimeout 11)
+unfolding refusal
+no_timeout = refl
+
+too_soon : refusal (moved ∷ held_timed ∷ []) (record expired { timestamp = 1000001999 })
+    ≡ Some (TooSoon 11 1000001999 1000002000)
+unfolding refusal
+too_soon = refl
+
+too_late : refusal (moved ∷ held_timed ∷ []) (event 1000002000 TwoPhasePosted 12 11 6 0 11)
+    ≡ Some (TooLate 11 1000002000 1000002000)
+unfolding refusal
+too_late = refl
 
 -- the post of six releases the seven that are held, not six
 releases_the_whole : refusal (moved ∷ held_back ∷ []) (event 3000 TwoPhasePosted 12 11 6 1 11)
@@ -278,6 +296,20 @@ text-settles : refusal_text (OtherFields 7)
     ≡ codes "settles: pending transfer 7 has other accounts, another ledger or code"
 unfolding refusal_text digits
 text-settles = refl
+
+text-no_timeout : refusal_text (NoTimeout 7) ≡ codes "timeouts: pending transfer 7 has no timeout"
+unfolding refusal_text digits
+text-no_timeout = refl
+
+text-too_soon : refusal_text (TooSoon 7 50 60)
+    ≡ codes "timeouts: pending transfer 7 expires at 50, and its time is up at 60"
+unfolding refusal_text digits
+text-too_soon = refl
+
+text-too_late : refusal_text (TooLate 7 70 60)
+    ≡ codes "timeouts: pending transfer 7 is settled at 70, and its time is up at 60"
+unfolding refusal_text digits
+text-too_late = refl
 
 text-amount : refusal_text (Amount 12 7 10) ≡ codes "amount: 12 of pending transfer 7, which holds 10"
 unfolding refusal_text digits

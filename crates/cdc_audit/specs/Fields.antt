@@ -1,10 +1,9 @@
 -- The fields of an account that never change.
-use Rattle.std.specs.Prelude.{ℕ, Bool, ◌==◌, nat_eq, nat_lt, not, List, [], ◌∷◌, ◌++◌, Option, unwrap_or}
+use Rattle.std.specs.Prelude.{ℕ, Bool, ◌==◌, nat_eq, nat_lt, not, List, [], ◌∷◌, Option, unwrap_or}
 use Rattle.std.specs.List.{flat_map}
 use Rattle.std.specs.Map.{lookup}
 use Rattle.cdc_types.specs.declared.events.Event.{Event}
 use Rattle.cdc_types.specs.declared.events.EventAccount.{EventAccount}
-use Rattle.cdc_audit.specs.declared.refusals.FieldMismatch.{FieldMismatch}
 use Rattle.cdc_audit.specs.declared.refusals.FixedField.{FixedField}
 use Rattle.cdc_audit.specs.declared.refusals.FixedField.TheVariants.{UserData128, UserData64, UserData32, Ledger, Code, Flags, Timestamp}
 use Rattle.cdc_audit.specs.declared.refusals.Refusal.{Refusal}

@@ -1,10 +1,10 @@
 -- What a post, a void and an expiry have of the pending transfer that they settle.
-use Rattle.std.specs.Prelude.{ℕ, Bool, ◌==◌, ◌&&◌, ◌||◌, not, nat_le, List, [], ◌∷◌, Option, Some, None, if◌then◌else◌}
+use Rattle.std.specs.Prelude.{ℕ, ◌+◌, ◌*◌, Bool, ◌==◌, ◌&&◌, ◌||◌, not, nat_le, nat_lt, List, [], ◌∷◌, Option, Some, None, if◌then◌else◌}
 use Rattle.cdc_types.specs.declared.events.Event.{Event}
 use Rattle.cdc_types.specs.declared.events.EventTransfer.{EventTransfer}
 use Rattle.cdc_ledger.specs.Kinds.{moves, stores}
 use Rattle.cdc_audit.specs.declared.refusals.Refusal.{Refusal}
-use Rattle.cdc_audit.specs.declared.refusals.Refusal.TheVariants.{OtherFields, Amount}
+use Rattle.cdc_audit.specs.declared.refusals.Refusal.TheVariants.{OtherFields, Amount, NoTimeout, TooSoon, TooLate}
 use Rattle.cdc_audit.specs.Known.{settled_id}
 
 -- every field of the two transfers is equal
@@ -26,6 +26,14 @@ has_fields_of pending e =
 abbrev pub has_amount_of : ℕ → Event → Bool
 has_amount_of held e = if moves e.kind then nat_le e.transfer.amount held else (e.transfer.amount == held)
 
+-- when a pending transfer expires, in nanoseconds; its timeout is in seconds
+abbrev pub expires_at : EventTransfer → ℕ
+expires_at x = x.timestamp + x.timeout * 1000000000
+
+-- a pending transfer with a timeout has expired by this time
+abbrev pub has_expired : ℕ → EventTransfer → Bool
+has_expired t x = not (x.timeout == 0) && nat_le (expires_at x) t
+
 -- the lines on an event that settles a pending transfer, which this event stored
 abbrev pub settling_lines : Option Event → Event → List (Bool × Refusal)
 settling_lines None e = []
@@ -33,5 +41,12 @@ settling_lines (Some pending) e =
     (not (has_fields_of pending e), OtherFields (settled_id e)) ∷ (
       not (has_amount_of pending.transfer.amount e),
       Amount e.transfer.amount (settled_id e) pending.transfer.amount,
+    ) ∷
+    (not (stores e.kind) && (pending.transfer.timeout == 0), NoTimeout (settled_id e)) ∷ (
+      not (stores e.kind) && nat_lt e.timestamp (expires_at pending.transfer),
+      TooSoon (settled_id e) e.timestamp (expires_at pending.transfer),
+    ) ∷ (
+      stores e.kind && has_expired e.timestamp pending.transfer,
+      TooLate (settled_id e) e.timestamp (expires_at pending.transfer),
     ) ∷
     []

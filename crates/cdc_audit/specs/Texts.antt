@@ -10,7 +10,7 @@ use Rattle.cdc_audit.specs.declared.refusals.FixedField.TheVariants.{UserData128
 use Rattle.cdc_audit.specs.declared.refusals.Mismatch.{Mismatch}
 use Rattle.cdc_audit.specs.declared.refusals.Refusal.{Refusal}
 use Rattle.cdc_audit.specs.declared.refusals.Refusal.TheVariants.{AfterEnd, NotLater, OneAccount, TransferShape, OtherKind, OtherTimestamp, AccountShape, AccountField, CreatedLater}
-use Rattle.cdc_audit.specs.declared.refusals.Refusal.TheVariants.{KnownId, NotPending, Settled, OtherFields, Amount, TooLarge, Limit, Balance}
+use Rattle.cdc_audit.specs.declared.refusals.Refusal.TheVariants.{KnownId, NotPending, Settled, OtherFields, Amount, NoTimeout, TooSoon, TooLate, TooLarge, Limit, Balance}
 use Rattle.cdc_audit.specs.declared.refusals.Side.{Side}
 use Rattle.cdc_audit.specs.declared.refusals.Side.TheVariants.{Debits, Credits}
 
@@ -30,6 +30,9 @@ refusal_name (NotPending id) = codes "pending"
 refusal_name (Settled id) = codes "ended"
 refusal_name (OtherFields id) = codes "settles"
 refusal_name (Amount amount id held) = codes "amount"
+refusal_name (NoTimeout id) = codes "timeouts"
+refusal_name (TooSoon id timestamp end) = codes "timeouts"
+refusal_name (TooLate id timestamp end) = codes "timeouts"
 refusal_name (TooLarge id side) = codes "limits"
 refusal_name (Limit excess) = codes "limits"
 refusal_name (Balance mismatch) = codes "balances"
@@ -81,6 +84,11 @@ abbrev pub at_times : List ℕ → ℕ → List ℕ → ℕ → ℕ → List ℕ
 at_times before id between one other =
     around before id between ++ (decimal one ++ (codes ", in an event at " ++ decimal other))
 
+-- a pending transfer that is settled too soon or too late, and when it expires
+abbrev pub time_text : ℕ → List ℕ → ℕ → ℕ → List ℕ
+time_text id between timestamp end =
+    around (codes "pending transfer ") id between ++ (decimal timestamp ++ (codes ", and its time is up at " ++ decimal end))
+
 -- a field of an account that isn't as its first event showed it
 abbrev pub field_text : FieldMismatch → List ℕ
 field_text m =
@@ -111,6 +119,9 @@ reason_text (Settled id) = around (codes "pending transfer ") id (codes " ended 
 reason_text (OtherFields id) = around (codes "pending transfer ") id (codes " has other accounts, another ledger or code")
 reason_text (Amount amount id held) =
     around [] amount (codes " of pending transfer ") ++ (decimal id ++ (codes ", which holds " ++ decimal held))
+reason_text (NoTimeout id) = around (codes "pending transfer ") id (codes " has no timeout")
+reason_text (TooSoon id timestamp end) = time_text id (codes " expires at ") timestamp end
+reason_text (TooLate id timestamp end) = time_text id (codes " is settled at ") timestamp end
 reason_text (TooLarge id side) =
     around (codes "account ") id (codes " has ") ++ (side_name side ++ codes " above 128 bits")
 reason_text (Limit excess) = excess_text excess

@@ -106,6 +106,14 @@ pub enum Refusal {
     /// It has this amount of the pending transfer of this id, which holds another amount, the last one: a post has
     /// more, or a void or an expiry hasn't the whole.
     Amount(u128, u128, u128),
+    /// It is the expiry of the pending transfer of this id, which has no timeout.
+    NoTimeout(u128),
+    /// It is the expiry of the pending transfer of this id, at the second number, before that one's time is up, at the
+    /// last number.
+    TooSoon(u128, u64, u128),
+    /// It posts or voids the pending transfer of this id, at the second number, and that one's time was up by then, at
+    /// the last number.
+    TooLate(u128, u64, u128),
     /// The pending and posted sum of the account of this id exceeds 128 bits on this side.
     TooLarge(u128, Side),
     /// A sum exceeds the limit that the account's flags set.
@@ -187,6 +195,9 @@ impl Refusal {
             Refusal::Settled(_) => "ended",
             Refusal::OtherFields(_) => "settles",
             Refusal::Amount(_, _, _) => "amount",
+            Refusal::NoTimeout(_) => "timeouts",
+            Refusal::TooSoon(_, _, _) => "timeouts",
+            Refusal::TooLate(_, _, _) => "timeouts",
             Refusal::TooLarge(_, _) => "limits",
             Refusal::Limit(_) => "limits",
             Refusal::Balance(_) => "balances",

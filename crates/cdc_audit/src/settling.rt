@@ -47,6 +47,20 @@ fn has_amount_of(held: u128, event: &Event) -> bool
     }
 }
 
+/// When a pending transfer expires, in nanoseconds.
+fn expires_at(pending: &EventTransfer) -> u128
+    ensures { result ≡ spec.expires_at pending.now }
+{
+    u128::from(pending.timestamp) + u128::from(pending.timeout) * 1_000_000_000
+}
+
+/// Whether a pending transfer with a timeout has expired by this time.
+fn has_expired(timestamp: u64, pending: &EventTransfer) -> bool
+    ensures { result ≡ spec.has_expired timestamp pending.now }
+{
+    pending.timeout != 0 && expires_at(pending) <= u128::from(timestamp)
+}
+
 /// The refusal of an event by the pending transfer that it settles, which this event stored.
 pub(crate) fn settling_refusal(settled: Option<Event>, event: &Event) -> Option<Refusal>
     ensures { result ≡ first_line (spec.settling_lines settled event.now) }
@@ -55,10 +69,18 @@ pub(crate) fn settling_refusal(settled: Option<Event>, event: &Event) -> Option<
         return None;
     };
     let held = pending.transfer.amount;
+    let expires_at = expires_at(&pending.transfer);
+    let has_expired = has_expired(event.timestamp, &pending.transfer);
     if !has_fields_of(&pending, event) {
         Some(Refusal::OtherFields(settled_id(event)))
     } else if !has_amount_of(held, event) {
         Some(Refusal::Amount(event.transfer.amount, settled_id(event), held))
+    } else if !stores(event.kind) && pending.transfer.timeout == 0 {
+        Some(Refusal::NoTimeout(settled_id(event)))
+    } else if !stores(event.kind) && u128::from(event.timestamp) < expires_at {
+        Some(Refusal::TooSoon(settled_id(event), event.timestamp, expires_at))
+    } else if stores(event.kind) && has_expired {
+        Some(Refusal::TooLate(settled_id(event), event.timestamp, expires_at))
     } else {
         None
     }

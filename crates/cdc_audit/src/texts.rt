@@ -53,6 +53,11 @@ fn push_reason(why: Refusal, text: &mut Vec<u8>) -> Result<(), AllocError>
             " has other accounts, another ledger or code",
         ),
         Refusal::Amount(amount, id, held) => push_amount(text, amount, id, held),
+        Refusal::NoTimeout(id) => push_around(text, "pending transfer ", id, " has no timeout"),
+        Refusal::TooSoon(id, timestamp, end) => push_end(text, id, " expires at ", timestamp, end),
+        Refusal::TooLate(id, timestamp, end) => {
+            push_end(text, id, " is settled at ", timestamp, end)
+        }
         Refusal::TooLarge(id, side) => push_side(text, id, side),
         Refusal::Limit(excess) => push_excess(&excess, text),
         Refusal::Balance(mismatch) => push_mismatch(&mismatch, text),
@@ -93,6 +98,23 @@ fn push_times(
     push_number(text, one)?;
     push(text, ", in an event at ")?;
     push_number(text, other)
+}
+
+/// Adds when a pending transfer is settled, and when it expires.
+fn push_end(
+    text: &mut Vec<u8>,
+    id: u128,
+    between: &str,
+    timestamp: u64,
+    end: u128,
+) -> Result<(), AllocError>
+    ensures { OnOk result (text.new.items
+        ≡ text.old.items ++ spec.time_text id between.now timestamp end) }
+{
+    push_around(text, "pending transfer ", id, between)?;
+    push_number(text, timestamp)?;
+    push(text, ", and its time is up at ")?;
+    push_number(text, end)
 }
 
 /// Adds a field of an account that isn't as its first event showed it.

@@ -1,16 +1,21 @@
 -- What each request that is accepted and each expiry keeps holds of every legal history.
-use Rattle.std.proofs.Common.{ℕ, ◌+◌, ◌<◌, ◌≤◌, Bool, false, None, List, [], ◌∷◌, ◌≡◌, ◌≢◌, Result, Ok, Err, ◌||◌, refl, sym, ap₂, ◌∙◌, subst, arith, length}
+use Rattle.std.proofs.Common.{ℕ, ◌+◌, ◌<◌, ◌≤◌, Bool, true, false, map, None, List, [], ◌∷◌, ◌≡◌, ◌≢◌, Result, Ok, Err, ◌||◌, refl, sym, ap₂, ◌∙◌, subst, arith, length}
+use Rattle.std.specs.Prelude.{◌==◌, ◌&&◌, not, nat_le, filter, if◌then◌else◌}
 use Rattle.std.specs.List.{AllByRecursion}
-use Rattle.std.proofs.lemmas.Bool.{ne_eqb}
+use Rattle.std.proofs.lemmas.Bool.{and_parts, leb-true, ne_eqb, not-true}
 use Rattle.cdc_types.specs.declared.accounts.NewAccount.{NewAccount}
 use Rattle.cdc_types.specs.declared.batches.Batch.{Batch}
 use Rattle.cdc_types.specs.declared.batches.Batch.TheVariants as batch
 use Rattle.cdc_types.specs.declared.batches.BatchResults.{BatchResults}
+use Rattle.cdc_types.specs.declared.events.Entry.{Entry}
 use Rattle.cdc_types.specs.declared.transfers.NewTransfer.{NewTransfer}
 use Rattle.cdc_types.specs.declared.transfers.Transfer.{Transfer}
 use Rattle.cdc_ledger.specs.declared.errors.BatchError.{BatchError}
 use Rattle.cdc_ledger.specs.Changes.{expiry, pushed, timed, with_account}
-use Rattle.cdc_ledger.specs.Due.{due}
+use Rattle.cdc_ledger.specs.Due.{due, is_due}
+use Rattle.cdc_ledger.specs.Filling.{expires_at}
+use Rattle.cdc_ledger.specs.Kinds.{holds}
+use Rattle.cdc_ledger.specs.Balances.{resolved}
 use Rattle.cdc_ledger.specs.History.{History, empty_history}
 use Rattle.cdc_ledger.specs.Sound.{IsSound}
 use Rattle.cdc_ledger.specs.Submit.{IsLegal, account_rules, accounts_from, after_batches, base, entry_of, expiries_from, history_or, is_past_the_end, opened_by, submit, taken, transfer_rules, transfers_from}
@@ -18,6 +23,7 @@ use Rattle.cdc_ledger.specs.Verdict.{account_refused, max_timestamp, transfer_re
 use Rattle.cdc_ledger.proofs.AcceptedLaws.{Follows-accepted, accepted_account}
 use Rattle.cdc_ledger.proofs.BalanceLaws.{resolved_then}
 use Rattle.cdc_ledger.proofs.ChainLaws.{items_from-keeps}
+use Rattle.cdc_ledger.proofs.DueOrder.{All-in_order}
 use Rattle.cdc_ledger.proofs.Elements.{AllByRecursion-both, AllByRecursion-weaker}
 use Rattle.cdc_ledger.proofs.KeptLaws.{after_last, submit_parts, within_end}
 use Rattle.cdc_ledger.proofs.PulseLaws.{Follows-open, HaveOwnIds, IsOpen, due_ids, due_open}
@@ -36,13 +42,50 @@ open_after h p q t sound later other open_one = record {
       ∙ ap₂ (λ b c. b || c) open_one.unsettled (ne_eqb p.id q.id other);
 }
 
+-- a pending transfer's time is up
+pub record IsUp (p : Transfer) (t : ℕ) : Type 0 where
+  pub timed : (p.timeout == 0) ≡ false
+  pub ended : expires_at p ≤ t
+
+-- the transfers of those of the entries that pass
+passing_all : (test : Entry → Bool) (P : Transfer → Type 0) → ((e : Entry) → test e ≡ true → P e.transfer)
+    → (es : List Entry) → AllByRecursion P (map (λ e. e.transfer) (filter test es))
+passing_all test P holds [] = tt
+passing_all test P holds (e ∷ es) = by (test e) refl (passing_all test P holds es)
+  where
+    by : (b : Bool) → test e ≡ b → AllByRecursion P (map (λ x. x.transfer) (filter test es))
+        → AllByRecursion P (map (λ x. x.transfer) (if b then e ∷ filter test es else filter test es))
+    by true passes more = (holds e passes, more)
+    by false passes more = more
+
+-- the time of each transfer that is due is up
+due_up : (h : History) (now : ℕ) → AllByRecursion (λ p. IsUp p now) (due h now)
+due_up h now =
+    All-in_order (λ p. IsUp p now) (map (λ e. e.transfer) (filter (is_due h now) h.entries))
+    (passing_all (is_due h now) (λ p. IsUp p now) (λ e is.
+    let last = and_parts (holds e.kind && not (e.transfer.timeout == 0) && nat_le (expires_at e.transfer) now)
+    (not (resolved h e.transfer h.last)) is in
+    let ended = and_parts (holds e.kind && not (e.transfer.timeout == 0)) (nat_le (expires_at e.transfer) now) last.0 in
+    let timed = and_parts (holds e.kind) (not (e.transfer.timeout == 0)) ended.0 in
+    record {
+      timed = not-true (e.transfer.timeout == 0) timed.1;
+      ended = leb-true (expires_at e.transfer) now ended.1;
+    }) h.entries)
+
+-- and stays so
+up_later : (s t : ℕ) (ps : List Transfer) → s ≤ t → AllByRecursion (λ p. IsUp p s) ps
+    → AllByRecursion (λ p. IsUp p t) ps
+up_later s t ps later all =
+    AllByRecursion-weaker (λ p. IsUp p s) (λ p. IsUp p t)
+    (λ p is. record { timed = is.timed; ended = let before = is.ended in omega arith }) ps all
+
 -- the property holds of a new ledger, and each of these keeps it: a transfer that is accepted, the expiry of an open
 -- one, an account that is accepted, a timestamp that is taken, and closing the ledger
 module _ (P : History → Type 0) (on_empty : P empty_history)
     (on_request : (h : History) (r : NewTransfer) (t : ℕ) → IsSound h → h.last < t → transfer_refused h r t ≡ None
     → IsSound (pushed h (entry_of h r t)) → P h → P (pushed h (entry_of h r t)))
     (on_expiry : (h : History) (p : Transfer) (t : ℕ) → IsSound h → h.last < t → IsOpen h p
-    → IsSound (pushed h (expiry p t)) → P h → P (pushed h (expiry p t)))
+    → IsUp p t → IsSound (pushed h (expiry p t)) → P h → P (pushed h (expiry p t)))
     (on_account : (h : History) (a : NewAccount) (t : ℕ) → IsSound h → h.last < t → account_refused h a ≡ None → P h
     → P (with_account h (opened_by a t)))
     (on_timed : (h : History) (t : ℕ) → IsSound h → h.last ≤ t → P h → P (timed h t))
@@ -85,17 +128,18 @@ module _ (P : History → Type 0) (on_empty : P empty_history)
 
   -- open transfers that expire one after another
   keeps-expiries : (h : History) (t : ℕ) (ps : List Transfer) → Keeps h → AllByRecursion (IsOpen h) ps
-      → HaveOwnIds ps → h.last < t → (0 < length ps → t + length ps ≤ max_timestamp + 1)
+      → AllByRecursion (λ p. IsUp p t) ps → HaveOwnIds ps → h.last < t → (0 < length ps → t + length ps ≤ max_timestamp + 1)
       → Keeps (expiries_from h t ps)
-  keeps-expiries h t [] keeps all own later fits = keeps
-  keeps-expiries h t (p ∷ ps) keeps all own later fits =
+  keeps-expiries h t [] keeps all up own later fits = keeps
+  keeps-expiries h t (p ∷ ps) keeps all up own later fits =
       let whole : t + length (p ∷ ps) ≤ max_timestamp + 1 = fits (omega arith) in
       let sound : IsSound (pushed h (expiry p t)) =
       IsSound-pushed h (expiry p t) keeps.0 (Follows-open h p t keeps.0 all.0) later (omega arith) in
-      keeps-expiries (pushed h (expiry p t)) (t + 1) ps (sound, on_expiry h p t keeps.0 later all.0 sound keeps.1)
+      keeps-expiries (pushed h (expiry p t)) (t + 1) ps (sound, on_expiry h p t keeps.0 later all.0 up.0 sound keeps.1)
       (AllByRecursion-weaker (λ q. (p.id ≢ q.id) × IsOpen h q) (IsOpen (pushed h (expiry p t)))
       (λ q at. open_after h p q t keeps.0 later at.0 at.1) ps
       (AllByRecursion-both (λ q. p.id ≢ q.id) (IsOpen h) ps own.0 all.1))
+      (up_later t (t + 1) ps (omega arith) up.1)
       own.1 (omega arith) (λ some. omega arith)
 
   -- a batch that is answered
@@ -115,7 +159,8 @@ module _ (P : History → Type 0) (on_empty : P empty_history)
       let parts : (is_past_the_end h now (length (due h now)) ≡ false) × (taken h (batch.Pulse now) ≡ answer) =
       submit_parts h (batch.Pulse now) answer e in
       subst (λ (a : BatchResults × History). Keeps a.1) parts.1
-      (keeps-expiries h (base h now) (due h now) keeps (due_open h now keeps.0) (due_ids h now keeps.0)
+      (keeps-expiries h (base h now) (due h now) keeps (due_open h now keeps.0)
+      (up_later now (base h now) (due h now) (omega arith) (due_up h now)) (due_ids h now keeps.0)
       (after_last h now) (within_end h now (length (due h now)) parts.0))
 
   -- any batch, answered or refused

@@ -1,9 +1,8 @@
 -- What holds of the accounts of every legal history, and of the ledger of its entries.
-use Rattle.std.proofs.Common.{◌≡◌, ◌≢◌, ℕ, ◌+◌, ◌<◌, ◌≤◌, Bool, true, false, List, [], ◌∷◌, ◌++◌, Option, Some, None, refl, sym, ap, ap₂, ◌∙◌, subst, inl, inr, arith}
-use Rattle.std.specs.Prelude.{◌==◌, ◌&&◌, nat_le, find, if◌then◌else◌, unwrap_or, IsSome}
-use Rattle.std.specs.Option.{option_or}
+use Rattle.std.proofs.Common.{◌≡◌, ◌≢◌, ℕ, ◌+◌, ◌<◌, ◌≤◌, Bool, true, false, List, Option, Some, None, refl, sym, ap, ◌∙◌, subst, inl, inr, arith}
+use Rattle.std.specs.Prelude.{if◌then◌else◌, unwrap_or, IsSome}
 use Rattle.std.specs.List.{AllByRecursion}
-use Rattle.std.proofs.lemmas.Bool.{eqb-true, false≢true, ne_eqb}
+use Rattle.std.proofs.lemmas.Bool.{ne_eqb}
 use Rattle.std.proofs.lemmas.Bool.Decides.{eqb_tells}
 use Rattle.cdc_types.specs.declared.accounts.Balances.{Balances}
 use Rattle.cdc_types.specs.declared.accounts.NewAccount.{NewAccount}
@@ -13,7 +12,6 @@ use Rattle.cdc_types.specs.declared.events.EventKind.{EventKind}
 use Rattle.cdc_types.specs.declared.events.EventKind.TheVariants.{SinglePhase, TwoPhasePending, TwoPhasePosted, TwoPhaseVoided, TwoPhaseExpired}
 use Rattle.cdc_types.specs.Flags.{has_flag}
 use Rattle.cdc_types.specs.Shapes.{account_refusal}
-use Rattle.cdc_ledger.specs.Accounts.{no_balances}
 use Rattle.cdc_ledger.specs.Balances.{balances}
 use Rattle.cdc_ledger.specs.Changes.{pushed, timed, with_account}
 use Rattle.cdc_ledger.specs.Effects.{amount_of, balances_after_entry, effect_of, part}
@@ -25,10 +23,10 @@ use Rattle.cdc_ledger.specs.Sound.{HasAccounts, IsSound}
 use Rattle.cdc_ledger.specs.Submit.{opened_by}
 use Rattle.cdc_ledger.specs.Verdict.{account_refused}
 use Rattle.cdc_ledger.proofs.AcceptedLaws.{accepted_account}
-use Rattle.cdc_ledger.proofs.BalanceLaws.{balances-pushed, balances_later, balances_none, released_credit, released_debit, settled_by_is, settled_by_none}
+use Rattle.cdc_ledger.proofs.BalanceLaws.{balances-pushed, balances_later, balances_none, released_credit, released_debit, settled_by_is}
 use Rattle.cdc_ledger.proofs.Elements.{AllByRecursion-both, AllByRecursion-weaker, AllByRecursion_push}
-use Rattle.cdc_ledger.proofs.OpenedLaws.{opened-with_account, opened-with_account_same}
-use Rattle.cdc_audit_laws.proofs.Requests.{Enters, HasLedger, KeepsFields, KeepsLimits, account_of}
+use Rattle.cdc_ledger.proofs.OpenedLaws.{opened-with_account_same}
+use Rattle.cdc_audit_laws.proofs.Requests.{Enters, HasLedger, account_of}
 
 -- balances keep the limits that an account's flags set
 pub record IsLimited (flags : ℕ) (b : Balances) : Type 0 where

@@ -2,8 +2,8 @@
 use Rattle.std.proofs.Common.{◌≡◌, ◌≢◌, ℕ, ◌<◌, ◌≤◌, Bool, true, false, List, [], ◌∷◌, ◌++◌, Option, Some, None, is_none, map, ◌+◌, refl, sym, ap, ap₂, ◌∙◌, subst, inl, inr, arith}
 use Rattle.std.specs.List.{AllByRecursion, flat_map}
 use Rattle.std.specs.Map.{lookup}
-use Rattle.std.specs.Prelude.{◌==◌, ◌&&◌, ◌||◌, nat_eq, nat_lt, not, IsSome, if◌then◌else◌, unwrap_or}
-use Rattle.std.proofs.lemmas.Bool.{and_from, and_left, and_parts, eq-eqb, eqb-true, le-ltb, lt-ltb, ne_eqb, not_from_true}
+use Rattle.std.specs.Prelude.{◌==◌, ◌&&◌, ◌||◌, nat_eq, nat_le, nat_lt, not, IsSome, if◌then◌else◌, unwrap_or}
+use Rattle.std.proofs.lemmas.Bool.{and_from, and_left, and_parts, eq-eqb, eqb-true, le-ltb, leb-true, lt-ltb, ne_eqb, not_from_true}
 use Rattle.std.proofs.lemmas.Bool.Decides.{eqb_tells}
 use Rattle.cdc_types.specs.declared.accounts.Balances.{Balances}
 use Rattle.cdc_types.specs.declared.events.Entry.{Entry}
@@ -26,7 +26,7 @@ use Rattle.cdc_ledger.specs.Balances.{balances}
 use Rattle.cdc_ledger.specs.Changes.{expiry, pushed, timed, with_account}
 use Rattle.cdc_ledger.specs.Effects.{amount_of, balances_after_entry, effect_of, part}
 use Rattle.cdc_ledger.specs.Events.{event_of, events, nobody, shown_transfer}
-use Rattle.cdc_ledger.specs.Filling.{stored}
+use Rattle.cdc_ledger.specs.Filling.{expires_at, stored}
 use Rattle.cdc_ledger.specs.Follows.{Follows, SettlesOpen}
 use Rattle.cdc_ledger.specs.History.{History, Opened, empty_history, opened}
 use Rattle.cdc_ledger.specs.Kinds.{settled_id, settles, stores}
@@ -178,6 +178,21 @@ first_fields : (h : History) → IsSound h → IsKept h → (id : ℕ) (x : Fixe
     → fields_before (events h) id ≡ Some x → x ≡ fixed_of (account_of h id)
 first_fields h sound kept id x found = first_from h h.entries sound.known kept.ledgers id x found
 
+-- an expiry of a transfer whose time is up, and a post or a void of one whose time isn't
+has_timeout : (storing zero up : Bool) → (storing ≡ false → (not zero && up) ≡ true) → (not storing && zero) ≡ false
+has_timeout true zero up is = refl
+has_timeout false true up is = let no = is refl in cc
+has_timeout false false up is = refl
+
+not_too_soon : (storing zero : Bool) (t end : ℕ) → (storing ≡ false → (not zero && nat_le end t) ≡ true)
+    → (not storing && nat_lt t end) ≡ false
+not_too_soon true zero t end is = refl
+not_too_soon false zero t end is = le-ltb t end (leb-true end t (and_parts (not zero) (nat_le end t) (is refl)).1)
+
+not_too_late : (storing up : Bool) → (storing ≡ true → up ≡ false) → (storing && up) ≡ false
+not_too_late true up is = is refl
+not_too_late false up is = refl
+
 -- one more entry
 module _ (h : History) (e : Entry) (sound : IsSound h) (follows : Follows h e) (after : h.last < e.timestamp)
     (next : IsSound (pushed h e)) (enters : Enters h e) (kept : IsKept h) (audited : IsAudited h) where
@@ -274,7 +289,16 @@ module _ (h : History) (e : Entry) (sound : IsSound h) (follows : Follows h e) (
                 (eq-eqb _ _ (credit_id ∙ of.settles.credit ∙ sym ids.1)))
                 (eq-eqb _ _ keeps.ledger)) (eq-eqb _ _ keeps.code))
                 (whole e.kind e.transfer x.transfer of.settles.shown)),
-            (not_from_true _ keeps.amount, tt),
+            (
+              not_from_true _ keeps.amount,
+              (
+                has_timeout (stores e.kind) _ _ keeps.ended,
+                (
+                  not_too_soon (stores e.kind) _ e.timestamp (expires_at x.transfer) keeps.ended,
+                  (not_too_late (stores e.kind) _ keeps.timely, tt),
+                ),
+              ),
+            ),
           )
 
   -- the transfer as a request, and its accounts as requests
@@ -587,9 +611,9 @@ ledgers_are_accepted h count legal =
     (λ g r t sound later none next is.
     auditable-pushed g (entry_of g r t) sound (Follows-accepted g r t sound later none) later next
     (enters-accepted g r t sound later is.0.ledgers none) is)
-    (λ g p t sound later is_open next is.
+    (λ g p t sound later is_open up next is.
     auditable-pushed g (expiry p t) sound (Follows-open g p t sound is_open) later next
-    (enters-expiry g p t is.0.ledgers is_open) is)
+    (enters-expiry g p t is.0.ledgers is_open up) is)
     (λ g a t sound later none is.
     (kept-account g a t sound later none is.0, audited-account g (opened_by a t) sound (omega arith) is.1))
     (λ g t sound later is. (kept-timed g t sound later is.0, audited-timed g t sound later is.1))

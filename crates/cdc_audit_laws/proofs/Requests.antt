@@ -1,9 +1,9 @@
 -- What a transfer that is accepted has: fields that a ledger lets it have, the ledger of its accounts, and what it settles
 -- of its pending transfer.
-use Rattle.std.proofs.Common.{◌≡◌, ℕ, ◌≤◌, Bool, true, false, not, List, [], ◌∷◌, ◌++◌, ◌+◌, ◌<◌, Option, Some, None, refl, sym, ap, ap₂, ◌∙◌, subst, arith}
+use Rattle.std.proofs.Common.{◌≡◌, ℕ, ◌≤◌, Bool, true, false, not, List, ◌++◌, ◌+◌, ◌<◌, Option, Some, None, refl, sym, ap, ap₂, ◌∙◌, subst, arith}
 use Rattle.std.specs.Prelude.{◌==◌, ◌&&◌, ◌||◌, nat_le, nat_lt, if◌then◌else◌, unwrap_or}
 use Rattle.std.specs.List.{AllByRecursion}
-use Rattle.std.proofs.lemmas.Bool.{and_left, eq-eqb, eqb-true, false≢true, le-leb, ltb-false, not-false}
+use Rattle.std.proofs.lemmas.Bool.{and_from, and_left, eq-eqb, eqb-true, false≢true, le-leb, ltb-false, not-false, not_from_false, or_parts}
 use Rattle.cdc_types.specs.declared.accounts.Balances.{Balances}
 use Rattle.cdc_types.specs.declared.accounts.TheConstants.AccountFlags.{CREDITS_MUST_NOT_EXCEED_DEBITS, DEBITS_MUST_NOT_EXCEED_CREDITS}
 use Rattle.cdc_types.specs.declared.events.Entry.{Entry}
@@ -17,12 +17,12 @@ use Rattle.cdc_types.specs.Flags.{has_flag, is_pending_request, is_plain_request
 use Rattle.cdc_types.specs.Lines.{first_line}
 use Rattle.cdc_types.specs.Results.{transfer_number}
 use Rattle.cdc_types.specs.Shapes.{asks_for_two_kinds, transfer_refusal, transfer_shape_lines}
-use Rattle.cdc_ledger.specs.Balances.{balances}
+use Rattle.cdc_ledger.specs.Balances.{balances, some_by}
 use Rattle.cdc_ledger.specs.Changes.{expiry}
 use Rattle.cdc_ledger.specs.Events.{nobody}
-use Rattle.cdc_ledger.specs.Filling.{as_asked, filled, filled_by, filled_from, or_own, settled_amount, stored}
+use Rattle.cdc_ledger.specs.Filling.{as_asked, expires_at, filled, filled_by, filled_from, or_own, settled_amount, stored}
 use Rattle.cdc_ledger.specs.History.{History, Opened, opened}
-use Rattle.cdc_ledger.specs.Kinds.{moves, settled_id, settles, stores}
+use Rattle.cdc_ledger.specs.Kinds.{expires, moves, settled_id, settles, stores}
 use Rattle.cdc_ledger.specs.Sound.{IsSound}
 use Rattle.cdc_ledger.specs.Submit.{entry_of, kind_of}
 use Rattle.cdc_ledger.specs.Verdict.{is_other, known_transfer_lines, plain_lines, settling_lines, transfer_refused}
@@ -31,12 +31,15 @@ use Rattle.cdc_ledger.proofs.LineLaws.{first_line_append_none_parts, test_fails,
 use Rattle.cdc_ledger.proofs.PulseLaws.{IsOpen}
 use Rattle.cdc_ledger.proofs.StoredLaws.{stored_has}
 use Rattle.cdc_audit.specs.EventShapes.{is_of_kind}
+use Rattle.cdc_audit_laws.proofs.Keeping.{IsUp}
 use Rattle.cdc_audit_laws.proofs.Following.{no_first_line, none_applies}
 
 -- the entry has the ledger and the code of the pending transfer, and an amount of it that its kind may have
 pub record KeepsFields (e : Entry) (p : Transfer) : Type 0 where
   pub ledger : e.transfer.ledger ≡ p.ledger
   pub code : e.transfer.code ≡ p.code
+  pub timely : stores e.kind ≡ true → (not (p.timeout == 0) && nat_le (expires_at p) e.timestamp) ≡ false
+  pub ended : stores e.kind ≡ false → (not (p.timeout == 0) && nat_le (expires_at p) e.timestamp) ≡ true
   pub amount : (if moves e.kind then nat_le e.transfer.amount p.amount else (e.transfer.amount == p.amount)) ≡ true
 
 -- whichever pending transfer the entry settles
@@ -154,9 +157,12 @@ module _ (h : History) (r : NewTransfer) (t : ℕ) (x : Entry)
       ∙ fails transfer.PendingTransferHasDifferentAmount)
 
   -- so its entry keeps the fields
-  keeps : (k : EventKind) → (moves k ≡ false → is_void_request r ≡ true)
+  keeps : (k : EventKind) → stores k ≡ true → (moves k ≡ false → is_void_request r ≡ true)
       → KeepsFields (record { timestamp = t; kind = k; transfer = filled_from x.transfer r t }) x.transfer
-  keeps k voids = record {
+  keeps k storing voids = record {
+    timely = λ is. (or_parts (some_by h t (λ y. expires y.kind y.transfer x.transfer))
+        (not (x.transfer.timeout == 0) && nat_le (expires_at x.transfer) t) (fails transfer.PendingTransferExpired)).1;
+    ended = λ no. absurd (false≢true (sym no ∙ storing));
     ledger = same_ledger;
     code = same_code;
     amount = by (moves k) voids;
@@ -183,6 +189,13 @@ asks true post void is = cc
 asks false true void is = (refl, λ no. cc)
 asks false false true is = (refl, λ no. refl)
 asks false false false is = cc
+
+-- a request stores its transfer
+stores_by : (pending post void : Bool) → stores (kind_by pending post void) ≡ true
+stores_by true post void = refl
+stores_by false true void = refl
+stores_by false false true = refl
+stores_by false false false = refl
 
 -- a kind that settles by a request names the pending transfer of the request
 names : (pending post void : Bool) (x : Transfer) → settles (kind_by pending post void) ≡ true
@@ -348,7 +361,8 @@ keeps-accepted h r t none is x there =
     let named : stored h r.pending_id ≡ Some x =
     sym (ap (stored h) (names (is_pending_request r) (is_post_request r) (is_void_request r) (filled h r t) is
     ∙ same_pending_id h r t)) ∙ there in
-    rw (same_filled h r t none kind.0 x named) (keeps h r t x (settling h r t none kind.0 x named) (kind_of r) kind.1)
+    rw (same_filled h r t none kind.0 x named) (keeps h r t x (settling h r t none kind.0 x named) (kind_of r)
+    (stores_by (is_pending_request r) (is_post_request r) (is_void_request r)) kind.1)
 
 -- and every accepted transfer enters with what it has to have
 pub enters-accepted : (h : History) (r : NewTransfer) (t : ℕ) → IsSound h → h.last < t
@@ -417,8 +431,8 @@ enters-accepted h r t sound later ledgers none = by (is_plain_request r) refl
 
 -- and so does an expiry, which has the whole pending transfer
 pub enters-expiry : (h : History) (p : Transfer) (t : ℕ) → AllByRecursion (HasLedger h) h.entries → IsOpen h p
-    → Enters h (expiry p t)
-enters-expiry h p t ledgers is_open = record {
+    → IsUp p t → Enters h (expiry p t)
+enters-expiry h p t ledgers is_open up = record {
   settled = λ is x there. keeps x
       (sym is_open.same ∙ ap transfer_or (sym is_open.there ∙ there));
   ledger = subst (λ (x : Transfer). HasLedger h (expiry x t)) is_open.same
@@ -433,6 +447,10 @@ enters-expiry h p t ledgers is_open = record {
 
     keeps : (x : Entry) → p ≡ x.transfer → KeepsFields (expiry p t) x.transfer
     keeps x same = record {
+      timely = λ no. cc;
+      ended = λ is.
+          subst (λ (y : Transfer). (not (y.timeout == 0) && nat_le (expires_at y) t) ≡ true) same
+          (and_from _ _ (not_from_false (p.timeout == 0) up.timed) (le-leb (expires_at p) t up.ended));
       ledger = ap (λ (y : Transfer). y.ledger) same;
       code = ap (λ (y : Transfer). y.code) same;
       amount = eq-eqb p.amount x.transfer.amount (ap (λ (y : Transfer). y.amount) same);

@@ -7,7 +7,7 @@ use Rattle.cdc_types.specs.Results.{account_name, transfer_name}
 use Rattle.cdc_audit.specs.Texts.{field_name, fixed_name, refusal_name, side_name}
 use Rattle.cdc_audit.specs.declared.refusals.Refusal.{Refusal}
 use Rattle.cdc_audit.specs.declared.refusals.Refusal.TheVariants.{AfterEnd, NotLater, OneAccount, TransferShape, OtherKind, OtherTimestamp, AccountShape, AccountField, CreatedLater}
-use Rattle.cdc_audit.specs.declared.refusals.Refusal.TheVariants.{KnownId, NotPending, Settled, OtherFields, Amount, TooLarge, Limit, Balance}
+use Rattle.cdc_audit.specs.declared.refusals.Refusal.TheVariants.{KnownId, NotPending, Settled, OtherFields, Amount, NoTimeout, TooSoon, TooLate, TooLarge, Limit, Balance}
 use Rattle.cdc_audit.specs.declared.streams.AuditStop.{AuditStop}
 use Rattle.cdc_audit.specs.declared.streams.AuditStop.TheVariants.{AtEnd, Refused, BadLine}
 use Rattle.cdc_json.specs.Lines.{json_line, json_lines, line_of, subscriber_values}
@@ -56,6 +56,17 @@ refusal_members (Amount amount transfer held) =
     member (codes "transfer") (wide transfer) (
     member (codes "amount") (wide amount) (
     member (codes "held") (wide held)
+    no_members))
+refusal_members (NoTimeout transfer) = member (codes "transfer") (wide transfer) no_members
+refusal_members (TooSoon transfer timestamp end) =
+    member (codes "transfer") (wide transfer) (
+    member (codes "timestamp") (wide timestamp) (
+    member (codes "end") (wide end)
+    no_members))
+refusal_members (TooLate transfer timestamp end) =
+    member (codes "transfer") (wide transfer) (
+    member (codes "timestamp") (wide timestamp) (
+    member (codes "end") (wide end)
     no_members))
 refusal_members (TooLarge account side) =
     member (codes "account") (wide account) (member (codes "side") (string (side_name side)) no_members)

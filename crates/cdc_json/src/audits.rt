@@ -90,11 +90,15 @@ fn push_refused(
         | Refusal::NotPending(transfer)
         | Refusal::Settled(transfer)
         | Refusal::OtherKind(transfer)
-        | Refusal::OtherFields(transfer) => {
+        | Refusal::OtherFields(transfer)
+        | Refusal::NoTimeout(transfer) => {
             push_number(alloc, lines, line, rule, "transfer", transfer)
         }
         Refusal::Amount(amount, transfer, held) => {
             push_amount(alloc, lines, line, rule, amount, transfer, held)
+        }
+        Refusal::TooSoon(transfer, timestamp, end) | Refusal::TooLate(transfer, timestamp, end) => {
+            push_end(alloc, lines, line, rule, transfer, timestamp, end)
         }
         Refusal::TooLarge(account, side) => {
             push_named(alloc, lines, line, rule, "account", account, "side", side.name())
@@ -465,6 +469,48 @@ fn push_excess(
             Member {
                 name: "limit",
                 value: Field::Wide(excess.limit),
+            },
+        ],
+    )
+}
+
+/// Adds the line of an event that is refused by this rule, with when it settles a pending transfer, and when that one's
+/// time is up.
+fn push_end(
+    alloc: Global,
+    lines: &mut Lines,
+    line: u64,
+    rule: &str,
+    transfer: u128,
+    timestamp: u64,
+    end: u128,
+) -> Result<(), AllocError>
+    ensures { OnOk result (lines.new.text.items ≡ lines.old.text.items
+        ++ json_line (rule_value line rule.now (refusal_members (Refusals.TooSoon transfer timestamp end)))) }
+{
+    lines.push(
+        alloc,
+        "refusal",
+        &[
+            Member {
+                name: "line",
+                value: Field::Number(line),
+            },
+            Member {
+                name: "rule",
+                value: Field::Text(rule),
+            },
+            Member {
+                name: "transfer",
+                value: Field::Wide(transfer),
+            },
+            Member {
+                name: "timestamp",
+                value: Field::Wide(timestamp.into()),
+            },
+            Member {
+                name: "end",
+                value: Field::Wide(end),
             },
         ],
     )

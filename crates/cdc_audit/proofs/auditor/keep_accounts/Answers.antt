@@ -1,4 +1,3 @@
-use Rattle.cdc_audit.specs.Standing.{KeepsAccounts, fields_then}
 use Rattle.cdc_audit.proofs.auditor.keep_accounts.Goals as goal
 
 pub returns : goal.returns
