@@ -350,9 +350,10 @@ fields-step fields after facts past e debits credits apart knows kept id =
     kept.2 id
     ∙ ap (cond (not (is_some facts.credit_fields) && credit) (Some c)) (kept.1 id)
     ∙ one-step debit credit (fields_under fields id) facts.debit_fields facts.credit_fields d c (λ is.
-    let same : e.debit_account.id ≡ id = same_id e.debit_account.id id is in
-    (debits ∙ ap (fields_under fields) same,
-    sym (ap (λ n. e.credit_account.id == n) same) ∙ eqb-turn e.credit_account.id e.debit_account.id ∙ apart)) (λ is.
+    let same : e.debit_account.id ≡ id = same_id e.debit_account.id id is in (
+      debits ∙ ap (fields_under fields) same,
+      sym (ap (λ n. e.credit_account.id == n) same) ∙ eqb-turn e.credit_account.id e.debit_account.id ∙ apart,
+    )) (λ is.
     credits ∙ ap (fields_under fields) (same_id e.credit_account.id id is))
     ∙ ap (λ o. option_or o (cond debit (Some d) (cond credit (Some c) None))) (knows id)
     ∙ ap₂ (λ p q. option_or (fields_before past id) (cond p (Some d) (cond q (Some c) None)))

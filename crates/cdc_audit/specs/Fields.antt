@@ -59,12 +59,11 @@ fields_lines before ledger a =
 
 -- the lines on the accounts' timestamps: both were created before the event
 abbrev pub created_lines : Event → List (Bool × Refusal)
-created_lines e =
-    (
-      not (nat_lt e.debit_account.timestamp e.timestamp),
-      CreatedLater e.debit_account.id e.debit_account.timestamp e.timestamp,
-    ) ∷ (
-      not (nat_lt e.credit_account.timestamp e.timestamp),
-      CreatedLater e.credit_account.id e.credit_account.timestamp e.timestamp,
-    ) ∷
+created_lines e = (
+  not (nat_lt e.debit_account.timestamp e.timestamp),
+  CreatedLater e.debit_account.id e.debit_account.timestamp e.timestamp,
+) ∷ (
+  not (nat_lt e.credit_account.timestamp e.timestamp),
+  CreatedLater e.credit_account.id e.credit_account.timestamp e.timestamp,
+) ∷
     []

@@ -13,7 +13,9 @@ ghost use Rattle.cdc_audit.specs.Checks as spec;
 ghost use Rattle.cdc_audit.specs.Standing as standing;
 ghost use Rattle.cdc_audit.specs.Standing.{KeepsAccounts, StandsFor, kept_after};
 
-use crate::checks::{Facts, Stored, holds, refusal_by, released, settled_id, settles, stored_by, stores};
+use crate::checks::{
+    Facts, Stored, holds, refusal_by, released, settled_id, settles, stored_by, stores,
+};
 use crate::fields::{FixedFields, fixed_fields};
 use crate::refusals::Refusal;
 use cdc_follow::Content;
@@ -274,6 +276,16 @@ fn keep_accounts(fields: &mut IndexMap<u128, FixedFields>, facts: &Facts, event:
     ensures { KeepsAccounts fields.old.entries facts.now event.now fields.new.entries }
 {
     let ledger = event.ledger;
-    keep_account(fields, facts.debit_fields.is_some(), ledger, &event.debit_account);
-    keep_account(fields, facts.credit_fields.is_some(), ledger, &event.credit_account);
+    keep_account(
+        fields,
+        facts.debit_fields.is_some(),
+        ledger,
+        &event.debit_account,
+    );
+    keep_account(
+        fields,
+        facts.credit_fields.is_some(),
+        ledger,
+        &event.credit_account,
+    );
 }

@@ -83,7 +83,11 @@ fn same_refusal(id: u128, shown: FixedFields, before: FixedFields) -> Option<Ref
 }
 
 /// The refusal of an event by the fields of an account of this ledger, which may have no earlier event.
-pub(crate) fn fields_refusal(before: Option<FixedFields>, ledger: u32, account: &EventAccount) -> Option<Refusal>
+pub(crate) fn fields_refusal(
+    before: Option<FixedFields>,
+    ledger: u32,
+    account: &EventAccount,
+) -> Option<Refusal>
     ensures { result ≡ first_line (spec.fields_lines before ledger account.now) }
 {
     let shown = fixed_fields(ledger, account);

@@ -136,8 +136,7 @@ balances_follow : (past : List Event) (e : Event) → NoneApplies (balances_line
     × IsCredited past e (balances_after past e.credit_account.id)
 balances_follow past e none =
     let debit = (none_both (debit_lines past e) (credit_lines past e) none).0 in
-    let credit = (none_both (debit_lines past e) (credit_lines past e) none).1 in
-    (
+    let credit = (none_both (debit_lines past e) (credit_lines past e) none).1 in (
       record {
         debits_pending = not_balanced _ _ _ _ debit.0;
         debits_posted = not_balanced _ _ _ _ debit.1.0;
@@ -156,15 +155,13 @@ balances_follow past e none =
 follow_balances : (past : List Event) (e : Event) → IsDebited past e (balances_after past e.debit_account.id)
     → IsCredited past e (balances_after past e.credit_account.id) → NoneApplies (balances_lines past e)
 follow_balances past e debited credited =
-    none_of_both (debit_lines past e) (credit_lines past e)
-    (
+    none_of_both (debit_lines past e) (credit_lines past e) (
       balanced _ _ _ _ debited.debits_pending,
       (
         balanced _ _ _ _ debited.debits_posted,
         (balanced _ _ _ _ debited.credits_pending, (balanced _ _ _ _ debited.credits_posted, tt)),
       ),
-    )
-    (
+    ) (
       balanced _ _ _ _ credited.debits_pending,
       (
         balanced _ _ _ _ credited.debits_posted,

@@ -353,16 +353,15 @@ module _ (h : History) (e : Entry) (sound : IsSound h) (follows : Follows h e) (
       stored_none is =
           let shape : HasShape e = enters.shape is in
           none_of_both (refused_as (TransferShape event.transfer.id) (transfer_refusal (asked_transfer event))) (
-            (event.ledger == 0, TransferShape event.transfer.id transfer.LedgerMustNotBeZero) ∷
-            (event.transfer.code == 0, TransferShape event.transfer.id transfer.CodeMustNotBeZero) ∷
-            (not (is_of_kind event.kind (asked_transfer event)), OtherKind event.transfer.id) ∷ (
-              not (event.transfer.timestamp == event.timestamp),
-              OtherTimestamp event.transfer.id event.transfer.timestamp event.timestamp,
-            ) ∷
-            []
+          (event.ledger == 0, TransferShape event.transfer.id transfer.LedgerMustNotBeZero) ∷
+          (event.transfer.code == 0, TransferShape event.transfer.id transfer.CodeMustNotBeZero) ∷
+          (not (is_of_kind event.kind (asked_transfer event)), OtherKind event.transfer.id) ∷ (
+            not (event.transfer.timestamp == event.timestamp),
+            OtherTimestamp event.transfer.id event.transfer.timestamp event.timestamp,
+          ) ∷
+          []
           )
-          (rw (ap transfer_refusal asked_is ∙ shape.fields) tt)
-          (
+          (rw (ap transfer_refusal asked_is ∙ shape.fields) tt) (
             ledger_some,
             (
               enters.ledger.code,
@@ -402,8 +401,7 @@ module _ (h : History) (e : Entry) (sound : IsSound h) (follows : Follows h e) (
       (λ x is. first_fields h sound kept d x (sym (ap (fields_before (events h)) debit_id) ∙ is)))
       (fields_none _ event.credit_account (account_of h c)
       (ap (λ n. record (fixed_of (account_of h c)) { ledger = n }) enters.ledger.credit)
-      (λ x is. first_fields h sound kept c x (sym (ap (fields_before (events h)) credit_id) ∙ is))))
-      (
+      (λ x is. first_fields h sound kept c x (sym (ap (fields_before (events h)) credit_id) ∙ is)))) (
         not_from_true _ (lt-ltb (account_of h d).timestamp e.timestamp (let b = d_there.1 in omega arith)),
         (not_from_true _ (lt-ltb (account_of h c).timestamp e.timestamp (let b = c_there.1 in omega arith)), tt),
       )
@@ -417,8 +415,7 @@ module _ (h : History) (e : Entry) (sound : IsSound h) (follows : Follows h e) (
       (subst (IsLimited (account_of h id).request.flags) (sym sums_are)
       ((kept-pushed h e sound follows after enters kept).limits id)) in
       let bounded = subst (λ (b : Balances). (b.debits_pending + b.debits_posted ≤ max_128)
-      × (b.credits_pending + b.credits_posted ≤ max_128)) (sym sums_are) (next.bounded id) in
-      (
+      × (b.credits_pending + b.credits_posted ≤ max_128)) (sym sums_are) (next.bounded id) in (
         le-ltb max_128 (all_debits a) bounded.0,
         (
           le-ltb max_128 (all_credits a) bounded.1,

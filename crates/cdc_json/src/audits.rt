@@ -39,11 +39,7 @@ pub fn push_accepted(
 }
 
 /// Adds the line of why auditing stopped; none at the end.
-pub fn push_audit_stop(
-    alloc: Global,
-    lines: &mut Lines,
-    stop: AuditStop,
-) -> Result<(), AllocError>
+pub fn push_audit_stop(alloc: Global, lines: &mut Lines, stop: AuditStop) -> Result<(), AllocError>
     ensures { OnOk result (lines.new.text.items
         ≡ lines.old.text.items ++ audit_stop_lines stop) }
 {
@@ -55,12 +51,7 @@ pub fn push_audit_stop(
 }
 
 /// Adds the line of an event that is refused, on the line of this number.
-fn push_refused(
-    alloc: Global,
-    lines: &mut Lines,
-    line: u64,
-    why: Refusal,
-) -> Result<(), AllocError>
+fn push_refused(alloc: Global, lines: &mut Lines, line: u64, why: Refusal) -> Result<(), AllocError>
     ensures { OnOk result (lines.new.text.items
         ≡ lines.old.text.items ++ json_line (refused_value line why)) }
 {
@@ -74,13 +65,31 @@ fn push_refused(
         }
         Refusal::OneAccount(account) => push_number(alloc, lines, line, rule, "account", account),
         Refusal::TransferShape(transfer, why) => {
-            push_named(alloc, lines, line, rule, "transfer", transfer, "result", why.name())
+            push_named(
+                alloc,
+                lines,
+                line,
+                rule,
+                "transfer",
+                transfer,
+                "result",
+                why.name(),
+            )
         }
         Refusal::OtherTimestamp(transfer, shown, timestamp) => {
             push_transfer_time(alloc, lines, line, rule, transfer, shown, timestamp)
         }
         Refusal::AccountShape(account, why) => {
-            push_named(alloc, lines, line, rule, "account", account, "result", why.name())
+            push_named(
+                alloc,
+                lines,
+                line,
+                rule,
+                "account",
+                account,
+                "result",
+                why.name(),
+            )
         }
         Refusal::AccountField(mismatch) => push_field(alloc, lines, line, rule, mismatch),
         Refusal::CreatedLater(account, created, timestamp) => {
@@ -101,7 +110,16 @@ fn push_refused(
             push_end(alloc, lines, line, rule, transfer, timestamp, end)
         }
         Refusal::TooLarge(account, side) => {
-            push_named(alloc, lines, line, rule, "account", account, "side", side.name())
+            push_named(
+                alloc,
+                lines,
+                line,
+                rule,
+                "account",
+                account,
+                "side",
+                side.name(),
+            )
         }
         Refusal::Limit(excess) => push_excess(alloc, lines, line, rule, excess),
         Refusal::Balance(mismatch) => push_mismatch(alloc, lines, line, rule, mismatch),
