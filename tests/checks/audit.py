@@ -152,7 +152,7 @@ class Audit:
     """What an audit knows of the events so far, and why the next one is refused."""
 
     def __init__(self):
-        self.count = self.last = 0
+        self.count, self.last, self.linked = 0, 0, False
         self.balances, self.stored, self.pending, self.settled, self.fixed = {}, set(), {}, set(), {}
 
     def refusal(self, body):
@@ -180,6 +180,8 @@ class Audit:
             if why:
                 return why
             released = int(self.pending[of]["transfer"]["amount"])
+        if self.linked and (kind not in STORES or timestamp != self.last + 1):
+            return f"chains: event {timestamp} isn't the next of the chain at {self.last}"
         for account in (debit, credit):
             why = limit(account)
             if why:
@@ -235,6 +237,7 @@ class Audit:
     def take(self, body):
         """Takes an event that isn't refused."""
         self.count, self.last = self.count + 1, int(body["timestamp"])
+        self.linked = body["type"] in STORES and bool(int(body["transfer"]["flags"]) & 1)
         if body["type"] in STORES:
             self.stored.add(int(body["transfer"]["id"]))
         if body["type"] in HOLDS:
@@ -383,6 +386,10 @@ def rows_of_fields():
     ), 1
     yield "another kind's flags", [with_transfer(PAID, flags=2)], first + "shape: transfer 1 has the flags of another kind\n", 1
     yield "linked", [with_transfer(PAID, flags=1)], "accepted 1 last 10\n", 0
+    linked = with_transfer(PAID, flags=1)
+    yield "a chain that breaks", [linked, HELD], second + "chains: event 20 isn't the next of the chain at 10\n", 1
+    next_one = event(11, 2, PENDING, 10, (1, 10, 30, 0, 0), (2, 0, 0, 10, 30))
+    yield "a chain", [linked, next_one], "accepted 2 last 11\n", 0
     yield "another timestamp", [with_transfer(PAID, timestamp="9")], (
         first + "shape: transfer 1 has timestamp 9, in an event at 10\n"
     ), 1
@@ -469,6 +476,7 @@ def json_rows():
     yield [PAID, again], {"rule": "id", "transfer": "1"}
     yield [PAID, TIMED, POST, EXPIRY], {"rule": "ended", "transfer": "2"}
     yield [PAID, HELD, {**EXPIRY, "transfer": HELD["transfer"]}], {"rule": "timeouts", "transfer": "2"}
+    yield [with_transfer(PAID, flags=1), HELD], {"rule": "chains", "timestamp": "20", "last": "10"}
     times = {"timestamp": str(UP - 1), "end": str(UP)}
     yield [PAID, TIMED, {**EXPIRY, "timestamp": str(UP - 1)}], {"rule": "timeouts", "transfer": "2", **times}
     yield [{**PAID, "ledger": 0}], {"rule": "shape", "transfer": "1", "result": "ledger_must_not_be_zero"}

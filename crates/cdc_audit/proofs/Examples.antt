@@ -13,7 +13,7 @@ use Rattle.cdc_follow.specs.declared.entries.Content.TheVariants as content
 use Rattle.cdc_audit.specs.declared.refusals.BalanceField.TheVariants.{DebitsPosted, DebitsPending}
 use Rattle.cdc_audit.specs.declared.refusals.FixedField.TheVariants.{Code}
 use Rattle.cdc_audit.specs.declared.refusals.Refusal.TheVariants.{AfterEnd, NotLater, OneAccount, TransferShape, OtherKind, OtherTimestamp, AccountShape, AccountField, CreatedLater}
-use Rattle.cdc_audit.specs.declared.refusals.Refusal.TheVariants.{KnownId, NotPending, Settled, OtherFields, Amount, NoTimeout, TooSoon, TooLate, TooLarge, Limit, Balance}
+use Rattle.cdc_audit.specs.declared.refusals.Refusal.TheVariants.{KnownId, NotPending, Settled, OtherFields, Amount, NoTimeout, TooSoon, TooLate, BrokenChain, TooLarge, Limit, Balance}
 use Rattle.cdc_audit.specs.declared.refusals.Side.TheVariants.{Debits, Credits}
 use Rattle.cdc_audit.specs.Audits.{entry_refusal, follows_on, is_accepted}
 use Rattle.cdc_audit.specs.Rules.{refusal}
@@ -186,6 +186,18 @@ too_large : refusal [] (record moved { credit_account = credited 2 1 max_128 }) 
 unfolding refusal
 too_large = refl
 
+-- after a linked transfer comes one that is one nanosecond later
+abbrev linked : Event
+linked = record moved { transfer = record moved.transfer { flags = 1 } }
+
+chain : is_accepted (linked ∷ event 1001 TwoPhasePending 11 0 7 7 5 ∷ []) ≡ true
+unfolding refusal follows_on
+chain = refl
+
+broken_chain : refusal (linked ∷ []) held_back ≡ Some (BrokenChain 2000 1000)
+unfolding refusal
+broken_chain = refl
+
 -- a post between other accounts than its pending transfer's, and an expiry with another code
 other_accounts : refusal (moved ∷ held_back ∷ []) (record posted_then { credit_account = credited 3 0 6 })
     ≡ Some (OtherFields 11)
@@ -282,6 +294,10 @@ text-fields = refl
 text-created : refusal_text (CreatedLater 7 30 20) ≡ codes "created: account 7 at 30, in an event at 20"
 unfolding refusal_text digits
 text-created = refl
+
+text-chains : refusal_text (BrokenChain 40 20) ≡ codes "chains: event 40 isn't the next of the chain at 20"
+unfolding refusal_text digits
+text-chains = refl
 
 text-limits : refusal_text (Limit (record { account = 7; side = Debits; sum = 45; limit = 30 }))
     ≡ codes "limits: account 7 has debits of 45, above its credits of 30"

@@ -18,7 +18,7 @@ use Rattle.cdc_audit.specs.Checks.{amount_in, stored_by, was_settled}
 use Rattle.cdc_audit.specs.declared.checks.Facts.{Facts}
 use Rattle.cdc_audit.specs.declared.fields.FixedFields.{FixedFields}
 use Rattle.cdc_audit.specs.Fields.{accounts_of, fields_before, fixed_fields}
-use Rattle.cdc_audit.specs.Known.{is_settled, is_stored, open_event, pending_amount, pending_event, settled_id}
+use Rattle.cdc_audit.specs.Known.{is_linked, is_settled, is_stored, linked_from, open_event, pending_amount, pending_event, settled_id}
 use Rattle.cdc_audit.specs.Standing.{IsKnownOf, KeepsAccounts, fields_under, open_then, open_under, stored_under, with_own, with_settled}
 
 or_false : (b : Bool) → (b || false) ≡ b
@@ -282,6 +282,11 @@ open_one-step transfers events past e knows opened new id =
     (was.settled ∙ ap was_settled none, no_event (pending_event past id) (was.amount ∙ ap amount_in none))))
     ∙ sym (ap (λ b. cond b None (pending_event (past ++ e ∷ []) id)) (is_settled-push past e id)
     ∙ ap (λ o. cond (is_settled past id || settled) None o) (pending_event-push past e id))
+
+-- whether events end within a chain is up to the last one
+pub linked_from-push : (b : Bool) (past : List Event) (e : Event) → linked_from b (past ++ e ∷ []) ≡ is_linked e
+linked_from-push b [] e = refl
+linked_from-push b (x ∷ past) e = linked_from-push (is_linked x) past e
 
 -- ---- the fields of accounts
 

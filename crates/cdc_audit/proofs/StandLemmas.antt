@@ -28,15 +28,15 @@ use Rattle.cdc_audit.specs.declared.refusals.Refusal.{Refusal}
 use Rattle.cdc_audit.specs.declared.refusals.Refusal.TheVariants.{AfterEnd, KnownId, NotPending, Settled}
 use Rattle.cdc_audit.specs.Audits.{AuditState, entry_refusal, next_audit}
 use Rattle.cdc_audit.specs.Checks.{account_lines, amount_in, balances_lines, fixed_lines, lines, nothing, released, transfer_lines, was_settled}
-use Rattle.cdc_audit.specs.Known.{balances_after, is_settled, is_stored, pending_amount, settled_id}
+use Rattle.cdc_audit.specs.Known.{balances_after, ends_in_chain, is_linked, is_settled, is_stored, pending_amount, settled_id}
 use Rattle.cdc_audit.specs.Rules as rules
-use Rattle.cdc_audit.specs.Rules.{event_lines, held, order_lines, posted, refusal, settled_event}
+use Rattle.cdc_audit.specs.Rules.{chain_lines, event_lines, held, order_lines, posted, refusal, settled_event}
 use Rattle.cdc_audit.specs.EventShapes.{shape_lines}
 use Rattle.cdc_audit.specs.Fields.{created_lines, fields_lines}
 use Rattle.cdc_audit.specs.Limits.{limits_lines}
 use Rattle.cdc_audit.specs.Settling.{settling_lines}
 use Rattle.cdc_audit.specs.Standing.{AuditorState, IsKnownOf, KeepsAccounts, StandsFor, facts_of, kept_after, open_then, open_under, stored_under, with_own, with_settled}
-use Rattle.cdc_audit.proofs.KnownLemmas.{fields-step, known-step, open_one-step}
+use Rattle.cdc_audit.proofs.KnownLemmas.{fields-step, known-step, linked_from-push, open_one-step}
 
 -- the refusal by two parts of the lines
 pub either_is : (both one other : Option Refusal) (first second : List (Bool × Refusal)) → both ≡ option_or one other
@@ -51,12 +51,13 @@ abbrev seven : List (Bool × Refusal) → List (Bool × Refusal) → List (Bool 
 seven order shape fixed transfer settling limits balances =
     order ++ shape ++ fixed ++ transfer ++ settling ++ limits ++ balances
 
-seven-same : (order order2 shape fixed fixed2 transfer transfer2 settling settling2 limits balances balances2
+seven-same : (order order2 shape fixed fixed2 transfer transfer2 settling settling2 limits limits2 balances balances2
     : List (Bool × Refusal)) → order ≡ order2 → fixed ≡ fixed2 → transfer ≡ transfer2 → settling ≡ settling2
-    → balances ≡ balances2
+    → limits ≡ limits2 → balances ≡ balances2
     → seven order shape fixed transfer settling limits balances
-    ≡ seven order2 shape fixed2 transfer2 settling2 limits balances2
-seven-same order order2 shape fixed fixed2 transfer transfer2 settling settling2 limits balances balances2 p q r s t = cc
+    ≡ seven order2 shape fixed2 transfer2 settling2 limits2 balances2
+seven-same order order2 shape fixed fixed2 transfer transfer2 settling settling2 limits limits2 balances balances2 p q r s
+    t u = cc
 
 -- if none of them applies, none of the first and of the fourth part does
 two_of_seven : (order shape fixed transfer settling limits balances : List (Bool × Refusal))
@@ -156,7 +157,9 @@ same_lines auditor state e stands =
     let other = stands.transfers (settled_id e) in
     seven-same (order_lines facts.last e) (order_lines (last_timestamp past) e) (shape_lines e)
     (fixed_lines facts e) (rules.fixed_lines past e) (transfer_lines facts e) (rules.transfer_lines past e)
-    (settling_lines facts.open_one e) (settling_lines (settled_event past e) e) (limits_lines e)
+    (settling_lines facts.open_one e) (settling_lines (settled_event past e) e)
+    (chain_lines facts.linked facts.last e ++ limits_lines e)
+    (chain_lines (ends_in_chain past) (last_timestamp past) e ++ limits_lines e)
     (balances_lines facts e) (rules.balances_lines past e)
     (ap (λ (kept : SubscriberState). order_lines kept.last e) stands.kept)
     (ap₂ (λ d c. fields_lines d e.ledger e.debit_account ++ fields_lines c e.ledger e.credit_account ++ created_lines e)
@@ -169,6 +172,8 @@ same_lines auditor state e stands =
     (guarded (settles e.kind) was_settled (stored_under auditor.transfers (settled_id e))
     (is_settled past (settled_id e)) other.settled))
     (ap (λ o. settling_lines (cond (settles e.kind) o None) e) (stands.open_ones (settled_id e)))
+    (ap₂ (λ linked last. chain_lines linked last e ++ limits_lines e) stands.linked
+    (ap (λ (kept : SubscriberState). kept.last) stands.kept))
     (balances_lines-at facts e
     ∙ balances_at-same e _ _ _ _ _ _
     (guarded_amount (settles e.kind) (stored_under auditor.transfers (settled_id e))
@@ -227,13 +232,14 @@ pub accepts : (auditor after : AuditorState) (state : AuditState) (e : Event)
     → after.kept ≡ next_state auditor.kept (item.Event e)
     → after.transfers ≡ with_settled (with_own auditor.transfers e) e (released (facts_of auditor e) e)
     → ((id : ℕ) → open_under after.open_ones id ≡ open_then auditor.open_ones e id)
-    → KeepsAccounts auditor.fields (facts_of auditor e) e after.fields
+    → KeepsAccounts auditor.fields (facts_of auditor e) e after.fields → after.linked ≡ is_linked e
     → StandsFor auditor state → StandsFor after (next_audit state (content.Event e))
-accepts auditor after state e open_yet none kept transfers opened fields stands =
+accepts auditor after state e open_yet none kept transfers opened fields linked stands =
     let going : state.ended ≡ false = sym (ap (λ (kept : SubscriberState). kept.ended) stands.kept) ∙ open_yet in
     let facts = facts_of auditor e in
     let parts = two_of_seven (order_lines facts.last e) (shape_lines e) (fixed_lines facts e) (transfer_lines facts e)
-    (settling_lines facts.open_one e) (limits_lines e) (balances_lines facts e) none in
+    (settling_lines facts.open_one e) (chain_lines facts.linked facts.last e ++ limits_lines e)
+    (balances_lines facts e) none in
     let order = in_order facts.last e parts.0 in
     let free = may_be_stored facts e parts.1 in
     let later : nat_lt (last_timestamp state.past) e.timestamp ≡ true =
@@ -246,6 +252,7 @@ accepts auditor after state e open_yet none kept transfers opened fields stands 
           ∙ open_one-step auditor.transfers auditor.open_ones state.past e stands.transfers stands.open_ones free.0 id;
       fields = λ id. fields-step auditor.fields after.fields (facts_of auditor e) state.past e refl refl order.1
           stands.fields fields id;
+      linked = linked ∙ sym (linked_from-push false state.past e);
     }
 
 -- what is kept of accounts, from equal fields and by equal facts

@@ -7,8 +7,8 @@ use Rattle.cdc_ledger.specs.Kinds.{holds, moves, settles, stores}
 use Rattle.cdc_audit.specs.declared.refusals.BalanceField.{BalanceField}
 use Rattle.cdc_audit.specs.declared.refusals.BalanceField.TheVariants.{DebitsPending, DebitsPosted, CreditsPending, CreditsPosted}
 use Rattle.cdc_audit.specs.declared.refusals.Refusal.{Refusal}
-use Rattle.cdc_audit.specs.declared.refusals.Refusal.TheVariants.{NotLater, OneAccount, KnownId, NotPending, Settled, Balance}
-use Rattle.cdc_audit.specs.Known.{balances_after, is_settled, is_stored, open_event, pending_amount, settled_id}
+use Rattle.cdc_audit.specs.declared.refusals.Refusal.TheVariants.{BrokenChain, NotLater, OneAccount, KnownId, NotPending, Settled, Balance}
+use Rattle.cdc_audit.specs.Known.{balances_after, ends_in_chain, is_settled, is_stored, open_event, pending_amount, settled_id}
 use Rattle.cdc_audit.specs.EventShapes.{shape_lines}
 use Rattle.cdc_audit.specs.Fields.{created_lines, fields_before, fields_lines}
 use Rattle.cdc_audit.specs.Limits.{limits_lines}
@@ -90,11 +90,17 @@ order_lines last e =
     (e.debit_account.id == e.credit_account.id, OneAccount e.debit_account.id) ∷
     []
 
+-- the line on an event after one of a linked transfer: it stores a transfer, one nanosecond later
+abbrev pub chain_lines : Bool → ℕ → Event → List (Bool × Refusal)
+chain_lines linked last e =
+    (linked && not (stores e.kind && (e.timestamp == last + 1)), BrokenChain e.timestamp last) ∷ []
+
 -- all lines on an event, in order
 abbrev pub event_lines : List Event → Event → List (Bool × Refusal)
 event_lines past e =
     order_lines (last_timestamp past) e ++ shape_lines e ++ fixed_lines past e ++ transfer_lines past e
-    ++ settling_lines (settled_event past e) e ++ limits_lines e ++ balances_lines past e
+    ++ settling_lines (settled_event past e) e
+    ++ (chain_lines (ends_in_chain past) (last_timestamp past) e ++ limits_lines e) ++ balances_lines past e
 
 -- why an event can't follow those before it, if it can't
 unfoldable pub refusal : List Event → Event → Option Refusal

@@ -10,7 +10,7 @@ use Rattle.cdc_audit.specs.declared.refusals.FixedField.TheVariants.{UserData128
 use Rattle.cdc_audit.specs.declared.refusals.Mismatch.{Mismatch}
 use Rattle.cdc_audit.specs.declared.refusals.Refusal.{Refusal}
 use Rattle.cdc_audit.specs.declared.refusals.Refusal.TheVariants.{AfterEnd, NotLater, OneAccount, TransferShape, OtherKind, OtherTimestamp, AccountShape, AccountField, CreatedLater}
-use Rattle.cdc_audit.specs.declared.refusals.Refusal.TheVariants.{KnownId, NotPending, Settled, OtherFields, Amount, NoTimeout, TooSoon, TooLate, TooLarge, Limit, Balance}
+use Rattle.cdc_audit.specs.declared.refusals.Refusal.TheVariants.{KnownId, NotPending, Settled, OtherFields, Amount, NoTimeout, TooSoon, TooLate, BrokenChain, TooLarge, Limit, Balance}
 use Rattle.cdc_audit.specs.declared.refusals.Side.{Side}
 use Rattle.cdc_audit.specs.declared.refusals.Side.TheVariants.{Debits, Credits}
 
@@ -33,6 +33,7 @@ refusal_name (Amount amount id held) = codes "amount"
 refusal_name (NoTimeout id) = codes "timeouts"
 refusal_name (TooSoon id timestamp end) = codes "timeouts"
 refusal_name (TooLate id timestamp end) = codes "timeouts"
+refusal_name (BrokenChain timestamp last) = codes "chains"
 refusal_name (TooLarge id side) = codes "limits"
 refusal_name (Limit excess) = codes "limits"
 refusal_name (Balance mismatch) = codes "balances"
@@ -122,6 +123,8 @@ reason_text (Amount amount id held) =
 reason_text (NoTimeout id) = around (codes "pending transfer ") id (codes " has no timeout")
 reason_text (TooSoon id timestamp end) = time_text id (codes " expires at ") timestamp end
 reason_text (TooLate id timestamp end) = time_text id (codes " is settled at ") timestamp end
+reason_text (BrokenChain timestamp last) =
+    around (codes "event ") timestamp (codes " isn't the next of the chain at ") ++ decimal last
 reason_text (TooLarge id side) =
     around (codes "account ") id (codes " has ") ++ (side_name side ++ codes " above 128 bits")
 reason_text (Limit excess) = excess_text excess

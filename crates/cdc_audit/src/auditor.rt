@@ -14,7 +14,7 @@ ghost use Rattle.cdc_audit.specs.Standing as standing;
 ghost use Rattle.cdc_audit.specs.Standing.{KeepsAccounts, StandsFor, kept_after};
 
 use crate::checks::{
-    Facts, Stored, holds, refusal_by, released, settled_id, settles, stored_by, stores,
+    Facts, Stored, holds, is_linked, refusal_by, released, settled_id, settles, stored_by, stores,
 };
 use crate::fields::{FixedFields, fixed_fields};
 use crate::refusals::Refusal;
@@ -33,6 +33,8 @@ pub struct Auditor {
     open_ones: IndexMap<u128, Event>,
     /// The fields of each account that never change, as its first event shows them.
     fields: IndexMap<u128, FixedFields>,
+    /// Whether the last event stored a linked transfer.
+    linked: bool,
 }
 
 impl Drop for Auditor {
@@ -42,6 +44,7 @@ impl Drop for Auditor {
             transfers: _,
             open_ones: _,
             fields: _,
+            linked: _,
         } = self;
     }
 }
@@ -51,7 +54,7 @@ impl Model for Auditor {
 
     ghost Value = { AuditorState };
 
-    ghost view = { λ a. record { kept = a.subscriber; transfers = a.transfers.entries; open_ones = a.open_ones.entries; fields = a.fields.entries } };
+    ghost view = { λ a. record { kept = a.subscriber; transfers = a.transfers.entries; open_ones = a.open_ones.entries; fields = a.fields.entries; linked = a.linked } };
 }
 
 impl Auditor {
@@ -64,6 +67,7 @@ impl Auditor {
             transfers: IndexMap::new(alloc),
             open_ones: IndexMap::new(alloc),
             fields: IndexMap::new(alloc),
+            linked: false,
         }
     }
 
@@ -141,6 +145,7 @@ impl Auditor {
     {
         Facts {
             last: self.subscriber.last(),
+            linked: self.linked,
             own: self.stored_if(stores(event.kind), event.transfer.id),
             settled: self.stored_if(settles(event.kind), settled_id(event)),
             open_one: self.open_if(settles(event.kind), settled_id(event)),
@@ -176,6 +181,7 @@ impl Auditor {
         keep(&mut self.transfers, event, released(&facts, event));
         keep_open(&mut self.open_ones, event);
         keep_accounts(&mut self.fields, &facts, event);
+        self.linked = is_linked(event);
         Ok(None)
     }
 }

@@ -12,7 +12,7 @@ use crate::limits::limits_refusal;
 use crate::refusals::{BalanceField, Mismatch, Refusal};
 use crate::settling::settling_refusal;
 use crate::shapes::shape_refusal;
-use cdc_types::{Balances, Event, EventAccount, EventKind};
+use cdc_types::{Balances, Event, EventAccount, EventKind, TransferFlags};
 
 /// What is known of a stored transfer.
 #[derive(Clone, Copy, Debug, PartialEq, Eq)]
@@ -30,6 +30,8 @@ pub enum Stored {
 pub(crate) struct Facts {
     /// The timestamp of the event before it; 0 before the first event.
     pub(crate) last: u64,
+    /// Whether that event stored a linked transfer.
+    pub(crate) linked: bool,
     /// The transfer that is stored under the id of the one that the event stores.
     pub(crate) own: Option<Stored>,
     /// The transfer that is stored under the id of the pending one that the event settles.
@@ -293,6 +295,31 @@ fn transfer_refusal(facts: &Facts, event: &Event) -> Option<Refusal>
     }
 }
 
+/// The refusal of an event after one that may have stored a linked transfer.
+fn chain_refusal(linked: bool, last: u64, event: &Event) -> Option<Refusal>
+    ensures { result ≡ first_line (rules.chain_lines linked last event.now) }
+{
+    if linked && !(stores(event.kind) && is_next(last, event.timestamp)) {
+        Some(Refusal::BrokenChain(event.timestamp, last))
+    } else {
+        None
+    }
+}
+
+/// Whether a timestamp is one nanosecond later.
+fn is_next(last: u64, timestamp: u64) -> bool
+    ensures { result ≡ (timestamp == last + 1) }
+{
+    last < timestamp && timestamp - last == 1
+}
+
+/// Whether an event stored a transfer that is linked to the next one.
+pub(crate) fn is_linked(event: &Event) -> bool
+    ensures { result ≡ known.is_linked event.now }
+{
+    stores(event.kind) && event.transfer.flags & TransferFlags::LINKED != 0
+}
+
 /// Why an event doesn't follow from the events before it, by what is known of these; `None` if it follows.
 pub(crate) fn refusal_by(facts: &Facts, event: &Event) -> Option<Refusal>
     ensures { result ≡ first_line (spec.lines facts.now event.now) }
@@ -302,6 +329,6 @@ pub(crate) fn refusal_by(facts: &Facts, event: &Event) -> Option<Refusal>
         .or(fixed_refusal(facts, event))
         .or(transfer_refusal(facts, event))
         .or(settling_refusal(facts.open_one, event))
-        .or(limits_refusal(event))
+        .or(chain_refusal(facts.linked, facts.last, event).or(limits_refusal(event)))
         .or(balances_refusal(facts, event))
 }

@@ -114,6 +114,9 @@ pub enum Refusal {
     /// It posts or voids the pending transfer of this id, at the second number, and that one's time was up by then, at
     /// the last number.
     TooLate(u128, u64, u128),
+    /// It has the first timestamp, and the event before it, at the second one, stored a linked transfer: so it has to
+    /// store a transfer, one nanosecond later.
+    BrokenChain(u64, u64),
     /// The pending and posted sum of the account of this id exceeds 128 bits on this side.
     TooLarge(u128, Side),
     /// A sum exceeds the limit that the account's flags set.
@@ -198,6 +201,7 @@ impl Refusal {
             Refusal::NoTimeout(_) => "timeouts",
             Refusal::TooSoon(_, _, _) => "timeouts",
             Refusal::TooLate(_, _, _) => "timeouts",
+            Refusal::BrokenChain(_, _) => "chains",
             Refusal::TooLarge(_, _) => "limits",
             Refusal::Limit(_) => "limits",
             Refusal::Balance(_) => "balances",

@@ -58,6 +58,7 @@ fn push_reason(why: Refusal, text: &mut Vec<u8>) -> Result<(), AllocError>
         Refusal::TooLate(id, timestamp, end) => {
             push_end(text, id, " is settled at ", timestamp, end)
         }
+        Refusal::BrokenChain(timestamp, last) => push_chain(text, timestamp, last),
         Refusal::TooLarge(id, side) => push_side(text, id, side),
         Refusal::Limit(excess) => push_excess(&excess, text),
         Refusal::Balance(mismatch) => push_mismatch(&mismatch, text),
@@ -158,6 +159,20 @@ fn push_amount(text: &mut Vec<u8>, amount: u128, id: u128, held: u128) -> Result
     push_number(text, id)?;
     push(text, ", which holds ")?;
     push_number(text, held)
+}
+
+/// Adds the timestamp of an event that isn't the next one of a chain, and that of the event before it.
+fn push_chain(text: &mut Vec<u8>, timestamp: u64, last: u64) -> Result<(), AllocError>
+    ensures { OnOk result (text.new.items
+        ≡ text.old.items ++ spec.reason_text (Refusal.BrokenChain timestamp last)) }
+{
+    push_around(
+        text,
+        "event ",
+        timestamp,
+        " isn't the next of the chain at ",
+    )?;
+    push_number(text, last)
 }
 
 /// Adds a balance that doesn't follow, and what it would follow from.

@@ -7,11 +7,11 @@ use Rattle.cdc_types.specs.declared.events.Event.{Event}
 use Rattle.cdc_types.specs.Lines.{first_line}
 use Rattle.cdc_types.specs.Timestamps.{last_timestamp}
 use Rattle.cdc_ledger.specs.Kinds.{settles, stores}
-use Rattle.cdc_audit.specs.Known.{balances_after, is_settled, is_stored, pending_amount, settled_id}
+use Rattle.cdc_audit.specs.Known.{balances_after, ends_in_chain, is_settled, is_stored, pending_amount, settled_id}
 use Rattle.cdc_audit.specs.declared.refusals.Refusal.{Refusal}
 use Rattle.cdc_audit.specs.EventShapes.{shape_lines}
 use Rattle.cdc_audit.specs.Limits.{limits_lines}
-use Rattle.cdc_audit.specs.Rules.{balances_lines, credit_lines, debit_lines, fixed_lines, held, order_lines, posted, refusal, released, settled_event, transfer_lines}
+use Rattle.cdc_audit.specs.Rules.{balances_lines, chain_lines, credit_lines, debit_lines, fixed_lines, held, order_lines, posted, refusal, released, settled_event, transfer_lines}
 use Rattle.cdc_audit.specs.Settling.{settling_lines}
 
 -- no line applies
@@ -81,6 +81,7 @@ pub record CanFollow (past : List Event) (e : Event) : Type 0 where
   pub pending : (settles e.kind && is_none (pending_amount past (settled_id e))) ≡ false
   pub unsettled : (settles e.kind && is_settled past (settled_id e)) ≡ false
   pub settling : NoneApplies (settling_lines (settled_event past e) e)
+  pub chain : NoneApplies (chain_lines (ends_in_chain past) (last_timestamp past) e)
   pub limits : NoneApplies (limits_lines e)
   pub debited : IsDebited past e (balances_after past e.debit_account.id)
   pub credited : IsCredited past e (balances_after past e.credit_account.id)
@@ -174,7 +175,9 @@ pub unrefused : (past : List Event) (e : Event) → refusal past e ≡ None → 
 unfolding refusal
 unrefused past e none =
     let all = of_seven (order_lines (last_timestamp past) e) (shape_lines e) (fixed_lines past e)
-    (transfer_lines past e) (settling_lines (settled_event past e) e) (limits_lines e) (balances_lines past e) none in
+    (transfer_lines past e) (settling_lines (settled_event past e) e)
+    (chain_lines (ends_in_chain past) (last_timestamp past) e ++ limits_lines e) (balances_lines past e) none in
+    let bounds = none_both (chain_lines (ends_in_chain past) (last_timestamp past) e) (limits_lines e) all.limits in
     let order = all.order in
     let transfer = all.transfer in
     let balances = balances_follow past e all.balances in
@@ -187,7 +190,8 @@ unrefused past e none =
       pending = transfer.1.0;
       unsettled = transfer.1.1.0;
       settling = all.settling;
-      limits = all.limits;
+      chain = bounds.0;
+      limits = bounds.1;
       debited = balances.0;
       credited = balances.1;
     }
@@ -197,7 +201,8 @@ pub no_refusal : (past : List Event) (e : Event) → CanFollow past e → refusa
 unfolding refusal
 no_refusal past e can =
     seven (order_lines (last_timestamp past) e) (shape_lines e) (fixed_lines past e) (transfer_lines past e)
-    (settling_lines (settled_event past e) e) (limits_lines e) (balances_lines past e) (record {
+    (settling_lines (settled_event past e) e) (chain_lines (ends_in_chain past) (last_timestamp past) e ++ limits_lines e)
+    (balances_lines past e) (record {
       order = (
         not_from_true _ (lt-ltb (last_timestamp past) e.timestamp can.later),
         (ne_eqb e.debit_account.id e.credit_account.id can.apart, tt),
@@ -206,6 +211,7 @@ no_refusal past e can =
       fixed = can.fixed;
       transfer = (can.new, (can.pending, (can.unsettled, tt)));
       settling = can.settling;
-      limits = can.limits;
+      limits = none_of_both (chain_lines (ends_in_chain past) (last_timestamp past) e) (limits_lines e) can.chain
+          can.limits;
       balances = follow_balances past e can.debited can.credited;
     })

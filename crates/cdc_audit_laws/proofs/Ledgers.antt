@@ -3,7 +3,7 @@ use Rattle.std.proofs.Common.{◌≡◌, ◌≢◌, ℕ, ◌<◌, ◌≤◌, Boo
 use Rattle.std.specs.List.{AllByRecursion, flat_map}
 use Rattle.std.specs.Map.{lookup}
 use Rattle.std.specs.Prelude.{◌==◌, ◌&&◌, ◌||◌, nat_eq, nat_le, nat_lt, not, IsSome, if◌then◌else◌, unwrap_or}
-use Rattle.std.proofs.lemmas.Bool.{and_from, and_left, and_parts, eq-eqb, eqb-true, le-ltb, leb-true, lt-ltb, ne_eqb, not_from_true}
+use Rattle.std.proofs.lemmas.Bool.{and_from, and_left, and_right, and_parts, eq-eqb, eqb-true, le-ltb, leb-true, lt-ltb, ne_eqb, not_from_true}
 use Rattle.std.proofs.lemmas.Bool.Decides.{eqb_tells}
 use Rattle.cdc_types.specs.declared.accounts.Balances.{Balances}
 use Rattle.cdc_types.specs.declared.events.Entry.{Entry}
@@ -20,6 +20,7 @@ use Rattle.cdc_types.specs.declared.accounts.TheConstants.AccountFlags.{CREDITS_
 use Rattle.cdc_types.specs.Flags.{has_flag}
 use Rattle.cdc_types.specs.Results.{account_number}
 use Rattle.cdc_types.specs.Shapes.{account_refusal, account_shape_lines, transfer_refusal}
+use Rattle.cdc_types.specs.Timestamps.{last_timestamp, last_timestamp_from}
 use Rattle.cdc_types.specs.Widths.{max_128}
 use Rattle.cdc_types.specs.declared.transfers.Transfer.{Transfer}
 use Rattle.cdc_ledger.specs.Balances.{balances}
@@ -41,18 +42,18 @@ use Rattle.cdc_ledger.proofs.OpenedLaws.{opened_id}
 use Rattle.cdc_ledger.proofs.PulseLaws.{Follows-open}
 use Rattle.cdc_ledger.proofs.StoredLaws.{find_all, is_stored as stores_id, stored_has}
 use Rattle.cdc_audit.specs.Audits.{is_accepted}
-use Rattle.cdc_audit.specs.Known.{balances_after, is_settled, is_stored, open_event, pending_amount, pending_event, settled_id_by}
+use Rattle.cdc_audit.specs.Known.{balances_after, ends_in_chain, is_settled, is_stored, linked_from, open_event, pending_amount, pending_event, settled_id_by}
 use Rattle.cdc_audit.specs.declared.fields.FixedFields.{FixedFields}
 use Rattle.cdc_audit.specs.declared.refusals.Refusal.TheVariants.{TransferShape, OtherKind, OtherTimestamp}
 use Rattle.cdc_audit.specs.EventShapes.{account_lines as shape_account_lines, asked_account, asked_transfer, is_of_kind, refused_as, shape_lines, stored_lines}
 use Rattle.cdc_audit.specs.Fields.{accounts_of, created_lines, fields_before, fields_lines, fixed_fields, same_lines}
 use Rattle.cdc_audit.specs.Limits.{all_credits, all_debits, limit_lines, limits_lines}
-use Rattle.cdc_audit.specs.Rules.{fixed_lines, released, settled_event}
+use Rattle.cdc_audit.specs.Rules.{chain_lines, fixed_lines, released, settled_event}
 use Rattle.cdc_audit.specs.Settling.{is_same_transfer, settling_lines}
 use Rattle.cdc_audit_laws.specs.Laws.{LedgersAreAccepted}
 use Rattle.cdc_audit_laws.proofs.Entries.{last_timestamp-events, pending_amount-events, pending_event-events, settled_id-shown, unsettled, unstored}
 use Rattle.cdc_audit_laws.proofs.Following.{CanFollow, IsCredited, IsDebited, NoneApplies, none_of_both}
-use Rattle.cdc_audit_laws.proofs.Keeping.{kept_by_legal}
+use Rattle.cdc_audit_laws.proofs.Keeping.{end_from, is_in_chain, kept_by_legal, links, links_from}
 use Rattle.cdc_audit_laws.proofs.Kept.{IsCreated, IsKept, IsLimited, kept-account, kept-closed, kept-empty, kept-pushed, kept-timed}
 use Rattle.cdc_audit_laws.proofs.Requests.{Enters, HasLedger, HasShape, KeepsFields, account_of, asked, enters-accepted, enters-expiry}
 use Rattle.cdc_audit_laws.proofs.Shown.{balances_after-credited, balances_after-debited, balances_after-other, balances_of}
@@ -192,6 +193,15 @@ not_too_soon false zero t end is = le-ltb t end (leb-true end t (and_parts (not 
 not_too_late : (storing up : Bool) → (storing ≡ true → up ≡ false) → (storing && up) ≡ false
 not_too_late true up is = is refl
 not_too_late false up is = refl
+
+-- the events of entries end within a chain if these do, and at the same timestamp
+same_chain : (h : History) (b : Bool) (es : List Entry) → linked_from b (map (event_of h) es) ≡ links_from b es
+same_chain h b [] = refl
+same_chain h b (e ∷ es) = same_chain h (links e) es
+
+same_end : (h : History) (t : ℕ) (es : List Entry) → last_timestamp_from t (map (event_of h) es) ≡ end_from t es
+same_end h t [] = refl
+same_end h t (e ∷ es) = same_end h e.timestamp es
 
 -- one more entry
 module _ (h : History) (e : Entry) (sound : IsSound h) (follows : Follows h e) (after : h.last < e.timestamp)
@@ -426,6 +436,20 @@ module _ (h : History) (e : Entry) (sound : IsSound h) (follows : Follows h e) (
         ),
       )
 
+  -- after a linked transfer it stores one, one nanosecond later
+  has_next : NoneApplies (chain_lines (ends_in_chain (events h)) (last_timestamp (events h)) event)
+  has_next = (by (is_in_chain h) refl, tt)
+    where
+      by : (b : Bool) → is_in_chain h ≡ b
+          → (ends_in_chain (events h) && not (stores e.kind && (e.timestamp == last_timestamp (events h) + 1))) ≡ false
+      by true is =
+          let next = enters.chain is in
+          let at : e.timestamp ≡ last_timestamp (events h) + 1 =
+          next.1 ∙ ap (λ n. n + 1) (sym (same_end h 0 h.entries)) in
+          and_right (ends_in_chain (events h)) _
+          (not_from_true _ (and_from (stores e.kind) _ next.0 (eq-eqb e.timestamp (last_timestamp (events h) + 1) at)))
+      by false is = and_left (ends_in_chain (events h)) _ (same_chain h false h.entries ∙ is)
+
   has_limits : NoneApplies (limits_lines event)
   has_limits =
       none_of_both (limit_lines event.debit_account) (limit_lines event.credit_account)
@@ -514,6 +538,7 @@ module _ (h : History) (e : Entry) (sound : IsSound h) (follows : Follows h e) (
         pending = is_pending;
         unsettled = is_unsettled;
         settling = is_settling;
+        chain = has_next;
         limits = has_limits;
         debited = debited;
         credited = credited;
@@ -605,12 +630,12 @@ pub ledgers_are_accepted : LedgersAreAccepted
 ledgers_are_accepted h count legal =
     let auditable : IsAuditable h =
     kept_by_legal IsAuditable (kept-empty, audited-empty)
-    (λ g r t sound later none next is.
+    (λ g r t sound later chained none next is.
     auditable-pushed g (entry_of g r t) sound (Follows-accepted g r t sound later none) later next
-    (enters-accepted g r t sound later is.0.ledgers none) is)
-    (λ g p t sound later is_open up next is.
+    (enters-accepted g r t sound later is.0.ledgers chained none) is)
+    (λ g p t sound later is_open up unchained next is.
     auditable-pushed g (expiry p t) sound (Follows-open g p t sound is_open) later next
-    (enters-expiry g p t is.0.ledgers is_open up) is)
+    (enters-expiry g p t is.0.ledgers is_open up unchained) is)
     (λ g a t sound later none is.
     (kept-account g a t sound later none is.0, audited-account g (opened_by a t) sound (omega arith) is.1))
     (λ g t sound later is. (kept-timed g t sound later is.0, audited-timed g t sound later is.1))

@@ -31,7 +31,7 @@ use Rattle.cdc_ledger.proofs.LineLaws.{first_line_append_none_parts, test_fails,
 use Rattle.cdc_ledger.proofs.PulseLaws.{IsOpen}
 use Rattle.cdc_ledger.proofs.StoredLaws.{stored_has}
 use Rattle.cdc_audit.specs.EventShapes.{is_of_kind}
-use Rattle.cdc_audit_laws.proofs.Keeping.{IsUp}
+use Rattle.cdc_audit_laws.proofs.Keeping.{IsUp, end_from, is_in_chain}
 use Rattle.cdc_audit_laws.proofs.Following.{no_first_line, none_applies}
 
 -- the entry has the ledger and the code of the pending transfer, and an amount of it that its kind may have
@@ -96,6 +96,7 @@ pub record Enters (h : History) (e : Entry) : Type 0 where
   pub ledger : HasLedger h e
   pub shape : stores e.kind ≡ true → HasShape e
   pub limits : settles e.kind ≡ false → KeepsLimits h e
+  pub chain : is_in_chain h ≡ true → (stores e.kind ≡ true) × (e.timestamp ≡ end_from 0 h.entries + 1)
 
 -- the lines on the accounts of a plain request, or on the pending transfer that a post or a void names
 abbrev own_lines : Bool → Option Entry → History → NewTransfer → ℕ → List (Bool × TransferResult)
@@ -366,8 +367,9 @@ keeps-accepted h r t none is x there =
 
 -- and every accepted transfer enters with what it has to have
 pub enters-accepted : (h : History) (r : NewTransfer) (t : ℕ) → IsSound h → h.last < t
-    → AllByRecursion (HasLedger h) h.entries → transfer_refused h r t ≡ None → Enters h (entry_of h r t)
-enters-accepted h r t sound later ledgers none = by (is_plain_request r) refl
+    → AllByRecursion (HasLedger h) h.entries → (is_in_chain h ≡ true → t ≡ end_from 0 h.entries + 1)
+    → transfer_refused h r t ≡ None → Enters h (entry_of h r t)
+enters-accepted h r t sound later ledgers next none = by (is_plain_request r) refl
   where
     lines : (first_line (transfer_shape_lines r) ≡ None)
         × (first_line (own_lines (is_plain_request r) (stored h r.pending_id) h r t) ≡ None)
@@ -376,6 +378,9 @@ enters-accepted h r t sound later ledgers none = by (is_plain_request r) refl
     kind : is_of_kind (kind_of r) r ≡ true
     kind =
         is_of_kind-by (kind_of r) r ∙ own_kind (is_pending_request r) (is_post_request r) (is_void_request r)
+
+    storing : stores (kind_of r) ≡ true
+    storing = stores_by (is_pending_request r) (is_post_request r) (is_void_request r)
 
     settles_unless : settles (kind_of r) ≡ not (is_plain_request r)
     settles_unless =
@@ -405,6 +410,7 @@ enters-accepted h r t sound later ledgers none = by (is_plain_request r) refl
                 (λ (b : Balances). b.credits_pending + b.credits_posted + r.amount ≤ b.debits_posted) credits
                 (plain.credits flag);
           });
+          chain = λ linked. (storing, next linked);
         }
     by false is =
         let settling_one : settles (kind_of r) ≡ true = settles_unless ∙ ap not is in
@@ -420,6 +426,7 @@ enters-accepted h r t sound later ledgers none = by (is_plain_request r) refl
                 ∙ own_kind (is_pending_request r) (is_post_request r) (is_void_request r);
           });
           limits = λ no. absurd (false≢true (sym no ∙ settling_one));
+          chain = λ linked. (storing, next linked);
         }
       where
         named_entry : (o : Option Entry) → stored h r.pending_id ≡ o → first_line (settling_lines o h r t) ≡ None
@@ -431,14 +438,15 @@ enters-accepted h r t sound later ledgers none = by (is_plain_request r) refl
 
 -- and so does an expiry, which has the whole pending transfer
 pub enters-expiry : (h : History) (p : Transfer) (t : ℕ) → AllByRecursion (HasLedger h) h.entries → IsOpen h p
-    → IsUp p t → Enters h (expiry p t)
-enters-expiry h p t ledgers is_open up = record {
+    → IsUp p t → is_in_chain h ≡ false → Enters h (expiry p t)
+enters-expiry h p t ledgers is_open up unchained = record {
   settled = λ is x there. keeps x
       (sym is_open.same ∙ ap transfer_or (sym is_open.there ∙ there));
   ledger = subst (λ (x : Transfer). HasLedger h (expiry x t)) is_open.same
       (ledger_of (stored_has (HasLedger h) h p.id is_open.pending ledgers is_open.there));
   shape = λ no. cc;
   limits = λ no. cc;
+  chain = λ is. absurd (false≢true (sym unchained ∙ is));
 }
   where
     transfer_or : Option Entry → Transfer

@@ -7,7 +7,7 @@ use Rattle.cdc_types.specs.Results.{account_name, transfer_name}
 use Rattle.cdc_audit.specs.Texts.{field_name, fixed_name, refusal_name, side_name}
 use Rattle.cdc_audit.specs.declared.refusals.Refusal.{Refusal}
 use Rattle.cdc_audit.specs.declared.refusals.Refusal.TheVariants.{AfterEnd, NotLater, OneAccount, TransferShape, OtherKind, OtherTimestamp, AccountShape, AccountField, CreatedLater}
-use Rattle.cdc_audit.specs.declared.refusals.Refusal.TheVariants.{KnownId, NotPending, Settled, OtherFields, Amount, NoTimeout, TooSoon, TooLate, TooLarge, Limit, Balance}
+use Rattle.cdc_audit.specs.declared.refusals.Refusal.TheVariants.{KnownId, NotPending, Settled, OtherFields, Amount, NoTimeout, TooSoon, TooLate, BrokenChain, TooLarge, Limit, Balance}
 use Rattle.cdc_audit.specs.declared.streams.AuditStop.{AuditStop}
 use Rattle.cdc_audit.specs.declared.streams.AuditStop.TheVariants.{AtEnd, Refused, BadLine}
 use Rattle.cdc_json.specs.Lines.{json_line, json_lines, line_of, subscriber_values}
@@ -68,6 +68,8 @@ refusal_members (TooLate transfer timestamp end) =
     member (codes "timestamp") (wide timestamp) (
     member (codes "end") (wide end)
     no_members))
+refusal_members (BrokenChain timestamp last) =
+    member (codes "timestamp") (wide timestamp) (member (codes "last") (wide last) no_members)
 refusal_members (TooLarge account side) =
     member (codes "account") (wide account) (member (codes "side") (string (side_name side)) no_members)
 refusal_members (Limit it) =

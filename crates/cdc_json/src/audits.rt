@@ -60,7 +60,7 @@ fn push_refused(alloc: Global, lines: &mut Lines, line: u64, why: Refusal) -> Re
         Refusal::AfterEnd(timestamp) => {
             push_number(alloc, lines, line, rule, "timestamp", timestamp.into())
         }
-        Refusal::NotLater(timestamp, last) => {
+        Refusal::NotLater(timestamp, last) | Refusal::BrokenChain(timestamp, last) => {
             push_timestamps(alloc, lines, line, rule, timestamp, last)
         }
         Refusal::OneAccount(account) => push_number(alloc, lines, line, rule, "account", account),

@@ -30,6 +30,7 @@ returns-clause-accepted c = λ state stands _.
       transfers = c.keep.new.transfers.entries;
       open_ones = c.keep_open.new.events.entries;
       fields = c.keep_accounts.new.fields.entries;
+      linked = c.is_linked-self-inside.result;
     }) state e
     (sym (ap (λ (a : AuditorState). a.kept.ended) c.self.view_is) ∙ (sym c.ended.ensures ∙ c.if-ended.false))
     (sym (ap (λ (facts : Facts). first_line (lines facts e)) c.facts-facts.ensures) ∙ sym c.refusal_by.ensures
@@ -47,4 +48,4 @@ returns-clause-accepted c = λ state stands _.
     (accounts_from _ _ _ _ e _
     (c.in_ok-reserve-3.ensures.entries ∙ ap (λ (a : AuditorState). a.fields) c.self.view_is) c.facts-facts.ensures
     c.keep_accounts.ensures)
-    stands
+    c.is_linked-self-inside.ensures stands
