@@ -31,6 +31,8 @@ SECONDS, JOBS = 300, 2  # that a run may take, a last guard; runs at a time
 STREAMS = 400
 MOST_SHOWN = 10
 BALANCES = ("debits_pending", "debits_posted", "credits_pending", "credits_posted")
+SIDES = ("debit_account", "credit_account")
+FIXED = ("user_data_128", "user_data_64", "user_data_32", "ledger", "code", "flags", "timestamp")
 STORES = ("single_phase", "two_phase_pending", "two_phase_posted", "two_phase_voided")
 MOVES, HOLDS = ("single_phase", "two_phase_posted"), ("two_phase_pending",)
 SETTLES = ("two_phase_posted", "two_phase_voided", "two_phase_expired")
@@ -67,12 +69,91 @@ def settled_id(body):
     return int(transfer["id"] if body["type"] == "two_phase_expired" else transfer["pending_id"])
 
 
+def flags_of(flags):
+    """The bits of a transfer's flags: linked, pending, post and void."""
+    return [bool(flags & bit) for bit in (1, 2, 4, 8)]
+
+
+def transfer_result(body):
+    """Why a ledger refuses a request with an event's own fields, by the name of the result, or None."""
+    transfer, most = body["transfer"], 2**128 - 1
+    id, pending_id, flags = int(transfer["id"]), int(transfer["pending_id"]), int(transfer["flags"])
+    _, pending, post, void = flags_of(flags)
+    plain = not (post or void)
+    lines = (
+        (flags & ~15, "reserved_flag"),
+        (id == 0, "id_must_not_be_zero"),
+        (id == most, "id_must_not_be_int_max"),
+        (pending + post + void > 1, "flags_are_mutually_exclusive"),
+        (plain and pending_id, "pending_id_must_be_zero"),
+        (not plain and pending_id == 0, "pending_id_must_not_be_zero"),
+        (not plain and pending_id == id, "pending_id_must_be_different"),
+        (not pending and int(transfer["timeout"]), "timeout_reserved_for_pending_transfer"),
+        (int(body["ledger"]) == 0, "ledger_must_not_be_zero"),
+        (int(transfer["code"]) == 0, "code_must_not_be_zero"),
+    )
+    return next((name for test, name in lines if test), None)
+
+
+def account_result(ledger, account):
+    """The same of an account."""
+    id, flags = int(account["id"]), int(account["flags"])
+    lines = (
+        (flags & ~15, "reserved_flag"),
+        (id == 0, "id_must_not_be_zero"),
+        (id == 2**128 - 1, "id_must_not_be_int_max"),
+        (flags & 2 and flags & 4, "flags_are_mutually_exclusive"),
+        (ledger == 0, "ledger_must_not_be_zero"),
+        (int(account["code"]) == 0, "code_must_not_be_zero"),
+    )
+    return next((name for test, name in lines if test), None)
+
+
+def shape(body):
+    """The sentence on an event's own fields, or None."""
+    kind, transfer = body["type"], body["transfer"]
+    id = int(transfer["id"])
+    if kind in STORES:
+        result = transfer_result(body)
+        if result:
+            return f"shape: transfer {id} is invalid: {result}"
+        if flags_of(int(transfer["flags"]))[1:] != [kind == it for it in STORES[1:]]:
+            return f"shape: transfer {id} has the flags of another kind"
+        if int(transfer["timestamp"]) != int(body["timestamp"]):
+            times = f"{int(transfer['timestamp'])}, in an event at {int(body['timestamp'])}"
+            return f"shape: transfer {id} has timestamp {times}"
+    for side in SIDES:
+        result = account_result(int(body["ledger"]), body[side])
+        if result:
+            return f"shape: account {int(body[side]['id'])} is invalid: {result}"
+    return None
+
+
+def fixed_of(body, side):
+    """The fields of an account that never change."""
+    return {it: int(body["ledger"] if it == "ledger" else body[side][it]) for it in FIXED}
+
+
+def limit(account):
+    """The sentence on an account's sums, or None."""
+    id, flags = int(account["id"]), int(account["flags"])
+    sums = {side: int(account[f"{side}_pending"]) + int(account[f"{side}_posted"]) for side in ("debits", "credits")}
+    for side, total in sums.items():
+        if total >= 2**128:
+            return f"limits: account {id} has {side} above 128 bits"
+    for bit, side, other in ((2, "debits", "credits"), (4, "credits", "debits")):
+        most = int(account[f"{other}_posted"])
+        if flags & bit and sums[side] > most:
+            return f"limits: account {id} has {side} of {sums[side]}, above its {other} of {most}"
+    return None
+
+
 class Audit:
     """What an audit knows of the events so far, and why the next one is refused."""
 
     def __init__(self):
-        self.count = self.last = 0
-        self.balances, self.stored, self.pending, self.settled = {}, set(), {}, set()
+        self.count, self.last, self.linked = 0, 0, False
+        self.balances, self.stored, self.pending, self.settled, self.fixed = {}, set(), {}, set(), {}
 
     def refusal(self, body):
         """Why an event is refused, as the rule and its sentence, or None."""
@@ -83,6 +164,9 @@ class Audit:
             return f"timestamps: {timestamp}, after {self.last}"
         if int(debit["id"]) == int(credit["id"]):
             return f"accounts: account {int(debit['id'])} is debited and credited"
+        why = shape(body) or self.other_fields(body)
+        if why:
+            return why
         if kind in STORES and id in self.stored:
             return f"id: transfer {id} came before"
         released = 0
@@ -92,7 +176,16 @@ class Audit:
                 return f"pending: no pending transfer {of} came before"
             if of in self.settled:
                 return f"ended: pending transfer {of} ended before"
-            released = self.pending[of]
+            why = self.other_transfer(body, self.pending[of])
+            if why:
+                return why
+            released = int(self.pending[of]["transfer"]["amount"])
+        if self.linked and (kind not in STORES or timestamp != self.last + 1):
+            return f"chains: event {timestamp} isn't the next of the chain at {self.last}"
+        for account in (debit, credit):
+            why = limit(account)
+            if why:
+                return why
         held, posted = amount if kind in HOLDS else 0, amount if kind in MOVES else 0
         for account, side in ((debit, 0), (credit, 2)):
             before = self.balances.get(int(account["id"]), (0, 0, 0, 0))
@@ -106,17 +199,54 @@ class Audit:
                     return f"balances: account {int(account['id'])} has {name} {shown}, after {before[place]}{reason}"
         return None
 
+    def other_fields(self, body):
+        """The sentence on the fields of both accounts that never change, or None."""
+        for side in SIDES:
+            id = int(body[side]["id"])
+            shown = fixed_of(body, side)
+            for name, before in self.fixed.get(id, shown).items():
+                if shown[name] != before:
+                    return f"fields: account {id} has {name} {shown[name]}, after {before}"
+        for side in SIDES:
+            id, created = int(body[side]["id"]), int(body[side]["timestamp"])
+            if created >= int(body["timestamp"]):
+                return f"created: account {id} at {created}, in an event at {int(body['timestamp'])}"
+        return None
+
+    def other_transfer(self, body, pending):
+        """The sentence on what an event has of the pending transfer that it settles, or None."""
+        of, amount, held = settled_id(body), int(body["transfer"]["amount"]), int(pending["transfer"]["amount"])
+        same = all(int(body[side]["id"]) == int(pending[side]["id"]) for side in SIDES)
+        same = same and int(body["ledger"]) == int(pending["ledger"])
+        names = ["code"] if body["type"] in STORES else pending["transfer"]
+        same = same and all(int(body["transfer"][it]) == int(pending["transfer"][it]) for it in names)
+        if not same:
+            return f"settles: pending transfer {of} has other accounts, another ledger or code"
+        if amount > held or body["type"] not in MOVES and amount < held:
+            return f"amount: {amount} of pending transfer {of}, which holds {held}"
+        timestamp, timeout = int(body["timestamp"]), int(pending["transfer"]["timeout"])
+        end = int(pending["transfer"]["timestamp"]) + timeout * 10**9
+        if body["type"] not in STORES and timeout == 0:
+            return f"timeouts: pending transfer {of} has no timeout"
+        if body["type"] not in STORES and timestamp < end:
+            return f"timeouts: pending transfer {of} expires at {timestamp}, and its time is up at {end}"
+        if body["type"] in STORES and timeout and end <= timestamp:
+            return f"timeouts: pending transfer {of} is settled at {timestamp}, and its time is up at {end}"
+        return None
+
     def take(self, body):
         """Takes an event that isn't refused."""
         self.count, self.last = self.count + 1, int(body["timestamp"])
+        self.linked = body["type"] in STORES and bool(int(body["transfer"]["flags"]) & 1)
         if body["type"] in STORES:
             self.stored.add(int(body["transfer"]["id"]))
         if body["type"] in HOLDS:
-            self.pending[int(body["transfer"]["id"])] = int(body["transfer"]["amount"])
+            self.pending[int(body["transfer"]["id"])] = body
         if body["type"] in SETTLES:
             self.settled.add(settled_id(body))
-        for side in ("debit_account", "credit_account"):
+        for side in SIDES:
             account = body[side]
+            self.fixed.setdefault(int(account["id"]), fixed_of(body, side))
             self.balances[int(account["id"])] = tuple(int(account[name]) for name in BALANCES)
 
     def book(self):
@@ -140,14 +270,19 @@ def audited(bodies, book=False):
 # By hand.
 
 
-def account(id, *balances):
+def account(id, *balances, **others):
     members = {"user_data_128": "0", "user_data_64": "0", "user_data_32": 0, "code": 1, "flags": 0, "timestamp": "1"}
-    return {"id": str(id), **{name: str(value) for name, value in zip(BALANCES, balances)}, **members}
+    return {"id": str(id), **{name: str(value) for name, value in zip(BALANCES, balances)}, **members, **others}
+
+
+SINGLE, PENDING, POSTED, VOIDED, EXPIRED = (*STORES, "two_phase_expired")
+FLAGS = {PENDING: 2, POSTED: 4, VOIDED: 8}
 
 
 def event(timestamp, id, kind, amount, debit, credit, pending=0):
     """An event's body; an account is its id and its four balances."""
-    members = {"user_data_128": "0", "user_data_64": "0", "user_data_32": 0, "timeout": 0, "code": 1, "flags": 0}
+    flags = FLAGS.get(kind, 0)
+    members = {"user_data_128": "0", "user_data_64": "0", "user_data_32": 0, "timeout": 0, "code": 1, "flags": flags}
     transfer = {"id": str(id), "amount": str(amount), "pending_id": str(pending), **members, "timestamp": str(timestamp)}
     return {
         "timestamp": str(timestamp),
@@ -159,13 +294,20 @@ def event(timestamp, id, kind, amount, debit, credit, pending=0):
     }
 
 
-SINGLE, PENDING, POSTED, VOIDED, EXPIRED = (*STORES, "two_phase_expired")
+def with_transfer(body, **others):
+    """A body with other fields of its transfer."""
+    return {**body, "transfer": {**body["transfer"], **others}}
+
+
 # Account 1 pays 30 to account 2, and holds back 10 for it, of which 4 are posted.
 PAID = event(10, 1, SINGLE, 30, (1, 0, 30, 0, 0), (2, 0, 0, 0, 30))
 HELD = event(20, 2, PENDING, 10, (1, 10, 30, 0, 0), (2, 0, 0, 10, 30))
 POST = event(30, 3, POSTED, 4, (1, 0, 34, 0, 0), (2, 0, 0, 0, 34), 2)
 VOID = event(30, 3, VOIDED, 10, (1, 0, 30, 0, 0), (2, 0, 0, 0, 30), 2)
-EXPIRY = event(30, 2, EXPIRED, 10, (1, 0, 30, 0, 0), (2, 0, 0, 0, 30))
+# Or it holds back 10 for a second, after which they expire.
+TIMED = with_transfer(HELD, timeout=1)
+UP = 20 + 10**9
+EXPIRY = {**VOID, "timestamp": str(UP), "type": EXPIRED, "transfer": TIMED["transfer"]}
 END = {"end": True}
 
 
@@ -175,7 +317,7 @@ def rows():
     yield "one event", [PAID], "accepted 1 last 10\n", 0
     yield "a post", [PAID, HELD, POST], "accepted 3 last 30\n", 0
     yield "a void", [PAID, HELD, VOID], "accepted 3 last 30\n", 0
-    yield "an expiry", [PAID, HELD, EXPIRY], "accepted 3 last 30\n", 0
+    yield "an expiry", [PAID, TIMED, EXPIRY], f"accepted 3 last {UP}\n", 0
     yield "envelopes and the end", [{"previous": "0", "body": PAID}, END], "accepted 1 last 10\n", 0
     yield "the end twice", [PAID, END, END], "accepted 1 last 10\n", 0
     yield "an event after the end", [PAID, END, HELD], "accepted 1 last 10\nrefused: line 3: end: event 20 came after the end\n", 1
@@ -193,13 +335,12 @@ def rows():
     yield "a post of a single-phase transfer", [PAID, of_single], (
         "accepted 1 last 10\nrefused: line 2: pending: no pending transfer 1 came before\n"
     ), 1
-    late = {**EXPIRY, "timestamp": "40"}
-    yield "an expiry of what was posted", [PAID, HELD, POST, late], (
+    yield "an expiry of what was posted", [PAID, TIMED, POST, EXPIRY], (
         "accepted 3 last 30\nrefused: line 4: ended: pending transfer 2 ended before\n"
     ), 1
-    second = event(40, 4, VOIDED, 10, (1, 0, 30, 0, 0), (2, 0, 0, 0, 30), 2)
-    yield "a void of what expired", [PAID, HELD, EXPIRY, second], (
-        "accepted 3 last 30\nrefused: line 4: ended: pending transfer 2 ended before\n"
+    second = event(UP + 1, 4, VOIDED, 10, (1, 0, 30, 0, 0), (2, 0, 0, 0, 30), 2)
+    yield "a void of what expired", [PAID, TIMED, EXPIRY, second], (
+        f"accepted 3 last {UP}\nrefused: line 4: ended: pending transfer 2 ended before\n"
     ), 1
     third = event(30, 3, SINGLE, 1, (1, 0, 35, 0, 0), (2, 0, 0, 0, 35))
     yield "an event that was left out", [PAID, third], (
@@ -227,6 +368,67 @@ def rows():
     yield "a sum past 128 bits", [full, over], (
         f"accepted 1 last 10\nrefused: line 2: balances: account 1 has debits_posted 0, after {most} and this transfer's 1\n"
     ), 1
+
+
+    yield from rows_of_fields()
+
+
+def rows_of_fields():
+    """The rows of what a transfer and an account may have, and of a pending transfer that is settled."""
+    first = "accepted 0 last 0\nrefused: line 1: "
+    second, third = "accepted 1 last 10\nrefused: line 2: ", "accepted 2 last 20\nrefused: line 3: "
+    yield "no ledger", [{**PAID, "ledger": 0}], first + "shape: transfer 1 is invalid: ledger_must_not_be_zero\n", 1
+    yield "a timeout that none may have", [with_transfer(PAID, timeout=1)], (
+        first + "shape: transfer 1 is invalid: timeout_reserved_for_pending_transfer\n"
+    ), 1
+    yield "a post without a code", [PAID, HELD, with_transfer(POST, code=0)], (
+        third + "shape: transfer 3 is invalid: code_must_not_be_zero\n"
+    ), 1
+    yield "another kind's flags", [with_transfer(PAID, flags=2)], first + "shape: transfer 1 has the flags of another kind\n", 1
+    yield "linked", [with_transfer(PAID, flags=1)], "accepted 1 last 10\n", 0
+    linked = with_transfer(PAID, flags=1)
+    yield "a chain that breaks", [linked, HELD], second + "chains: event 20 isn't the next of the chain at 10\n", 1
+    next_one = event(11, 2, PENDING, 10, (1, 10, 30, 0, 0), (2, 0, 0, 10, 30))
+    yield "a chain", [linked, next_one], "accepted 2 last 11\n", 0
+    yield "another timestamp", [with_transfer(PAID, timestamp="9")], (
+        first + "shape: transfer 1 has timestamp 9, in an event at 10\n"
+    ), 1
+    exclusive = {**PAID, "credit_account": account(2, 0, 0, 0, 30, flags=6)}
+    yield "two limits", [exclusive], first + "shape: account 2 is invalid: flags_are_mutually_exclusive\n", 1
+    other = {**HELD, "credit_account": account(2, 0, 0, 10, 30, code=2)}
+    yield "another code", [PAID, other], second + "fields: account 2 has code 2, after 1\n", 1
+    other = {**HELD, "ledger": 701}
+    yield "another ledger", [PAID, other], second + "fields: account 1 has ledger 701, after 700\n", 1
+    later = {**PAID, "debit_account": account(1, 0, 30, 0, 0, timestamp="10")}
+    yield "an account of later", [later], first + "created: account 1 at 10, in an event at 10\n", 1
+    settles = "settles: pending transfer 2 has other accounts, another ledger or code\n"
+    other = event(30, 3, POSTED, 4, (1, 6, 34, 0, 0), (3, 0, 0, 0, 4), 2)
+    yield "a post to another account", [PAID, HELD, other], third + settles, 1
+    yield "a void with another code", [PAID, HELD, with_transfer(VOID, code=2)], third + settles, 1
+    yield "an expiry with another timeout", [PAID, TIMED, with_transfer(EXPIRY, timeout=2)], third + settles, 1
+    more = event(30, 3, POSTED, 11, (1, 0, 41, 0, 0), (2, 0, 0, 0, 41), 2)
+    yield "a post of more", [PAID, HELD, more], third + "amount: 11 of pending transfer 2, which holds 10\n", 1
+    yield "a void of less", [PAID, HELD, with_transfer(VOID, amount="9")], (
+        third + "amount: 9 of pending transfer 2, which holds 10\n"
+    ), 1
+    endless = {**EXPIRY, "transfer": HELD["transfer"]}
+    yield "an expiry without a timeout", [PAID, HELD, endless], third + "timeouts: pending transfer 2 has no timeout\n", 1
+    soon = {**EXPIRY, "timestamp": str(UP - 1)}
+    yield "an expiry too soon", [PAID, TIMED, soon], (
+        third + f"timeouts: pending transfer 2 expires at {UP - 1}, and its time is up at {UP}\n"
+    ), 1
+    last = event(UP - 1, 3, POSTED, 4, (1, 0, 34, 0, 0), (2, 0, 0, 0, 34), 2)
+    yield "a post just in time", [PAID, TIMED, last], f"accepted 3 last {UP - 1}\n", 0
+    late = event(UP, 3, POSTED, 4, (1, 0, 34, 0, 0), (2, 0, 0, 0, 34), 2)
+    yield "a post too late", [PAID, TIMED, late], (
+        third + f"timeouts: pending transfer 2 is settled at {UP}, and its time is up at {UP}\n"
+    ), 1
+    limited = {**PAID, "debit_account": account(1, 0, 30, 0, 0, flags=2)}
+    yield "debits above credits", [limited], first + "limits: account 1 has debits of 30, above its credits of 0\n", 1
+    limited = {**PAID, "credit_account": account(2, 0, 0, 0, 30, flags=4)}
+    yield "credits above debits", [limited], first + "limits: account 2 has credits of 30, above its debits of 0\n", 1
+    full = event(10, 1, PENDING, 1, (1, 1, 2**128 - 1, 0, 0), (2, 0, 0, 1, 0))
+    yield "debits above 128 bits", [full], first + "limits: account 1 has debits above 128 bits\n", 1
 
 
 def by_hand(folder):
@@ -272,7 +474,26 @@ def json_rows():
     yield [PAID, PAID], {"rule": "timestamps", "timestamp": "10", "last": "10"}
     yield [one], {"rule": "accounts", "account": "1"}
     yield [PAID, again], {"rule": "id", "transfer": "1"}
-    yield [PAID, HELD, POST, {**EXPIRY, "timestamp": "40"}], {"rule": "ended", "transfer": "2"}
+    yield [PAID, TIMED, POST, EXPIRY], {"rule": "ended", "transfer": "2"}
+    yield [PAID, HELD, {**EXPIRY, "transfer": HELD["transfer"]}], {"rule": "timeouts", "transfer": "2"}
+    yield [with_transfer(PAID, flags=1), HELD], {"rule": "chains", "timestamp": "20", "last": "10"}
+    times = {"timestamp": str(UP - 1), "end": str(UP)}
+    yield [PAID, TIMED, {**EXPIRY, "timestamp": str(UP - 1)}], {"rule": "timeouts", "transfer": "2", **times}
+    yield [{**PAID, "ledger": 0}], {"rule": "shape", "transfer": "1", "result": "ledger_must_not_be_zero"}
+    yield [with_transfer(PAID, flags=2)], {"rule": "shape", "transfer": "1"}
+    yield [with_transfer(PAID, timestamp="9")], {"rule": "shape", "transfer": "1", "shown": "9", "timestamp": "10"}
+    nameless = {**PAID, "debit_account": account(1, 0, 30, 0, 0, code=0)}
+    yield [nameless], {"rule": "shape", "account": "1", "result": "code_must_not_be_zero"}
+    other = {**HELD, "credit_account": account(2, 0, 0, 10, 30, code=2)}
+    yield [PAID, other], {"rule": "fields", "account": "2", "field": "code", "shown": "2", "before": "1"}
+    later = {**PAID, "debit_account": account(1, 0, 30, 0, 0, timestamp="10")}
+    yield [later], {"rule": "created", "account": "1", "created": "10", "timestamp": "10"}
+    yield [PAID, HELD, with_transfer(VOID, code=2)], {"rule": "settles", "transfer": "2"}
+    yield [PAID, HELD, with_transfer(VOID, amount="9")], {"rule": "amount", "transfer": "2", "amount": "9", "held": "10"}
+    limited = {**PAID, "debit_account": account(1, 0, 30, 0, 0, flags=2)}
+    yield [limited], {"rule": "limits", "account": "1", "side": "debits", "sum": "30", "limit": "0"}
+    full = event(10, 1, PENDING, 1, (1, 1, 2**128 - 1, 0, 0), (2, 0, 0, 1, 0))
+    yield [full], {"rule": "limits", "account": "1", "side": "debits"}
     shown = {"shown": "6", "before": "10", "added": "0", "released": "10"}
     yield [PAID, HELD, wrong], {"rule": "balances", "account": "1", "field": "debits_pending", **shown}
 

@@ -6,9 +6,15 @@ use Rattle.cdc_types.specs.declared.events.Event.{Event}
 use Rattle.cdc_types.specs.declared.events.EventAccount.{EventAccount}
 use Rattle.cdc_types.specs.declared.events.EventKind.{EventKind}
 use Rattle.cdc_types.specs.declared.events.EventKind.TheVariants.{SinglePhase, TwoPhasePending, TwoPhasePosted, TwoPhaseVoided, TwoPhaseExpired}
+use Rattle.cdc_types.specs.declared.results.AccountResult.TheVariants as account
+use Rattle.cdc_types.specs.declared.results.TransferResult.TheVariants as transfer
+use Rattle.cdc_types.specs.Widths.{max_128}
 use Rattle.cdc_follow.specs.declared.entries.Content.TheVariants as content
 use Rattle.cdc_audit.specs.declared.refusals.BalanceField.TheVariants.{DebitsPosted, DebitsPending}
-use Rattle.cdc_audit.specs.declared.refusals.Refusal.TheVariants.{AfterEnd, NotLater, OneAccount, KnownId, NotPending, Settled, Balance}
+use Rattle.cdc_audit.specs.declared.refusals.FixedField.TheVariants.{Code}
+use Rattle.cdc_audit.specs.declared.refusals.Refusal.TheVariants.{AfterEnd, NotLater, OneAccount, TransferShape, OtherKind, OtherTimestamp, AccountShape, AccountField, CreatedLater}
+use Rattle.cdc_audit.specs.declared.refusals.Refusal.TheVariants.{KnownId, NotPending, Settled, OtherFields, Amount, NoTimeout, TooSoon, TooLate, BrokenChain, TooLarge, Limit, Balance}
+use Rattle.cdc_audit.specs.declared.refusals.Side.TheVariants.{Debits, Credits}
 use Rattle.cdc_audit.specs.Audits.{entry_refusal, follows_on, is_accepted}
 use Rattle.cdc_audit.specs.Rules.{refusal}
 use Rattle.cdc_audit.specs.Texts.{refusal_text}
@@ -44,6 +50,14 @@ credited id pending posted = record {
   timestamp = 2;
 }
 
+-- the flags of a transfer of this kind of event
+abbrev flags_of : EventKind → ℕ
+flags_of SinglePhase = 0
+flags_of TwoPhasePending = 2
+flags_of TwoPhasePosted = 4
+flags_of TwoPhaseVoided = 8
+flags_of TwoPhaseExpired = 2
+
 -- an event at this time, of this kind, with the id, the pending id and the amount of its transfer, and with the same
 -- sums of both accounts
 abbrev event : ℕ → EventKind → ℕ → ℕ → ℕ → ℕ → ℕ → Event
@@ -60,7 +74,7 @@ event timestamp kind id pending_id amount pending posted = record {
     user_data_32 = 0;
     timeout = 0;
     code = 1;
-    flags = 0;
+    flags = flags_of kind;
     timestamp = timestamp;
   };
   debit_account = debited 1 pending posted;
@@ -77,16 +91,28 @@ held_back = event 2000 TwoPhasePending 11 0 7 7 5
 abbrev posted_then : Event
 posted_then = event 3000 TwoPhasePosted 12 11 6 0 11
 
+-- or they are held back for a second, and the whole is released as they expire
+abbrev held_timed : Event
+held_timed = record held_back { transfer = record held_back.transfer { timeout = 1 } }
+
+abbrev expired : Event
+expired = record held_timed {
+  timestamp = 1000002000;
+  kind = TwoPhaseExpired;
+  debit_account = debited 1 0 5;
+  credit_account = credited 2 0 5;
+}
+
 accepted : is_accepted (moved ∷ held_back ∷ posted_then ∷ []) ≡ true
 unfolding refusal follows_on
 accepted = refl
 
--- or the seven are released, by a void or by an expiry, whose transfer is the pending one
+-- or the seven are released, by a void or by their expiry
 accepted-void : is_accepted (moved ∷ held_back ∷ event 3000 TwoPhaseVoided 12 11 7 0 5 ∷ []) ≡ true
 unfolding refusal follows_on
 accepted-void = refl
 
-accepted-expiry : is_accepted (moved ∷ held_back ∷ event 3000 TwoPhaseExpired 11 0 7 0 5 ∷ []) ≡ true
+accepted-expiry : is_accepted (moved ∷ held_timed ∷ expired ∷ []) ≡ true
 unfolding refusal follows_on
 accepted-expiry = refl
 
@@ -120,6 +146,92 @@ settled_before : refusal (moved ∷ held_back ∷ posted_then ∷ []) (event 400
     ≡ Some (Settled 11)
 unfolding refusal
 settled_before = refl
+
+-- a field that no ledger lets a transfer have, the flags of another kind, and another time
+shape : refusal [] (record moved { ledger = 0 }) ≡ Some (TransferShape 10 transfer.LedgerMustNotBeZero)
+unfolding refusal
+shape = refl
+
+shape-kind : refusal [] (record moved { kind = TwoPhasePending }) ≡ Some (OtherKind 10)
+unfolding refusal
+shape-kind = refl
+
+shape-timestamp : refusal [] (record moved { timestamp = 1001 }) ≡ Some (OtherTimestamp 10 1000 1001)
+unfolding refusal
+shape-timestamp = refl
+
+shape-account : refusal [] (record moved { debit_account = record (debited 1 0 5) { code = 0 } })
+    ≡ Some (AccountShape 1 account.CodeMustNotBeZero)
+unfolding refusal
+shape-account = refl
+
+-- another code of an account, and an account that was created later
+other_code : refusal (moved ∷ []) (record held_back { debit_account = record (debited 1 7 5) { code = 2 } })
+    ≡ Some (AccountField (record { account = 1; field = Code; shown = 2; before = 1 }))
+unfolding refusal
+other_code = refl
+
+created_later : refusal [] (record moved { credit_account = record (credited 2 0 5) { timestamp = 1000 } })
+    ≡ Some (CreatedLater 2 1000 1000)
+unfolding refusal
+created_later = refl
+
+-- a sum above the limit of an account whose debits must not exceed its credits, and one above 128 bits
+above_limit : refusal [] (record moved { debit_account = record (debited 1 0 5) { flags = 2 } })
+    ≡ Some (Limit (record { account = 1; side = Debits; sum = 5; limit = 0 }))
+unfolding refusal
+above_limit = refl
+
+too_large : refusal [] (record moved { credit_account = credited 2 1 max_128 }) ≡ Some (TooLarge 2 Credits)
+unfolding refusal
+too_large = refl
+
+-- after a linked transfer comes one that is one nanosecond later
+abbrev linked : Event
+linked = record moved { transfer = record moved.transfer { flags = 1 } }
+
+chain : is_accepted (linked ∷ event 1001 TwoPhasePending 11 0 7 7 5 ∷ []) ≡ true
+unfolding refusal follows_on
+chain = refl
+
+broken_chain : refusal (linked ∷ []) held_back ≡ Some (BrokenChain 2000 1000)
+unfolding refusal
+broken_chain = refl
+
+-- a post between other accounts than its pending transfer's, and an expiry with another code
+other_accounts : refusal (moved ∷ held_back ∷ []) (record posted_then { credit_account = credited 3 0 6 })
+    ≡ Some (OtherFields 11)
+unfolding refusal
+other_accounts = refl
+
+other_transfer : refusal (moved ∷ held_timed ∷ []) (record expired { transfer = record held_back.transfer { timeout = 2 } })
+    ≡ Some (OtherFields 11)
+unfolding refusal
+other_transfer = refl
+
+-- more than the seven are posted, and not the whole of them is voided
+too_much : refusal (moved ∷ held_back ∷ []) (event 3000 TwoPhasePosted 12 11 8 0 13) ≡ Some (Amount 8 11 7)
+unfolding refusal
+too_much = refl
+
+a_part_is_voided : refusal (moved ∷ held_back ∷ []) (event 3000 TwoPhaseVoided 12 11 6 0 5) ≡ Some (Amount 6 11 7)
+unfolding refusal
+a_part_is_voided = refl
+
+-- what has no timeout expires, or something expires a nanosecond too soon, or is posted when its time is up
+no_timeout : refusal (moved ∷ held_back ∷ []) (record expired { transfer = held_back.transfer }) ≡ Some (NoTimeout 11)
+unfolding refusal
+no_timeout = refl
+
+too_soon : refusal (moved ∷ held_timed ∷ []) (record expired { timestamp = 1000001999 })
+    ≡ Some (TooSoon 11 1000001999 1000002000)
+unfolding refusal
+too_soon = refl
+
+too_late : refusal (moved ∷ held_timed ∷ []) (event 1000002000 TwoPhasePosted 12 11 6 0 11)
+    ≡ Some (TooLate 11 1000002000 1000002000)
+unfolding refusal
+too_late = refl
 
 -- the post of six releases the seven that are held, not six
 releases_the_whole : refusal (moved ∷ held_back ∷ []) (event 3000 TwoPhasePosted 12 11 6 1 11)
@@ -168,6 +280,56 @@ text-released : refusal_text (Balance (record {
 })) ≡ codes "balances: account 7 has debits_pending 45, after 30 less the pending transfer's 5"
 unfolding refusal_text digits
 text-released = refl
+
+text-shape : refusal_text (TransferShape 7 transfer.LedgerMustNotBeZero)
+    ≡ codes "shape: transfer 7 is invalid: ledger_must_not_be_zero"
+unfolding refusal_text digits
+text-shape = refl
+
+text-fields : refusal_text (AccountField (record { account = 7; field = Code; shown = 2; before = 1 }))
+    ≡ codes "fields: account 7 has code 2, after 1"
+unfolding refusal_text digits
+text-fields = refl
+
+text-created : refusal_text (CreatedLater 7 30 20) ≡ codes "created: account 7 at 30, in an event at 20"
+unfolding refusal_text digits
+text-created = refl
+
+text-chains : refusal_text (BrokenChain 40 20) ≡ codes "chains: event 40 isn't the next of the chain at 20"
+unfolding refusal_text digits
+text-chains = refl
+
+text-limits : refusal_text (Limit (record { account = 7; side = Debits; sum = 45; limit = 30 }))
+    ≡ codes "limits: account 7 has debits of 45, above its credits of 30"
+unfolding refusal_text digits
+text-limits = refl
+
+text-too_large : refusal_text (TooLarge 7 Credits) ≡ codes "limits: account 7 has credits above 128 bits"
+unfolding refusal_text digits
+text-too_large = refl
+
+text-settles : refusal_text (OtherFields 7)
+    ≡ codes "settles: pending transfer 7 has other accounts, another ledger or code"
+unfolding refusal_text digits
+text-settles = refl
+
+text-no_timeout : refusal_text (NoTimeout 7) ≡ codes "timeouts: pending transfer 7 has no timeout"
+unfolding refusal_text digits
+text-no_timeout = refl
+
+text-too_soon : refusal_text (TooSoon 7 50 60)
+    ≡ codes "timeouts: pending transfer 7 expires at 50, and its time is up at 60"
+unfolding refusal_text digits
+text-too_soon = refl
+
+text-too_late : refusal_text (TooLate 7 70 60)
+    ≡ codes "timeouts: pending transfer 7 is settled at 70, and its time is up at 60"
+unfolding refusal_text digits
+text-too_late = refl
+
+text-amount : refusal_text (Amount 12 7 10) ≡ codes "amount: 12 of pending transfer 7, which holds 10"
+unfolding refusal_text digits
+text-amount = refl
 
 text-end : refusal_text (AfterEnd 2001) ≡ codes "end: event 2001 came after the end"
 unfolding refusal_text digits

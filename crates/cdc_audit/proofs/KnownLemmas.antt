@@ -1,7 +1,9 @@
 -- What the events show of a transfer after one more event, and what an auditor knows of it then.
-use Rattle.std.proofs.Common.{◌≡◌, ℕ, Bool, true, false, cond, List, [], ◌∷◌, ◌++◌, Option, Some, None, refl, sym, ap, ◌∙◌, inl, inr}
-use Rattle.std.specs.Prelude.{◌==◌, ◌&&◌, ◌||◌, nat_eq, is_none, is_some, unwrap_or, find, option_map}
+use Rattle.std.proofs.Common.{◌≡◌, ℕ, Bool, true, false, cond, List, [], ◌∷◌, ◌++◌, Option, Some, None, refl, sym, ap, ap₂, ◌∙◌, inl, inr}
+use Rattle.std.specs.Prelude.{◌==◌, ◌&&◌, ◌||◌, not, nat_eq, is_none, is_some, unwrap_or, find, option_map}
+use Rattle.std.specs.List.{flat_map}
 use Rattle.std.specs.Option.{option_or}
+use Rattle.std.proofs.lemmas.Grind.{flat_map-append}
 use Rattle.std.proofs.lemmas.Bool.{ne_eqb}
 use Rattle.std.proofs.lemmas.Bool.Decides.{eqb_tells}
 use Rattle.std.proofs.lemmas.List.Folds.{find-append, list_any-append}
@@ -13,8 +15,11 @@ use Rattle.cdc_ledger.specs.Kinds.{holds, settles, stores}
 use Rattle.cdc_audit.specs.declared.checks.Stored.{Stored}
 use Rattle.cdc_audit.specs.declared.checks.Stored.TheVariants.{Plain, Pending, Settled}
 use Rattle.cdc_audit.specs.Checks.{amount_in, stored_by, was_settled}
-use Rattle.cdc_audit.specs.Known.{is_settled, is_stored, pending_amount, settled_id}
-use Rattle.cdc_audit.specs.Standing.{IsKnownOf, stored_under, with_own, with_settled}
+use Rattle.cdc_audit.specs.declared.checks.Facts.{Facts}
+use Rattle.cdc_audit.specs.declared.fields.FixedFields.{FixedFields}
+use Rattle.cdc_audit.specs.Fields.{accounts_of, fields_before, fixed_fields}
+use Rattle.cdc_audit.specs.Known.{is_linked, is_settled, is_stored, linked_from, open_event, pending_amount, pending_event, settled_id}
+use Rattle.cdc_audit.specs.Standing.{IsKnownOf, KeepsAccounts, fields_under, open_then, open_under, stored_under, with_own, with_settled}
 
 or_false : (b : Bool) → (b || false) ≡ b
 or_false true = refl
@@ -33,6 +38,12 @@ is_settled-push : (past : List Event) (e : Event) (id : ℕ)
 is_settled-push past e id =
     list_any-append (λ (f : Event). settles f.kind && (settled_id f == id)) past (e ∷ [])
     ∙ ap (λ b. is_settled past id || b) (or_false (settles e.kind && (settled_id e == id)))
+
+-- the event that stored a pending transfer, after one more event
+pending_event-push : (past : List Event) (e : Event) (id : ℕ)
+    → pending_event (past ++ e ∷ []) id
+    ≡ option_or (pending_event past id) (cond (holds e.kind && (e.transfer.id == id)) (Some e) None)
+pending_event-push past e id = find-append (λ (f : Event). holds f.kind && (f.transfer.id == id)) past (e ∷ [])
 
 amount-or : (one other : Option Event)
     → option_map (λ (e : Event). e.transfer.amount) (option_or one other)
@@ -227,3 +238,129 @@ known-step transfers past e knows new there open_yet id =
       amount = pending_amount-push past e id ∙ step.amount ∙ sym (ap amount_in found);
       settled = is_settled-push past e id ∙ step.settled ∙ sym (ap was_settled found);
     }
+
+-- ---- the open pending transfers
+
+-- no event stored a pending transfer of which no amount is known
+no_event : (found : Option Event) → option_map (λ (e : Event). e.transfer.amount) found ≡ None → found ≡ None
+no_event None none = refl
+no_event (Some e) none = cc
+
+-- one step: the transfer is the pending one that the event settles, or a pending one that it stores, or another one
+open-step : (settled held was : Bool) (before : Option Event) (e : Event)
+    → (held ≡ true → (was ≡ false) × (before ≡ None))
+    → cond (was || settled) None (option_or before (cond held (Some e) None))
+    ≡ cond settled None (cond held (Some e) (cond was None before))
+open-step true held true before e new = refl
+open-step true held false before e new = refl
+open-step false true was before e new =
+    let is = new refl in
+    rw (is.0, is.1) refl
+open-step false false true before e new = refl
+open-step false false false None e new = refl
+open-step false false false (Some x) e new = refl
+
+-- the open pending transfer of an id after an event that an auditor accepts
+pub open_one-step : (transfers : List (ℕ × Stored)) (events : List (ℕ × Event)) (past : List Event) (e : Event)
+    → ((id : ℕ) → IsKnownOf (stored_under transfers id) past id)
+    → ((id : ℕ) → open_under events id ≡ open_event past id)
+    → (stores e.kind && is_some (cond (stores e.kind) (stored_under transfers e.transfer.id) None)) ≡ false
+    → (id : ℕ) → open_then events e id ≡ open_event (past ++ e ∷ []) id
+open_one-step transfers events past e knows opened new id =
+    let held : Bool = holds e.kind && (e.transfer.id == id) in
+    let settled : Bool = settles e.kind && (settled_id e == id) in
+    ap (λ o. cond settled None (cond held (Some e) o)) (opened id)
+    ∙ sym (open-step settled held (is_settled past id) (pending_event past id) e (λ is.
+    let both = both_true (holds e.kind) (e.transfer.id == id) is in
+    let storing = both_true (holds e.kind) (stores e.kind && (e.transfer.id == id))
+    (sym (holds_stores e.kind (e.transfer.id == id)) ∙ is) in
+    let stored : stores e.kind ≡ true = (both_true (stores e.kind) (e.transfer.id == id) storing.1).0 in
+    let none : stored_under transfers id ≡ None =
+    sym (ap (stored_under transfers) (same_id e.transfer.id id both.1))
+    ∙ unknown (stores e.kind) (stored_under transfers e.transfer.id) new stored in
+    let was = knows id in
+    (was.settled ∙ ap was_settled none, no_event (pending_event past id) (was.amount ∙ ap amount_in none))))
+    ∙ sym (ap (λ b. cond b None (pending_event (past ++ e ∷ []) id)) (is_settled-push past e id)
+    ∙ ap (λ o. cond (is_settled past id || settled) None o) (pending_event-push past e id))
+
+-- whether events end within a chain is up to the last one
+pub linked_from-push : (b : Bool) (past : List Event) (e : Event) → linked_from b (past ++ e ∷ []) ≡ is_linked e
+linked_from-push b [] e = refl
+linked_from-push b (x ∷ past) e = linked_from-push (is_linked x) past e
+
+-- ---- the fields of accounts
+
+-- a key in two lists of entries, one after the other
+lookup-append : (id : ℕ) (xs ys : List (ℕ × FixedFields))
+    → fields_under (xs ++ ys) id ≡ option_or (fields_under xs id) (fields_under ys id)
+lookup-append id [] ys = refl
+lookup-append id (x ∷ xs) ys = by (id == x.0) (lookup-append id xs ys)
+  where
+    by : (b : Bool) → fields_under (xs ++ ys) id ≡ option_or (fields_under xs id) (fields_under ys id)
+        → cond b (Some x.1) (fields_under (xs ++ ys) id)
+        ≡ option_or (cond b (Some x.1) (fields_under xs id)) (fields_under ys id)
+    by true rest = refl
+    by false rest = rest
+
+-- the fields of an account after one more event
+fields_before-push : (past : List Event) (e : Event) (id : ℕ)
+    → fields_before (past ++ e ∷ []) id ≡ option_or (fields_before past id) (fields_under (accounts_of e) id)
+fields_before-push past e id =
+    ap (λ es. fields_under es id) (flat_map-append accounts_of past (e ∷ []))
+    ∙ lookup-append id (flat_map accounts_of past) (accounts_of e)
+
+no_more : (b : Bool) → (not b && false) ≡ false
+no_more true = refl
+no_more false = refl
+
+-- one step: the account is the debited one, or the credited one, or another one
+one-step : (debit credit : Bool) (before debits credits : Option FixedFields) (d c : FixedFields)
+    → (debit ≡ true → (debits ≡ before) × (credit ≡ false)) → (credit ≡ true → credits ≡ before)
+    → cond (not (is_some credits) && credit) (Some c) (cond (not (is_some debits) && debit) (Some d) before)
+    ≡ option_or before (cond debit (Some d) (cond credit (Some c) None))
+one-step true true before debits credits d c is_debit is_credit = let no = (is_debit refl).1 in cc
+one-step true false None debits credits d c is_debit is_credit =
+    let same = (is_debit refl).0 in rw (same, no_more (is_some credits)) refl
+one-step true false (Some x) debits credits d c is_debit is_credit =
+    let same = (is_debit refl).0 in rw (same, no_more (is_some credits)) refl
+one-step false true None debits credits d c is_debit is_credit = let same = is_credit refl in rw same refl
+one-step false true (Some x) debits credits d c is_debit is_credit =
+    let same = is_credit refl in rw (same, no_more (is_some debits)) refl
+one-step false false before debits credits d c is_debit is_credit =
+    rw (no_more (is_some credits), no_more (is_some debits)) (sym (or_none before))
+  where
+    or_none : (o : Option FixedFields) → option_or o None ≡ o
+    or_none None = refl
+    or_none (Some x) = refl
+
+-- ids are compared either way round
+eqb-turn : (a b : ℕ) → (a == b) ≡ (b == a)
+eqb-turn a b = elim (eqb_tells a b) [
+  | inl same ↦ same.0 ∙ sym (ap (λ n. n == a) (sym same.1) ∙ eqb_same a)
+  | inr other ↦ other.0 ∙ sym (ne_eqb b a (λ is. other.1 (sym is)))
+]
+
+-- what is known of the fields of each account after an event
+pub fields-step : (fields after : List (ℕ × FixedFields)) (facts : Facts) (past : List Event) (e : Event)
+    → facts.debit_fields ≡ fields_under fields e.debit_account.id
+    → facts.credit_fields ≡ fields_under fields e.credit_account.id
+    → (e.debit_account.id == e.credit_account.id) ≡ false
+    → ((id : ℕ) → fields_under fields id ≡ fields_before past id) → KeepsAccounts fields facts e after
+    → (id : ℕ) → fields_under after id ≡ fields_before (past ++ e ∷ []) id
+fields-step fields after facts past e debits credits apart knows kept id =
+    let debit : Bool = e.debit_account.id == id in
+    let credit : Bool = e.credit_account.id == id in
+    let d : FixedFields = fixed_fields e.ledger e.debit_account in
+    let c : FixedFields = fixed_fields e.ledger e.credit_account in
+    kept.2 id
+    ∙ ap (cond (not (is_some facts.credit_fields) && credit) (Some c)) (kept.1 id)
+    ∙ one-step debit credit (fields_under fields id) facts.debit_fields facts.credit_fields d c (λ is.
+    let same : e.debit_account.id ≡ id = same_id e.debit_account.id id is in (
+      debits ∙ ap (fields_under fields) same,
+      sym (ap (λ n. e.credit_account.id == n) same) ∙ eqb-turn e.credit_account.id e.debit_account.id ∙ apart,
+    )) (λ is.
+    credits ∙ ap (fields_under fields) (same_id e.credit_account.id id is))
+    ∙ ap (λ o. option_or o (cond debit (Some d) (cond credit (Some c) None))) (knows id)
+    ∙ ap₂ (λ p q. option_or (fields_before past id) (cond p (Some d) (cond q (Some c) None)))
+    (eqb-turn e.debit_account.id id) (eqb-turn e.credit_account.id id)
+    ∙ sym (fields_before-push past e id)

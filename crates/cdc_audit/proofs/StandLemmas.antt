@@ -1,5 +1,5 @@
 -- An auditor's answer to an event, and what it stands for after it.
-use Rattle.std.proofs.Common.{◌≡◌, ℕ, ◌+◌, Bool, true, false, cond, min, length, List, [], ◌∷◌, ◌++◌, Option, Some, None, Result, Ok, Err, refl, sym, ap, ◌∙◌, subst, length-append, arith}
+use Rattle.std.proofs.Common.{◌≡◌, ℕ, ◌+◌, Bool, true, false, cond, min, length, List, [], ◌∷◌, ◌++◌, Option, Some, None, Result, Ok, Err, refl, sym, ap, ap₂, ◌∙◌, subst, length-append, arith}
 use Rattle.std.specs.Prelude.{◌==◌, ◌&&◌, not, nat_le, nat_lt, is_none, is_some, unwrap_or, OnOk}
 use Rattle.std.specs.Option.{option_or}
 use Rattle.std.specs.Result.{is_err}
@@ -12,7 +12,7 @@ use Rattle.cdc_types.specs.Widths.{max_64}
 use Rattle.cdc_types.proofs.Rising.{last_timestamp_from-push}
 use Rattle.cdc_ledger.specs.Accounts.{no_balances}
 use Rattle.cdc_ledger.specs.Kinds.{holds, settles, stores}
-use Rattle.cdc_ledger.proofs.LineLaws.{first_line-append}
+use Rattle.cdc_ledger.proofs.LineLaws.{first_line-append, first_line_append_none_parts}
 use Rattle.cdc_message.specs.declared.items.Item.TheVariants as item
 use Rattle.cdc_subscriber.specs.declared.book.BookEntry.{BookEntry}
 use Rattle.cdc_subscriber.specs.Book.{balances_in}
@@ -23,72 +23,80 @@ use Rattle.cdc_subscriber.proofs.BookLemmas.{book_of-push}
 use Rattle.cdc_follow.specs.declared.entries.Content.TheVariants as content
 use Rattle.cdc_audit.specs.declared.checks.Facts.{Facts}
 use Rattle.cdc_audit.specs.declared.checks.Stored.{Stored}
+use Rattle.cdc_audit.specs.declared.fields.FixedFields.{FixedFields}
 use Rattle.cdc_audit.specs.declared.refusals.Refusal.{Refusal}
-use Rattle.cdc_audit.specs.declared.refusals.Refusal.TheVariants.{AfterEnd, NotLater, OneAccount, KnownId, NotPending, Settled}
+use Rattle.cdc_audit.specs.declared.refusals.Refusal.TheVariants.{AfterEnd, KnownId, NotPending, Settled}
 use Rattle.cdc_audit.specs.Audits.{AuditState, entry_refusal, next_audit}
-use Rattle.cdc_audit.specs.Checks.{account_lines, amount_in, balances_lines, lines, nothing, order_lines, released, transfer_lines, was_settled}
-use Rattle.cdc_audit.specs.Known.{balances_after, is_settled, is_stored, pending_amount, settled_id}
+use Rattle.cdc_audit.specs.Checks.{account_lines, amount_in, balances_lines, fixed_lines, lines, nothing, released, transfer_lines, was_settled}
+use Rattle.cdc_audit.specs.Known.{balances_after, ends_in_chain, is_linked, is_settled, is_stored, pending_amount, settled_id}
 use Rattle.cdc_audit.specs.Rules as rules
-use Rattle.cdc_audit.specs.Rules.{event_lines, held, posted, refusal}
-use Rattle.cdc_audit.specs.Standing.{AuditorState, IsKnownOf, StandsFor, facts_of, kept_after, stored_under, with_own, with_settled}
-use Rattle.cdc_audit.proofs.KnownLemmas.{known-step}
+use Rattle.cdc_audit.specs.Rules.{chain_lines, event_lines, held, order_lines, posted, refusal, settled_event}
+use Rattle.cdc_audit.specs.EventShapes.{shape_lines}
+use Rattle.cdc_audit.specs.Fields.{created_lines, fields_lines}
+use Rattle.cdc_audit.specs.Limits.{limits_lines}
+use Rattle.cdc_audit.specs.Settling.{settling_lines}
+use Rattle.cdc_audit.specs.Standing.{AuditorState, IsKnownOf, KeepsAccounts, StandsFor, facts_of, kept_after, open_then, open_under, stored_under, with_own, with_settled}
+use Rattle.cdc_audit.proofs.KnownLemmas.{fields-step, known-step, linked_from-push, open_one-step}
 
--- the refusal by all lines, from the refusals by their parts
-pub by_parts : (facts : Facts) (e : Event) (order transfer balances : Option Refusal)
-    → order ≡ first_line (order_lines facts.last e) → transfer ≡ first_line (transfer_lines facts e)
-    → balances ≡ first_line (balances_lines facts e)
-    → option_or (option_or order transfer) balances ≡ first_line (lines facts e)
-by_parts facts e order transfer balances order_is transfer_is balances_is =
-    let first = order_lines facts.last e in
-    let second = transfer_lines facts e in
-    let both : option_or order transfer ≡ first_line (first ++ second) =
-    ap (λ o. option_or o transfer) order_is ∙ ap (option_or (first_line first)) transfer_is
-    ∙ sym (first_line-append first second) in
-    ap (λ o. option_or o balances) both ∙ ap (option_or (first_line (first ++ second))) balances_is
-    ∙ sym (first_line-append (first ++ second) (balances_lines facts e))
+-- the refusal by two parts of the lines
+pub either_is : (both one other : Option Refusal) (first second : List (Bool × Refusal)) → both ≡ option_or one other
+    → one ≡ first_line first → other ≡ first_line second → both ≡ first_line (first ++ second)
+either_is both one other first second is one_is other_is =
+    is ∙ ap (λ o. option_or o other) one_is ∙ ap (option_or (first_line first)) other_is
+    ∙ sym (first_line-append first second)
 
--- all lines on an event, by what the tests on its transfers are, by what it releases, and by the balances before it
-lines_at : Event → ℕ → Bool → Bool → Bool → ℕ → Balances → Balances → List (Bool × Refusal)
-lines_at e last known none was less debited credited =
-    (not (nat_lt last e.timestamp), NotLater e.timestamp last) ∷
-    (e.debit_account.id == e.credit_account.id, OneAccount e.debit_account.id) ∷
-    (known, KnownId e.transfer.id) ∷
-    (none, NotPending (settled_id e)) ∷
-    (was, Settled (settled_id e)) ∷
-    (account_lines e.debit_account debited (record { posted = posted e; held = held e; released = less }) nothing
-    ++ account_lines e.credit_account credited nothing
-    (record { posted = posted e; held = held e; released = less }))
+-- seven parts of lines
+abbrev seven : List (Bool × Refusal) → List (Bool × Refusal) → List (Bool × Refusal) → List (Bool × Refusal)
+    → List (Bool × Refusal) → List (Bool × Refusal) → List (Bool × Refusal) → List (Bool × Refusal)
+seven order shape fixed transfer settling limits balances =
+    order ++ shape ++ fixed ++ transfer ++ settling ++ limits ++ balances
 
-lines-at : (facts : Facts) (e : Event) → lines facts e
-    ≡ lines_at e facts.last (stores e.kind && is_some facts.own) (settles e.kind && is_none (amount_in facts.settled))
-    (settles e.kind && was_settled facts.settled) (released facts e) facts.debited facts.credited
-unfolding lines_at
-lines-at facts e = refl
+seven-same : (order order2 shape fixed fixed2 transfer transfer2 settling settling2 limits limits2 balances balances2
+    : List (Bool × Refusal)) → order ≡ order2 → fixed ≡ fixed2 → transfer ≡ transfer2 → settling ≡ settling2
+    → limits ≡ limits2 → balances ≡ balances2
+    → seven order shape fixed transfer settling limits balances
+    ≡ seven order2 shape fixed2 transfer2 settling2 limits2 balances2
+seven-same order order2 shape fixed fixed2 transfer transfer2 settling settling2 limits limits2 balances balances2 p q r s
+    t u = cc
 
-event_lines-at : (past : List Event) (e : Event) → event_lines past e
-    ≡ lines_at e (last_timestamp past) (stores e.kind && is_stored past e.transfer.id)
-    (settles e.kind && is_none (pending_amount past (settled_id e))) (settles e.kind && is_settled past (settled_id e))
-    (rules.released past e) (balances_after past e.debit_account.id) (balances_after past e.credit_account.id)
-unfolding lines_at
-event_lines-at past e = refl
+-- if none of them applies, none of the first and of the fourth part does
+two_of_seven : (order shape fixed transfer settling limits balances : List (Bool × Refusal))
+    → first_line (seven order shape fixed transfer settling limits balances) ≡ None
+    → (first_line order ≡ None) × (first_line transfer ≡ None)
+two_of_seven order shape fixed transfer settling limits balances none =
+    let six = first_line_append_none_parts (order ++ shape ++ fixed ++ transfer ++ settling ++ limits) balances none in
+    let five = first_line_append_none_parts (order ++ shape ++ fixed ++ transfer ++ settling) limits six.0 in
+    let four = first_line_append_none_parts (order ++ shape ++ fixed ++ transfer) settling five.0 in
+    let three = first_line_append_none_parts (order ++ shape ++ fixed) transfer four.0 in
+    let two = first_line_append_none_parts (order ++ shape) fixed three.0 in
+    ((first_line_append_none_parts order shape two.0).0, three.1)
 
--- an event that no line refuses is later than the last one, and each test on its transfers fails
-passes : (e : Event) (last : ℕ) (known none was : Bool) (less : ℕ) (debited credited : Balances)
-    → first_line (lines_at e last known none was less debited credited) ≡ None
-    → (nat_lt last e.timestamp ≡ true) × (known ≡ false) × (none ≡ false) × (was ≡ false)
-unfolding lines_at
-passes e last known none was less debited credited =
-    by_tests (nat_lt last e.timestamp) (e.debit_account.id == e.credit_account.id) known none was _ _ _ _ _ _
+-- an event that no line on its order refuses is later than the last one, and has two accounts
+in_order : (last : ℕ) (e : Event) → first_line (order_lines last e) ≡ None
+    → (nat_lt last e.timestamp ≡ true) × ((e.debit_account.id == e.credit_account.id) ≡ false)
+in_order last e = by (nat_lt last e.timestamp) (e.debit_account.id == e.credit_account.id) _ _
   where
-    by_tests : (later one known none was : Bool) (r s t u v : Refusal) (o : Option Refusal)
-        → cond (not later) (Some r) (cond one (Some s) (cond known (Some t) (cond none (Some u) (cond was (Some v) o))))
-        ≡ None → (later ≡ true) × (known ≡ false) × (none ≡ false) × (was ≡ false)
-    by_tests true false false false false r s t u v o is = (refl, refl, refl, refl)
-    by_tests true false false false true r s t u v o is = cc
-    by_tests true false false true was r s t u v o is = cc
-    by_tests true false true none was r s t u v o is = cc
-    by_tests true true known none was r s t u v o is = cc
-    by_tests false one known none was r s t u v o is = cc
+    by : (later one : Bool) (r s : Refusal) → cond (not later) (Some r) (cond one (Some s) None) ≡ None
+        → (later ≡ true) × (one ≡ false)
+    by true false r s is = (refl, refl)
+    by true true r s is = cc
+    by false one r s is = cc
+
+-- and each test on its transfers fails if none of those lines refuses it
+may_be_stored : (facts : Facts) (e : Event) → first_line (transfer_lines facts e) ≡ None
+    → ((stores e.kind && is_some facts.own) ≡ false) × ((settles e.kind && is_none (amount_in facts.settled)) ≡ false)
+    × ((settles e.kind && was_settled facts.settled) ≡ false)
+may_be_stored facts e =
+    by (stores e.kind && is_some facts.own) (settles e.kind && is_none (amount_in facts.settled))
+    (settles e.kind && was_settled facts.settled) _ _ _
+  where
+    by : (known none was : Bool) (r s t : Refusal)
+        → cond known (Some r) (cond none (Some s) (cond was (Some t) None)) ≡ None
+        → (known ≡ false) × (none ≡ false) × (was ≡ false)
+    by false false false r s t is = (refl, refl, refl)
+    by false false true r s t is = cc
+    by false true was r s t is = cc
+    by true none was r s t is = cc
 
 -- a test that doesn't count needs no look-up
 guarded : (counts : Bool) (test : Option Stored → Bool) (known : Option Stored) (shown : Bool) → shown ≡ test known
@@ -108,33 +116,71 @@ balances_known auditor state id stands =
     ap (λ o. unwrap_or o no_balances)
     (ap (λ (kept : SubscriberState). balances_in kept.book id) stands.kept ∙ balances_in-book_of state.past id)
 
-lines_at-same : (e : Event) (last last2 : ℕ) (known known2 none none2 was was2 : Bool) (less less2 : ℕ)
-    (debited debited2 credited credited2 : Balances) → last ≡ last2 → known ≡ known2 → none ≡ none2 → was ≡ was2
-    → less ≡ less2 → debited ≡ debited2 → credited ≡ credited2
-    → lines_at e last known none was less debited credited
-    ≡ lines_at e last2 known2 none2 was2 less2 debited2 credited2
-lines_at-same e last last2 known known2 none none2 was was2 less less2 debited debited2 credited credited2 p q r s t u v = cc
+-- the lines on the transfers, by what the tests on them are
+transfer-same : (e : Event) (known known2 none none2 was was2 : Bool) → known ≡ known2 → none ≡ none2 → was ≡ was2
+    → (let lines : List (Bool × Refusal) =
+    (known, KnownId e.transfer.id) ∷ (none, NotPending (settled_id e)) ∷ (was, Settled (settled_id e)) ∷ [] in lines)
+    ≡ (known2, KnownId e.transfer.id) ∷ (none2, NotPending (settled_id e)) ∷ (was2, Settled (settled_id e)) ∷ []
+transfer-same e known known2 none none2 was was2 p q r = cc
+
+-- the lines on the balances, by what an event releases and by the balances before it
+balances_at : Event → ℕ → Balances → Balances → List (Bool × Refusal)
+balances_at e less debited credited =
+    account_lines e.debit_account debited (record { posted = posted e; held = held e; released = less }) nothing
+    ++ account_lines e.credit_account credited nothing
+    (record { posted = posted e; held = held e; released = less })
+
+balances_lines-at : (facts : Facts) (e : Event)
+    → balances_lines facts e ≡ balances_at e (released facts e) facts.debited facts.credited
+unfolding balances_at
+balances_lines-at facts e = refl
+
+rules-balances_lines-at : (past : List Event) (e : Event)
+    → rules.balances_lines past e
+    ≡ balances_at e (rules.released past e) (balances_after past e.debit_account.id)
+    (balances_after past e.credit_account.id)
+unfolding balances_at
+rules-balances_lines-at past e = refl
+
+balances_at-same : (e : Event) (less less2 : ℕ) (debited debited2 credited credited2 : Balances) → less ≡ less2
+    → debited ≡ debited2 → credited ≡ credited2
+    → balances_at e less debited credited ≡ balances_at e less2 debited2 credited2
+balances_at-same e less less2 debited debited2 credited credited2 p q r = cc
 
 -- the lines by what an auditor knows are those by the events for which it stands
 same_lines : (auditor : AuditorState) (state : AuditState) (e : Event) → StandsFor auditor state
     → lines (facts_of auditor e) e ≡ event_lines state.past e
 same_lines auditor state e stands =
+    let facts = facts_of auditor e in
+    let past = state.past in
     let own = stands.transfers e.transfer.id in
     let other = stands.transfers (settled_id e) in
-    lines-at (facts_of auditor e) e
-    ∙ lines_at-same e _ _ _ _ _ _ _ _ _ _ _ _ _ _
-    (ap (λ (kept : SubscriberState). kept.last) stands.kept)
-    (guarded (stores e.kind) is_some (stored_under auditor.transfers e.transfer.id) (is_stored state.past e.transfer.id)
+    seven-same (order_lines facts.last e) (order_lines (last_timestamp past) e) (shape_lines e)
+    (fixed_lines facts e) (rules.fixed_lines past e) (transfer_lines facts e) (rules.transfer_lines past e)
+    (settling_lines facts.open_one e) (settling_lines (settled_event past e) e)
+    (chain_lines facts.linked facts.last e ++ limits_lines e)
+    (chain_lines (ends_in_chain past) (last_timestamp past) e ++ limits_lines e)
+    (balances_lines facts e) (rules.balances_lines past e)
+    (ap (λ (kept : SubscriberState). order_lines kept.last e) stands.kept)
+    (ap₂ (λ d c. fields_lines d e.ledger e.debit_account ++ fields_lines c e.ledger e.credit_account ++ created_lines e)
+    (stands.fields e.debit_account.id) (stands.fields e.credit_account.id))
+    (transfer-same e _ _ _ _ _ _
+    (guarded (stores e.kind) is_some (stored_under auditor.transfers e.transfer.id) (is_stored past e.transfer.id)
     own.stored)
     (guarded (settles e.kind) (λ known. is_none (amount_in known)) (stored_under auditor.transfers (settled_id e))
-    (is_none (pending_amount state.past (settled_id e))) (ap is_none other.amount))
+    (is_none (pending_amount past (settled_id e))) (ap is_none other.amount))
     (guarded (settles e.kind) was_settled (stored_under auditor.transfers (settled_id e))
-    (is_settled state.past (settled_id e)) other.settled)
+    (is_settled past (settled_id e)) other.settled))
+    (ap (λ o. settling_lines (cond (settles e.kind) o None) e) (stands.open_ones (settled_id e)))
+    (ap₂ (λ linked last. chain_lines linked last e ++ limits_lines e) stands.linked
+    (ap (λ (kept : SubscriberState). kept.last) stands.kept))
+    (balances_lines-at facts e
+    ∙ balances_at-same e _ _ _ _ _ _
     (guarded_amount (settles e.kind) (stored_under auditor.transfers (settled_id e))
-    (pending_amount state.past (settled_id e)) other.amount)
+    (pending_amount past (settled_id e)) other.amount)
     (balances_known auditor state e.debit_account.id stands)
     (balances_known auditor state e.credit_account.id stands)
-    ∙ sym (event_lines-at state.past e)
+    ∙ sym (rules-balances_lines-at past e))
 
 refusal-lines : (past : List Event) (e : Event) → refusal past e ≡ first_line (event_lines past e)
 unfolding refusal
@@ -185,20 +231,36 @@ pub accepts : (auditor after : AuditorState) (state : AuditState) (e : Event)
     → auditor.kept.ended ≡ false → first_line (lines (facts_of auditor e) e) ≡ None
     → after.kept ≡ next_state auditor.kept (item.Event e)
     → after.transfers ≡ with_settled (with_own auditor.transfers e) e (released (facts_of auditor e) e)
+    → ((id : ℕ) → open_under after.open_ones id ≡ open_then auditor.open_ones e id)
+    → KeepsAccounts auditor.fields (facts_of auditor e) e after.fields → after.linked ≡ is_linked e
     → StandsFor auditor state → StandsFor after (next_audit state (content.Event e))
-accepts auditor after state e open_yet none kept transfers stands =
+accepts auditor after state e open_yet none kept transfers opened fields linked stands =
     let going : state.ended ≡ false = sym (ap (λ (kept : SubscriberState). kept.ended) stands.kept) ∙ open_yet in
     let facts = facts_of auditor e in
-    let free = passes e facts.last (stores e.kind && is_some facts.own)
-    (settles e.kind && is_none (amount_in facts.settled)) (settles e.kind && was_settled facts.settled)
-    (released facts e) facts.debited facts.credited (sym (ap first_line (lines-at facts e)) ∙ none) in
+    let parts = two_of_seven (order_lines facts.last e) (shape_lines e) (fixed_lines facts e) (transfer_lines facts e)
+    (settling_lines facts.open_one e) (chain_lines facts.linked facts.last e ++ limits_lines e)
+    (balances_lines facts e) none in
+    let order = in_order facts.last e parts.0 in
+    let free = may_be_stored facts e parts.1 in
     let later : nat_lt (last_timestamp state.past) e.timestamp ≡ true =
-    sym (ap (λ (kept : SubscriberState). nat_lt kept.last e.timestamp) stands.kept) ∙ free.0 in
+    sym (ap (λ (kept : SubscriberState). nat_lt kept.last e.timestamp) stands.kept) ∙ order.0 in
     record {
       kept = kept ∙ ap (λ kept. next_state kept (item.Event e)) stands.kept ∙ kept-next state e going later;
       transfers = λ id. subst (λ known. IsKnownOf (stored_under known id) (state.past ++ e ∷ []) id) (sym transfers)
-          (known-step auditor.transfers state.past e stands.transfers free.1 free.2 free.3 id);
+          (known-step auditor.transfers state.past e stands.transfers free.0 free.1 free.2 id);
+      open_ones = λ id. opened id
+          ∙ open_one-step auditor.transfers auditor.open_ones state.past e stands.transfers stands.open_ones free.0 id;
+      fields = λ id. fields-step auditor.fields after.fields (facts_of auditor e) state.past e refl refl order.1
+          stands.fields fields id;
+      linked = linked ∙ sym (linked_from-push false state.past e);
     }
+
+-- what is kept of accounts, from equal fields and by equal facts
+pub accounts_from : (old old2 : List (ℕ × FixedFields)) (facts facts2 : Facts) (e : Event)
+    (new : List (ℕ × FixedFields)) → old ≡ old2 → facts ≡ facts2 → KeepsAccounts old facts e new
+    → KeepsAccounts old2 facts2 e new
+accounts_from old old2 facts facts2 e new fields_are facts_are kept =
+    subst (λ fs. KeepsAccounts fs facts2 e new) fields_are (subst (λ f. KeepsAccounts old f e new) facts_are kept)
 
 -- what holds of a result that is no error
 pub unless_error : {T E : Type 0} (result : Result T E) (P : Type 0) → is_err result ≡ false → OnOk result P → P

@@ -1,5 +1,5 @@
 -- The rules again, by the few facts of the earlier events that they need (private: for the code's own contracts).
-use Rattle.std.specs.Prelude.{ℕ, Bool, true, false, ◌==◌, ◌&&◌, not, nat_lt, is_none, is_some, List, [], ◌∷◌, ◌++◌, Option, Some, None, unwrap_or, if◌then◌else◌}
+use Rattle.std.specs.Prelude.{ℕ, Bool, true, false, ◌&&◌, is_none, is_some, List, [], ◌∷◌, ◌++◌, Option, Some, None, unwrap_or, if◌then◌else◌}
 use Rattle.cdc_types.specs.declared.accounts.Balances.{Balances}
 use Rattle.cdc_types.specs.declared.events.Event.{Event}
 use Rattle.cdc_types.specs.declared.events.EventAccount.{EventAccount}
@@ -12,9 +12,13 @@ use Rattle.cdc_audit.specs.declared.checks.Stored.TheVariants as stored
 use Rattle.cdc_audit.specs.declared.refusals.BalanceField.TheVariants.{DebitsPending, DebitsPosted, CreditsPending, CreditsPosted}
 use Rattle.cdc_audit.specs.declared.refusals.Mismatch.{Mismatch}
 use Rattle.cdc_audit.specs.declared.refusals.Refusal.{Refusal}
-use Rattle.cdc_audit.specs.declared.refusals.Refusal.TheVariants.{NotLater, OneAccount, KnownId, NotPending, Settled}
+use Rattle.cdc_audit.specs.declared.refusals.Refusal.TheVariants.{KnownId, NotPending, Settled}
 use Rattle.cdc_audit.specs.Known.{settled_id}
-use Rattle.cdc_audit.specs.Rules.{balance_line, held, posted}
+use Rattle.cdc_audit.specs.EventShapes.{shape_lines}
+use Rattle.cdc_audit.specs.Fields.{created_lines, fields_lines}
+use Rattle.cdc_audit.specs.Limits.{limits_lines}
+use Rattle.cdc_audit.specs.Rules.{balance_line, chain_lines, held, order_lines, posted}
+use Rattle.cdc_audit.specs.Settling.{settling_lines}
 
 -- the amount of a stored transfer that is or was pending
 abbrev pub amount_of : Stored → Option ℕ
@@ -70,12 +74,11 @@ balances_lines facts e =
     account_lines e.debit_account facts.debited (amounts_of facts e) nothing
     ++ account_lines e.credit_account facts.credited nothing (amounts_of facts e)
 
--- the lines on the timestamp and on the two accounts being one
-abbrev pub order_lines : ℕ → Event → List (Bool × Refusal)
-order_lines last e =
-    (not (nat_lt last e.timestamp), NotLater e.timestamp last) ∷
-    (e.debit_account.id == e.credit_account.id, OneAccount e.debit_account.id) ∷
-    []
+-- the lines on the fields of both accounts that never change
+abbrev pub fixed_lines : Facts → Event → List (Bool × Refusal)
+fixed_lines facts e =
+    fields_lines facts.debit_fields e.ledger e.debit_account ++ fields_lines facts.credit_fields e.ledger e.credit_account
+    ++ created_lines e
 
 -- the lines on the transfers
 abbrev pub transfer_lines : Facts → Event → List (Bool × Refusal)
@@ -87,4 +90,7 @@ transfer_lines facts e =
 
 -- all lines, in order
 abbrev pub lines : Facts → Event → List (Bool × Refusal)
-lines facts e = (order_lines facts.last e ++ transfer_lines facts e) ++ balances_lines facts e
+lines facts e =
+    order_lines facts.last e ++ shape_lines e ++ fixed_lines facts e ++ transfer_lines facts e
+    ++ settling_lines facts.open_one e ++ (chain_lines facts.linked facts.last e ++ limits_lines e)
+    ++ balances_lines facts e

@@ -1,5 +1,9 @@
 -- what has to be believed
 pub mod Known
+pub mod Settling
+pub mod EventShapes
+pub mod Fields
+pub mod Limits
 pub mod Rules
 pub mod Audits
 pub mod Standing

@@ -1,5 +1,5 @@
 -- The rules by which an event follows the events before it.
-use Rattle.std.specs.Prelude.{ℕ, ◌+◌, Bool, ◌==◌, ◌&&◌, not, nat_lt, is_none, List, [], ◌∷◌, ◌++◌, Option, unwrap_or, if◌then◌else◌}
+use Rattle.std.specs.Prelude.{ℕ, ◌+◌, Bool, ◌==◌, ◌&&◌, not, nat_lt, is_none, List, [], ◌∷◌, ◌++◌, Option, None, unwrap_or, if◌then◌else◌}
 use Rattle.cdc_types.specs.declared.events.Event.{Event}
 use Rattle.cdc_types.specs.Lines.{first_line}
 use Rattle.cdc_types.specs.Timestamps.{last_timestamp}
@@ -7,8 +7,12 @@ use Rattle.cdc_ledger.specs.Kinds.{holds, moves, settles, stores}
 use Rattle.cdc_audit.specs.declared.refusals.BalanceField.{BalanceField}
 use Rattle.cdc_audit.specs.declared.refusals.BalanceField.TheVariants.{DebitsPending, DebitsPosted, CreditsPending, CreditsPosted}
 use Rattle.cdc_audit.specs.declared.refusals.Refusal.{Refusal}
-use Rattle.cdc_audit.specs.declared.refusals.Refusal.TheVariants.{NotLater, OneAccount, KnownId, NotPending, Settled, Balance}
-use Rattle.cdc_audit.specs.Known.{balances_after, is_settled, is_stored, pending_amount, settled_id}
+use Rattle.cdc_audit.specs.declared.refusals.Refusal.TheVariants.{BrokenChain, NotLater, OneAccount, KnownId, NotPending, Settled, Balance}
+use Rattle.cdc_audit.specs.Known.{balances_after, ends_in_chain, is_settled, is_stored, open_event, pending_amount, settled_id}
+use Rattle.cdc_audit.specs.EventShapes.{shape_lines}
+use Rattle.cdc_audit.specs.Fields.{created_lines, fields_before, fields_lines}
+use Rattle.cdc_audit.specs.Limits.{limits_lines}
+use Rattle.cdc_audit.specs.Settling.{settling_lines}
 
 -- what an event adds to the posted sums, adds to the pending sums and releases of the pending sums
 abbrev pub posted : Event → ℕ
@@ -64,12 +68,39 @@ transfer_lines past e =
     (settles e.kind && is_settled past (settled_id e), Settled (settled_id e)) ∷
     []
 
+-- the event that stored the pending transfer that an event settles, if that one is open
+abbrev pub settled_event : List Event → Event → Option Event
+settled_event past e = if settles e.kind then open_event past (settled_id e) else None
+
+-- the lines on the fields of both accounts that never change
+abbrev pub fixed_lines : List Event → Event → List (Bool × Refusal)
+fixed_lines past e =
+    fields_lines (fields_before past e.debit_account.id) e.ledger e.debit_account
+    ++ fields_lines (fields_before past e.credit_account.id) e.ledger e.credit_account
+    ++ created_lines e
+
+-- the lines on all balances
+abbrev pub balances_lines : List Event → Event → List (Bool × Refusal)
+balances_lines past e = debit_lines past e ++ credit_lines past e
+
+-- the lines on an event's timestamp, which follows this one, and on its accounts being one
+abbrev pub order_lines : ℕ → Event → List (Bool × Refusal)
+order_lines last e =
+    (not (nat_lt last e.timestamp), NotLater e.timestamp last) ∷
+    (e.debit_account.id == e.credit_account.id, OneAccount e.debit_account.id) ∷
+    []
+
+-- the line on an event after one of a linked transfer: it stores a transfer, one nanosecond later
+abbrev pub chain_lines : Bool → ℕ → Event → List (Bool × Refusal)
+chain_lines linked last e =
+    (linked && not (stores e.kind && (e.timestamp == last + 1)), BrokenChain e.timestamp last) ∷ []
+
 -- all lines on an event, in order
 abbrev pub event_lines : List Event → Event → List (Bool × Refusal)
 event_lines past e =
-    (not (nat_lt (last_timestamp past) e.timestamp), NotLater e.timestamp (last_timestamp past)) ∷
-    (e.debit_account.id == e.credit_account.id, OneAccount e.debit_account.id) ∷
-    (transfer_lines past e ++ (debit_lines past e ++ credit_lines past e))
+    order_lines (last_timestamp past) e ++ shape_lines e ++ fixed_lines past e ++ transfer_lines past e
+    ++ settling_lines (settled_event past e) e
+    ++ (chain_lines (ends_in_chain past) (last_timestamp past) e ++ limits_lines e) ++ balances_lines past e
 
 -- why an event can't follow those before it, if it can't
 unfoldable pub refusal : List Event → Event → Option Refusal

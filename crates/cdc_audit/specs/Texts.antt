@@ -1,19 +1,41 @@
 -- The text of a refusal: the name of the rule that the event breaks, and the numbers.
 use Rattle.std.specs.Prelude.{ℕ, List, [], ◌++◌, ◌==◌, codes, decimal, if◌then◌else◌}
+use Rattle.cdc_types.specs.Results.{account_name, transfer_name}
 use Rattle.cdc_audit.specs.declared.refusals.BalanceField.{BalanceField}
 use Rattle.cdc_audit.specs.declared.refusals.BalanceField.TheVariants.{DebitsPending, DebitsPosted, CreditsPending, CreditsPosted}
+use Rattle.cdc_audit.specs.declared.refusals.Excess.{Excess}
+use Rattle.cdc_audit.specs.declared.refusals.FieldMismatch.{FieldMismatch}
+use Rattle.cdc_audit.specs.declared.refusals.FixedField.{FixedField}
+use Rattle.cdc_audit.specs.declared.refusals.FixedField.TheVariants.{UserData128, UserData64, UserData32, Ledger, Code, Flags, Timestamp}
 use Rattle.cdc_audit.specs.declared.refusals.Mismatch.{Mismatch}
 use Rattle.cdc_audit.specs.declared.refusals.Refusal.{Refusal}
-use Rattle.cdc_audit.specs.declared.refusals.Refusal.TheVariants.{AfterEnd, NotLater, OneAccount, KnownId, NotPending, Settled, Balance}
+use Rattle.cdc_audit.specs.declared.refusals.Refusal.TheVariants.{AfterEnd, NotLater, OneAccount, TransferShape, OtherKind, OtherTimestamp, AccountShape, AccountField, CreatedLater}
+use Rattle.cdc_audit.specs.declared.refusals.Refusal.TheVariants.{KnownId, NotPending, Settled, OtherFields, Amount, NoTimeout, TooSoon, TooLate, BrokenChain, TooLarge, Limit, Balance}
+use Rattle.cdc_audit.specs.declared.refusals.Side.{Side}
+use Rattle.cdc_audit.specs.declared.refusals.Side.TheVariants.{Debits, Credits}
 
 -- the name of the rule that the event breaks
 abbrev pub refusal_name : Refusal → List ℕ
 refusal_name (AfterEnd timestamp) = codes "end"
 refusal_name (NotLater timestamp last) = codes "timestamps"
 refusal_name (OneAccount id) = codes "accounts"
+refusal_name (TransferShape id result) = codes "shape"
+refusal_name (OtherKind id) = codes "shape"
+refusal_name (OtherTimestamp id shown timestamp) = codes "shape"
+refusal_name (AccountShape id result) = codes "shape"
+refusal_name (AccountField mismatch) = codes "fields"
+refusal_name (CreatedLater id created timestamp) = codes "created"
 refusal_name (KnownId id) = codes "id"
 refusal_name (NotPending id) = codes "pending"
 refusal_name (Settled id) = codes "ended"
+refusal_name (OtherFields id) = codes "settles"
+refusal_name (Amount amount id held) = codes "amount"
+refusal_name (NoTimeout id) = codes "timeouts"
+refusal_name (TooSoon id timestamp end) = codes "timeouts"
+refusal_name (TooLate id timestamp end) = codes "timeouts"
+refusal_name (BrokenChain timestamp last) = codes "chains"
+refusal_name (TooLarge id side) = codes "limits"
+refusal_name (Limit excess) = codes "limits"
 refusal_name (Balance mismatch) = codes "balances"
 
 -- the name of a balance
@@ -22,6 +44,25 @@ field_name DebitsPending = codes "debits_pending"
 field_name DebitsPosted = codes "debits_posted"
 field_name CreditsPending = codes "credits_pending"
 field_name CreditsPosted = codes "credits_posted"
+
+-- the name of a field of an account
+abbrev pub fixed_name : FixedField → List ℕ
+fixed_name UserData128 = codes "user_data_128"
+fixed_name UserData64 = codes "user_data_64"
+fixed_name UserData32 = codes "user_data_32"
+fixed_name Ledger = codes "ledger"
+fixed_name Code = codes "code"
+fixed_name Flags = codes "flags"
+fixed_name Timestamp = codes "timestamp"
+
+-- the name of a side, and of the other one
+abbrev pub side_name : Side → List ℕ
+side_name Debits = codes "debits"
+side_name Credits = codes "credits"
+
+abbrev pub other_side_name : Side → List ℕ
+other_side_name Debits = codes "credits"
+other_side_name Credits = codes "debits"
 
 -- a number between two texts
 abbrev pub around : List ℕ → ℕ → List ℕ → List ℕ
@@ -39,14 +80,54 @@ mismatch_text m =
     ++ (unless_zero (codes " and this transfer's ") m.added
     ++ unless_zero (codes " less the pending transfer's ") m.released))))
 
+-- an id with a timestamp, in an event with another one
+abbrev pub at_times : List ℕ → ℕ → List ℕ → ℕ → ℕ → List ℕ
+at_times before id between one other =
+    around before id between ++ (decimal one ++ (codes ", in an event at " ++ decimal other))
+
+-- a pending transfer that is settled too soon or too late, and when it expires
+abbrev pub time_text : ℕ → List ℕ → ℕ → ℕ → List ℕ
+time_text id between timestamp end =
+    around (codes "pending transfer ") id between ++ (decimal timestamp ++ (codes ", and its time is up at " ++ decimal end))
+
+-- a field of an account that isn't as its first event showed it
+abbrev pub field_text : FieldMismatch → List ℕ
+field_text m =
+    around (codes "account ") m.account (codes " has ") ++ (fixed_name m.field
+    ++ (around (codes " ") m.shown (codes ", after ") ++ decimal m.before))
+
+-- a sum that exceeds its limit
+abbrev pub excess_text : Excess → List ℕ
+excess_text x =
+    around (codes "account ") x.account (codes " has ") ++ (side_name x.side
+    ++ (around (codes " of ") x.sum (codes ", above its ") ++ (other_side_name x.side ++ (codes " of "
+    ++ decimal x.limit))))
+
 -- why the event is refused, with the numbers
 abbrev pub reason_text : Refusal → List ℕ
 reason_text (AfterEnd timestamp) = around (codes "event ") timestamp (codes " came after the end")
 reason_text (NotLater timestamp last) = around [] timestamp (codes ", after ") ++ decimal last
 reason_text (OneAccount id) = around (codes "account ") id (codes " is debited and credited")
+reason_text (TransferShape id result) = around (codes "transfer ") id (codes " is invalid: ") ++ transfer_name result
+reason_text (OtherKind id) = around (codes "transfer ") id (codes " has the flags of another kind")
+reason_text (OtherTimestamp id shown timestamp) = at_times (codes "transfer ") id (codes " has timestamp ") shown timestamp
+reason_text (AccountShape id result) = around (codes "account ") id (codes " is invalid: ") ++ account_name result
+reason_text (AccountField mismatch) = field_text mismatch
+reason_text (CreatedLater id created timestamp) = at_times (codes "account ") id (codes " at ") created timestamp
 reason_text (KnownId id) = around (codes "transfer ") id (codes " came before")
 reason_text (NotPending id) = around (codes "no pending transfer ") id (codes " came before")
 reason_text (Settled id) = around (codes "pending transfer ") id (codes " ended before")
+reason_text (OtherFields id) = around (codes "pending transfer ") id (codes " has other accounts, another ledger or code")
+reason_text (Amount amount id held) =
+    around [] amount (codes " of pending transfer ") ++ (decimal id ++ (codes ", which holds " ++ decimal held))
+reason_text (NoTimeout id) = around (codes "pending transfer ") id (codes " has no timeout")
+reason_text (TooSoon id timestamp end) = time_text id (codes " expires at ") timestamp end
+reason_text (TooLate id timestamp end) = time_text id (codes " is settled at ") timestamp end
+reason_text (BrokenChain timestamp last) =
+    around (codes "event ") timestamp (codes " isn't the next of the chain at ") ++ decimal last
+reason_text (TooLarge id side) =
+    around (codes "account ") id (codes " has ") ++ (side_name side ++ codes " above 128 bits")
+reason_text (Limit excess) = excess_text excess
 reason_text (Balance mismatch) = mismatch_text mismatch
 
 -- the rule's name and the reason

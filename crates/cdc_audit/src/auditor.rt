@@ -1,7 +1,8 @@
 //! An auditor: it accepts each event of a stream that follows from the events before it, and refuses the first other
 //! one.
 
-ghost use Rattle.std.specs.Prelude.{◌≡◌, ◌≤◌, ◌+◌, true, false, nat_eq, unwrap_or, Some, None, IsSome, IfOk, OnErr};
+ghost use Rattle.std.specs.Prelude.{◌≡◌, ◌≤◌, ◌+◌, ◌==◌, ℕ, true, false, nat_eq, unwrap_or, Some, None, IsSome, IfOk, OnErr};
+ghost use Rattle.std.specs.Prelude.{if◌then◌else◌};
 ghost use Rattle.indexmap.specs.IndexMap.{insert_entry, spare};
 ghost use Rattle.cdc_message.specs.declared.items.Item.TheVariants as item;
 ghost use Rattle.cdc_ledger.specs.Accounts.{no_balances};
@@ -10,13 +11,16 @@ ghost use Rattle.cdc_subscriber.specs.Steps.{next_state};
 ghost use Rattle.cdc_audit.specs.Audits.{AuditState, begins, entry_refusal, next_audit};
 ghost use Rattle.cdc_audit.specs.Checks as spec;
 ghost use Rattle.cdc_audit.specs.Standing as standing;
-ghost use Rattle.cdc_audit.specs.Standing.{StandsFor, kept_after};
+ghost use Rattle.cdc_audit.specs.Standing.{KeepsAccounts, StandsFor, kept_after};
 
-use crate::checks::{Facts, Stored, refusal_by, released, settled_id, settles, stored_by, stores};
+use crate::checks::{
+    Facts, Stored, holds, is_linked, refusal_by, released, settled_id, settles, stored_by, stores,
+};
+use crate::fields::{FixedFields, fixed_fields};
 use crate::refusals::Refusal;
 use cdc_follow::Content;
 use cdc_subscriber::Subscriber;
-use cdc_types::{Balances, Event};
+use cdc_types::{Balances, Event, EventAccount};
 use indexmap::IndexMap;
 use std::alloc::{AllocError, Global};
 use std::marker::Model;
@@ -25,6 +29,12 @@ use std::marker::Model;
 pub struct Auditor {
     subscriber: Subscriber,
     transfers: IndexMap<u128, Stored>,
+    /// The events that stored the open pending transfers, by these transfers' ids.
+    open_ones: IndexMap<u128, Event>,
+    /// The fields of each account that never change, as its first event shows them.
+    fields: IndexMap<u128, FixedFields>,
+    /// Whether the last event stored a linked transfer.
+    linked: bool,
 }
 
 impl Drop for Auditor {
@@ -32,6 +42,9 @@ impl Drop for Auditor {
         let Auditor {
             subscriber: _,
             transfers: _,
+            open_ones: _,
+            fields: _,
+            linked: _,
         } = self;
     }
 }
@@ -41,7 +54,7 @@ impl Model for Auditor {
 
     ghost Value = { AuditorState };
 
-    ghost view = { λ a. record { kept = a.subscriber; transfers = a.transfers.entries } };
+    ghost view = { λ a. record { kept = a.subscriber; transfers = a.transfers.entries; open_ones = a.open_ones.entries; fields = a.fields.entries; linked = a.linked } };
 }
 
 impl Auditor {
@@ -52,6 +65,9 @@ impl Auditor {
         Auditor {
             subscriber: Subscriber::new(alloc),
             transfers: IndexMap::new(alloc),
+            open_ones: IndexMap::new(alloc),
+            fields: IndexMap::new(alloc),
+            linked: false,
         }
     }
 
@@ -93,6 +109,24 @@ impl Auditor {
         }
     }
 
+    /// The event that stored the open pending transfer with this id, if it counts.
+    fn open_if(&self, counts: bool, id: u128) -> Option<Event>
+        ensures { result ≡ standing.open_if counts self.now.open_ones id }
+    {
+        if counts {
+            self.open_ones.get(&id).copied()
+        } else {
+            None
+        }
+    }
+
+    /// The fields of an account that never change, if an event showed it.
+    fn fields_of(&self, account: u128) -> Option<FixedFields>
+        ensures { result ≡ standing.fields_under self.now.fields account }
+    {
+        self.fields.get(&account).copied()
+    }
+
     /// The balances of an account; four zeros before its first event.
     fn balances(&self, account: u128) -> Balances
         ensures { result ≡ unwrap_or (balances_in self.now.kept.book account) no_balances }
@@ -111,8 +145,12 @@ impl Auditor {
     {
         Facts {
             last: self.subscriber.last(),
+            linked: self.linked,
             own: self.stored_if(stores(event.kind), event.transfer.id),
             settled: self.stored_if(settles(event.kind), settled_id(event)),
+            open_one: self.open_if(settles(event.kind), settled_id(event)),
+            debit_fields: self.fields_of(event.debit_account.id),
+            credit_fields: self.fields_of(event.credit_account.id),
             debited: self.balances(event.debit_account.id),
             credited: self.balances(event.credit_account.id),
         }
@@ -135,10 +173,15 @@ impl Auditor {
             return Ok(Some(why));
         }
         self.transfers.reserve(2)?;
+        self.open_ones.reserve(1)?;
+        self.fields.reserve(2)?;
         if self.subscriber.take_event(event).is_err() {
             return Err(AllocError);
         }
         keep(&mut self.transfers, event, released(&facts, event));
+        keep_open(&mut self.open_ones, event);
+        keep_accounts(&mut self.fields, &facts, event);
+        self.linked = is_linked(event);
         Ok(None)
     }
 }
@@ -174,4 +217,81 @@ fn keep(transfers: &mut IndexMap<u128, Stored>, event: &Event, amount: u128)
     if settles(event.kind) {
         put(transfers, settled_id(event), Stored::Settled(amount));
     }
+}
+
+/// Keeps the event of the pending transfer with this id.
+fn put_open(events: &mut IndexMap<u128, Event>, id: u128, event: &Event)
+    requires { 1 ≤ spare events.old }
+    ensures { (other : ℕ) → standing.open_under events.new.entries other
+        ≡ (if id == other then Some event.now else standing.open_under events.old.entries other) }
+{
+    events.insert(id, *event).unwrap();
+}
+
+/// Forgets the event of the pending transfer with this id.
+fn remove_open(events: &mut IndexMap<u128, Event>, id: u128)
+    ensures { (other : ℕ) → standing.open_under events.new.entries other
+        ≡ (if id == other then None else standing.open_under events.old.entries other) }
+{
+    let _event = events.swap_remove(&id);
+}
+
+/// Keeps an accepted event that stores a pending transfer, and forgets the one whose pending transfer it settles.
+fn keep_open(events: &mut IndexMap<u128, Event>, event: &Event)
+    requires { 1 ≤ spare events.old }
+    ensures { (id : ℕ) → standing.open_under events.new.entries id
+        ≡ standing.open_then events.old.entries event.now id }
+{
+    if settles(event.kind) {
+        remove_open(events, settled_id(event));
+    } else if holds(event.kind) {
+        put_open(events, event.transfer.id, event);
+    }
+}
+
+/// Keeps the fields of the account with this id.
+fn put_fields(fields: &mut IndexMap<u128, FixedFields>, id: u128, shown: FixedFields)
+    requires { 1 ≤ spare fields.old }
+    ensures fields { (other : ℕ) → standing.fields_under fields.new.entries other
+        ≡ (if id == other then Some shown else standing.fields_under fields.old.entries other) }
+    ensures room { spare fields.old ≤ spare fields.new + 1 }
+{
+    fields.insert(id, shown).unwrap();
+}
+
+/// Keeps the fields of an account of this ledger, unless they are known.
+fn keep_account(
+    fields: &mut IndexMap<u128, FixedFields>,
+    known: bool,
+    ledger: u32,
+    account: &EventAccount,
+)
+    requires { 1 ≤ spare fields.old }
+    ensures fields { (id : ℕ) → standing.fields_under fields.new.entries id
+        ≡ standing.fields_then fields.old.entries known ledger account.now id }
+    ensures room { spare fields.old ≤ spare fields.new + 1 }
+{
+    if !known {
+        put_fields(fields, account.id, fixed_fields(ledger, account));
+    }
+}
+
+/// Keeps the fields of both accounts of an accepted event.
+fn keep_accounts(fields: &mut IndexMap<u128, FixedFields>, facts: &Facts, event: &Event)
+    requires { 2 ≤ spare fields.old }
+    ensures { KeepsAccounts fields.old.entries facts.now event.now fields.new.entries }
+{
+    let ledger = event.ledger;
+    keep_account(
+        fields,
+        facts.debit_fields.is_some(),
+        ledger,
+        &event.debit_account,
+    );
+    keep_account(
+        fields,
+        facts.credit_fields.is_some(),
+        ledger,
+        &event.credit_account,
+    );
 }

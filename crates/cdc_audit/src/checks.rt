@@ -7,8 +7,12 @@ ghost use Rattle.cdc_audit.specs.Checks as spec;
 ghost use Rattle.cdc_audit.specs.Known as known;
 ghost use Rattle.cdc_audit.specs.Rules as rules;
 
+use crate::fields::{FixedFields, created_refusal, fields_refusal};
+use crate::limits::limits_refusal;
 use crate::refusals::{BalanceField, Mismatch, Refusal};
-use cdc_types::{Balances, Event, EventAccount, EventKind};
+use crate::settling::settling_refusal;
+use crate::shapes::shape_refusal;
+use cdc_types::{Balances, Event, EventAccount, EventKind, TransferFlags};
 
 /// What is known of a stored transfer.
 #[derive(Clone, Copy, Debug, PartialEq, Eq)]
@@ -26,10 +30,18 @@ pub enum Stored {
 pub(crate) struct Facts {
     /// The timestamp of the event before it; 0 before the first event.
     pub(crate) last: u64,
+    /// Whether that event stored a linked transfer.
+    pub(crate) linked: bool,
     /// The transfer that is stored under the id of the one that the event stores.
     pub(crate) own: Option<Stored>,
     /// The transfer that is stored under the id of the pending one that the event settles.
     pub(crate) settled: Option<Stored>,
+    /// The event that stored the pending one that the event settles, if that one is open.
+    pub(crate) open_one: Option<Event>,
+    /// The fields of the debited account that never change, if an event before it shows the account.
+    pub(crate) debit_fields: Option<FixedFields>,
+    /// Those of the credited account.
+    pub(crate) credit_fields: Option<FixedFields>,
     /// The balances of the debited account.
     pub(crate) debited: Balances,
     /// The balances of the credited account.
@@ -65,14 +77,14 @@ pub(crate) fn settles(kind: EventKind) -> bool
 }
 
 /// Whether an event of this kind moves its amount for good.
-fn moves(kind: EventKind) -> bool
+pub(crate) fn moves(kind: EventKind) -> bool
     ensures { result ≡ kinds.moves kind }
 {
     matches!(kind, EventKind::SinglePhase | EventKind::TwoPhasePosted)
 }
 
 /// Whether an event of this kind holds its amount back.
-fn holds(kind: EventKind) -> bool
+pub(crate) fn holds(kind: EventKind) -> bool
     ensures { result ≡ kinds.holds kind }
 {
     kind == EventKind::TwoPhasePending
@@ -246,7 +258,7 @@ fn balances_refusal(facts: &Facts, event: &Event) -> Option<Refusal>
 
 /// The refusal of an event by its timestamp, or by its two accounts being one.
 fn order_refusal(last: u64, event: &Event) -> Option<Refusal>
-    ensures { result ≡ first_line (spec.order_lines last event.now) }
+    ensures { result ≡ first_line (rules.order_lines last event.now) }
 {
     if event.timestamp <= last {
         Some(Refusal::NotLater(event.timestamp, last))
@@ -255,6 +267,16 @@ fn order_refusal(last: u64, event: &Event) -> Option<Refusal>
     } else {
         None
     }
+}
+
+/// The refusal of an event by the fields of its accounts that never change.
+fn fixed_refusal(facts: &Facts, event: &Event) -> Option<Refusal>
+    ensures { result ≡ first_line (spec.fixed_lines facts.now event.now) }
+{
+    let (debited, credited) = (&event.debit_account, &event.credit_account);
+    fields_refusal(facts.debit_fields, event.ledger, debited)
+        .or(fields_refusal(facts.credit_fields, event.ledger, credited))
+        .or(created_refusal(event))
 }
 
 /// The refusal of an event by the transfer that it stores or by the pending one that it settles.
@@ -273,11 +295,40 @@ fn transfer_refusal(facts: &Facts, event: &Event) -> Option<Refusal>
     }
 }
 
+/// The refusal of an event after one that may have stored a linked transfer.
+fn chain_refusal(linked: bool, last: u64, event: &Event) -> Option<Refusal>
+    ensures { result ≡ first_line (rules.chain_lines linked last event.now) }
+{
+    if linked && !(stores(event.kind) && is_next(last, event.timestamp)) {
+        Some(Refusal::BrokenChain(event.timestamp, last))
+    } else {
+        None
+    }
+}
+
+/// Whether a timestamp is one nanosecond later.
+fn is_next(last: u64, timestamp: u64) -> bool
+    ensures { result ≡ (timestamp == last + 1) }
+{
+    last < timestamp && timestamp - last == 1
+}
+
+/// Whether an event stored a transfer that is linked to the next one.
+pub(crate) fn is_linked(event: &Event) -> bool
+    ensures { result ≡ known.is_linked event.now }
+{
+    stores(event.kind) && event.transfer.flags & TransferFlags::LINKED != 0
+}
+
 /// Why an event doesn't follow from the events before it, by what is known of these; `None` if it follows.
 pub(crate) fn refusal_by(facts: &Facts, event: &Event) -> Option<Refusal>
     ensures { result ≡ first_line (spec.lines facts.now event.now) }
 {
     order_refusal(facts.last, event)
+        .or(shape_refusal(event))
+        .or(fixed_refusal(facts, event))
         .or(transfer_refusal(facts, event))
+        .or(settling_refusal(facts.open_one, event))
+        .or(chain_refusal(facts.linked, facts.last, event).or(limits_refusal(event)))
         .or(balances_refusal(facts, event))
 }

@@ -3,12 +3,17 @@
 
 pub mod auditor;
 pub mod checks;
+pub mod fields;
+pub mod limits;
 pub mod refusals;
+pub mod settling;
+pub mod shapes;
 pub mod streams;
 pub mod texts;
 
 pub use auditor::Auditor;
 pub use checks::Stored;
-pub use refusals::{BalanceField, Mismatch, Refusal};
+pub use fields::FixedFields;
+pub use refusals::{BalanceField, Excess, FieldMismatch, FixedField, Mismatch, Refusal, Side};
 pub use streams::{AuditStop, audit, audit_line};
 pub use texts::push_refusal;

@@ -17,7 +17,7 @@ use Rattle.cdc_ledger.specs.Kinds.{holds, settled_id, settles, stores}
 use Rattle.cdc_ledger.proofs.BalanceLaws.{resolves_is, stores-holds}
 use Rattle.cdc_ledger.proofs.Changes.{IsUpTo}
 use Rattle.cdc_ledger.proofs.StoredLaws.{find_none, is_stored as stores_id}
-use Rattle.cdc_audit.specs.Known.{is_settled, is_stored, pending_amount, settled_id_by}
+use Rattle.cdc_audit.specs.Known.{is_settled, is_stored, pending_amount, pending_event, settled_id_by}
 
 -- the events end no later than the entries
 last_timestamp-map : (h : History) (s t : ℕ) (es : List Entry) → s ≤ t → AllByRecursion (λ e. e.timestamp ≤ t) es
@@ -64,7 +64,12 @@ first_pending h id x (y ∷ es) holding found =
         rw (kind, other) (rest later)
     by false false is kind later rest = rw kind (rest later)
 
--- so its amount is known
+-- so its event is known
+pub pending_event-events : (h : History) (id : ℕ) (x : Entry) → stored h id ≡ Some x → holds x.kind ≡ true
+    → pending_event (events h) id ≡ Some (event_of h x)
+pending_event-events h id x found holding = first_pending h id x h.entries holding found
+
+-- and its amount
 pub pending_amount-events : (h : History) (id : ℕ) (x : Entry) → stored h id ≡ Some x → holds x.kind ≡ true
     → pending_amount (events h) id ≡ Some x.transfer.amount
 pending_amount-events h id x found holding = rw (first_pending h id x h.entries holding found) refl

@@ -6,7 +6,7 @@ use Rattle.cdc_types.specs.declared.accounts.Balances.{Balances}
 use Rattle.cdc_types.specs.declared.events.Event.{Event}
 use Rattle.cdc_types.specs.declared.events.EventAccount.{EventAccount}
 use Rattle.cdc_types.specs.declared.events.EventKind.{EventKind}
-use Rattle.cdc_types.specs.declared.events.EventKind.TheVariants.{SinglePhase, TwoPhasePending, TwoPhasePosted, TwoPhaseVoided}
+use Rattle.cdc_types.specs.declared.events.EventKind.TheVariants.{SinglePhase, TwoPhasePending, TwoPhasePosted, TwoPhaseVoided, TwoPhaseExpired}
 use Rattle.cdc_audit.specs.declared.refusals.BalanceField.TheVariants.{DebitsPosted}
 use Rattle.cdc_audit.specs.declared.refusals.Refusal.TheVariants.{Balance, NotPending}
 use Rattle.cdc_audit.specs.Audits.{follows_on, is_accepted}
@@ -30,6 +30,14 @@ account id debits_pending debits_posted credits_pending credits_posted = record 
   timestamp = 1000;
 }
 
+-- the flags of a transfer of this kind of event
+abbrev flags_of : EventKind → ℕ
+flags_of SinglePhase = 0
+flags_of TwoPhasePending = 2
+flags_of TwoPhasePosted = 4
+flags_of TwoPhaseVoided = 8
+flags_of TwoPhaseExpired = 2
+
 -- an event of this kind: its timestamp, the transfer's id and pending id, its amount, and the two accounts
 abbrev event : EventKind → ℕ → ℕ → ℕ → ℕ → EventAccount → EventAccount → Event
 event kind timestamp id pending_id amount debit credit = record {
@@ -45,7 +53,7 @@ event kind timestamp id pending_id amount debit credit = record {
     user_data_32 = 0;
     timeout = 0;
     code = 1;
-    flags = 0;
+    flags = flags_of kind;
     timestamp = timestamp;
   };
   debit_account = debit;

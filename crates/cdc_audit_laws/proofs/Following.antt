@@ -1,5 +1,5 @@
 -- What an event that follows others has, in equations.
-use Rattle.std.proofs.Common.{◌≡◌, ◌≢◌, ℕ, ◌+◌, ◌<◌, Bool, true, false, not, List, [], ◌∷◌, Some, None, is_none, if◌then◌else◌, refl}
+use Rattle.std.proofs.Common.{◌≡◌, ◌≢◌, ℕ, ◌+◌, ◌<◌, Bool, true, false, not, List, [], ◌∷◌, ◌++◌, Some, None, is_none, if◌then◌else◌, refl}
 use Rattle.std.specs.Prelude.{◌==◌, ◌&&◌}
 use Rattle.std.proofs.lemmas.Bool.{eq-eqb, eqb-false, eqb-true, lt-ltb, ltb-true, ne_eqb, not-false, not_from_true}
 use Rattle.cdc_types.specs.declared.accounts.Balances.{Balances}
@@ -7,16 +7,20 @@ use Rattle.cdc_types.specs.declared.events.Event.{Event}
 use Rattle.cdc_types.specs.Lines.{first_line}
 use Rattle.cdc_types.specs.Timestamps.{last_timestamp}
 use Rattle.cdc_ledger.specs.Kinds.{settles, stores}
-use Rattle.cdc_audit.specs.Known.{balances_after, is_settled, is_stored, pending_amount, settled_id}
-use Rattle.cdc_audit.specs.Rules.{credit_lines, event_lines, held, posted, refusal, released}
+use Rattle.cdc_audit.specs.Known.{balances_after, ends_in_chain, is_settled, is_stored, pending_amount, settled_id}
+use Rattle.cdc_audit.specs.declared.refusals.Refusal.{Refusal}
+use Rattle.cdc_audit.specs.EventShapes.{shape_lines}
+use Rattle.cdc_audit.specs.Limits.{limits_lines}
+use Rattle.cdc_audit.specs.Rules.{balances_lines, chain_lines, credit_lines, debit_lines, fixed_lines, held, order_lines, posted, refusal, released, settled_event, transfer_lines}
+use Rattle.cdc_audit.specs.Settling.{settling_lines}
 
 -- no line applies
-abbrev NoneApplies : {R : Type 0} → List (Bool × R) → Type 0
+abbrev pub NoneApplies : {R : Type 0} → List (Bool × R) → Type 0
 NoneApplies [] = Unit {0}
 NoneApplies (line ∷ lines) = (line.0 ≡ false) × NoneApplies lines
 
 -- if there is no first line that applies, none does
-none_applies : {R : Type 0} (lines : List (Bool × R)) → first_line lines ≡ None → NoneApplies lines
+pub none_applies : {R : Type 0} (lines : List (Bool × R)) → first_line lines ≡ None → NoneApplies lines
 none_applies [] none = tt
 none_applies {R = R} (line ∷ lines) none = by line.0 refl none (none_applies lines)
   where
@@ -26,9 +30,23 @@ none_applies {R = R} (line ∷ lines) none = by line.0 refl none (none_applies l
     by false is first rest = (is, rest first)
 
 -- and the other way round
-no_first_line : {R : Type 0} (lines : List (Bool × R)) → NoneApplies lines → first_line lines ≡ None
+pub no_first_line : {R : Type 0} (lines : List (Bool × R)) → NoneApplies lines → first_line lines ≡ None
 no_first_line [] none = refl
 no_first_line (line ∷ lines) none = rw none.0 (no_first_line lines none.1)
+
+-- none of two parts of lines applies
+none_both : {R : Type 0} (first second : List (Bool × R)) → NoneApplies (first ++ second)
+    → NoneApplies first × NoneApplies second
+none_both [] second none = (tt, none)
+none_both (line ∷ first) second none =
+    let rest = none_both first second none.1 in
+    ((none.0, rest.0), rest.1)
+
+-- and the other way round
+pub none_of_both : {R : Type 0} (first second : List (Bool × R)) → NoneApplies first → NoneApplies second
+    → NoneApplies (first ++ second)
+none_of_both [] second none others = others
+none_of_both (line ∷ first) second none others = (none.0, none_of_both first second none.1 others)
 
 -- a balance that follows: what is shown and what is released are what was before and what is added
 not_balanced : (shown before added less : ℕ) → not (shown + less == before + added) ≡ false
@@ -57,75 +75,143 @@ pub record IsCredited (past : List Event) (e : Event) (before : Balances) : Type
 pub record CanFollow (past : List Event) (e : Event) : Type 0 where
   pub later : last_timestamp past < e.timestamp
   pub apart : e.debit_account.id ≢ e.credit_account.id
+  pub shape : NoneApplies (shape_lines e)
+  pub fixed : NoneApplies (fixed_lines past e)
   pub new : (stores e.kind && is_stored past e.transfer.id) ≡ false
   pub pending : (settles e.kind && is_none (pending_amount past (settled_id e))) ≡ false
   pub unsettled : (settles e.kind && is_settled past (settled_id e)) ≡ false
+  pub settling : NoneApplies (settling_lines (settled_event past e) e)
+  pub chain : NoneApplies (chain_lines (ends_in_chain past) (last_timestamp past) e)
+  pub limits : NoneApplies (limits_lines e)
   pub debited : IsDebited past e (balances_after past e.debit_account.id)
   pub credited : IsCredited past e (balances_after past e.credit_account.id)
 
--- an event that isn't refused is one
-pub unrefused : (past : List Event) (e : Event) → refusal past e ≡ None → CanFollow past e
-unfolding refusal
-unrefused past e none =
-    let all : NoneApplies (event_lines past e) = none_applies (event_lines past e) none in
-    let transfer = all.1.1 in
-    let debit = transfer.1.1.1 in
-    let credit = debit.1.1.1.1 in
+-- no line of seven parts applies
+record NoneOfSeven (first second third fourth fifth sixth seventh : List (Bool × Refusal)) : Type 0 where
+  pub order : NoneApplies first
+  pub shape : NoneApplies second
+  pub fixed : NoneApplies third
+  pub transfer : NoneApplies fourth
+  pub settling : NoneApplies fifth
+  pub limits : NoneApplies sixth
+  pub balances : NoneApplies seventh
+
+-- so it is if there is no first line of them all
+of_seven : (order shape fixed transfer settling limits balances : List (Bool × Refusal))
+    → first_line (order ++ shape ++ fixed ++ transfer ++ settling ++ limits ++ balances) ≡ None
+    → NoneOfSeven order shape fixed transfer settling limits balances
+of_seven order shape fixed transfer settling limits balances none =
+    let all = none_applies (order ++ shape ++ fixed ++ transfer ++ settling ++ limits ++ balances) none in
+    let six = none_both (order ++ shape ++ fixed ++ transfer ++ settling ++ limits) balances all in
+    let five = none_both (order ++ shape ++ fixed ++ transfer ++ settling) limits six.0 in
+    let four = none_both (order ++ shape ++ fixed ++ transfer) settling five.0 in
+    let three = none_both (order ++ shape ++ fixed) transfer four.0 in
+    let two = none_both (order ++ shape) fixed three.0 in
+    let one = none_both order shape two.0 in
     record {
-      later = ltb-true (last_timestamp past) e.timestamp (not-false _ all.0);
-      apart = eqb-false e.debit_account.id e.credit_account.id all.1.0;
-      new = transfer.0;
-      pending = transfer.1.0;
-      unsettled = transfer.1.1.0;
-      debited = record {
+      order = one.0;
+      shape = one.1;
+      fixed = two.1;
+      transfer = three.1;
+      settling = four.1;
+      limits = five.1;
+      balances = six.1;
+    }
+
+-- and the other way round
+seven : (order shape fixed transfer settling limits balances : List (Bool × Refusal))
+    → NoneOfSeven order shape fixed transfer settling limits balances
+    → first_line (order ++ shape ++ fixed ++ transfer ++ settling ++ limits ++ balances) ≡ None
+seven order shape fixed transfer settling limits balances none =
+    no_first_line (order ++ shape ++ fixed ++ transfer ++ settling ++ limits ++ balances)
+    (none_of_both (order ++ shape ++ fixed ++ transfer ++ settling ++ limits) balances
+    (none_of_both (order ++ shape ++ fixed ++ transfer ++ settling) limits
+    (none_of_both (order ++ shape ++ fixed ++ transfer) settling
+    (none_of_both (order ++ shape ++ fixed) transfer
+    (none_of_both (order ++ shape) fixed (none_of_both order shape none.order none.shape) none.fixed)
+    none.transfer) none.settling) none.limits) none.balances)
+
+-- the lines on balances, of which none applies
+balances_follow : (past : List Event) (e : Event) → NoneApplies (balances_lines past e)
+    → IsDebited past e (balances_after past e.debit_account.id)
+    × IsCredited past e (balances_after past e.credit_account.id)
+balances_follow past e none =
+    let debit = (none_both (debit_lines past e) (credit_lines past e) none).0 in
+    let credit = (none_both (debit_lines past e) (credit_lines past e) none).1 in (
+      record {
         debits_pending = not_balanced _ _ _ _ debit.0;
         debits_posted = not_balanced _ _ _ _ debit.1.0;
         credits_pending = not_balanced _ _ _ _ debit.1.1.0;
         credits_posted = not_balanced _ _ _ _ debit.1.1.1.0;
-      };
-      credited = record {
+      },
+      record {
         debits_pending = not_balanced _ _ _ _ credit.0;
         debits_posted = not_balanced _ _ _ _ credit.1.0;
         credits_pending = not_balanced _ _ _ _ credit.1.1.0;
         credits_posted = not_balanced _ _ _ _ credit.1.1.1.0;
-      };
+      },
+    )
+
+-- and the other way round
+follow_balances : (past : List Event) (e : Event) → IsDebited past e (balances_after past e.debit_account.id)
+    → IsCredited past e (balances_after past e.credit_account.id) → NoneApplies (balances_lines past e)
+follow_balances past e debited credited =
+    none_of_both (debit_lines past e) (credit_lines past e) (
+      balanced _ _ _ _ debited.debits_pending,
+      (
+        balanced _ _ _ _ debited.debits_posted,
+        (balanced _ _ _ _ debited.credits_pending, (balanced _ _ _ _ debited.credits_posted, tt)),
+      ),
+    ) (
+      balanced _ _ _ _ credited.debits_pending,
+      (
+        balanced _ _ _ _ credited.debits_posted,
+        (balanced _ _ _ _ credited.credits_pending, (balanced _ _ _ _ credited.credits_posted, tt)),
+      ),
+    )
+
+-- an event that isn't refused is one that can follow
+pub unrefused : (past : List Event) (e : Event) → refusal past e ≡ None → CanFollow past e
+unfolding refusal
+unrefused past e none =
+    let all = of_seven (order_lines (last_timestamp past) e) (shape_lines e) (fixed_lines past e)
+    (transfer_lines past e) (settling_lines (settled_event past e) e)
+    (chain_lines (ends_in_chain past) (last_timestamp past) e ++ limits_lines e) (balances_lines past e) none in
+    let bounds = none_both (chain_lines (ends_in_chain past) (last_timestamp past) e) (limits_lines e) all.limits in
+    let order = all.order in
+    let transfer = all.transfer in
+    let balances = balances_follow past e all.balances in
+    record {
+      later = ltb-true (last_timestamp past) e.timestamp (not-false _ order.0);
+      apart = eqb-false e.debit_account.id e.credit_account.id order.1.0;
+      shape = all.shape;
+      fixed = all.fixed;
+      new = transfer.0;
+      pending = transfer.1.0;
+      unsettled = transfer.1.1.0;
+      settling = all.settling;
+      chain = bounds.0;
+      limits = bounds.1;
+      debited = balances.0;
+      credited = balances.1;
     }
 
 -- and such an event isn't refused
 pub no_refusal : (past : List Event) (e : Event) → CanFollow past e → refusal past e ≡ None
 unfolding refusal
 no_refusal past e can =
-    let debited = can.debited in
-    let credited = can.credited in
-    let credit : NoneApplies (credit_lines past e) = (
-      balanced _ _ _ _ credited.debits_pending,
-      (
-        balanced _ _ _ _ credited.debits_posted,
-        (balanced _ _ _ _ credited.credits_pending, (balanced _ _ _ _ credited.credits_posted, tt)),
-      ),
-    ) in
-    no_first_line (event_lines past e) (
-      not_from_true _ (lt-ltb (last_timestamp past) e.timestamp can.later),
-      (
-        ne_eqb e.debit_account.id e.credit_account.id can.apart,
-        (
-          can.new,
-          (
-            can.pending,
-            (
-              can.unsettled,
-              (
-                balanced _ _ _ _ debited.debits_pending,
-                (
-                  balanced _ _ _ _ debited.debits_posted,
-                  (
-                    balanced _ _ _ _ debited.credits_pending,
-                    (balanced _ _ _ _ debited.credits_posted, credit),
-                  ),
-                ),
-              ),
-            ),
-          ),
-        ),
-      ),
-    )
+    seven (order_lines (last_timestamp past) e) (shape_lines e) (fixed_lines past e) (transfer_lines past e)
+    (settling_lines (settled_event past e) e) (chain_lines (ends_in_chain past) (last_timestamp past) e ++ limits_lines e)
+    (balances_lines past e) (record {
+      order = (
+        not_from_true _ (lt-ltb (last_timestamp past) e.timestamp can.later),
+        (ne_eqb e.debit_account.id e.credit_account.id can.apart, tt),
+      );
+      shape = can.shape;
+      fixed = can.fixed;
+      transfer = (can.new, (can.pending, (can.unsettled, tt)));
+      settling = can.settling;
+      limits = none_of_both (chain_lines (ends_in_chain past) (last_timestamp past) e) (limits_lines e) can.chain
+          can.limits;
+      balances = follow_balances past e can.debited can.credited;
+    })

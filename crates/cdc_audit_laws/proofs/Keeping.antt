@@ -1,25 +1,34 @@
--- What each change of a sound history keeps holds of every legal history.
-use Rattle.std.proofs.Common.{ℕ, ◌+◌, ◌<◌, ◌≤◌, Bool, false, List, [], ◌∷◌, ◌≡◌, ◌≢◌, Result, Ok, Err, ◌||◌, refl, sym, ap₂, ◌∙◌, subst, arith, length}
+-- What each request that is accepted and each expiry keeps holds of every legal history.
+use Rattle.std.proofs.Common.{ℕ, ◌+◌, ◌<◌, ◌≤◌, Bool, true, false, map, None, List, [], ◌∷◌, ◌++◌, ◌≡◌, ◌≢◌, Option, Some, ap, Result, Ok, Err, ◌||◌, refl, sym, ap₂, ◌∙◌, subst, arith, length}
+use Rattle.std.specs.Prelude.{◌==◌, ◌&&◌, ◌-◌, not, nat_le, filter, if◌then◌else◌, unwrap_or, IfSome}
 use Rattle.std.specs.List.{AllByRecursion}
-use Rattle.std.proofs.lemmas.Bool.{ne_eqb}
+use Rattle.std.proofs.lemmas.Bool.{and_parts, false≢true, leb-true, ne_eqb, not-true}
 use Rattle.cdc_types.specs.declared.accounts.NewAccount.{NewAccount}
 use Rattle.cdc_types.specs.declared.batches.Batch.{Batch}
 use Rattle.cdc_types.specs.declared.batches.Batch.TheVariants as batch
 use Rattle.cdc_types.specs.declared.batches.BatchResults.{BatchResults}
 use Rattle.cdc_types.specs.declared.events.Entry.{Entry}
+use Rattle.cdc_types.specs.declared.events.EventKind.TheVariants.{SinglePhase, TwoPhasePending, TwoPhasePosted, TwoPhaseVoided}
+use Rattle.cdc_types.specs.declared.results.TransferResult.{TransferResult}
+use Rattle.cdc_types.specs.declared.transfers.TheConstants.TransferFlags.{LINKED}
+use Rattle.cdc_types.specs.Flags.{has_flag, is_linked_transfer, is_pending_request, is_plain_request, is_post_request, is_void_request}
 use Rattle.cdc_types.specs.declared.transfers.NewTransfer.{NewTransfer}
 use Rattle.cdc_types.specs.declared.transfers.Transfer.{Transfer}
 use Rattle.cdc_ledger.specs.declared.errors.BatchError.{BatchError}
 use Rattle.cdc_ledger.specs.Changes.{expiry, pushed, timed, with_account}
-use Rattle.cdc_ledger.specs.Due.{due}
-use Rattle.cdc_ledger.specs.Follows.{Follows}
-use Rattle.cdc_ledger.specs.History.{History, Opened, empty_history}
+use Rattle.cdc_ledger.specs.Due.{due, is_due}
+use Rattle.cdc_ledger.specs.Chains.{before_others, chains_from, chains_of, history_after, in_front, is_none_left, played, refused_in_chain}
+use Rattle.cdc_ledger.specs.Filling.{as_asked, expires_at, filled, filled_by, stored}
+use Rattle.cdc_ledger.specs.Kinds.{holds, stores}
+use Rattle.cdc_ledger.specs.Balances.{resolved}
+use Rattle.cdc_ledger.specs.History.{History, empty_history}
 use Rattle.cdc_ledger.specs.Sound.{IsSound}
-use Rattle.cdc_ledger.specs.Submit.{IsLegal, account_rules, accounts_from, after_batches, base, entry_of, expiries_from, history_or, is_past_the_end, opened_by, submit, taken, transfer_rules, transfers_from}
-use Rattle.cdc_ledger.specs.Verdict.{max_timestamp}
+use Rattle.cdc_ledger.specs.Submit.{IsLegal, account_rules, accounts_from, after_batches, base, entry_of, expiries_from, kind_of, history_or, is_past_the_end, opened_by, submit, taken, transfer_rules, transfers_from}
+use Rattle.cdc_ledger.specs.Verdict.{account_refused, max_timestamp, transfer_refused}
 use Rattle.cdc_ledger.proofs.AcceptedLaws.{Follows-accepted, accepted_account}
 use Rattle.cdc_ledger.proofs.BalanceLaws.{resolved_then}
 use Rattle.cdc_ledger.proofs.ChainLaws.{items_from-keeps}
+use Rattle.cdc_ledger.proofs.DueOrder.{All-in_order}
 use Rattle.cdc_ledger.proofs.Elements.{AllByRecursion-both, AllByRecursion-weaker}
 use Rattle.cdc_ledger.proofs.KeptLaws.{after_last, submit_parts, within_end}
 use Rattle.cdc_ledger.proofs.PulseLaws.{Follows-open, HaveOwnIds, IsOpen, due_ids, due_open}
@@ -38,20 +47,133 @@ open_after h p q t sound later other open_one = record {
       ∙ ap₂ (λ b c. b || c) open_one.unsettled (ne_eqb p.id q.id other);
 }
 
+-- a pending transfer's time is up
+pub record IsUp (p : Transfer) (t : ℕ) : Type 0 where
+  pub timed : (p.timeout == 0) ≡ false
+  pub ended : expires_at p ≤ t
+
+-- the transfers of those of the entries that pass
+passing_all : (test : Entry → Bool) (P : Transfer → Type 0) → ((e : Entry) → test e ≡ true → P e.transfer)
+    → (es : List Entry) → AllByRecursion P (map (λ e. e.transfer) (filter test es))
+passing_all test P holds [] = tt
+passing_all test P holds (e ∷ es) = by (test e) refl (passing_all test P holds es)
+  where
+    by : (b : Bool) → test e ≡ b → AllByRecursion P (map (λ x. x.transfer) (filter test es))
+        → AllByRecursion P (map (λ x. x.transfer) (if b then e ∷ filter test es else filter test es))
+    by true passes more = (holds e passes, more)
+    by false passes more = more
+
+-- the time of each transfer that is due is up
+due_up : (h : History) (now : ℕ) → AllByRecursion (λ p. IsUp p now) (due h now)
+due_up h now =
+    All-in_order (λ p. IsUp p now) (map (λ e. e.transfer) (filter (is_due h now) h.entries))
+    (passing_all (is_due h now) (λ p. IsUp p now) (λ e is.
+    let last = and_parts (holds e.kind && not (e.transfer.timeout == 0) && nat_le (expires_at e.transfer) now)
+    (not (resolved h e.transfer h.last)) is in
+    let ended = and_parts (holds e.kind && not (e.transfer.timeout == 0)) (nat_le (expires_at e.transfer) now) last.0 in
+    let timed = and_parts (holds e.kind) (not (e.transfer.timeout == 0)) ended.0 in
+    record {
+      timed = not-true (e.transfer.timeout == 0) timed.1;
+      ended = leb-true (expires_at e.transfer) now ended.1;
+    }) h.entries)
+
+-- and stays so
+up_later : (s t : ℕ) (ps : List Transfer) → s ≤ t → AllByRecursion (λ p. IsUp p s) ps
+    → AllByRecursion (λ p. IsUp p t) ps
+up_later s t ps later all =
+    AllByRecursion-weaker (λ p. IsUp p s) (λ p. IsUp p t)
+    (λ p is. record { timed = is.timed; ended = let before = is.ended in omega arith }) ps all
+
+-- an entry stored a transfer that is linked to the next one
+abbrev pub links : Entry → Bool
+links e = stores e.kind && has_flag e.transfer.flags LINKED
+
+-- the last of these entries did; this value if there is none
+abbrev pub links_from : Bool → List Entry → Bool
+links_from linked [] = linked
+links_from linked (e ∷ es) = links_from (links e) es
+
+-- the history ends within a chain
+abbrev pub is_in_chain : History → Bool
+is_in_chain h = links_from false h.entries
+
+-- the timestamp of the last of these entries; t if there is none
+abbrev pub end_from : ℕ → List Entry → ℕ
+end_from t [] = t
+end_from t (e ∷ es) = end_from e.timestamp es
+
+links_from-push : (b : Bool) (es : List Entry) (e : Entry) → links_from b (es ++ e ∷ []) ≡ links e
+links_from-push b [] e = refl
+links_from-push b (x ∷ es) e = links_from-push (links x) es e
+
+end_from-push : (t : ℕ) (es : List Entry) (e : Entry) → end_from t (es ++ e ∷ []) ≡ e.timestamp
+end_from-push t [] e = refl
+end_from-push t (x ∷ es) e = end_from-push x.timestamp es e
+
+-- a request has its flags once it is filled in, and is stored
+same_flags : (h : History) (r : NewTransfer) (t : ℕ) → (filled h r t).flags ≡ r.flags
+same_flags h r t = by (is_plain_request r) (stored h r.pending_id)
+  where
+    by : (plain : Bool) (named : Option Entry)
+        → (if plain then as_asked r t else filled_by named r t).flags ≡ r.flags
+    by true named = refl
+    by false None = refl
+    by false (Some x) = refl
+
+stores_asked : (r : NewTransfer) → stores (kind_of r) ≡ true
+stores_asked r = by (is_pending_request r) (is_post_request r) (is_void_request r)
+  where
+    by : (pending post void : Bool)
+        → stores
+        (if pending then TwoPhasePending else if post then TwoPhasePosted else if void then TwoPhaseVoided else SinglePhase)
+        ≡ true
+    by true post void = refl
+    by false true void = refl
+    by false false true = refl
+    by false false false = refl
+
+-- so it links if it is linked
+links_asked : (h : History) (r : NewTransfer) (t : ℕ) → links (entry_of h r t) ≡ is_linked_transfer r
+links_asked h r t = ap₂ (λ b n. b && has_flag n LINKED) (stores_asked r) (same_flags h r t)
+
+-- how many items there are in these chains
+abbrev total : {A : Type 0} → List (List A) → ℕ
+total [] = 0
+total (chain ∷ chains) = length chain + total chains
+
+total-in_front : {A : Type 0} (b : Bool) (a : A) (chains : List (List A))
+    → total (in_front b a chains) ≡ 1 + total chains
+total-in_front false a chains = refl
+total-in_front true a [] = refl
+total-in_front true a (chain ∷ chains) = omega arith
+
+-- the chains of a batch have its items
+total-chains_of : {A : Type 0} (linked : A → Bool) (items : List A) → total (chains_of linked items) ≡ length items
+total-chains_of linked [] = refl
+total-chains_of linked (a ∷ rest) =
+    let more = total-in_front (linked a) a (chains_of linked rest) in
+    let others = total-chains_of linked rest in
+    omega (arith, more, others)
+
+-- the property holds of a new ledger, and each of these keeps it: a transfer that is accepted, the expiry of an open
+-- one, an account that is accepted, a timestamp that is taken, and closing the ledger
 module _ (P : History → Type 0) (on_empty : P empty_history)
-    (on_pushed : (h : History) (e : Entry) → IsSound h → Follows h e → h.last < e.timestamp → P h → P (pushed h e))
-    (on_account : (h : History) (o : Opened) → IsSound h → h.last ≤ o.timestamp → P h → P (with_account h o))
+    (on_request : (h : History) (r : NewTransfer) (t : ℕ) → IsSound h → h.last < t
+    → (is_in_chain h ≡ true → t ≡ end_from 0 h.entries + 1) → transfer_refused h r t ≡ None
+    → IsSound (pushed h (entry_of h r t)) → P h → P (pushed h (entry_of h r t)))
+    (on_expiry : (h : History) (p : Transfer) (t : ℕ) → IsSound h → h.last < t → IsOpen h p
+    → IsUp p t → is_in_chain h ≡ false → IsSound (pushed h (expiry p t)) → P h → P (pushed h (expiry p t)))
+    (on_account : (h : History) (a : NewAccount) (t : ℕ) → IsSound h → h.last < t → account_refused h a ≡ None → P h
+    → P (with_account h (opened_by a t)))
     (on_timed : (h : History) (t : ℕ) → IsSound h → h.last ≤ t → P h → P (timed h t))
     (on_closed : (h : History) (closed : Bool) → P h → P (record h { closed = closed })) where
   -- the history is sound, and has the property
-  abbrev Keeps : History → Type 0
-  Keeps h = IsSound h × P h
+  abbrev Inner : History → Type 0
+  Inner h = IsSound h × P h
 
-  -- an entry that may come next
-  keeps-pushed : (h : History) (e : Entry) → Keeps h → Follows h e → h.last < e.timestamp
-      → e.timestamp ≤ max_timestamp → Keeps (pushed h e)
-  keeps-pushed h e keeps follows later within =
-      (IsSound-pushed h e keeps.0 follows later within, on_pushed h e keeps.0 follows later keeps.1)
+  -- and it doesn't end within a chain
+  abbrev Keeps : History → Type 0
+  Keeps h = IsSound h × P h × (is_in_chain h ≡ false)
 
   -- requests for accounts
   keeps-accounts : (h : History) (t : ℕ) (rs : List NewAccount) → Keeps h → h.last < t
@@ -60,41 +182,133 @@ module _ (P : History → Type 0) (on_empty : P empty_history)
       items_from-keeps account_rules Keeps (λ n. n ≤ max_timestamp)
       (λ g a n so_far later' within none. (
         IsSound-with_account g (opened_by a n) so_far.0 (accepted_account g a none).1 (omega arith) within,
-        on_account g (opened_by a n) so_far.0 (omega arith) so_far.1,
+        on_account g a n so_far.0 later' none so_far.1,
+        so_far.2,
       ))
       (λ g n so_far later' within. (
         IsSound-timed g n so_far.0 (omega arith) within,
         on_timed g n so_far.0 (omega arith) so_far.1,
+        so_far.2,
       ))
       (λ g a n. refl) h t rs keeps later
       (λ n from below. let whole : t + length rs ≤ max_timestamp + 1 = fits (omega arith) in omega arith)
+
+  -- an accepted request
+  keeps-request : (h : History) (r : NewTransfer) (t : ℕ) → Inner h → h.last < t → t ≤ max_timestamp
+      → (is_in_chain h ≡ true → t ≡ end_from 0 h.entries + 1) → transfer_refused h r t ≡ None
+      → Inner (pushed h (entry_of h r t))
+  keeps-request h r t inner later within next none =
+      let sound : IsSound (pushed h (entry_of h r t)) =
+      IsSound-pushed h (entry_of h r t) inner.0 (Follows-accepted h r t inner.0 later none) later within in
+      (sound, on_request h r t inner.0 later next none sound inner.1)
+
+  -- a history after a chain, before this timestamp
+  record Past (t : ℕ) (g : History) : Type 0 where
+    pub keeps : Keeps g
+    pub before : g.last < t
+
+  past_later : (s t : ℕ) (o : Option History) → s ≤ t → IfSome o (Past s) → IfSome o (Past t)
+  past_later s t None later is = tt
+  past_later s t (Some g) later is = record { keeps = is.keeps; before = let b = is.before in omega arith }
+
+  -- a chain of requests for transfers that is taken: after each linked one the next one follows at once
+  keeps-played : (h : History) (t : ℕ) (chain : List NewTransfer) → Inner h → h.last < t
+      → (is_in_chain h ≡ true → t ≡ end_from 0 h.entries + 1)
+      → (is_none_left chain ≡ true → is_in_chain h ≡ false)
+      → ((n : ℕ) → t ≤ n → n < t + length chain → n ≤ max_timestamp)
+      → IfSome (played transfer_rules h t chain).1 (Past (t + length chain))
+  keeps-played h t [] inner later next ends fits =
+      record { keeps = (inner.0, inner.1, ends refl); before = omega arith }
+  keeps-played h t (r ∷ rest) inner later next ends fits =
+      by (refused_in_chain transfer_rules h r (is_none_left rest) t) refl (λ own none.
+      keeps-played (pushed h (entry_of h r t)) (t + 1) rest
+      (keeps-request h r t inner later (fits t (omega arith) (omega arith)) next none) (omega arith)
+      (λ is. ap (λ n. n + 1) (sym (end_from-push 0 h.entries (entry_of h r t))))
+      (λ last. links_from-push false h.entries (entry_of h r t) ∙ links_asked h r t
+      ∙ sym (and_true_right (is_linked_transfer r)) ∙ ap (λ b. is_linked_transfer r && b) (sym last) ∙ own)
+      (λ n from below. fits n (omega arith) (omega arith)))
+    where
+      and_true_right : (b : Bool) → (b && true) ≡ b
+      and_true_right true = refl
+      and_true_right false = refl
+
+      parts : (b : Bool) (u : TransferResult) (o : Option TransferResult) → (if b then Some u else o) ≡ None
+          → (b ≡ false) × (o ≡ None)
+      parts true u o none = cc
+      parts false u o none = (refl, none)
+
+      by : (o : Option TransferResult) → refused_in_chain transfer_rules h r (is_none_left rest) t ≡ o
+          → ((is_linked_transfer r && is_none_left rest) ≡ false → transfer_refused h r t ≡ None
+          → IfSome (played transfer_rules (pushed h (entry_of h r t)) (t + 1) rest).1 (Past (t + 1 + length rest)))
+          → IfSome (before_others transfer_rules o rest (played transfer_rules (pushed h (entry_of h r t)) (t + 1) rest)).1
+          (Past (t + length (r ∷ rest)))
+      by (Some why) is more = tt
+      by None is more =
+          let none = parts (is_linked_transfer r && is_none_left rest) _ (transfer_refused h r t) is in
+          past_later (t + 1 + length rest) (t + length (r ∷ rest))
+          (played transfer_rules (pushed h (entry_of h r t)) (t + 1) rest).1 (omega arith) (more none.0 none.1)
+
+  -- a chain, taken or not
+  keeps-chain : (h : History) (t : ℕ) (chain : List NewTransfer) → Keeps h → h.last < t
+      → ((n : ℕ) → t ≤ n → n < t + length chain → n ≤ max_timestamp)
+      → Past (t + length chain) (history_after transfer_rules h t chain)
+  keeps-chain h t [] keeps later fits = record { keeps = keeps; before = omega arith }
+  keeps-chain h t (r ∷ rest) keeps later fits =
+      by (played transfer_rules h t (r ∷ rest)).1
+      (keeps-played h t (r ∷ rest) (keeps.0, keeps.1) later (λ is. absurd (false≢true (sym keeps.2 ∙ is)))
+      (λ none. absurd (false≢true none)) fits)
+    where
+      by : (o : Option History) → IfSome o (Past (t + length (r ∷ rest)))
+          → Past (t + length (r ∷ rest)) (unwrap_or o (timed h (t + length (r ∷ rest) - 1)))
+      by None past =
+          let end : ℕ = t + length (r ∷ rest) - 1 in
+          let within : end ≤ max_timestamp = fits end (omega arith) (omega arith) in
+          record {
+            keeps = (
+              IsSound-timed h end keeps.0 (omega arith) within,
+              on_timed h end keeps.0 (omega arith) keeps.1,
+              keeps.2,
+            );
+            before = omega arith;
+          }
+      by (Some g) past = past
+
+  -- chains, one after another
+  keeps-chains : (h : History) (t : ℕ) (chains : List (List NewTransfer)) → Keeps h → h.last < t
+      → ((n : ℕ) → t ≤ n → n < t + total chains → n ≤ max_timestamp) → Keeps (chains_from transfer_rules h t chains).1
+  keeps-chains h t [] keeps later fits = keeps
+  keeps-chains h t (chain ∷ chains) keeps later fits =
+      let first = keeps-chain h t chain keeps later (λ n from below. fits n from (omega arith)) in
+      keeps-chains (history_after transfer_rules h t chain) (t + length chain) chains first.keeps first.before
+      (λ n from below. fits n (omega arith) (omega arith))
 
   -- requests for transfers
   keeps-transfers : (h : History) (t : ℕ) (rs : List NewTransfer) → Keeps h → h.last < t
       → (0 < length rs → t + length rs ≤ max_timestamp + 1) → Keeps (transfers_from h t rs).1
   keeps-transfers h t rs keeps later fits =
-      items_from-keeps transfer_rules Keeps (λ n. n ≤ max_timestamp)
-      (λ g r n so_far later' within none.
-      keeps-pushed g (entry_of g r n) so_far (Follows-accepted g r n so_far.0 later' none) later' within)
-      (λ g n so_far later' within. (
-        IsSound-timed g n so_far.0 (omega arith) within,
-        on_timed g n so_far.0 (omega arith) so_far.1,
-      ))
-      (λ g r n. refl) h t rs keeps later
-      (λ n from below. let whole : t + length rs ≤ max_timestamp + 1 = fits (omega arith) in omega arith)
+      keeps-chains h t (chains_of is_linked_transfer rs) keeps later
+      (λ n from below.
+      let all = total-chains_of is_linked_transfer rs in
+      let whole : t + length rs ≤ max_timestamp + 1 = fits (omega arith) in omega arith)
 
   -- open transfers that expire one after another
   keeps-expiries : (h : History) (t : ℕ) (ps : List Transfer) → Keeps h → AllByRecursion (IsOpen h) ps
-      → HaveOwnIds ps → h.last < t → (0 < length ps → t + length ps ≤ max_timestamp + 1)
+      → AllByRecursion (λ p. IsUp p t) ps → HaveOwnIds ps → h.last < t → (0 < length ps → t + length ps ≤ max_timestamp + 1)
       → Keeps (expiries_from h t ps)
-  keeps-expiries h t [] keeps all own later fits = keeps
-  keeps-expiries h t (p ∷ ps) keeps all own later fits =
+  keeps-expiries h t [] keeps all up own later fits = keeps
+  keeps-expiries h t (p ∷ ps) keeps all up own later fits =
       let whole : t + length (p ∷ ps) ≤ max_timestamp + 1 = fits (omega arith) in
-      keeps-expiries (pushed h (expiry p t)) (t + 1) ps
-      (keeps-pushed h (expiry p t) keeps (Follows-open h p t keeps.0 all.0) later (omega arith))
+      let sound : IsSound (pushed h (expiry p t)) =
+      IsSound-pushed h (expiry p t) keeps.0 (Follows-open h p t keeps.0 all.0) later (omega arith) in
+      keeps-expiries (pushed h (expiry p t)) (t + 1) ps (
+        sound,
+        on_expiry h p t keeps.0 later all.0 up.0 keeps.2 sound keeps.1,
+        links_from-push false h.entries (expiry p t),
+      )
       (AllByRecursion-weaker (λ q. (p.id ≢ q.id) × IsOpen h q) (IsOpen (pushed h (expiry p t)))
       (λ q at. open_after h p q t keeps.0 later at.0 at.1) ps
       (AllByRecursion-both (λ q. p.id ≢ q.id) (IsOpen h) ps own.0 all.1))
+      (up_later t (t + 1) ps (omega arith) up.1)
       own.1 (omega arith) (λ some. omega arith)
 
   -- a batch that is answered
@@ -114,7 +328,8 @@ module _ (P : History → Type 0) (on_empty : P empty_history)
       let parts : (is_past_the_end h now (length (due h now)) ≡ false) × (taken h (batch.Pulse now) ≡ answer) =
       submit_parts h (batch.Pulse now) answer e in
       subst (λ (a : BatchResults × History). Keeps a.1) parts.1
-      (keeps-expiries h (base h now) (due h now) keeps (due_open h now keeps.0) (due_ids h now keeps.0)
+      (keeps-expiries h (base h now) (due h now) keeps (due_open h now keeps.0)
+      (up_later now (base h now) (due h now) (omega arith) (due_up h now)) (due_ids h now keeps.0)
       (after_last h now) (within_end h now (length (due h now)) parts.0))
 
   -- any batch, answered or refused
@@ -135,4 +350,4 @@ module _ (P : History → Type 0) (on_empty : P empty_history)
       let before : History = after_batches empty_history legal.batches in
       subst P (sym legal.made)
       (on_closed before (legal.close || before.closed)
-      (keeps-after_batches empty_history legal.batches (IsSound-empty, on_empty)).1)
+      (keeps-after_batches empty_history legal.batches (IsSound-empty, on_empty, refl)).1)

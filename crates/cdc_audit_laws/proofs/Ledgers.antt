@@ -1,33 +1,62 @@
 -- The events of a ledger are accepted.
-use Rattle.std.proofs.Common.{◌≡◌, ◌≢◌, ℕ, ◌<◌, ◌≤◌, Bool, true, false, List, [], ◌∷◌, ◌++◌, Option, Some, None, is_none, refl, sym, ap, ap₂, ◌∙◌, inl, inr, arith}
-use Rattle.std.specs.Prelude.{◌==◌, ◌&&◌, IsSome, if◌then◌else◌, unwrap_or}
-use Rattle.std.proofs.lemmas.Bool.{and_left, and_parts, eq-eqb, eqb-true, ne_eqb}
+use Rattle.std.proofs.Common.{◌≡◌, ◌≢◌, ℕ, ◌<◌, ◌≤◌, Bool, true, false, List, [], ◌∷◌, ◌++◌, Option, Some, None, is_none, map, ◌+◌, refl, sym, ap, ap₂, ◌∙◌, subst, inl, inr, arith}
+use Rattle.std.specs.List.{AllByRecursion, flat_map}
+use Rattle.std.specs.Map.{lookup}
+use Rattle.std.specs.Prelude.{◌==◌, ◌&&◌, ◌||◌, nat_eq, nat_le, nat_lt, not, IsSome, if◌then◌else◌, unwrap_or}
+use Rattle.std.proofs.lemmas.Bool.{and_from, and_left, and_right, and_parts, eq-eqb, eqb-true, le-ltb, leb-true, lt-ltb, ne_eqb, not_from_true}
 use Rattle.std.proofs.lemmas.Bool.Decides.{eqb_tells}
 use Rattle.cdc_types.specs.declared.accounts.Balances.{Balances}
 use Rattle.cdc_types.specs.declared.events.Entry.{Entry}
 use Rattle.cdc_types.specs.declared.events.Event.{Event}
+use Rattle.cdc_types.specs.declared.events.EventKind.{EventKind}
+use Rattle.cdc_types.specs.declared.events.EventKind.TheVariants.{SinglePhase, TwoPhasePending, TwoPhasePosted, TwoPhaseVoided, TwoPhaseExpired}
+use Rattle.cdc_types.specs.declared.events.EventAccount.{EventAccount}
+use Rattle.cdc_types.specs.declared.events.EventTransfer.{EventTransfer}
+use Rattle.cdc_types.specs.declared.results.AccountResult.TheVariants as account
+use Rattle.cdc_types.specs.declared.results.TransferResult.TheVariants as transfer
+use Rattle.cdc_types.specs.declared.transfers.NewTransfer.{NewTransfer}
+use Rattle.cdc_types.specs.declared.accounts.NewAccount.{NewAccount}
+use Rattle.cdc_types.specs.declared.accounts.TheConstants.AccountFlags.{CREDITS_MUST_NOT_EXCEED_DEBITS, DEBITS_MUST_NOT_EXCEED_CREDITS}
+use Rattle.cdc_types.specs.Flags.{has_flag}
+use Rattle.cdc_types.specs.Results.{account_number}
+use Rattle.cdc_types.specs.Shapes.{account_refusal, account_shape_lines, transfer_refusal}
+use Rattle.cdc_types.specs.Timestamps.{last_timestamp, last_timestamp_from}
+use Rattle.cdc_types.specs.Widths.{max_128}
+use Rattle.cdc_types.specs.declared.transfers.Transfer.{Transfer}
 use Rattle.cdc_ledger.specs.Balances.{balances}
-use Rattle.cdc_ledger.specs.Changes.{pushed, timed, with_account}
+use Rattle.cdc_ledger.specs.Changes.{expiry, pushed, timed, with_account}
 use Rattle.cdc_ledger.specs.Effects.{amount_of, balances_after_entry, effect_of, part}
-use Rattle.cdc_ledger.specs.Events.{event_of, events, nobody}
-use Rattle.cdc_ledger.specs.Filling.{stored}
+use Rattle.cdc_ledger.specs.Events.{event_of, events, nobody, shown_transfer}
+use Rattle.cdc_ledger.specs.Filling.{expires_at, stored}
 use Rattle.cdc_ledger.specs.Follows.{Follows, SettlesOpen}
 use Rattle.cdc_ledger.specs.History.{History, Opened, empty_history, opened}
 use Rattle.cdc_ledger.specs.Kinds.{settled_id, settles, stores}
-use Rattle.cdc_ledger.specs.Sound.{IsSound}
+use Rattle.cdc_ledger.specs.Sound.{HasAccounts, IsSound}
+use Rattle.cdc_ledger.specs.Submit.{entry_of, opened_by}
+use Rattle.cdc_ledger.proofs.AcceptedLaws.{Follows-accepted}
 use Rattle.cdc_ledger.proofs.BalanceLaws.{balances-pushed, balances_later, released_credit, released_debit, same_balances, settled_by_is, settled_by_none}
 use Rattle.cdc_ledger.proofs.Elements.{AllByRecursion-every}
 use Rattle.cdc_ledger.proofs.EventLaws.{events-pushed, events-with_account}
+use Rattle.cdc_ledger.proofs.LineLaws.{test_fails}
 use Rattle.cdc_ledger.proofs.OpenedLaws.{opened_id}
-use Rattle.cdc_ledger.proofs.StoredLaws.{find_all, is_stored as stores_id}
+use Rattle.cdc_ledger.proofs.PulseLaws.{Follows-open}
+use Rattle.cdc_ledger.proofs.StoredLaws.{find_all, is_stored as stores_id, stored_has}
 use Rattle.cdc_audit.specs.Audits.{is_accepted}
-use Rattle.cdc_audit.specs.Known.{balances_after, is_settled, is_stored, pending_amount, settled_id_by}
-use Rattle.cdc_audit.specs.Rules.{released}
+use Rattle.cdc_audit.specs.Known.{balances_after, ends_in_chain, is_settled, is_stored, linked_from, open_event, pending_amount, pending_event, settled_id_by}
+use Rattle.cdc_audit.specs.declared.fields.FixedFields.{FixedFields}
+use Rattle.cdc_audit.specs.declared.refusals.Refusal.TheVariants.{TransferShape, OtherKind, OtherTimestamp}
+use Rattle.cdc_audit.specs.EventShapes.{account_lines as shape_account_lines, asked_account, asked_transfer, is_of_kind, refused_as, shape_lines, stored_lines}
+use Rattle.cdc_audit.specs.Fields.{accounts_of, created_lines, fields_before, fields_lines, fixed_fields, same_lines}
+use Rattle.cdc_audit.specs.Limits.{all_credits, all_debits, limit_lines, limits_lines}
+use Rattle.cdc_audit.specs.Rules.{chain_lines, fixed_lines, released, settled_event}
+use Rattle.cdc_audit.specs.Settling.{is_same_transfer, settling_lines}
 use Rattle.cdc_audit_laws.specs.Laws.{LedgersAreAccepted}
-use Rattle.cdc_audit_laws.proofs.Entries.{last_timestamp-events, pending_amount-events, settled_id-shown, unsettled, unstored}
-use Rattle.cdc_audit_laws.proofs.Following.{CanFollow, IsCredited, IsDebited}
-use Rattle.cdc_audit_laws.proofs.Keeping.{kept_by_legal}
-use Rattle.cdc_audit_laws.proofs.Shown.{balances_after-credited, balances_after-debited, balances_after-other}
+use Rattle.cdc_audit_laws.proofs.Entries.{last_timestamp-events, pending_amount-events, pending_event-events, settled_id-shown, unsettled, unstored}
+use Rattle.cdc_audit_laws.proofs.Following.{CanFollow, IsCredited, IsDebited, NoneApplies, none_of_both}
+use Rattle.cdc_audit_laws.proofs.Keeping.{end_from, is_in_chain, kept_by_legal, links, links_from}
+use Rattle.cdc_audit_laws.proofs.Kept.{IsCreated, IsKept, IsLimited, kept-account, kept-closed, kept-empty, kept-pushed, kept-timed}
+use Rattle.cdc_audit_laws.proofs.Requests.{Enters, HasLedger, HasShape, KeepsFields, account_of, asked, enters-accepted, enters-expiry}
+use Rattle.cdc_audit_laws.proofs.Shown.{balances_after-credited, balances_after-debited, balances_after-other, balances_of}
 use Rattle.cdc_audit_laws.proofs.Streams.{accepted-push, none_follows, prefixes_are_accepted}
 
 -- the events of a history are accepted, and show last the balances of each account
@@ -55,9 +84,128 @@ part_own a n = rw (eq-eqb a a refl) refl
 part_other : (side a n : ℕ) → side ≢ a → part side a n ≡ 0
 part_other side a n other = rw (ne_eqb side a other) refl
 
+-- a transfer is the same as itself
+is_same : (x : EventTransfer) → is_same_transfer x x ≡ true
+is_same x =
+    and_from _ _ (and_from _ _ (and_from _ _ (and_from _ _ (and_from _ _ (and_from _ _ (and_from _ _ (and_from _ _
+    (and_from _ _ (eq-eqb x.id x.id refl) (eq-eqb x.amount x.amount refl)) (eq-eqb x.pending_id x.pending_id refl))
+    (eq-eqb x.user_data_128 x.user_data_128 refl)) (eq-eqb x.user_data_64 x.user_data_64 refl))
+    (eq-eqb x.user_data_32 x.user_data_32 refl)) (eq-eqb x.timeout x.timeout refl)) (eq-eqb x.code x.code refl))
+    (eq-eqb x.flags x.flags refl)) (eq-eqb x.timestamp x.timestamp refl)
+
+-- an expiry has the whole transfer that it settles
+whole : (k : EventKind) (x p : Transfer) → (k ≡ TwoPhaseExpired → x ≡ p)
+    → (stores k || is_same_transfer (shown_transfer x) (shown_transfer p)) ≡ true
+whole SinglePhase x p shown = refl
+whole TwoPhasePending x p shown = refl
+whole TwoPhasePosted x p shown = refl
+whole TwoPhaseVoided x p shown = refl
+whole TwoPhaseExpired x p shown =
+    ap (λ (y : Transfer). is_same_transfer (shown_transfer x) (shown_transfer y)) (sym (shown refl))
+    ∙ is_same (shown_transfer x)
+
+-- the fields of an account that was opened
+abbrev fixed_of : Opened → FixedFields
+fixed_of o = record {
+  user_data_128 = o.request.user_data_128;
+  user_data_64 = o.request.user_data_64;
+  user_data_32 = o.request.user_data_32;
+  ledger = o.request.ledger;
+  code = o.request.code;
+  flags = o.request.flags;
+  timestamp = o.timestamp;
+}
+
+-- no line applies to fields that are the same
+all_same : (id : ℕ) (one other : FixedFields) → one ≡ other → NoneApplies (same_lines id one other)
+all_same id one other is = subst (λ x. NoneApplies (same_lines id one x)) is (
+  same_one one.user_data_128,
+  (
+    same_one one.user_data_64,
+    (
+      same_one one.user_data_32,
+      (
+        same_one one.ledger,
+        (same_one one.code, (same_one one.flags, (same_one one.timestamp, tt))),
+      ),
+    ),
+  ),
+)
+  where
+    same_one : (n : ℕ) → not (n == n) ≡ false
+    same_one n = not_from_true _ (eq-eqb n n refl)
+
+-- a limit that is kept, if the flag is set
+guard : (flag : Bool) (limit sum : ℕ) → (flag ≡ true → sum ≤ limit) → (flag && nat_lt limit sum) ≡ false
+guard true limit sum keeps = le-ltb limit sum (keeps refl)
+guard false limit sum keeps = refl
+
+-- what is found under an id among two accounts, and then the others, if each has what it has to have
+pick : (id d c e f : ℕ) (of_d of_c x : FixedFields) (rest : Option FixedFields) (has : ℕ → FixedFields) → d ≡ e → c ≡ f
+    → of_d ≡ has e → of_c ≡ has f → (rest ≡ Some x → x ≡ has id)
+    → (if id == d then Some of_d else if id == c then Some of_c else rest) ≡ Some x → x ≡ has id
+pick id d c e f of_d of_c x rest has d_is c_is of_d_is of_c_is later found =
+    by (id == d) refl (id == c) refl found
+  where
+    by : (p : Bool) → (id == d) ≡ p → (q : Bool) → (id == c) ≡ q
+        → (if p then Some of_d else if q then Some of_c else rest) ≡ Some x → x ≡ has id
+    by true p_is q q_is found =
+        let same : of_d ≡ x = cc in
+        sym same ∙ of_d_is ∙ ap has (sym (eqb-true id d p_is ∙ d_is))
+    by false p_is true q_is found =
+        let same : of_c ≡ x = cc in
+        sym same ∙ of_c_is ∙ ap has (sym (eqb-true id c q_is ∙ c_is))
+    by false p_is false q_is found = later found
+
+-- what events show of an account first, if each entry has the ledger of its accounts
+first_from : (h : History) (es : List Entry) → AllByRecursion (HasAccounts h) es → AllByRecursion (HasLedger h) es
+    → (id : ℕ) (x : FixedFields)
+    → lookup (nat_eq id) (flat_map accounts_of (map (event_of h) es)) ≡ Some x → x ≡ fixed_of (account_of h id)
+first_from h [] known ledgers id x found = cc
+first_from h (e ∷ es) known ledgers id x found =
+    let d = e.transfer.debit_account_id in
+    let c = e.transfer.credit_account_id in
+    let event = event_of h e in
+    pick id event.debit_account.id event.credit_account.id d c (fixed_fields e.transfer.ledger event.debit_account)
+    (fixed_fields e.transfer.ledger event.credit_account) x
+    (lookup (nat_eq id) (flat_map accounts_of (map (event_of h) es))) (λ n. fixed_of (account_of h n))
+    (id_found h d _ refl known.0.0) (id_found h c _ refl known.0.1)
+    (ap (λ n. record (fixed_of (account_of h d)) { ledger = n }) ledgers.0.debit)
+    (ap (λ n. record (fixed_of (account_of h c)) { ledger = n }) ledgers.0.credit)
+    (first_from h es known.1 ledgers.1 id x) found
+
+-- so what the events of a history show of an account first is what the account is
+first_fields : (h : History) → IsSound h → IsKept h → (id : ℕ) (x : FixedFields)
+    → fields_before (events h) id ≡ Some x → x ≡ fixed_of (account_of h id)
+first_fields h sound kept id x found = first_from h h.entries sound.known kept.ledgers id x found
+
+-- an expiry of a transfer whose time is up, and a post or a void of one whose time isn't
+has_timeout : (storing zero up : Bool) → (storing ≡ false → (not zero && up) ≡ true) → (not storing && zero) ≡ false
+has_timeout true zero up is = refl
+has_timeout false true up is = let no = is refl in cc
+has_timeout false false up is = refl
+
+not_too_soon : (storing zero : Bool) (t end : ℕ) → (storing ≡ false → (not zero && nat_le end t) ≡ true)
+    → (not storing && nat_lt t end) ≡ false
+not_too_soon true zero t end is = refl
+not_too_soon false zero t end is = le-ltb t end (leb-true end t (and_parts (not zero) (nat_le end t) (is refl)).1)
+
+not_too_late : (storing up : Bool) → (storing ≡ true → up ≡ false) → (storing && up) ≡ false
+not_too_late true up is = is refl
+not_too_late false up is = refl
+
+-- the events of entries end within a chain if these do, and at the same timestamp
+same_chain : (h : History) (b : Bool) (es : List Entry) → linked_from b (map (event_of h) es) ≡ links_from b es
+same_chain h b [] = refl
+same_chain h b (e ∷ es) = same_chain h (links e) es
+
+same_end : (h : History) (t : ℕ) (es : List Entry) → last_timestamp_from t (map (event_of h) es) ≡ end_from t es
+same_end h t [] = refl
+same_end h t (e ∷ es) = same_end h e.timestamp es
+
 -- one more entry
 module _ (h : History) (e : Entry) (sound : IsSound h) (follows : Follows h e) (after : h.last < e.timestamp)
-    (audited : IsAudited h) where
+    (next : IsSound (pushed h e)) (enters : Enters h e) (kept : IsKept h) (audited : IsAudited h) where
   -- its event
   abbrev event : Event
   event = event_of (pushed h e) e
@@ -71,6 +219,14 @@ module _ (h : History) (e : Entry) (sound : IsSound h) (follows : Follows h e) (
 
   apart : event.debit_account.id ≢ event.credit_account.id
   apart same = follows.apart (sym debit_id ∙ same ∙ credit_id)
+
+  -- an entry that is stored has its accounts too, as the history has them
+  ids_of : (x : Entry) (id : ℕ) → stored h id ≡ Some x
+      → ((event_of h x).debit_account.id ≡ x.transfer.debit_account_id)
+      × ((event_of h x).credit_account.id ≡ x.transfer.credit_account_id)
+  ids_of x id there =
+      let known : HasAccounts h x = stored_has (HasAccounts h) h id x sound.known there in
+      (id_found h x.transfer.debit_account_id _ refl known.0, id_found h x.transfer.credit_account_id _ refl known.1)
 
   -- the id of the pending transfer that it settles
   abbrev named_id : ℕ
@@ -117,6 +273,188 @@ module _ (h : History) (e : Entry) (sound : IsSound h) (follows : Follows h e) (
           (ap (is_settled (events h)) (same_id ∙ sym named)
           ∙ unsettled h of.pending.transfer sound.past of.unsettled)
       by false is = and_left (settles e.kind) _ is
+
+  -- the pending transfer that it settles has its accounts, its ledger and its code, and an amount that it may have
+  is_settling : NoneApplies (settling_lines (settled_event (events h) event) event)
+  is_settling = by (settles e.kind) refl
+    where
+      by : (b : Bool) → settles e.kind ≡ b → NoneApplies (settling_lines (settled_event (events h) event) event)
+      by false is =
+          rw (ap (λ b. if b then open_event (events h) named_id else None) is) tt
+      by true is =
+          let of : SettlesOpen h e = follows.settling is in
+          let x : Entry = of.pending in
+          let keeps : KeepsFields e x.transfer = enters.settled is x of.settles.named in
+          let ids = ids_of x (settled_id e.kind e.transfer) of.settles.named in
+          let unsettled_yet : is_settled (events h) named_id ≡ false =
+          sym (ap (λ b. b && is_settled (events h) named_id) is) ∙ is_unsettled in
+          let shown : settled_event (events h) event ≡ Some (event_of h x) =
+          ap (λ b. if b then open_event (events h) named_id else None) is
+          ∙ ap (λ b. if b then None else pending_event (events h) named_id) unsettled_yet
+          ∙ ap (pending_event (events h)) same_id
+          ∙ pending_event-events h (settled_id e.kind e.transfer) x of.settles.named of.settles.pending in
+          rw shown (
+            not_from_true _ (and_from _ _ (and_from _ _ (and_from _ _ (and_from _ _
+                (eq-eqb _ _ (debit_id ∙ of.settles.debit ∙ sym ids.0))
+                (eq-eqb _ _ (credit_id ∙ of.settles.credit ∙ sym ids.1)))
+                (eq-eqb _ _ keeps.ledger)) (eq-eqb _ _ keeps.code))
+                (whole e.kind e.transfer x.transfer of.settles.shown)),
+            (
+              not_from_true _ keeps.amount,
+              (
+                has_timeout (stores e.kind) _ _ keeps.ended,
+                (
+                  not_too_soon (stores e.kind) _ e.timestamp (expires_at x.transfer) keeps.ended,
+                  (not_too_late (stores e.kind) _ keeps.timely, tt),
+                ),
+              ),
+            ),
+          )
+
+  -- the transfer as a request, and its accounts as requests
+  asked_is : asked_transfer event ≡ asked e.transfer
+  asked_is = ap₂ (λ d c. let r : NewTransfer = record (asked e.transfer) { debit_account_id = d; credit_account_id = c } in r)
+      debit_id credit_id
+
+  debit_asked : asked_account event.ledger event.debit_account
+      ≡ (account_of h e.transfer.debit_account_id).request
+  debit_asked =
+      ap (λ n. let a : NewAccount = record (account_of h e.transfer.debit_account_id).request { ledger = n } in a)
+      enters.ledger.debit
+
+  credit_asked : asked_account event.ledger event.credit_account
+      ≡ (account_of h e.transfer.credit_account_id).request
+  credit_asked =
+      ap (λ n. let a : NewAccount = record (account_of h e.transfer.credit_account_id).request { ledger = n } in a)
+      enters.ledger.credit
+
+  -- both accounts were accepted, before the event
+  created : (id : ℕ) → IsSome (opened h id) → IsCreated h.last (account_of h id)
+  created id there = by (opened h id) refl there
+    where
+      by : (o : Option Opened) → opened h id ≡ o → IsSome o → IsCreated h.last (unwrap_or o nobody)
+      by None is some = cc
+      by (Some o) is some =
+          (find_all (λ (x : Opened). x.request.id == id) (IsCreated h.last) h.accounts o kept.accounts is).1
+
+  -- its fields are those that a ledger lets a request have
+  account_none : (a : EventAccount) (request : NewAccount) → asked_account event.ledger a ≡ request
+      → account_refusal request ≡ None → NoneApplies (shape_account_lines event.ledger a)
+  account_none a request is none = rw (ap account_refusal is ∙ none) tt
+
+  ledger_some : (event.ledger == 0) ≡ false
+  ledger_some =
+      ap (λ n. n == 0) enters.ledger.debit
+      ∙ test_fails account_number account.LedgerMustNotBeZero
+      (account_shape_lines (account_of h e.transfer.debit_account_id).request)
+      (created e.transfer.debit_account_id follows.accounts.0).0
+
+  has_shape : NoneApplies (shape_lines event)
+  has_shape =
+      none_of_both (if stores e.kind then stored_lines event else [])
+      (shape_account_lines event.ledger event.debit_account ++ shape_account_lines event.ledger event.credit_account)
+      (by (stores e.kind) refl)
+      (none_of_both (shape_account_lines event.ledger event.debit_account)
+      (shape_account_lines event.ledger event.credit_account)
+      (account_none event.debit_account _ debit_asked (created e.transfer.debit_account_id follows.accounts.0).0)
+      (account_none event.credit_account _ credit_asked (created e.transfer.credit_account_id follows.accounts.1).0))
+    where
+      stored_none : stores e.kind ≡ true → NoneApplies (stored_lines event)
+      stored_none is =
+          let shape : HasShape e = enters.shape is in
+          none_of_both (refused_as (TransferShape event.transfer.id) (transfer_refusal (asked_transfer event))) (
+          (event.ledger == 0, TransferShape event.transfer.id transfer.LedgerMustNotBeZero) ∷
+          (event.transfer.code == 0, TransferShape event.transfer.id transfer.CodeMustNotBeZero) ∷
+          (not (is_of_kind event.kind (asked_transfer event)), OtherKind event.transfer.id) ∷ (
+            not (event.transfer.timestamp == event.timestamp),
+            OtherTimestamp event.transfer.id event.transfer.timestamp event.timestamp,
+          ) ∷
+          []
+          )
+          (rw (ap transfer_refusal asked_is ∙ shape.fields) tt) (
+            ledger_some,
+            (
+              enters.ledger.code,
+              (
+                not_from_true _ (ap (is_of_kind e.kind) asked_is ∙ shape.kind),
+                (not_from_true _ (eq-eqb e.transfer.timestamp e.timestamp (follows.dated is)), tt),
+              ),
+            ),
+          )
+
+      by : (b : Bool) → stores e.kind ≡ b → NoneApplies (if b then stored_lines event else [])
+      by true is = stored_none is
+      by false is = tt
+
+  -- the accounts' fields are the same as ever, and both were created before the event
+  fields_none : (before : Option FixedFields) (a : EventAccount) (o : Opened)
+      → fixed_fields event.ledger a ≡ fixed_of o → ((x : FixedFields) → before ≡ Some x → x ≡ fixed_of o)
+      → NoneApplies (fields_lines before event.ledger a)
+  fields_none before a o now_is before_is = all_same a.id _ _ (by before refl)
+    where
+      by : (b : Option FixedFields) → before ≡ b → fixed_fields event.ledger a ≡ unwrap_or b (fixed_fields event.ledger a)
+      by None is = refl
+      by (Some x) is = now_is ∙ sym (before_is x is)
+
+  has_fields : NoneApplies (fixed_lines (events h) event)
+  has_fields =
+      let d = e.transfer.debit_account_id in
+      let c = e.transfer.credit_account_id in
+      let d_there = created d follows.accounts.0 in
+      let c_there = created c follows.accounts.1 in
+      let first = fields_lines (fields_before (events h) event.debit_account.id) event.ledger event.debit_account in
+      let second = fields_lines (fields_before (events h) event.credit_account.id) event.ledger event.credit_account in
+      none_of_both (first ++ second) (created_lines event)
+      (none_of_both first second
+      (fields_none _ event.debit_account (account_of h d)
+      (ap (λ n. record (fixed_of (account_of h d)) { ledger = n }) enters.ledger.debit)
+      (λ x is. first_fields h sound kept d x (sym (ap (fields_before (events h)) debit_id) ∙ is)))
+      (fields_none _ event.credit_account (account_of h c)
+      (ap (λ n. record (fixed_of (account_of h c)) { ledger = n }) enters.ledger.credit)
+      (λ x is. first_fields h sound kept c x (sym (ap (fields_before (events h)) credit_id) ∙ is)))) (
+        not_from_true _ (lt-ltb (account_of h d).timestamp e.timestamp (let b = d_there.1 in omega arith)),
+        (not_from_true _ (lt-ltb (account_of h c).timestamp e.timestamp (let b = c_there.1 in omega arith)), tt),
+      )
+
+  -- the sums of both accounts are within their bounds
+  bounds_none : (id : ℕ) (a : EventAccount) → a.flags ≡ (account_of h id).request.flags
+      → balances_of a ≡ balances (pushed h e) id e.timestamp → NoneApplies (limit_lines a)
+  bounds_none id a flags_are sums_are =
+      let limited : IsLimited a.flags (balances_of a) =
+      subst (λ f. IsLimited f (balances_of a)) (sym flags_are)
+      (subst (IsLimited (account_of h id).request.flags) (sym sums_are)
+      ((kept-pushed h e sound follows after enters kept).limits id)) in
+      let bounded = subst (λ (b : Balances). (b.debits_pending + b.debits_posted ≤ max_128)
+      × (b.credits_pending + b.credits_posted ≤ max_128)) (sym sums_are) (next.bounded id) in (
+        le-ltb max_128 (all_debits a) bounded.0,
+        (
+          le-ltb max_128 (all_credits a) bounded.1,
+          (
+            guard (has_flag a.flags DEBITS_MUST_NOT_EXCEED_CREDITS) a.credits_posted (all_debits a) limited.debits,
+            (guard (has_flag a.flags CREDITS_MUST_NOT_EXCEED_DEBITS) a.debits_posted (all_credits a) limited.credits, tt),
+          ),
+        ),
+      )
+
+  -- after a linked transfer it stores one, one nanosecond later
+  has_next : NoneApplies (chain_lines (ends_in_chain (events h)) (last_timestamp (events h)) event)
+  has_next = (by (is_in_chain h) refl, tt)
+    where
+      by : (b : Bool) → is_in_chain h ≡ b
+          → (ends_in_chain (events h) && not (stores e.kind && (e.timestamp == last_timestamp (events h) + 1))) ≡ false
+      by true is =
+          let next = enters.chain is in
+          let at : e.timestamp ≡ last_timestamp (events h) + 1 =
+          next.1 ∙ ap (λ n. n + 1) (sym (same_end h 0 h.entries)) in
+          and_right (ends_in_chain (events h)) _
+          (not_from_true _ (and_from (stores e.kind) _ next.0 (eq-eqb e.timestamp (last_timestamp (events h) + 1) at)))
+      by false is = and_left (ends_in_chain (events h)) _ (same_chain h false h.entries ∙ is)
+
+  has_limits : NoneApplies (limits_lines event)
+  has_limits =
+      none_of_both (limit_lines event.debit_account) (limit_lines event.credit_account)
+      (bounds_none e.transfer.debit_account_id event.debit_account refl refl)
+      (bounds_none e.transfer.credit_account_id event.credit_account refl refl)
 
   -- it releases what its entry releases
   same_released : released (events h) event ≡ (effect_of h e).released
@@ -194,9 +532,14 @@ module _ (h : History) (e : Entry) (sound : IsSound h) (follows : Follows h e) (
       record {
         later = omega (arith, past, after);
         apart = apart;
+        shape = has_shape;
+        fixed = has_fields;
         new = is_new;
         pending = is_pending;
         unsettled = is_unsettled;
+        settling = is_settling;
+        chain = has_next;
+        limits = has_limits;
         debited = debited;
         credited = credited;
       }
@@ -270,9 +613,31 @@ audited-account h o sound later audited =
 audited-closed : (h : History) (closed : Bool) → IsAudited h → IsAudited (record h { closed = closed })
 audited-closed h closed audited = record { accepted = audited.accepted; shown = audited.shown }
 
+-- the events of a history are accepted, and its accounts and entries are as they have to be
+abbrev IsAuditable : History → Type 0
+IsAuditable h = IsKept h × IsAudited h
+
+-- one more entry
+auditable-pushed : (h : History) (e : Entry) → IsSound h → Follows h e → h.last < e.timestamp → IsSound (pushed h e)
+    → Enters h e → IsAuditable h → IsAuditable (pushed h e)
+auditable-pushed h e sound follows after next enters is = (
+  kept-pushed h e sound follows after enters is.0,
+  audited-pushed h e sound follows after next enters is.0 is.1,
+)
+
 -- so the events of every legal history are accepted, and each prefix of them
 pub ledgers_are_accepted : LedgersAreAccepted
 ledgers_are_accepted h count legal =
-    let audited : IsAudited h =
-    kept_by_legal IsAudited audited-empty audited-pushed audited-account audited-timed audited-closed h legal in
-    prefixes_are_accepted (events h) count audited.accepted
+    let auditable : IsAuditable h =
+    kept_by_legal IsAuditable (kept-empty, audited-empty)
+    (λ g r t sound later chained none next is.
+    auditable-pushed g (entry_of g r t) sound (Follows-accepted g r t sound later none) later next
+    (enters-accepted g r t sound later is.0.ledgers chained none) is)
+    (λ g p t sound later is_open up unchained next is.
+    auditable-pushed g (expiry p t) sound (Follows-open g p t sound is_open) later next
+    (enters-expiry g p t is.0.ledgers is_open up unchained) is)
+    (λ g a t sound later none is.
+    (kept-account g a t sound later none is.0, audited-account g (opened_by a t) sound (omega arith) is.1))
+    (λ g t sound later is. (kept-timed g t sound later is.0, audited-timed g t sound later is.1))
+    (λ g closed is. (kept-closed g closed is.0, audited-closed g closed is.1)) h legal in
+    prefixes_are_accepted (events h) count auditable.1.accepted

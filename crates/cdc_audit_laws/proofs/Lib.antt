@@ -4,6 +4,8 @@ pub mod Streams
 pub mod Sums
 pub mod Changes
 pub mod Keeping
+pub mod Requests
+pub mod Kept
 pub mod Entries
 pub mod Ledgers
 mod Examples

@@ -3,9 +3,11 @@ use Rattle.std.specs.Prelude.{ℕ, Bool, List, [], ◌++◌, codes, if◌then◌
 use Rattle.serde_json.specs.Data.{Data, Members, string, no_members, member}
 use Rattle.cdc_message.specs.Values.{narrow, wide}
 use Rattle.cdc_subscriber.specs.SubscriberState.{SubscriberState}
-use Rattle.cdc_audit.specs.Texts.{field_name, refusal_name}
+use Rattle.cdc_types.specs.Results.{account_name, transfer_name}
+use Rattle.cdc_audit.specs.Texts.{field_name, fixed_name, refusal_name, side_name}
 use Rattle.cdc_audit.specs.declared.refusals.Refusal.{Refusal}
-use Rattle.cdc_audit.specs.declared.refusals.Refusal.TheVariants.{AfterEnd, NotLater, OneAccount, KnownId, NotPending, Settled, Balance}
+use Rattle.cdc_audit.specs.declared.refusals.Refusal.TheVariants.{AfterEnd, NotLater, OneAccount, TransferShape, OtherKind, OtherTimestamp, AccountShape, AccountField, CreatedLater}
+use Rattle.cdc_audit.specs.declared.refusals.Refusal.TheVariants.{KnownId, NotPending, Settled, OtherFields, Amount, NoTimeout, TooSoon, TooLate, BrokenChain, TooLarge, Limit, Balance}
 use Rattle.cdc_audit.specs.declared.streams.AuditStop.{AuditStop}
 use Rattle.cdc_audit.specs.declared.streams.AuditStop.TheVariants.{AtEnd, Refused, BadLine}
 use Rattle.cdc_json.specs.Lines.{json_line, json_lines, line_of, subscriber_values}
@@ -25,9 +27,57 @@ refusal_members (AfterEnd timestamp) = member (codes "timestamp") (wide timestam
 refusal_members (NotLater timestamp last) =
     member (codes "timestamp") (wide timestamp) (member (codes "last") (wide last) no_members)
 refusal_members (OneAccount account) = member (codes "account") (wide account) no_members
+refusal_members (TransferShape transfer why) =
+    member (codes "transfer") (wide transfer) (member (codes "result") (string (transfer_name why)) no_members)
+refusal_members (OtherKind transfer) = member (codes "transfer") (wide transfer) no_members
+refusal_members (OtherTimestamp transfer shown timestamp) =
+    member (codes "transfer") (wide transfer) (
+    member (codes "shown") (wide shown) (
+    member (codes "timestamp") (wide timestamp)
+    no_members))
+refusal_members (AccountShape account why) =
+    member (codes "account") (wide account) (member (codes "result") (string (account_name why)) no_members)
+refusal_members (AccountField it) =
+    member (codes "account") (wide it.account) (
+    member (codes "field") (string (fixed_name it.field)) (
+    member (codes "shown") (wide it.shown) (
+    member (codes "before") (wide it.before)
+    no_members)))
+refusal_members (CreatedLater account created timestamp) =
+    member (codes "account") (wide account) (
+    member (codes "created") (wide created) (
+    member (codes "timestamp") (wide timestamp)
+    no_members))
 refusal_members (KnownId transfer) = member (codes "transfer") (wide transfer) no_members
 refusal_members (NotPending transfer) = member (codes "transfer") (wide transfer) no_members
 refusal_members (Settled transfer) = member (codes "transfer") (wide transfer) no_members
+refusal_members (OtherFields transfer) = member (codes "transfer") (wide transfer) no_members
+refusal_members (Amount amount transfer held) =
+    member (codes "transfer") (wide transfer) (
+    member (codes "amount") (wide amount) (
+    member (codes "held") (wide held)
+    no_members))
+refusal_members (NoTimeout transfer) = member (codes "transfer") (wide transfer) no_members
+refusal_members (TooSoon transfer timestamp end) =
+    member (codes "transfer") (wide transfer) (
+    member (codes "timestamp") (wide timestamp) (
+    member (codes "end") (wide end)
+    no_members))
+refusal_members (TooLate transfer timestamp end) =
+    member (codes "transfer") (wide transfer) (
+    member (codes "timestamp") (wide timestamp) (
+    member (codes "end") (wide end)
+    no_members))
+refusal_members (BrokenChain timestamp last) =
+    member (codes "timestamp") (wide timestamp) (member (codes "last") (wide last) no_members)
+refusal_members (TooLarge account side) =
+    member (codes "account") (wide account) (member (codes "side") (string (side_name side)) no_members)
+refusal_members (Limit it) =
+    member (codes "account") (wide it.account) (
+    member (codes "side") (string (side_name it.side)) (
+    member (codes "sum") (wide it.sum) (
+    member (codes "limit") (wide it.limit)
+    no_members)))
 refusal_members (Balance it) =
     member (codes "account") (wide it.account) (
     member (codes "field") (string (field_name it.field)) (

@@ -1,10 +1,28 @@
-use Rattle.std.proofs.Common.{ap, ◌∙◌}
-use Rattle.std.specs.Option.{option_or}
-use Rattle.cdc_audit.proofs.StandLemmas.{by_parts}
+use Rattle.cdc_audit.specs.Checks.{balances_lines, fixed_lines, transfer_lines}
+use Rattle.cdc_audit.specs.EventShapes.{shape_lines}
+use Rattle.cdc_audit.specs.Limits.{limits_lines}
+use Rattle.cdc_audit.specs.Rules.{chain_lines, order_lines}
+use Rattle.cdc_audit.specs.Settling.{settling_lines}
+use Rattle.std.proofs.Common.{◌++◌}
+use Rattle.cdc_audit.proofs.StandLemmas.{either_is}
 use Rattle.cdc_audit.proofs.checks.refusal_by.Goals as goal
 
 pub returns : goal.returns
 returns c =
-    c.or-2.ensures ∙ ap (λ o. option_or o c.balances_refusal.result) c.or.ensures
-    ∙ by_parts c.args.facts.now c.args.event.now c.order_refusal.result c.transfer_refusal.result
-    c.balances_refusal.result c.order_refusal.ensures c.transfer_refusal.ensures c.balances_refusal.ensures
+    let facts = c.args.facts.now in
+    let e = c.args.event.now in
+    let order = order_lines facts.last e in
+    let shape = shape_lines e in
+    let fixed = fixed_lines facts e in
+    let transfer = transfer_lines facts e in
+    let settling = settling_lines facts.open_one e in
+    let limits = chain_lines facts.linked facts.last e ++ limits_lines e in
+    either_is _ _ _ (order ++ shape ++ fixed ++ transfer ++ settling ++ limits) (balances_lines facts e) c.or-7.ensures
+    (either_is _ _ _ (order ++ shape ++ fixed ++ transfer ++ settling) limits c.or-6.ensures
+    (either_is _ _ _ (order ++ shape ++ fixed ++ transfer) settling c.or-4.ensures
+    (either_is _ _ _ (order ++ shape ++ fixed) transfer c.or-3.ensures
+    (either_is _ _ _ (order ++ shape) fixed c.or-2.ensures
+    (either_is _ _ _ order shape c.or.ensures c.order_refusal.ensures c.shape_refusal.ensures) c.fixed_refusal.ensures)
+    c.transfer_refusal.ensures) c.settling_refusal.ensures)
+    (either_is _ _ _ (chain_lines facts.linked facts.last e) (limits_lines e) c.or-5.ensures c.chain_refusal.ensures
+    c.limits_refusal.ensures)) c.balances_refusal.ensures

@@ -4,8 +4,8 @@ use Rattle.cdc_subscriber.specs.Steps.{next_state}
 use Rattle.cdc_types.specs.Lines.{first_line}
 use Rattle.cdc_audit.specs.declared.checks.Facts.{Facts}
 use Rattle.cdc_audit.specs.Checks.{lines, released}
-use Rattle.cdc_audit.specs.Standing.{AuditorState, with_own, with_settled}
-use Rattle.cdc_audit.proofs.StandLemmas.{accepts, answers, unless_error}
+use Rattle.cdc_audit.specs.Standing.{AuditorState, open_then, with_own, with_settled}
+use Rattle.cdc_audit.proofs.StandLemmas.{accepts, accounts_from, answers, unless_error}
 use Rattle.cdc_audit.proofs.auditor.Auditor.take_event.Goals as goal
 
 pub returns-in-Some-clause-answer : goal.returns-in-Some-clause-answer
@@ -25,7 +25,13 @@ returns-clause-answer c = λ state stands.
 pub returns-clause-accepted : goal.returns-clause-accepted
 returns-clause-accepted c = λ state stands _.
     let e = c.args.event.now in
-    accepts c.args.self.now (record { kept = c.take_event.new.self; transfers = c.keep.new.transfers.entries }) state e
+    accepts c.args.self.now (record {
+      kept = c.take_event.new.self;
+      transfers = c.keep.new.transfers.entries;
+      open_ones = c.keep_open.new.events.entries;
+      fields = c.keep_accounts.new.fields.entries;
+      linked = c.is_linked-self-inside.result;
+    }) state e
     (sym (ap (λ (a : AuditorState). a.kept.ended) c.self.view_is) ∙ (sym c.ended.ensures ∙ c.if-ended.false))
     (sym (ap (λ (facts : Facts). first_line (lines facts e)) c.facts-facts.ensures) ∙ sym c.refusal_by.ensures
     ∙ c.in_default.is)
@@ -36,4 +42,10 @@ returns-clause-accepted c = λ state stands _.
     (c.in_ok-reserve.ensures.entries ∙ ap (λ (a : AuditorState). a.transfers) c.self.view_is)
     ∙ ap (with_settled (with_own c.args.self.now.transfers e) e)
     (c.released.ensures ∙ ap (λ (facts : Facts). released facts e) c.facts-facts.ensures))
-    stands
+    (λ id. c.keep_open.ensures id
+    ∙ ap (λ es. open_then es e id)
+    (c.in_ok-reserve-2.ensures.entries ∙ ap (λ (a : AuditorState). a.open_ones) c.self.view_is))
+    (accounts_from _ _ _ _ e _
+    (c.in_ok-reserve-3.ensures.entries ∙ ap (λ (a : AuditorState). a.fields) c.self.view_is) c.facts-facts.ensures
+    c.keep_accounts.ensures)
+    c.is_linked-self-inside.ensures stands

@@ -1,0 +1,12 @@
+use Rattle.std.specs.Prelude.{codes, decimal}
+use Rattle.cdc_audit.specs.Texts.{around}
+use Rattle.cdc_audit.proofs.TextLemmas.{on_ok_then, pieces}
+use Rattle.cdc_audit.proofs.texts.push_times.Goals as goal
+
+pub returns : goal.returns
+returns c =
+    on_ok_then c.push_number-2.result c.push_number-2.ensures
+    (λ last. pieces _ c.push_around.new.text.items _ (around c.args.before.now c.args.id c.args.between.now) _
+    c.in_ok-push_around.ensures
+    (pieces _ c.push_number.new.text.items _ (decimal c.args.one) _ c.in_ok-push_number.ensures
+    (pieces _ c.push.new.text.items _ (codes ", in an event at ") _ c.in_ok-push.ensures last)))
