@@ -1,0 +1,208 @@
+"""What the checks with a broker share: scripts, bridges and consumers as processes, and what books they have to come to."""
+import contextlib
+import json
+import os
+import pathlib
+import re
+import signal
+import subprocess
+import sys
+
+import client
+from cluster import wait_until
+from console import Stop
+
+HERE = pathlib.Path(__file__).resolve().parent
+SECONDS = 120
+CONFIRMED = re.compile(r'^bridge: (\d+) events confirmed', re.MULTILINE)
+APPLIED = re.compile(r'^subscriber 1 applied (\d+) ', re.MULTILINE)
+# Reads what a program prints, and waits after some lines until somebody opens the pipe.
+HELD = """\
+#!{python}
+import subprocess, sys
+with subprocess.Popen(['{program}', *sys.argv[1:]], stdout=subprocess.PIPE) as process:
+    for number, line in enumerate(process.stdout):
+        if sys.argv[1] == 'messages' and number == {lines}:
+            sys.stdout.flush()
+            open('{pipe}', 'rb').read()
+        sys.stdout.buffer.write(line)
+sys.exit(process.returncode)
+"""
+
+
+class Failed(Exception):
+    """What a check found."""
+
+
+def same(what, wanted, found):
+    if wanted != found:
+        raise Failed(f'{what}\n  wanted: {wanted!r:.600}\n  found:  {found!r:.600}')
+
+
+def script_of(events, subscribers=('all', 'any transfer_code=2 event_type=two_phase_pending')):
+    """A script of so many events between four accounts: most transfers are single, some pending, posted and voided."""
+    yield from (f'subscriber {it}' for it in subscribers)
+    yield 'accounts 1000'
+    yield from (f'account id={it} ledger=700 code=10' for it in range(1, 5))
+    for at in range(events):
+        if at % 1000 == 0:
+            yield f'transfers {2000 + at}'
+        if at % 10 == 9:
+            yield f'transfer id={at + 1} pending_id={at} amount={at % 5} flags=4'
+        else:
+            accounts = f'debit_account_id={at % 3 + 1} credit_account_id={at % 3 + 2}'
+            yield f'transfer id={at + 1} {accounts} amount={at % 97} ledger=700 code={at % 2 + 1} flags={2 if at % 10 == 8 else 0}'
+
+
+class Actor:
+    """A bridge or a consumer: a process whose standard error stands in a file."""
+
+    def __init__(self, log, script, *arguments):
+        self.log = log
+        command = [sys.executable, HERE / script, *map(str, arguments)]
+        with open(log, 'ab') as errors:
+            self.process = subprocess.Popen(
+                command, stdin=subprocess.DEVNULL, stdout=subprocess.PIPE, stderr=errors, text=True, start_new_session=True)
+
+    def said(self):
+        return self.log.read_text(errors='replace')
+
+    def is_over(self):
+        return self.process.poll() is not None
+
+    def kill(self, whole=False):
+        """Kills the process, or all that it has started too."""
+        with contextlib.suppress(ProcessLookupError):
+            os.killpg(self.process.pid, signal.SIGKILL) if whole else self.process.kill()
+        self.process.wait()
+
+    def send(self, number):
+        with contextlib.suppress(ProcessLookupError):
+            os.killpg(self.process.pid, number)
+
+    def wait(self, seconds=SECONDS):
+        """The status and what was printed, at its end."""
+        try:
+            printed, _ = self.process.communicate(timeout=seconds)
+        except subprocess.TimeoutExpired:
+            self.kill(whole=True)
+            raise Failed(f'{self.log.name} did not end within {seconds} s: {self.said()[-500:]}') from None
+        said = self.said()
+        if 'Traceback' in said:
+            raise Failed(f'{self.log.name} has a traceback: {said[-2000:]}')
+        return self.process.returncode, printed
+
+
+class Stream:
+    """A script on its way through a cluster: its bridge, its consumers, and the books that they have to come to."""
+
+    def __init__(self, cluster, program, room, name, script):
+        self.cluster, self.program, self.name = cluster, program, name
+        self.room = room / name
+        self.room.mkdir()
+        self.script = self.room / 'script'
+        self.script.write_text(script if isinstance(script, str) else '\n'.join(script) + '\n')
+        self.books = self.expected()
+        self.actors = []
+
+    def print(self, *arguments):
+        """What the program prints of the script."""
+        return subprocess.run([self.program, *arguments], capture_output=True, text=True, check=True).stdout
+
+    def expected(self):
+        """What `books` prints of each subscriber, as `follow` prints it: its subscriber is always number 1."""
+        found = re.split(r'^subscriber \d+ ', self.print('books', self.script), flags=re.MULTILINE)[1:]
+        return {place: f'subscriber 1 {text}' for place, text in enumerate(found, 1)}
+
+    @property
+    def places(self):
+        return list(self.books)
+
+    @property
+    def urls(self):
+        return [it for url in self.cluster.urls for it in ('--url', url)]
+
+    def start(self, log, script, *arguments):
+        actor = Actor(self.room / log, script, *arguments, '--name', self.name, *([] if '--url' in arguments else self.urls))
+        self.actors.append(actor)
+        return actor
+
+    def bridge(self, *arguments, program=None, log='bridge'):
+        return self.start(log, 'bridge.py', self.script, '--program', program or self.program, '--confirm-timeout', 10, *arguments)
+
+    def consumer(self, place, *arguments, log=None, book=None):
+        book = book or self.book(place)
+        return self.start(log or f'take-{place}', 'take.py', place, '--program', self.program, '--book', book, '--every', 20, *arguments)
+
+    def book(self, place):
+        return self.room / f'book-{place}'
+
+    def hold(self, lines):
+        """The program, but `messages` waits after so many lines; and what lets it go on."""
+        held, pipe = self.room / f'held-{lines}', self.room / f'pipe-{lines}'
+        os.mkfifo(pipe)
+        held.write_text(HELD.format(python=sys.executable, program=self.program, lines=lines, pipe=pipe))
+        held.chmod(0o755)
+        return held, lambda: pipe.open('wb').close()
+
+    def confirmed(self, log='bridge'):
+        """How many events the newest bridge has reported as confirmed."""
+        found = CONFIRMED.findall((self.room / log).read_text(errors='replace'))
+        return int(found[-1]) if found else 0
+
+    def applied(self, place):
+        """How many events the book on the disk has."""
+        try:
+            found = APPLIED.search(self.book(place).read_text())
+        except FileNotFoundError:
+            return 0
+        return int(found[1]) if found else 0
+
+    def ends(self, actor, status, pattern):
+        """An actor has to end with this status, and to report this."""
+        found, printed = actor.wait()
+        if found != status or not re.search(pattern, actor.said()):
+            raise Failed(f'{actor.log.name}: status {found}, not {status}, with {pattern!r}: {printed[:300]} {actor.said()[-800:]}')
+        return printed
+
+    def takes_all(self, place, *arguments, **how):
+        """A consumer of this queue has to come to the book that `books` prints."""
+        printed = self.ends(self.consumer(place, '--gap-timeout', 10, *arguments, **how), 0, '')
+        same(f'the book of subscriber {place}', self.books[place], printed)
+
+    def held_lines(self, place):
+        """What a queue holds, as lines of `messages --queue`; the queue is empty then."""
+        found = []
+        with contextlib.closing(client.connect(client.parameters_of(self.cluster.urls[0], 10))) as connection:
+            channel = connection.channel()
+            while True:
+                delivery, properties, body = channel.basic_get(client.queue_of(self.name, place), auto_ack=True)
+                if delivery is None:
+                    return found
+                found.append(line_of(properties, body.decode()))
+
+    def close(self):
+        """Ends what runs, and deletes the queues."""
+        for actor in self.actors:
+            actor.kill(whole=True)
+        with contextlib.closing(client.connect(client.parameters_of(self.cluster.up().url, 10))) as connection:
+            for queue in [client.queue_of(self.name, it) for it in self.places] + [f'{self.name}.progress']:
+                connection.channel().queue_delete(queue)
+
+
+def line_of(properties, body):
+    """A delivery as the line of `messages --queue` that it was published from."""
+    headers = dict(properties.headers)
+    previous = headers.pop('previous')
+    if properties.type == 'end':
+        return json.dumps({'kind': 'end', 'previous': previous, 'end': True}, separators=(',', ':'))
+    beside = json.dumps({'kind': 'message', 'previous': previous, 'headers': headers, 'timestamp': properties.timestamp}, separators=(',', ':'))
+    return f'{beside[:-1]},"body":{body}}}'
+
+
+def wait_for(what, is_so, seconds=SECONDS):
+    """Polls a state until it is so; a check fails if it never is."""
+    try:
+        wait_until(what, is_so, seconds)
+    except Stop as why:
+        raise Failed(str(why)) from None
