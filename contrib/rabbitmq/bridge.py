@@ -33,14 +33,10 @@ CONTENT_TYPE = 'application/json'
 PERSISTENT = 2
 END = 'end'
 GREATEST, MOST_WINDOW = 2 ** 63 - 1, 1024
-STANDBY_SECONDS = 0.5
+LOCK_SECONDS = 0.2
 # Of the answers that refuse a request, those that are about the connection's or the queue's state, and may change. RabbitMQ
 # has one code for a queue that isn't there and for one whose node is down.
 MISSING = 'no queue '
-
-
-class Locked(Lost):
-    """Another bridge of this name runs."""
 
 
 class QueueProgress:
@@ -83,6 +79,7 @@ class Queues:
         self.progress = FileProgress(arguments.resume) if arguments.resume else QueueProgress(self.name)
         # The newest record of the progress, once it is known; how far the bridge is stands there.
         self.record = None
+        self.waits = False
 
     def prepare(self, session):
         """Locks the name; the first session also declares or checks the queues, and reads the progress."""
@@ -93,19 +90,23 @@ class Queues:
             self.record = self.begin(session)
 
     def lock(self, session):
-        """Takes the lock, an exclusive queue: RabbitMQ deletes it as the connection ends."""
-        queue = f'{self.name}.lock'
+        """Takes the lock, an exclusive queue: RabbitMQ deletes it once the connection has ended. A bridge that has had it waits for
+        that a while, since its own last connection may linger; another one waits only on standby."""
+        queue, deadline = f'{self.name}.lock', time.monotonic() + session.seconds
         while True:
             try:
                 return session.request(f'queue {queue}', 'queue_declare', queue, exclusive=True)
             except Refused as why:
                 if why.code != RESOURCE_LOCKED:
                     raise Stop(f'the broker refuses {why}') from why
-                if self.record is not None:
-                    raise Locked('another bridge of this name runs, or the broker keeps the lock of a lost connection') from why
-                if not self.standby:
+                if self.record is None and not self.standby:
                     raise Stop(f'another bridge of the name {self.name} runs: {why.text}') from why
-            time.sleep(STANDBY_SECONDS)
+                if self.record is not None and time.monotonic() > deadline:
+                    raise Lost(f'another bridge of the name {self.name} runs, or the broker keeps a lost connection') from why
+            if self.record is None and not self.waits:
+                self.waits = True
+                say(f'waits for the end of another bridge of the name {self.name}')
+            time.sleep(LOCK_SECONDS)
 
     def begin(self, session):
         """The record of what is confirmed already. Queues are declared before there is any progress, and never again."""

@@ -198,8 +198,12 @@ class Cluster:
         """A node that accepts connections."""
         return next(node for node in self.nodes if node.process is not None and node.listens())
 
-    def wait(self):
-        """Waits until all nodes are up."""
+    def heal(self):
+        """Starts what was killed, lets go on what was stopped, and waits until all nodes are up."""
+        for node in self.nodes:
+            if node.process is None:
+                node.start()
+            node.send(signal.SIGCONT)
         for node in self.nodes:
             node.wait()
 

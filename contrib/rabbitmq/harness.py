@@ -1,4 +1,5 @@
 """What the checks with a broker share: scripts, bridges and consumers as processes, and what books they have to come to."""
+import bisect
 import contextlib
 import json
 import os
@@ -11,21 +12,26 @@ import sys
 import client
 from cluster import wait_until
 from console import Stop
+from pika.exceptions import AMQPError
 
 HERE = pathlib.Path(__file__).resolve().parent
 SECONDS = 120
-CONFIRMED = re.compile(r'^bridge: (\d+) events confirmed', re.MULTILINE)
+CONFIRMED = re.compile(r'^bridge: \d+ events confirmed, up to (\d+)', re.MULTILINE)
 APPLIED = re.compile(r'^subscriber 1 applied (\d+) ', re.MULTILINE)
 # Reads what a program prints, and waits after some lines until somebody opens the pipe.
 HELD = """\
 #!{python}
-import subprocess, sys
-with subprocess.Popen(['{program}', *sys.argv[1:]], stdout=subprocess.PIPE) as process:
+import os, subprocess, sys
+try:
+  with subprocess.Popen(['{program}', *sys.argv[1:]], stdout=subprocess.PIPE) as process:
     for number, line in enumerate(process.stdout):
         if sys.argv[1] == 'messages' and number == {lines}:
             sys.stdout.flush()
             open('{pipe}', 'rb').read()
         sys.stdout.buffer.write(line)
+    sys.stdout.flush()
+except BrokenPipeError:
+    os._exit(1)
 sys.exit(process.returncode)
 """
 
@@ -48,10 +54,10 @@ def script_of(events, subscribers=('all', 'any transfer_code=2 event_type=two_ph
         if at % 1000 == 0:
             yield f'transfers {2000 + at}'
         if at % 10 == 9:
-            yield f'transfer id={at + 1} pending_id={at} amount={at % 5} flags=4'
+            yield f'transfer id={at + 1} pending_id={at} amount={at % 50} flags=4'
         else:
             accounts = f'debit_account_id={at % 3 + 1} credit_account_id={at % 3 + 2}'
-            yield f'transfer id={at + 1} {accounts} amount={at % 97} ledger=700 code={at % 2 + 1} flags={2 if at % 10 == 8 else 0}'
+            yield f'transfer id={at + 1} {accounts} amount={50 + at % 47} ledger=700 code={at % 2 + 1} flags={2 if at % 10 == 8 else 0}'
 
 
 class Actor:
@@ -63,9 +69,14 @@ class Actor:
         with open(log, 'ab') as errors:
             self.process = subprocess.Popen(
                 command, stdin=subprocess.DEVNULL, stdout=subprocess.PIPE, stderr=errors, text=True, start_new_session=True)
+        self.printed = None
 
     def said(self):
         return self.log.read_text(errors='replace')
+
+    def failures(self):
+        """The end of what was reported, without how far it was."""
+        return '\n'.join(it for it in self.said().splitlines() if not CONFIRMED.match(it))[-1500:]
 
     def is_over(self):
         return self.process.poll() is not None
@@ -83,14 +94,15 @@ class Actor:
     def wait(self, seconds=SECONDS):
         """The status and what was printed, at its end."""
         try:
-            printed, _ = self.process.communicate(timeout=seconds)
+            if self.printed is None:
+                self.printed, _ = self.process.communicate(timeout=seconds)
         except subprocess.TimeoutExpired:
             self.kill(whole=True)
-            raise Failed(f'{self.log.name} did not end within {seconds} s: {self.said()[-500:]}') from None
+            raise Failed(f'{self.log.name} did not end within {seconds} s: {self.failures()}') from None
         said = self.said()
         if 'Traceback' in said:
-            raise Failed(f'{self.log.name} has a traceback: {said[-2000:]}')
-        return self.process.returncode, printed
+            raise Failed(f'{self.log.name} has a traceback: {self.failures()}')
+        return self.process.returncode, self.printed
 
 
 class Stream:
@@ -103,6 +115,7 @@ class Stream:
         self.script = self.room / 'script'
         self.script.write_text(script if isinstance(script, str) else '\n'.join(script) + '\n')
         self.books = self.expected()
+        self.timestamps = [int(json.loads(body)['timestamp']) for body in self.print('messages', self.script).splitlines()[1::2]]
         self.actors = []
 
     def print(self, *arguments):
@@ -146,9 +159,9 @@ class Stream:
         return held, lambda: pipe.open('wb').close()
 
     def confirmed(self, log='bridge'):
-        """How many events the newest bridge has reported as confirmed."""
+        """How many events are confirmed, as far as a bridge has reported it."""
         found = CONFIRMED.findall((self.room / log).read_text(errors='replace'))
-        return int(found[-1]) if found else 0
+        return bisect.bisect(self.timestamps, int(found[-1])) if found else 0
 
     def applied(self, place):
         """How many events the book on the disk has."""
@@ -162,7 +175,7 @@ class Stream:
         """An actor has to end with this status, and to report this."""
         found, printed = actor.wait()
         if found != status or not re.search(pattern, actor.said()):
-            raise Failed(f'{actor.log.name}: status {found}, not {status}, with {pattern!r}: {printed[:300]} {actor.said()[-800:]}')
+            raise Failed(f'{actor.log.name}: status {found}, not {status}, with {pattern!r}: {printed[:300]} {actor.failures()}')
         return printed
 
     def takes_all(self, place, *arguments, **how):
@@ -171,15 +184,17 @@ class Stream:
         same(f'the book of subscriber {place}', self.books[place], printed)
 
     def held_lines(self, place):
-        """What a queue holds, as lines of `messages --queue`; the queue is empty then."""
+        """What a queue holds up to its end mark, as lines of `messages --queue`; that is taken from it."""
         found = []
         with contextlib.closing(client.connect(client.parameters_of(self.cluster.urls[0], 10))) as connection:
             channel = connection.channel()
-            while True:
-                delivery, properties, body = channel.basic_get(client.queue_of(self.name, place), auto_ack=True)
+            for delivery, properties, body in channel.consume(client.queue_of(self.name, place), inactivity_timeout=SECONDS):
                 if delivery is None:
-                    return found
+                    raise Failed(f'queue {place} of {self.name} has no end mark after {found[-1:]}')
                 found.append(line_of(properties, body.decode()))
+                channel.basic_ack(delivery.delivery_tag)
+                if properties.type == 'end':
+                    return found
 
     def close(self):
         """Ends what runs, and deletes the queues."""
@@ -187,7 +202,8 @@ class Stream:
             actor.kill(whole=True)
         with contextlib.closing(client.connect(client.parameters_of(self.cluster.up().url, 10))) as connection:
             for queue in [client.queue_of(self.name, it) for it in self.places] + [f'{self.name}.progress']:
-                connection.channel().queue_delete(queue)
+                with contextlib.suppress(AMQPError):
+                    connection.channel().queue_delete(queue)
 
 
 def line_of(properties, body):

@@ -14,6 +14,7 @@ from pika import spec
 from pika.exceptions import AMQPError, ChannelClosedByBroker
 
 NOT_FOUND, RESOURCE_LOCKED = 404, 405
+CLOSE_SECONDS = 2
 
 
 class Lost(Exception):
@@ -33,7 +34,7 @@ class Session:
 
     def __init__(self, parameters, seconds):
         self.seconds = seconds
-        self.failure = None
+        self.failure, self.is_closing = None, False
         # The deadline of each confirm that hasn't come, in the order of the tags.
         self.unconfirmed = collections.OrderedDict()
         self.next_tag = 1
@@ -61,8 +62,9 @@ class Session:
         return next(iter(self.unconfirmed), self.next_tag)
 
     def fail(self, why):
-        """Notes the first failure."""
-        self.failure = self.failure or why
+        """Notes the first failure; what ends while the session is closed is none."""
+        if not self.is_closing:
+            self.failure = self.failure or why
         self.loop.stop()
 
     def on_open(self, connection):
@@ -75,7 +77,10 @@ class Session:
         self.fail(Lost(f'{to} takes no message: {returned.reply_code} {returned.reply_text}'))
 
     def on_confirm(self, frame):
+        """Notes a confirm. After a failure it says nothing: a message that is returned is confirmed too."""
         confirm = frame.method
+        if self.failure is not None:
+            return
         if isinstance(confirm, spec.Basic.Nack):
             self.fail(Lost('the broker refuses a message (basic.nack)'))
         elif confirm.multiple:
@@ -88,15 +93,15 @@ class Session:
     def wait(self, what, is_so, deadline=None):
         """Serves the connection until something is so."""
         deadline = time.monotonic() + self.seconds if deadline is None else deadline
-        while not is_so():
-            if self.failure is not None:
-                raise self.failure
+        while self.failure is None and not is_so():
             left = deadline - time.monotonic()
             if left <= 0:
                 raise Lost(f'{what} did not come within {self.seconds:g} s')
             timer = self.loop.call_later(left, self.loop.stop)
             self.loop.start()
             self.loop.remove_timeout(timer)
+        if self.failure is not None:
+            raise self.failure
 
     def ask(self, what, method, *arguments, **keywords):
         """Calls a method that is answered; the answer."""
@@ -162,10 +167,14 @@ class Session:
         self.wait('a confirm', lambda: self.first_unconfirmed > first, self.unconfirmed[first])
 
     def close(self):
-        """Ends the connection: in good order if there was no failure, else at once."""
+        """Ends the connection, so that the broker frees the lock: in good order, if the broker answers soon."""
+        self.failure, self.is_closing = None, True
         with contextlib.suppress(AMQPError, Lost):
             if self.connection.is_open:
                 self.connection.close()
-            if self.failure is None:
-                self.wait('the end of the connection', lambda: self.connection.is_closed)
+                self.wait('the end of the connection', lambda: self.connection.is_closed, time.monotonic() + CLOSE_SECONDS)
+        # pika has no public way to drop a connection whose broker doesn't answer.
+        transport = getattr(self.connection, '_transport', None)
+        if transport is not None and not self.connection.is_closed:
+            transport.abort()
         self.loop.close()

@@ -98,7 +98,7 @@ class Case:
         if status == 0:
             return True
         if self.starts['bridge'] >= MOST_STARTS:
-            raise Failed(f'the bridge ends by {status}: {self.bridge.said()[-800:]}')
+            raise Failed(f'the bridge ends by {status}: {self.bridge.failures()}')
         self.start_bridge()
         return False
 
@@ -116,8 +116,7 @@ class Case:
         with self.nodes:
             node = self.node_of(fault)
             node.kill()
-            node.start()
-            self.cluster.wait()
+            self.cluster.heal()
 
     def stop_node(self, fault):
         with self.nodes:
@@ -154,7 +153,7 @@ class Case:
         """The consumer has to end well, with the book that `books` prints."""
         status, printed = self.consumers[place].wait()
         if status != 0:
-            raise Failed(f'consumer {place} ends by {status}: {printed[:300]} {self.consumers[place].said()[-800:]}')
+            raise Failed(f'consumer {place} ends by {status}: {printed[:300]} {self.consumers[place].failures()}')
         same(f'the book of subscriber {place}', self.stream.books[place], printed)
 
 

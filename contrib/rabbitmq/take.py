@@ -168,7 +168,8 @@ class Consumer:
         print(*self.printed, sep='', end='', flush=True)
         last = max(self.saved, 0)
         next_one = min(self.unsaved.values(), key=lambda taken: taken.timestamp)
-        say(f'a gap in queue {self.queue} after event {last}: the next message comes after {next_one.previous}. '
+        what = 'the end of the queue' if next_one.timestamp == AFTER_ALL else 'the next message'
+        say(f'a gap in queue {self.queue} after event {last}: {what} comes after {next_one.previous}. '
             f'`bridge.py FILE --queue {self.arguments.place} --start-after {last}` sends again what is missing')
         return FAILED
 
