@@ -112,7 +112,8 @@ class Queues:
         """The record of what is confirmed already. Queues are declared before there is any progress, and never again."""
         new = Record(self.start or 0, self.name, session.cluster, self.script)
         if self.repaired is not None:
-            self.declare(session, queue_of(self.name, self.repaired))
+            if not has_queue(session, queue_of(self.name, self.repaired)):
+                self.declare(session, queue_of(self.name, self.repaired))
             return new
         held = self.progress.held(session)
         if not held:

@@ -52,6 +52,7 @@ class Follower:
         with contextlib.suppress(BrokenPipeError):
             self.process.stdin.close()
         self.reader.join()
+        self.process.stdout.close()
         return self.process.wait()
 
 

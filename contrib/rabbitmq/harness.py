@@ -197,13 +197,12 @@ class Stream:
                     return found
 
     def close(self):
-        """Ends what runs, and deletes the queues."""
+        """Ends what runs, and deletes the queues, as far as the nodes are there."""
         for actor in self.actors:
             actor.kill(whole=True)
-        with contextlib.closing(client.connect(client.parameters_of(self.cluster.up().url, 10))) as connection:
-            for queue in [client.queue_of(self.name, it) for it in self.places] + [f'{self.name}.progress']:
-                with contextlib.suppress(AMQPError):
-                    connection.channel().queue_delete(queue)
+        for queue in [client.queue_of(self.name, it) for it in self.places] + [f'{self.name}.progress']:
+            with contextlib.suppress(AMQPError, Stop), contextlib.closing(client.connect(client.parameters_of(self.cluster.up().url, 10))) as connection:
+                connection.channel().queue_delete(queue)
 
 
 def line_of(properties, body):

@@ -1,7 +1,7 @@
 #!/usr/bin/env python3
 """Kills and stops brokers, bridges and consumers at random, and compares each book with that of `books`.
 
-    contrib/rabbitmq/storm.py [--program PATH] [--seed N] [--cases N] [--only CASE]
+    contrib/rabbitmq/storm.py [--program PATH] [--rows] [--seed N] [--cases N] [--only CASE]
 
 It starts a cluster of three nodes. Each case sends a script through it, with a window of 1, 64 or 1,024, and has some faults:
 kill -9 or SIGSTOP of the node that leads a queue, of one that follows, of the bridge, or of a consumer, each after a random
@@ -23,7 +23,8 @@ import console
 from bridge import PROGRAM
 from client import count_of, queue_of
 from cluster import Cluster
-from harness import SECONDS, Failed, Stream, same, script_of, wait_for
+from harness import Failed, Stream, same, script_of, wait_for
+from rows import rows
 
 WINDOWS = (1, 64, 1024)
 # How many events a case has: what a window of this size sends in some seconds.
@@ -191,6 +192,7 @@ def read_arguments():
     parser.add_argument('--program', default=str(PROGRAM))
     parser.add_argument('--seed', type=int, default=random.SystemRandom().randrange(10 ** 9), help='random without it')
     parser.add_argument('--cases', type=count_of, default=50, help='how many cases; %(default)s')
+    parser.add_argument('--rows', action='store_true', help='first runs all rows of rows.py over the same cluster')
     parser.add_argument('--only', type=int, metavar='CASE', help='only this case of the seed')
     return parser.parse_args()
 
@@ -199,7 +201,10 @@ def main():
     arguments = read_arguments()
     numbers = range(arguments.cases) if arguments.only is None else [arguments.only]
     with Cluster() as cluster:
-        return 1 if storm(cluster, arguments.program, arguments.seed, numbers) else 0
+        failed = rows(cluster, arguments.program) if arguments.rows else 0
+        cluster.heal()
+        failed += storm(cluster, arguments.program, arguments.seed, numbers)
+    return 1 if failed else 0
 
 
 if __name__ == '__main__':

@@ -88,9 +88,9 @@ class Consumer:
 
     def read_once(self):
         """Reads the queue on a new connection, which ends with the reading: what isn't acknowledged goes back."""
+        self.follower = self.follower or Follower(self.arguments.program, self.arguments.book, self.arguments.every)
         connection = client.connect(next(self.nodes))
         try:
-            self.follower = self.follower or Follower(self.arguments.program, self.arguments.book, self.arguments.every)
             channel = connection.channel()
             channel.basic_qos(prefetch_count=self.prefetch)
             self.unsaved, self.changed_at = {}, time.monotonic()
