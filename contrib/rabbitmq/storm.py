@@ -29,7 +29,11 @@ from rows import rows
 WINDOWS = (1, 64, 1024)
 # How many events a case has: what a window of this size sends in some seconds.
 EVENTS = {1: (120, 240), 64: (600, 1800), 1024: (1500, 4000)}
-VICTIMS = ('leader', 'follower', 'bridge', 'consumer')
+# A fault for each case in turn; nodes take long to start, so they have it less often.
+KILL, STOP = 'kill', 'stop'
+NODES = ('leader', 'follower')
+TURNS = [(KILL, 'leader'), (STOP, 'bridge'), (KILL, 'consumer'), (STOP, 'leader'), (KILL, 'bridge'), (STOP, 'consumer'),
+         (KILL, 'follower'), (STOP, 'bridge'), (KILL, 'consumer'), (STOP, 'follower'), (KILL, 'bridge'), (STOP, 'consumer')]
 LONGEST_STOP = 3.0
 MOST_STARTS = 20
 
@@ -37,8 +41,8 @@ MOST_STARTS = 20
 @dataclass(frozen=True)
 class Fault:
     """What happens to whom, after how many events; for how long, if it is a stop; whether all of a consumer's processes die."""
-    victim: str
     how: str
+    victim: str
     after: int
     seconds: float
     whole: bool
@@ -48,10 +52,10 @@ class Fault:
 
 
 def faults_of(random, case, events):
-    """One fault of the kind whose turn it is, and one or two of a bridge or a consumer."""
-    kinds = [(victim, how) for victim in VICTIMS for how in ('kill', 'stop')]
-    chosen = [kinds[case % len(kinds)], *random.choices(kinds[4:], k=random.randint(1, 2))]
-    made = [Fault(victim, how, random.randrange(events * 4 // 5), random.uniform(0.2, LONGEST_STOP), random.random() < 0.5) for victim, how in chosen]
+    """The fault whose turn it is, and one or two of the bridge or the first consumer, in order."""
+    others = [it for it in TURNS if it[1] not in NODES]
+    chosen = [TURNS[case % len(TURNS)], *random.choices(others, k=random.randint(1, 2))]
+    made = [Fault(how, victim, random.randrange(events * 4 // 5), random.uniform(0.2, LONGEST_STOP), random.random() < 0.5) for how, victim in chosen]
     return sorted(made, key=lambda it: it.after)
 
 
@@ -60,7 +64,7 @@ class Case:
 
     def __init__(self, cluster, program, room, seed, number, nodes):
         chance = random.Random(f'{seed} {number}')
-        self.window = WINDOWS[number % len(WINDOWS)]
+        self.window = WINDOWS[(number + number // len(TURNS)) % len(WINDOWS)]
         self.events = chance.randint(*EVENTS[self.window])
         self.faults = faults_of(chance, number, self.events)
         self.stream = Stream(cluster, program, room, f'storm-{number}', script_of(self.events))
@@ -76,7 +80,7 @@ class Case:
                 self.start_consumer(place)
             for fault in self.faults:
                 self.await_turn(fault)
-                getattr(self, f'{fault.how}_{"node" if fault.victim in VICTIMS[:2] else fault.victim}')(fault)
+                getattr(self, f'{fault.how}_{"node" if fault.victim in NODES else fault.victim}')(fault)
             wait_for('the bridge has sent everything', self.bridge_is_done)
             for place in self.stream.places:
                 self.compare(place)
