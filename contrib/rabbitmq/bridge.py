@@ -77,7 +77,7 @@ class Queues:
         self.places = places
         self.script = script
         self.progress = FileProgress(arguments.resume) if arguments.resume else QueueProgress(self.name)
-        # The newest record of the progress, once it is known; how far the bridge is stands there.
+        # The newest progress record, once it is known.
         self.record = None
         self.waits = False
 
@@ -134,7 +134,7 @@ class Queues:
         return record
 
     def declare(self, session, queue, more=()):
-        """Declares a queue that outlives the broker's end, and has one active consumer at a time."""
+        """Declares a queue that outlives the broker's process, and has one active consumer at a time."""
         kind = {} if self.is_classic else {'x-queue-type': 'quorum'}
         consumers = {} if more else {'x-single-active-consumer': True}
         self.check(session, f'queue {queue}', 'queue_declare', queue, durable=True, arguments={**kind, **consumers, **dict(more)})

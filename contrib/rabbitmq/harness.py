@@ -136,7 +136,7 @@ class Stream:
         return [it for url in self.cluster.urls for it in ('--url', url)]
 
     def start(self, log, script, *arguments):
-        actor = Actor(self.room / log, script, *arguments, '--name', self.name, *([] if '--url' in arguments else self.urls))
+        actor = Actor(self.room / log, script, *arguments, *([] if '--name' in arguments else ('--name', self.name)), *([] if '--url' in arguments else self.urls))
         self.actors.append(actor)
         return actor
 

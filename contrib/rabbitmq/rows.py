@@ -28,6 +28,7 @@ DROPS = '[{<<"max-length">>, 50}, {<<"overflow">>, <<"drop-head">>}]'
 REFUSES = '[{<<"max-length">>, 200}, {<<"overflow">>, <<"reject-publish">>}]'
 MIRRORS = '[{<<"ha-mode">>, <<"all">>}, {<<"ha-sync-mode">>, <<"manual">>}, {<<"ha-promote-on-failure">>, <<"always">>}]'
 
+WATERMARK = 'vm_memory_monitor:set_vm_memory_high_watermark({{absolute, {bytes}}})'
 CONSUMERS = '{{ok, Q}} = rabbit_amqqueue:lookup(rabbit_misc:r(<<"/">>, queue, <<"{queue}">>)), length(rabbit_amqqueue:consumers(Q))'
 MIRRORED = 'case rabbit_amqqueue:lookup(rabbit_misc:r(<<"/">>, queue, <<"{queue}">>)) of {{ok, Q}} -> length(amqqueue:get_slave_pids(Q)) end'
 
@@ -77,7 +78,7 @@ class Rows:
         stream.takes_all(place)
 
     def row_messages(self):
-        """Each queue holds what `messages --queue` prints, line by line; and the consumers come to the books."""
+        """Each queue holds what `messages --queue` prints, line by line, and the next bridge has nothing to send."""
         for path in [*sorted((HERE.parent.parent / 'examples').glob('*.script')), HERE / 'bindings.script']:
             with contextlib.closing(self.stream(path.stem, path.read_text())) as stream:
                 stream.ends(stream.bridge('--end'), 0, ' 0 connections lost$')
@@ -85,9 +86,6 @@ class Rows:
                     wanted = stream.print('messages', stream.script, '--queue', str(place)).splitlines()
                     same(f'{path.stem}: queue {place}', wanted, stream.held_lines(place))
                 stream.ends(stream.bridge('--end'), 0, 'bridge: 0 events confirmed, ')
-                for place in stream.places:
-                    stream.ends(stream.bridge('--queue', place, '--end'), 0, ' events confirmed, 0 skipped')
-                    stream.takes_all(place)
 
     def row_home_node_of_classic_queues_killed(self):
         """Messages for classic queues whose node is gone come back, and the bridge ends; with the node it goes on."""
@@ -237,11 +235,14 @@ class Rows:
         """A broker without memory blocks publishers, and the bridge ends; with memory it goes on."""
         node = self.cluster.nodes[0]
         with self.held('blocked', '--tries', 2) as (stream, bridge, go_on):
-            node.evaluate('vm_memory_monitor:set_vm_memory_high_watermark({absolute, 1000})')
-            go_on()
-            stream.ends(bridge, 1, 'failed after 2 tries: the broker blocks publishers: low on memory; confirmed up to 2149')
-            node.evaluate('vm_memory_monitor:set_vm_memory_high_watermark({absolute, 2000000000})')
-            stream.ends(stream.bridge('--end'), 0, ' events confirmed, 150 skipped')
+            node.evaluate(WATERMARK.format(bytes=1000))
+            try:
+                go_on()
+                stream.ends(bridge, 1, r'the broker blocks publishers: low on memory[\s\S]*failed after 2 tries: .*; confirmed up to 2149')
+            finally:
+                node.evaluate(WATERMARK.format(bytes=2_000_000_000))
+            # The broker reads again, and finds that the last connection has ended.
+            stream.ends(stream.bridge('--end', '--standby'), 0, ' events confirmed, 150 skipped')
             for place in stream.places:
                 stream.takes_all(place)
 

@@ -77,7 +77,7 @@ class Session:
         self.fail(Lost(f'{to} takes no message: {returned.reply_code} {returned.reply_text}'))
 
     def on_confirm(self, frame):
-        """Notes a confirm. After a failure it says nothing: a message that is returned is confirmed too."""
+        """Notes a confirm. After a failure it counts for nothing: a message that is returned is confirmed too."""
         confirm = frame.method
         if self.failure is not None:
             return

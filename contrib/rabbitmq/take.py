@@ -141,7 +141,7 @@ class Consumer:
         follower, self.follower = self.follower, None
         status = follower.end()
         if status != 0 and follower.saved == NOTHING:
-            # The book of a consumer that was killed a moment ago may still be locked.
+            # The book of a consumer that was just killed may still be locked.
             raise Lost(f'`follow` ends with status {status}: {"".join(follower.printed).strip()}')
         self.saved, self.printed = follower.saved, follower.printed
         self.acknowledge(channel)
