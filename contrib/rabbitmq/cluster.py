@@ -165,6 +165,8 @@ class Cluster:
             self.nodes.append(Node(self.room, name, ports[2 * number:2 * number + 2], self.environment, configuration))
 
     def __enter__(self):
+        # One that is terminated ends its nodes too.
+        signal.signal(signal.SIGTERM, lambda *_: sys.exit(128 + signal.SIGTERM))
         try:
             # Erlang's name server, which would otherwise be started by a node and outlive it.
             how = {'env': self.environment, 'stdin': subprocess.DEVNULL, 'stdout': subprocess.DEVNULL}

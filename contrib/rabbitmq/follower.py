@@ -39,7 +39,7 @@ class Follower:
 
     @property
     def is_over(self):
-        """Whether the command has printed its last line: after the end of the queue, or if it failed."""
+        """Whether the command has ended by itself: if it failed, or at a message that is no event."""
         return not self.reader.is_alive()
 
     @property

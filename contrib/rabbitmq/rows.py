@@ -116,7 +116,7 @@ class Rows:
         with self.held('two') as (stream, bridge, go_on):
             first = stream.consumer(1)
             wait_for('the first consumer has a book', lambda: stream.applied(1) == HELD_AFTER)
-            other = stream.consumer(1, '--gap-timeout', 2, log='other', book=stream.room / 'other')
+            other = stream.consumer(1, '--gap-timeout', 2, log='other', book=stream.book('other'))
             wait_for('the other consumer is there', lambda: self.consumers_of('two.1') == 2)
             go_on()
             stream.ends(bridge, 0, '300 events confirmed')

@@ -181,11 +181,14 @@ def storm(cluster, program, seed, numbers, jobs=2):
     print(f'storm: seed {seed}', flush=True)
     with tempfile.TemporaryDirectory() as room, concurrent.futures.ThreadPoolExecutor(jobs) as pool:
         begun = [pool.submit(run_case, cluster, program, pathlib.Path(room), seed, number, nodes) for number in numbers]
-        for future in concurrent.futures.as_completed(begun):
-            text, case = future.result()
-            failed += text.startswith('failed')
-            did.update(f'{it.how} {it.victim}' for it in case.faults)
-            print(text, flush=True)
+        try:
+            for future in concurrent.futures.as_completed(begun):
+                text, case = future.result()
+                failed += text.startswith('failed')
+                did.update(f'{it.how} {it.victim}' for it in case.faults)
+                print(text, flush=True)
+        finally:
+            pool.shutdown(cancel_futures=True)
     print('storm:', ', '.join(f'{count} times {what}' for what, count in sorted(did.items())))
     print(f'storm: seed {seed}: {len(begun)} cases, {failed} failed', flush=True)
     return failed

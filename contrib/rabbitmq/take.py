@@ -42,6 +42,7 @@ class Taken:
     """A message: up to which timestamp the book is saved before it may be acknowledged, and what comes before it."""
     timestamp: float
     previous: str | None
+    is_end: bool
     line: bytes
 
 
@@ -52,7 +53,8 @@ def taken_of(properties, body):
         timestamp = AFTER_ALL if is_end else int(json.loads(body)['timestamp'])
     except (ValueError, KeyError, TypeError):
         timestamp = AFTER_ALL
-    return Taken(timestamp, previous, line_of(previous, body, is_end))
+    is_end = is_end and isinstance(previous, str) and previous.isdecimal()
+    return Taken(timestamp, previous, is_end, line_of(previous, body, properties.type == END))
 
 
 class Consumer:
@@ -66,6 +68,8 @@ class Consumer:
         self.follower = None
         # What was taken from this channel and isn't acknowledged, by tag; up to where it is; when that last changed.
         self.unsaved, self.saved, self.changed_at = {}, NOTHING, 0.0
+        # The last event of the queue, once its end mark has come.
+        self.end_after = AFTER_ALL
         self.gap_after, self.printed = None, []
 
     def run(self):
@@ -93,7 +97,7 @@ class Consumer:
         try:
             channel = connection.channel()
             channel.basic_qos(prefetch_count=self.prefetch)
-            self.unsaved, self.changed_at = {}, time.monotonic()
+            self.unsaved, self.changed_at, self.end_after = {}, time.monotonic(), AFTER_ALL
             return self.move(channel)
         finally:
             if connection.is_open:
@@ -110,7 +114,8 @@ class Consumer:
             if self.follower.saved != self.saved:
                 self.saved, self.changed_at = self.follower.saved, now
                 self.acknowledge(channel)
-            if self.follower.is_over or (self.arguments.quiet is not None and now - quiet_since > self.arguments.quiet):
+            is_quiet = self.arguments.quiet is not None and now - quiet_since > self.arguments.quiet
+            if self.follower.is_over or self.end_after <= self.saved or is_quiet:
                 return self.finish(channel)
             if self.unsaved and now - self.changed_at > self.arguments.gap_timeout:
                 raise Gap
@@ -121,6 +126,8 @@ class Consumer:
         self.follower.write(taken.line)
         if taken.timestamp <= self.saved:
             return channel.basic_ack(tag)
+        if taken.is_end:
+            self.end_after = int(taken.previous)
         if not self.unsaved:
             self.changed_at = now
         self.unsaved[tag] = taken
