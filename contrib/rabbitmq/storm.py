@@ -71,6 +71,8 @@ class Case:
         self.cluster, self.nodes = cluster, nodes
         self.bridge, self.consumers = None, {}
         self.starts = collections.Counter()
+        # The faults that hit something that ran.
+        self.hits = collections.Counter()
 
     def run(self):
         """Sends everything, with all faults, and compares the books."""
@@ -80,6 +82,7 @@ class Case:
                 self.start_consumer(place)
             for fault in self.faults:
                 self.await_turn(fault)
+                self.hits[f'{fault.how} {fault.victim}'] += self.is_hit(fault)
                 getattr(self, f'{fault.how}_{"node" if fault.victim in NODES else fault.victim}')(fault)
             wait_for('the bridge has sent everything', self.bridge_is_done)
             for place in self.stream.places:
@@ -115,6 +118,11 @@ class Case:
             return self.bridge_is_done() or self.stream.confirmed() >= fault.after
 
         wait_for(str(fault), is_so)
+
+    def is_hit(self, fault):
+        """Whether a fault comes before its victim, or those that a node serves, have ended."""
+        victims = {'bridge': [self.bridge], 'consumer': [self.consumers[1]]}.get(fault.victim, [self.bridge, *self.consumers.values()])
+        return any(not it.is_over() for it in victims)
 
     def kill_node(self, fault):
         """Kills a node, and starts it again. Only one is killed or stopped at a time: two of three are a majority."""
@@ -185,11 +193,11 @@ def storm(cluster, program, seed, numbers, jobs=2):
             for future in concurrent.futures.as_completed(begun):
                 text, case = future.result()
                 failed += text.startswith('failed')
-                did.update(f'{it.how} {it.victim}' for it in case.faults)
+                did.update(case.hits)
                 print(text, flush=True)
         finally:
             pool.shutdown(cancel_futures=True)
-    print('storm:', ', '.join(f'{count} times {what}' for what, count in sorted(did.items())))
+    print('storm:', ', '.join(f'{count} times {what}' for what, count in sorted(did.items())), 'while it ran')
     print(f'storm: seed {seed}: {len(begun)} cases, {failed} failed', flush=True)
     return failed
 
