@@ -6,7 +6,6 @@
 import argparse
 import contextlib
 import io
-import json
 import os
 import pathlib
 import random

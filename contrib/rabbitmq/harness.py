@@ -16,6 +16,7 @@ from pika.exceptions import AMQPError
 
 HERE = pathlib.Path(__file__).resolve().parent
 SECONDS = 120
+EVENTS, HELD_AFTER = 300, 150
 CONFIRMED = re.compile(r'^bridge: \d+ events confirmed, up to (\d+)', re.MULTILINE)
 APPLIED = re.compile(r'^subscriber 1 applied (\d+) ', re.MULTILINE)
 # Reads what a program prints, and waits after some lines until somebody opens the pipe.
@@ -34,6 +35,16 @@ except BrokenPipeError:
     os._exit(1)
 sys.exit(process.returncode)
 """
+
+# Queues whose newest messages stay and whose oldest go, and mirrors of classic queues that take only what is new.
+SET_POLICY = 'rabbit_policy:set(<<"/">>, <<"{name}">>, <<"^{queue}$">>, {definition}, 0, <<"queues">>, <<"guest">>)'
+DROPS = '[{<<"max-length">>, 50}, {<<"overflow">>, <<"drop-head">>}]'
+REFUSES = '[{<<"max-length">>, 200}, {<<"overflow">>, <<"reject-publish">>}]'
+MIRRORS = '[{<<"ha-mode">>, <<"all">>}, {<<"ha-sync-mode">>, <<"manual">>}, {<<"ha-promote-on-failure">>, <<"always">>}]'
+
+WATERMARK = 'vm_memory_monitor:set_vm_memory_high_watermark({{absolute, {bytes}}})'
+CONSUMERS = '{{ok, Q}} = rabbit_amqqueue:lookup(rabbit_misc:r(<<"/">>, queue, <<"{queue}">>)), length(rabbit_amqqueue:consumers(Q))'
+MIRRORED = 'case rabbit_amqqueue:lookup(rabbit_misc:r(<<"/">>, queue, <<"{queue}">>)) of {{ok, Q}} -> length(amqqueue:get_slave_pids(Q)) end'
 
 
 class Failed(Exception):
@@ -221,3 +232,52 @@ def wait_for(what, is_so, seconds=SECONDS):
         wait_until(what, is_so, seconds)
     except Stop as why:
         raise Failed(str(why)) from None
+
+
+class Bench:
+    """What the rows have in common: a cluster, and streams through it."""
+
+    def __init__(self, cluster, program, room):
+        self.cluster, self.program, self.room = cluster, program, room
+
+    def stream(self, name, script=None):
+        return Stream(self.cluster, self.program, self.room, name, script or script_of(EVENTS))
+
+    @contextlib.contextmanager
+    def channel(self, node=None):
+        """A channel to a node."""
+        with contextlib.closing(client.connect(client.parameters_of((node or self.cluster.up()).url, 10))) as connection:
+            yield connection.channel()
+
+    @contextlib.contextmanager
+    def held(self, name, *arguments, lines=HELD_AFTER, script=None):
+        """A stream whose bridge, which sends one message at a time, waits after some events, all of them confirmed; the stream, the
+        bridge and what lets it go on."""
+        with contextlib.closing(self.stream(name, script)) as stream:
+            program, go_on = stream.hold(lines)
+            bridge = stream.bridge('--window', 1, '--every', 1, *arguments, program=program)
+            wait_for(f'{lines} events are confirmed', lambda: stream.confirmed() == lines or bridge.is_over())
+            yield stream, bridge, go_on
+
+    @contextlib.contextmanager
+    def policy(self, stream, definition, places='1'):
+        """A policy for some queues, the first without more, as long as the block runs."""
+        self.cluster.up().evaluate(SET_POLICY.format(name=stream.name, queue=f'{stream.name}[.]{places}', definition=definition))
+        yield
+        self.cluster.up().evaluate(f'rabbit_policy:delete(<<"/">>, <<"{stream.name}">>, <<"guest">>)')
+
+    def urls(self, first):
+        """All nodes, this one first."""
+        nodes = sorted(self.cluster.nodes, key=lambda it: it is not first)
+        return [it for node in nodes for it in ('--url', node.url)]
+
+    def is_sent_again(self, stream, place, last):
+        """The consumer of a queue has to name the gap after this event; the bridge sends what is missing, and the book is whole."""
+        gap = f'a gap in queue {client.queue_of(stream.name, place)} after event {last}: '
+        stream.ends(stream.consumer(place, '--quiet', 1, '--gap-timeout', 2), 1, gap)
+        stream.ends(stream.bridge('--queue', place, '--start-after', last, '--end'), 0, ' events confirmed')
+        stream.takes_all(place)
+
+    def consumers_of(self, queue):
+        """How many consumers a queue has, the ones that aren't active too."""
+        return int(self.cluster.up().evaluate(CONSUMERS.format(queue=queue)))

@@ -14,68 +14,14 @@ import signal
 import tempfile
 import time
 
-import client
 import console
 from bridge import PROGRAM
-from client import pika, queue_of
 from cluster import Cluster
-from harness import HERE, Failed, Stream, same, script_of, wait_for
-
-EVENTS, HELD_AFTER = 300, 150
-# Queues whose newest messages stay and whose oldest go, and mirrors of classic queues that take only what is new.
-SET_POLICY = 'rabbit_policy:set(<<"/">>, <<"{name}">>, <<"^{queue}$">>, {definition}, 0, <<"queues">>, <<"guest">>)'
-DROPS = '[{<<"max-length">>, 50}, {<<"overflow">>, <<"drop-head">>}]'
-REFUSES = '[{<<"max-length">>, 200}, {<<"overflow">>, <<"reject-publish">>}]'
-MIRRORS = '[{<<"ha-mode">>, <<"all">>}, {<<"ha-sync-mode">>, <<"manual">>}, {<<"ha-promote-on-failure">>, <<"always">>}]'
-
-WATERMARK = 'vm_memory_monitor:set_vm_memory_high_watermark({{absolute, {bytes}}})'
-CONSUMERS = '{{ok, Q}} = rabbit_amqqueue:lookup(rabbit_misc:r(<<"/">>, queue, <<"{queue}">>)), length(rabbit_amqqueue:consumers(Q))'
-MIRRORED = 'case rabbit_amqqueue:lookup(rabbit_misc:r(<<"/">>, queue, <<"{queue}">>)) of {{ok, Q}} -> length(amqqueue:get_slave_pids(Q)) end'
+from harness import DROPS, EVENTS, HELD_AFTER, HERE, MIRRORED, MIRRORS, REFUSES, WATERMARK, Bench, Failed, same, script_of, wait_for
 
 
-class Rows:
+class Rows(Bench):
     """The rows, each over a cluster whose nodes are all up."""
-
-    def __init__(self, cluster, program, room):
-        self.cluster, self.program, self.room = cluster, program, room
-
-    def stream(self, name, script=None):
-        return Stream(self.cluster, self.program, self.room, name, script or script_of(EVENTS))
-
-    @contextlib.contextmanager
-    def channel(self, node=None):
-        """A channel to a node."""
-        with contextlib.closing(client.connect(client.parameters_of((node or self.cluster.up()).url, 10))) as connection:
-            yield connection.channel()
-
-    @contextlib.contextmanager
-    def held(self, name, *arguments, lines=HELD_AFTER, script=None):
-        """A stream whose bridge, which sends one message at a time, waits after some events, all of them confirmed; the stream, the
-        bridge and what lets it go on."""
-        with contextlib.closing(self.stream(name, script)) as stream:
-            program, go_on = stream.hold(lines)
-            bridge = stream.bridge('--window', 1, '--every', 1, *arguments, program=program)
-            wait_for(f'{lines} events are confirmed', lambda: stream.confirmed() == lines or bridge.is_over())
-            yield stream, bridge, go_on
-
-    @contextlib.contextmanager
-    def policy(self, stream, definition, places='1'):
-        """A policy for some queues, the first without more, as long as the block runs."""
-        self.cluster.up().evaluate(SET_POLICY.format(name=stream.name, queue=f'{stream.name}[.]{places}', definition=definition))
-        yield
-        self.cluster.up().evaluate(f'rabbit_policy:delete(<<"/">>, <<"{stream.name}">>, <<"guest">>)')
-
-    def urls(self, first):
-        """All nodes, this one first."""
-        nodes = sorted(self.cluster.nodes, key=lambda it: it is not first)
-        return [it for node in nodes for it in ('--url', node.url)]
-
-    def is_sent_again(self, stream, place, last):
-        """The consumer of a queue has to name the gap after this event; the bridge sends what is missing, and the book is whole."""
-        gap = f'a gap in queue {queue_of(stream.name, place)} after event {last}: '
-        stream.ends(stream.consumer(place, '--quiet', 1, '--gap-timeout', 2), 1, gap)
-        stream.ends(stream.bridge('--queue', place, '--start-after', last, '--end'), 0, ' events confirmed')
-        stream.takes_all(place)
 
     def row_messages(self):
         """Each queue holds what `messages --queue` prints, line by line, and the next bridge has nothing to send."""
@@ -140,10 +86,6 @@ class Rows:
             stream.ends(stream.bridge('--end'), 0, '')
             same('the book', stream.books[1], stream.ends(second, 0, ''))
             stream.takes_all(2)
-
-    def consumers_of(self, queue):
-        """How many consumers a queue has, the ones that aren't active too."""
-        return int(self.cluster.up().evaluate(CONSUMERS.format(queue=queue)))
 
     def row_queue_deleted_and_declared_again(self):
         """What a deleted queue held is a gap, and is sent again."""
@@ -280,7 +222,7 @@ class Rows:
                 stream.takes_all(place)
 
     def row_refused(self):
-        """A login, a virtual host and a name that the broker refuses, and a message that is no event."""
+        """A login, a virtual host and a name that the broker refuses, and a message that `follow` refuses."""
         with contextlib.closing(self.stream('refused')) as stream:
             url = self.cluster.nodes[0].url
             for place, (script, first) in enumerate((('bridge.py', stream.script), ('take.py', 1))):
@@ -288,11 +230,12 @@ class Rows:
                 stream.ends(stream.start(f'login-{place}', script, first, *more, '--url', url.replace('guest@', 'wrong@')), 1, 'the broker refuses guest to / at .*ACCESS_REFUSED')
                 stream.ends(stream.start(f'host-{place}', script, first, *more, '--url', url.replace('%2F', 'elsewhere')), 1, 'the broker refuses guest to elsewhere at .*NOT_ALLOWED')
             stream.ends(stream.bridge('--name', 'amq.match'), 1, '^bridge: the broker refuses queue amq.match.lock: 403 ')
-            stream.ends(stream.bridge('--end'), 0, '')
+            stream.ends(stream.bridge(), 0, '')
             with self.channel() as channel:
                 channel.basic_publish('', 'refused.2', b'no event')
-            stream.ends(stream.bridge('--queue', 2, '--end'), 0, '')
-            stream.takes_all(1)
+            printed = stream.ends(stream.consumer(2), 2, '')
+            events = int(stream.books[2].split()[3])
+            same('the last line', f'fault: line {events + 1}: not_json', printed.splitlines()[-1])
 
     def run(self, name):
         """Runs a row; whether it failed."""
