@@ -1,8 +1,8 @@
 #!/usr/bin/env bash
-# Checks the bridge: first what needs no broker (checks.py), then, beside a RabbitMQ of its own, what does (through.sh).
-#   contrib/rabbitmq/check.sh [PROGRAM]    PROGRAM: crates/cdc_app/out/cdc_app
-# Ends with 1 where something differs, and with 2 where the second half couldn't be tried: RabbitMQ, pika or the program
-# isn't there.
+# Checks the bridge: first what needs no broker (checks.py), then, over a cluster of three nodes that it starts itself, what
+# once lost messages (rows.py), and random kills and stops (storm.py). It takes at most ten minutes, and prints its seed.
+#   contrib/rabbitmq/check.sh [PROGRAM [SEED]]    PROGRAM: crates/cdc_app/out/cdc_app; SEED: a random one
+# The status is 1 if something differs, and 2 if nothing was sent through a broker: RabbitMQ, pika or the program isn't there.
 set -uo pipefail
 case ${1-} in
 -h | --help)
@@ -23,4 +23,4 @@ not_tried() {
 [ -x /usr/lib/rabbitmq/bin/rabbitmq-server ] || not_tried 'there is no RabbitMQ here: on Debian apt-get install rabbitmq-server'
 "$python" -c 'import pika' 2>/dev/null || not_tried "$python has no pika: on Debian apt-get install python3-pika"
 [ -x "$program" ] || not_tried "there is no $program: ./relayplum books FILE builds it"
-"$here/with_server.sh" "$here/through.sh" "$program"
+exec "$python" "$here/storm.py" --rows --program "$program" ${2:+--seed "$2"}

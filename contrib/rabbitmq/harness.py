@@ -1,0 +1,283 @@
+"""What the checks with a broker share: scripts, bridges and consumers as processes, and what books they have to come to."""
+import bisect
+import contextlib
+import json
+import os
+import pathlib
+import re
+import signal
+import subprocess
+import sys
+
+import client
+from cluster import wait_until
+from console import Stop
+from pika.exceptions import AMQPError
+
+HERE = pathlib.Path(__file__).resolve().parent
+SECONDS = 120
+EVENTS, HELD_AFTER = 300, 150
+CONFIRMED = re.compile(r'^bridge: \d+ events confirmed, up to (\d+)', re.MULTILINE)
+APPLIED = re.compile(r'^subscriber 1 applied (\d+) ', re.MULTILINE)
+# Reads what a program prints, and waits after some lines until somebody opens the pipe.
+HELD = """\
+#!{python}
+import os, subprocess, sys
+try:
+  with subprocess.Popen(['{program}', *sys.argv[1:]], stdout=subprocess.PIPE) as process:
+    for number, line in enumerate(process.stdout):
+        if sys.argv[1] == 'messages' and number == {lines}:
+            sys.stdout.flush()
+            open('{pipe}', 'rb').read()
+        sys.stdout.buffer.write(line)
+    sys.stdout.flush()
+except BrokenPipeError:
+    os._exit(1)
+sys.exit(process.returncode)
+"""
+
+# Queues whose newest messages stay and whose oldest go, and mirrors of classic queues that take only what is new.
+SET_POLICY = 'rabbit_policy:set(<<"/">>, <<"{name}">>, <<"^{queue}$">>, {definition}, 0, <<"queues">>, <<"guest">>)'
+DROPS = '[{<<"max-length">>, 50}, {<<"overflow">>, <<"drop-head">>}]'
+REFUSES = '[{<<"max-length">>, 200}, {<<"overflow">>, <<"reject-publish">>}]'
+MIRRORS = '[{<<"ha-mode">>, <<"all">>}, {<<"ha-sync-mode">>, <<"manual">>}, {<<"ha-promote-on-failure">>, <<"always">>}]'
+
+WATERMARK = 'vm_memory_monitor:set_vm_memory_high_watermark({{absolute, {bytes}}})'
+CONSUMERS = '{{ok, Q}} = rabbit_amqqueue:lookup(rabbit_misc:r(<<"/">>, queue, <<"{queue}">>)), length(rabbit_amqqueue:consumers(Q))'
+MIRRORED = 'case rabbit_amqqueue:lookup(rabbit_misc:r(<<"/">>, queue, <<"{queue}">>)) of {{ok, Q}} -> length(amqqueue:get_slave_pids(Q)) end'
+
+
+class Failed(Exception):
+    """What a check found."""
+
+
+def same(what, wanted, found):
+    if wanted != found:
+        raise Failed(f'{what}\n  wanted: {wanted!r:.600}\n  found:  {found!r:.600}')
+
+
+def script_of(events, subscribers=('all', 'any transfer_code=2 event_type=two_phase_pending')):
+    """A script of so many events between four accounts: most transfers are single, some pending, posted and voided."""
+    yield from (f'subscriber {it}' for it in subscribers)
+    yield 'accounts 1000'
+    yield from (f'account id={it} ledger=700 code=10' for it in range(1, 5))
+    for at in range(events):
+        if at % 1000 == 0:
+            yield f'transfers {2000 + at}'
+        if at % 10 == 9:
+            yield f'transfer id={at + 1} pending_id={at} amount={at % 50} flags=4'
+        else:
+            accounts = f'debit_account_id={at % 3 + 1} credit_account_id={at % 3 + 2}'
+            yield f'transfer id={at + 1} {accounts} amount={50 + at % 47} ledger=700 code={at % 2 + 1} flags={2 if at % 10 == 8 else 0}'
+
+
+class Actor:
+    """A bridge or a consumer: a process whose standard error stands in a file."""
+
+    def __init__(self, log, script, *arguments):
+        self.log = log
+        command = [sys.executable, HERE / script, *map(str, arguments)]
+        with open(log, 'ab') as errors:
+            self.process = subprocess.Popen(
+                command, stdin=subprocess.DEVNULL, stdout=subprocess.PIPE, stderr=errors, text=True, start_new_session=True)
+        self.printed = None
+
+    def said(self):
+        return self.log.read_text(errors='replace')
+
+    def failures(self):
+        """The end of what was reported, without how far it was."""
+        return '\n'.join(it for it in self.said().splitlines() if not CONFIRMED.match(it))[-1500:]
+
+    def is_over(self):
+        return self.process.poll() is not None
+
+    def kill(self, whole=False):
+        """Kills the process, or all that it has started too."""
+        with contextlib.suppress(ProcessLookupError):
+            os.killpg(self.process.pid, signal.SIGKILL) if whole else self.process.kill()
+        self.process.wait()
+
+    def send(self, number):
+        with contextlib.suppress(ProcessLookupError):
+            os.killpg(self.process.pid, number)
+
+    def wait(self, seconds=SECONDS):
+        """The status and what was printed, at its end."""
+        try:
+            if self.printed is None:
+                self.printed, _ = self.process.communicate(timeout=seconds)
+        except subprocess.TimeoutExpired:
+            self.kill(whole=True)
+            raise Failed(f'{self.log.name} did not end within {seconds} s: {self.failures()}') from None
+        said = self.said()
+        if 'Traceback' in said:
+            raise Failed(f'{self.log.name} has a traceback: {self.failures()}')
+        return self.process.returncode, self.printed
+
+
+class Stream:
+    """A script on its way through a cluster: its bridge, its consumers, and the books that they have to come to."""
+
+    def __init__(self, cluster, program, room, name, script):
+        self.cluster, self.program, self.name = cluster, program, name
+        self.room = room / name
+        self.room.mkdir()
+        self.script = self.room / 'script'
+        self.script.write_text(script if isinstance(script, str) else '\n'.join(script) + '\n')
+        self.books = self.expected()
+        self.timestamps = [int(json.loads(body)['timestamp']) for body in self.print('messages', self.script).splitlines()[1::2]]
+        self.actors = []
+
+    def print(self, *arguments):
+        """What the program prints of the script."""
+        return subprocess.run([self.program, *arguments], capture_output=True, text=True, check=True).stdout
+
+    def expected(self):
+        """What `books` prints of each subscriber, as `follow` prints it: its subscriber is always number 1."""
+        found = re.split(r'^subscriber \d+ ', self.print('books', self.script), flags=re.MULTILINE)[1:]
+        return {place: f'subscriber 1 {text}' for place, text in enumerate(found, 1)}
+
+    @property
+    def places(self):
+        return list(self.books)
+
+    @property
+    def urls(self):
+        return [it for url in self.cluster.urls for it in ('--url', url)]
+
+    def start(self, log, script, *arguments):
+        actor = Actor(self.room / log, script, *arguments, *([] if '--name' in arguments else ('--name', self.name)), *([] if '--url' in arguments else self.urls))
+        self.actors.append(actor)
+        return actor
+
+    def bridge(self, *arguments, program=None, log='bridge'):
+        return self.start(log, 'bridge.py', self.script, '--program', program or self.program, '--confirm-timeout', 10, *arguments)
+
+    def consumer(self, place, *arguments, log=None, book=None):
+        book = book or self.book(place)
+        return self.start(log or f'take-{place}', 'take.py', place, '--program', self.program, '--book', book, '--every', 20, *arguments)
+
+    def book(self, place):
+        return self.room / f'book-{place}'
+
+    def hold(self, lines):
+        """The program, but `messages` waits after so many lines; and what lets it go on."""
+        held, pipe = self.room / f'held-{lines}', self.room / f'pipe-{lines}'
+        os.mkfifo(pipe)
+        held.write_text(HELD.format(python=sys.executable, program=self.program, lines=lines, pipe=pipe))
+        held.chmod(0o755)
+        return held, lambda: pipe.open('wb').close()
+
+    def confirmed(self, log='bridge'):
+        """How many events are confirmed, as far as a bridge has reported it."""
+        found = CONFIRMED.findall((self.room / log).read_text(errors='replace'))
+        return bisect.bisect(self.timestamps, int(found[-1])) if found else 0
+
+    def applied(self, place):
+        """How many events the book on the disk has."""
+        try:
+            found = APPLIED.search(self.book(place).read_text())
+        except FileNotFoundError:
+            return 0
+        return int(found[1]) if found else 0
+
+    def ends(self, actor, status, pattern):
+        """An actor has to end with this status, and to report this."""
+        found, printed = actor.wait()
+        if found != status or not re.search(pattern, actor.said()):
+            raise Failed(f'{actor.log.name}: status {found}, not {status}, with {pattern!r}: {printed[:300]} {actor.failures()}')
+        return printed
+
+    def takes_all(self, place, *arguments, **how):
+        """A consumer of this queue has to come to the book that `books` prints."""
+        printed = self.ends(self.consumer(place, '--gap-timeout', 10, *arguments, **how), 0, '')
+        same(f'the book of subscriber {place}', self.books[place], printed)
+
+    def held_lines(self, place):
+        """What a queue holds up to its end mark, as lines of `messages --queue`; that is taken from it."""
+        found = []
+        with contextlib.closing(client.connect(client.parameters_of(self.cluster.urls[0], 10))) as connection:
+            channel = connection.channel()
+            for delivery, properties, body in channel.consume(client.queue_of(self.name, place), inactivity_timeout=SECONDS):
+                if delivery is None:
+                    raise Failed(f'queue {place} of {self.name} has no end mark after {found[-1:]}')
+                found.append(line_of(properties, body.decode()))
+                channel.basic_ack(delivery.delivery_tag)
+                if properties.type == 'end':
+                    return found
+
+    def close(self):
+        """Ends what runs, and deletes the queues, as far as the nodes are there."""
+        for actor in self.actors:
+            actor.kill(whole=True)
+        for queue in [client.queue_of(self.name, it) for it in self.places] + [f'{self.name}.progress']:
+            with contextlib.suppress(AMQPError, Stop), contextlib.closing(client.connect(client.parameters_of(self.cluster.up().url, 10))) as connection:
+                connection.channel().queue_delete(queue)
+
+
+def line_of(properties, body):
+    """A delivery as the line of `messages --queue` that it was published from."""
+    headers = dict(properties.headers)
+    previous = headers.pop('previous')
+    if properties.type == 'end':
+        return json.dumps({'kind': 'end', 'previous': previous, 'end': True}, separators=(',', ':'))
+    beside = json.dumps({'kind': 'message', 'previous': previous, 'headers': headers, 'timestamp': properties.timestamp}, separators=(',', ':'))
+    return f'{beside[:-1]},"body":{body}}}'
+
+
+def wait_for(what, is_so, seconds=SECONDS):
+    """Polls a state until it is so; a check fails if it never is."""
+    try:
+        wait_until(what, is_so, seconds)
+    except Stop as why:
+        raise Failed(str(why)) from None
+
+
+class Bench:
+    """What the rows have in common: a cluster, and streams through it."""
+
+    def __init__(self, cluster, program, room):
+        self.cluster, self.program, self.room = cluster, program, room
+
+    def stream(self, name, script=None):
+        return Stream(self.cluster, self.program, self.room, name, script or script_of(EVENTS))
+
+    @contextlib.contextmanager
+    def channel(self, node=None):
+        """A channel to a node."""
+        with contextlib.closing(client.connect(client.parameters_of((node or self.cluster.up()).url, 10))) as connection:
+            yield connection.channel()
+
+    @contextlib.contextmanager
+    def held(self, name, *arguments, lines=HELD_AFTER, script=None):
+        """A stream whose bridge, which sends one message at a time, waits after some events, all of them confirmed; the stream, the
+        bridge and what lets it go on."""
+        with contextlib.closing(self.stream(name, script)) as stream:
+            program, go_on = stream.hold(lines)
+            bridge = stream.bridge('--window', 1, '--every', 1, *arguments, program=program)
+            wait_for(f'{lines} events are confirmed', lambda: stream.confirmed() == lines or bridge.is_over())
+            yield stream, bridge, go_on
+
+    @contextlib.contextmanager
+    def policy(self, stream, definition, places='1'):
+        """A policy for some queues, the first without more, as long as the block runs."""
+        self.cluster.up().evaluate(SET_POLICY.format(name=stream.name, queue=f'{stream.name}[.]{places}', definition=definition))
+        yield
+        self.cluster.up().evaluate(f'rabbit_policy:delete(<<"/">>, <<"{stream.name}">>, <<"guest">>)')
+
+    def urls(self, first):
+        """All nodes, this one first."""
+        nodes = sorted(self.cluster.nodes, key=lambda it: it is not first)
+        return [it for node in nodes for it in ('--url', node.url)]
+
+    def is_sent_again(self, stream, place, last):
+        """The consumer of a queue has to name the gap after this event; the bridge sends what is missing, and the book is whole."""
+        gap = f'a gap in queue {client.queue_of(stream.name, place)} after event {last}: '
+        stream.ends(stream.consumer(place, '--quiet', 1, '--gap-timeout', 2), 1, gap)
+        stream.ends(stream.bridge('--queue', place, '--start-after', last, '--end'), 0, ' events confirmed')
+        stream.takes_all(place)
+
+    def consumers_of(self, queue):
+        """How many consumers a queue has, the ones that aren't active too."""
+        return int(self.cluster.up().evaluate(CONSUMERS.format(queue=queue)))

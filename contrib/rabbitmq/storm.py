@@ -1,0 +1,226 @@
+#!/usr/bin/env python3
+"""Kills and stops brokers, bridges and consumers at random, and compares each book with that of `books`.
+
+    contrib/rabbitmq/storm.py [--program PATH] [--rows] [--seed N] [--cases N] [--only CASE]
+
+It starts a cluster of three nodes. Each case sends a script through it, with a window of 1, 64 or 1,024, and has some faults:
+kill -9 or SIGSTOP of the node that leads a queue, of one that follows, of the bridge, or of a consumer, each after a random
+number of events. What was killed is started again. In the end each consumer has to end with status 0, and its book has to be,
+byte for byte, what `books` prints. The seed is printed; the same seed gives the same scripts, windows and faults.
+"""
+import argparse
+import collections
+import concurrent.futures
+import pathlib
+import random
+import signal
+import tempfile
+import threading
+import time
+from dataclasses import dataclass
+
+import console
+from bridge import PROGRAM
+from client import count_of, queue_of
+from cluster import Cluster
+from harness import Failed, Stream, same, script_of, wait_for
+from rows import rows
+
+WINDOWS = (1, 64, 1024)
+# How many events a case has: what a window of this size sends in some seconds.
+EVENTS = {1: (120, 240), 64: (600, 1800), 1024: (1500, 4000)}
+# A fault for each case in turn; nodes take long to start, so they have it less often.
+KILL, STOP = 'kill', 'stop'
+NODES = ('leader', 'follower')
+TURNS = [(KILL, 'leader'), (STOP, 'bridge'), (KILL, 'consumer'), (STOP, 'leader'), (KILL, 'bridge'), (STOP, 'consumer'),
+         (KILL, 'follower'), (STOP, 'bridge'), (KILL, 'consumer'), (STOP, 'follower'), (KILL, 'bridge'), (STOP, 'consumer')]
+LONGEST_STOP = 3.0
+MOST_STARTS = 20
+
+
+@dataclass(frozen=True)
+class Fault:
+    """What happens to whom, after how many events; for how long, if it is a stop; whether all of a consumer's processes die."""
+    how: str
+    victim: str
+    after: int
+    seconds: float
+    whole: bool
+
+    def __str__(self):
+        return f'{self.how} {self.victim} after {self.after}'
+
+
+def faults_of(random, case, events):
+    """The fault whose turn it is, and one or two of the bridge or the first consumer, in order."""
+    others = [it for it in TURNS if it[1] not in NODES]
+    chosen = [TURNS[case % len(TURNS)], *random.choices(others, k=random.randint(1, 2))]
+    made = [Fault(how, victim, random.randrange(events * 4 // 5), random.uniform(0.2, LONGEST_STOP), random.random() < 0.5) for how, victim in chosen]
+    return sorted(made, key=lambda it: it.after)
+
+
+class Case:
+    """One script on its way through the cluster, and what happens to it."""
+
+    def __init__(self, cluster, program, room, seed, number, nodes):
+        chance = random.Random(f'{seed} {number}')
+        self.window = WINDOWS[(number + number // len(TURNS)) % len(WINDOWS)]
+        self.events = chance.randint(*EVENTS[self.window])
+        self.faults = faults_of(chance, number, self.events)
+        self.stream = Stream(cluster, program, room, f'storm-{number}', script_of(self.events))
+        self.cluster, self.nodes = cluster, nodes
+        self.bridge, self.consumers = None, {}
+        self.starts = collections.Counter()
+        # The faults that hit something that ran.
+        self.hits = collections.Counter()
+
+    def run(self):
+        """Sends everything, with all faults, and compares the books."""
+        try:
+            self.start_bridge()
+            for place in self.stream.places:
+                self.start_consumer(place)
+            for fault in self.faults:
+                self.await_turn(fault)
+                self.hits[f'{fault.how} {fault.victim}'] += self.is_hit(fault)
+                getattr(self, f'{fault.how}_{"node" if fault.victim in NODES else fault.victim}')(fault)
+            wait_for('the bridge has sent everything', self.bridge_is_done)
+            for place in self.stream.places:
+                self.compare(place)
+        finally:
+            self.stream.close()
+
+    def start_bridge(self):
+        self.starts['bridge'] += 1
+        self.bridge = self.stream.bridge('--window', self.window, '--every', 10, '--end', '--standby')
+
+    def start_consumer(self, place):
+        self.starts[place] += 1
+        self.consumers[place] = self.stream.consumer(place, '--gap-timeout', 30)
+
+    def bridge_is_done(self):
+        """Whether the bridge has ended well; one that has ended otherwise is started again, as a supervisor would."""
+        if not self.bridge.is_over():
+            return False
+        status, _ = self.bridge.wait()
+        if status == 0:
+            return True
+        if self.starts['bridge'] >= MOST_STARTS:
+            raise Failed(f'the bridge ends by {status}: {self.bridge.failures()}')
+        self.start_bridge()
+        return False
+
+    def await_turn(self, fault):
+        """Waits until the bridge, or the victim, is as far as the fault wants it."""
+        def is_so():
+            if fault.victim == 'consumer':
+                return self.stream.applied(1) >= fault.after
+            return self.bridge_is_done() or self.stream.confirmed() >= fault.after
+
+        wait_for(str(fault), is_so)
+
+    def is_hit(self, fault):
+        """Whether a fault comes before its victim, or those that a node serves, have ended."""
+        victims = {'bridge': [self.bridge], 'consumer': [self.consumers[1]]}.get(fault.victim, [self.bridge, *self.consumers.values()])
+        return any(not it.is_over() for it in victims)
+
+    def kill_node(self, fault):
+        """Kills a node, and starts it again. Only one is killed or stopped at a time: two of three are a majority."""
+        with self.nodes:
+            node = self.node_of(fault)
+            node.kill()
+            self.cluster.heal()
+
+    def stop_node(self, fault):
+        with self.nodes:
+            node = self.node_of(fault)
+            self.pause(node, fault)
+
+    def node_of(self, fault):
+        """The node that leads the first queue, or one that follows."""
+        leader = self.cluster.leader_of(queue_of(self.stream.name, 1))
+        return leader if fault.victim == 'leader' else next(it for it in self.cluster.nodes if it is not leader)
+
+    def kill_bridge(self, _):
+        if not self.bridge.is_over():
+            self.bridge.kill()
+            self.start_bridge()
+
+    def stop_bridge(self, fault):
+        self.pause(self.bridge, fault)
+
+    def kill_consumer(self, fault):
+        self.consumers[1].kill(fault.whole)
+        self.start_consumer(1)
+
+    def stop_consumer(self, fault):
+        self.pause(self.consumers[1], fault)
+
+    def pause(self, victim, fault):
+        """Stops processes for the fault's time."""
+        victim.send(signal.SIGSTOP)
+        time.sleep(fault.seconds)
+        victim.send(signal.SIGCONT)
+
+    def compare(self, place):
+        """The consumer has to end well, with the book that `books` prints."""
+        status, printed = self.consumers[place].wait()
+        if status != 0:
+            raise Failed(f'consumer {place} ends by {status}: {printed[:300]} {self.consumers[place].failures()}')
+        same(f'the book of subscriber {place}', self.stream.books[place], printed)
+
+
+def run_case(cluster, program, room, seed, number, nodes):
+    """Runs a case; what to print of it, and whether it failed."""
+    case = Case(cluster, program, room, seed, number, nodes)
+    began = time.monotonic()
+    what = f'case {number}: window {case.window}, {case.events} events, {", ".join(map(str, case.faults))}'
+    try:
+        case.run()
+    except (Failed, console.Stop) as why:
+        return f'failed: {what}: {why}', case
+    return f'{what}: {time.monotonic() - began:.1f} s', case
+
+
+def storm(cluster, program, seed, numbers, jobs=2):
+    """Runs cases, some at a time; how many failed."""
+    failed, did = 0, collections.Counter()
+    nodes = threading.Lock()
+    print(f'storm: seed {seed}', flush=True)
+    with tempfile.TemporaryDirectory() as room, concurrent.futures.ThreadPoolExecutor(jobs) as pool:
+        begun = [pool.submit(run_case, cluster, program, pathlib.Path(room), seed, number, nodes) for number in numbers]
+        try:
+            for future in concurrent.futures.as_completed(begun):
+                text, case = future.result()
+                failed += text.startswith('failed')
+                did.update(case.hits)
+                print(text, flush=True)
+        finally:
+            pool.shutdown(cancel_futures=True)
+    print('storm:', ', '.join(f'{count} times {what}' for what, count in sorted(did.items())), 'while it ran')
+    print(f'storm: seed {seed}: {len(begun)} cases, {failed} failed', flush=True)
+    return failed
+
+
+def read_arguments():
+    parser = argparse.ArgumentParser(description=__doc__, formatter_class=argparse.RawDescriptionHelpFormatter)
+    parser.add_argument('--program', default=str(PROGRAM))
+    parser.add_argument('--seed', type=int, default=random.SystemRandom().randrange(10 ** 9), help='random without it')
+    parser.add_argument('--cases', type=count_of, default=50, help='how many cases; %(default)s')
+    parser.add_argument('--rows', action='store_true', help='first runs all rows of rows.py over the same cluster')
+    parser.add_argument('--only', type=int, metavar='CASE', help='only this case of the seed')
+    return parser.parse_args()
+
+
+def main():
+    arguments = read_arguments()
+    numbers = range(arguments.cases) if arguments.only is None else [arguments.only]
+    with Cluster() as cluster:
+        failed = rows(cluster, arguments.program) if arguments.rows else 0
+        cluster.heal()
+        failed += storm(cluster, arguments.program, arguments.seed, numbers)
+    return 1 if failed else 0
+
+
+if __name__ == '__main__':
+    console.run(main)
