@@ -51,11 +51,11 @@ BUDGETS = [
 ]
 NOT_YET = {
     "README.md": 797,
-    "docs/GUIDE.md": 1_988,
-    "docs/REFERENCE.md": 4_620,
-    "docs/FORMATS.md": 6_802,
-    "docs/PROOFS.md": 11_231,
-    "contrib/rabbitmq/README.md": 1_518,
+    "docs/GUIDE.md": 1_990,
+    "docs/REFERENCE.md": 4_717,
+    "docs/FORMATS.md": 7_250,
+    "docs/PROOFS.md": 11_694,
+    "contrib/rabbitmq/README.md": 645,
 }
 # The documents that don't use the field's terms throughout yet.
 NOT_REWRITTEN = list(NOT_YET)
