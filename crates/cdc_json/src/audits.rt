@@ -127,12 +127,12 @@ fn push_refused(alloc: Global, lines: &mut Lines, line: u64, why: Refusal) -> Re
 }
 
 /// Adds the line of an event that is refused by this rule, with one number of this name.
-fn push_number(
+fn push_number<'a>(
     alloc: Global,
     lines: &mut Lines,
     line: u64,
-    rule: &str,
-    name: &str,
+    rule: &'a str,
+    name: &'a str,
     number: u128,
 ) -> Result<(), AllocError>
     ensures { OnOk result (lines.new.text.items ≡ lines.old.text.items
@@ -246,15 +246,15 @@ fn push_mismatch(
 }
 
 /// Adds the line of an event that is refused by this rule, with an id and a name.
-fn push_named(
+fn push_named<'a>(
     alloc: Global,
     lines: &mut Lines,
     line: u64,
-    rule: &str,
-    name: &str,
+    rule: &'a str,
+    name: &'a str,
     id: u128,
-    other: &str,
-    text: &str,
+    other: &'a str,
+    text: &'a str,
 ) -> Result<(), AllocError>
     ensures { OnOk result (lines.new.text.items ≡ lines.old.text.items
         ++ json_line (rule_value line rule.now (member name.now (wide id) (member other.now (string text.now) no_members)))) }

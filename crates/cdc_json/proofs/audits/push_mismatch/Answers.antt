@@ -1,0 +1,4 @@
+use Rattle.cdc_json.proofs.audits.push_mismatch.Goals as goal
+
+pub returns : goal.returns
+returns c = rw (c.name.ensures) at c.push.ensures
