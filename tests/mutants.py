@@ -17,7 +17,7 @@ is named is tried whatever the baseline has.
 `rt must-fail` checks a crate once for each edit. A caller sees contracts alone, so edits in different functions don't
 touch each other: here they are applied all at once to a copy of the crate, the functions that they change are checked
 once, with those that these call, and for each edit it is read whether its own function was refused. Then the same
-functions are proved unedited. docs/GATE.md has the rules. The crates below are proved first where they aren't; --proved
+functions are proved unedited. CONTRIBUTING.md has the rules. The crates below are proved first where they aren't; --proved
 means that `rt ci` has just proved this tree, and takes the libraries that it left. What is checked of a crate is checked
 from scratch; with --kept over a copy of what its earlier checks kept in out/, which is quicker.
 
