@@ -146,6 +146,14 @@ class Session:
         """There is nothing to end."""
 
 
+def applied_of(queue):
+    """The last of the events 1, 2, 3.. that a chained consumer applies of a queue."""
+    applied = 0
+    for outgoing in queue:
+        applied += outgoing.completes == applied + 1
+    return applied
+
+
 @unittest.skipIf(bridge is None, 'no pika')
 class Publishing(Case):
     def test_a_chained_consumer_gets_everything(self):
@@ -158,12 +166,9 @@ class Publishing(Case):
                 sender = publisher.Publisher(broker.connect, window=(1, 2, 3, 16)[at % 4], tries=10)
                 for timestamp in range(1, 41):
                     sender.send(Outgoing('', 'queue', None, b'', timestamp))
+                    self.assertLessEqual(sender.timestamp, applied_of(broker.queue))
                 sender.finish()
-                applied = 0
-                for outgoing in broker.queue:
-                    if outgoing.completes == applied + 1:
-                        applied += 1
-                self.assertEqual((applied, sender.timestamp, sender.events), (40, 40, 40))
+                self.assertEqual((applied_of(broker.queue), sender.timestamp, sender.events), (40, 40, 40))
 
     def test_it_ends_after_some_failures_in_a_row(self):
         class Dead(Session):

@@ -1,13 +1,16 @@
 """`relayplum follow` over a saved book, as a process: lines go in, and what is saved comes out."""
 import contextlib
+import itertools
 import json
 import os
+import re
 import subprocess
 import threading
 
 from console import USAGE_ERROR, Stop
 
 NOTHING = -1
+ENDED = re.compile(r'subscriber 1 applied \d+ last \d+ ended yes ')
 
 
 class Follower:
@@ -45,7 +48,7 @@ class Follower:
     @property
     def has_ended(self):
         """Whether the book has the end of the queue."""
-        return any(line.startswith('subscriber ') and ' ended yes ' in line for line in self.printed)
+        return any(map(ENDED.match, self.printed))
 
     def end(self):
         """Ends the stream; the status, once the book is saved."""
@@ -54,6 +57,15 @@ class Follower:
         self.reader.join()
         self.process.stdout.close()
         return self.process.wait()
+
+
+def has_ended(book):
+    """Whether the book in this file has the end of the queue."""
+    try:
+        with open(book, encoding='ascii', errors='replace') as lines:
+            return any(map(ENDED.match, itertools.islice(lines, 3)))
+    except OSError:
+        return False
 
 
 def line_of(previous, body, is_end):

@@ -44,6 +44,7 @@ MIRRORS = '[{<<"ha-mode">>, <<"all">>}, {<<"ha-sync-mode">>, <<"manual">>}, {<<"
 
 WATERMARK = 'vm_memory_monitor:set_vm_memory_high_watermark({{absolute, {bytes}}})'
 CONSUMERS = '{{ok, Q}} = rabbit_amqqueue:lookup(rabbit_misc:r(<<"/">>, queue, <<"{queue}">>)), length(rabbit_amqqueue:consumers(Q))'
+READY = '{{ok, Q}} = rabbit_amqqueue:lookup(rabbit_misc:r(<<"/">>, queue, <<"{queue}">>)), proplists:get_value(messages_ready, rabbit_amqqueue:info(Q, [messages_ready]))'
 MIRRORED = 'case rabbit_amqqueue:lookup(rabbit_misc:r(<<"/">>, queue, <<"{queue}">>)) of {{ok, Q}} -> length(amqqueue:get_slave_pids(Q)) end'
 
 
@@ -226,6 +227,11 @@ def line_of(properties, body):
     return f'{beside[:-1]},"body":{body}}}'
 
 
+def children_of(process):
+    """The processes that a process has started."""
+    return [int(it) for it in pathlib.Path(f'/proc/{process}/task/{process}/children').read_text().split()]
+
+
 def wait_for(what, is_so, seconds=SECONDS):
     """Polls a state until it is so; a check fails if it never is."""
     try:
@@ -281,3 +287,7 @@ class Bench:
     def consumers_of(self, queue):
         """How many consumers a queue has, the ones that aren't active too."""
         return int(self.cluster.up().evaluate(CONSUMERS.format(queue=queue)))
+
+    def ready_in(self, queue):
+        """How many messages of a queue aren't delivered."""
+        return int(self.cluster.up().evaluate(READY.format(queue=queue)))

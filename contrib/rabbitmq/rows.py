@@ -9,6 +9,7 @@ the place; then the bridge sends what is missing again. In the end each book has
 import argparse
 import contextlib
 import json
+import os
 import pathlib
 import signal
 import tempfile
@@ -17,7 +18,7 @@ import time
 import console
 from bridge import PROGRAM
 from cluster import Cluster
-from harness import DROPS, EVENTS, HELD_AFTER, HERE, MIRRORED, MIRRORS, REFUSES, WATERMARK, Bench, Failed, same, script_of, wait_for
+from harness import DROPS, EVENTS, HELD_AFTER, HERE, MIRRORED, MIRRORS, REFUSES, WATERMARK, Bench, Failed, children_of, same, script_of, wait_for
 
 
 class Rows(Bench):
@@ -86,6 +87,21 @@ class Rows(Bench):
             stream.ends(stream.bridge('--end'), 0, '')
             same('the book', stream.books[1], stream.ends(second, 0, ''))
             stream.takes_all(2)
+
+    def row_consumer_killed_before_its_save(self):
+        """What wasn't saved isn't acknowledged: `follow` is stopped, so that messages wait for it, and then all is killed."""
+        with contextlib.closing(self.stream('unsaved')) as stream:
+            consumer = stream.consumer(1)
+            wait_for('`follow` runs', lambda: children_of(consumer.process.pid))
+            os.kill(children_of(consumer.process.pid)[0], signal.SIGSTOP)
+            stream.ends(stream.bridge('--end'), 0, '300 events confirmed')
+            wait_for('the consumer has the messages', lambda: self.ready_in('unsaved.1') == 0)
+            consumer.kill(whole=True)
+            same('events in the book', 0, stream.applied(1))
+            for place in stream.places:
+                stream.takes_all(place)
+            # A consumer whose book has the end has nothing to wait for.
+            stream.takes_all(1)
 
     def row_queue_deleted_and_declared_again(self):
         """What a deleted queue held is a gap, and is sent again."""

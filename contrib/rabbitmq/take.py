@@ -21,7 +21,7 @@ import console
 from bridge import END, PROGRAM
 from client import count_of, queue_of, seconds_of
 from console import FAILED, Stop, say
-from follower import NOTHING, Follower, line_of
+from follower import NOTHING, Follower, has_ended, line_of
 from pika.exceptions import AMQPError
 
 TICK_SECONDS = 0.05
@@ -91,13 +91,16 @@ class Consumer:
                 time.sleep(client.wait_after(failures))
 
     def read_once(self):
-        """Reads the queue on a new connection, which ends with the reading: what isn't acknowledged goes back."""
+        """Reads the queue on a new connection, which ends with the reading: what isn't acknowledged goes back. If the book has the
+        end of the queue, nothing is read: no message may be left that would end the reading."""
         self.follower = self.follower or Follower(self.arguments.program, self.arguments.book, self.arguments.every)
+        self.unsaved, self.changed_at, self.end_after = {}, time.monotonic(), AFTER_ALL
+        if has_ended(self.arguments.book):
+            return self.finish(None)
         connection = client.connect(next(self.nodes))
         try:
             channel = connection.channel()
             channel.basic_qos(prefetch_count=self.prefetch)
-            self.unsaved, self.changed_at, self.end_after = {}, time.monotonic(), AFTER_ALL
             return self.move(channel)
         finally:
             if connection.is_open:
