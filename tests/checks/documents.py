@@ -55,7 +55,7 @@ NOT_YET = {
     "docs/REFERENCE.md": 4_717,
     "docs/FORMATS.md": 7_250,
     "docs/PROOFS.md": 11_694,
-    "contrib/rabbitmq/README.md": 645,
+    "contrib/rabbitmq/README.md": 600,
 }
 # The documents that don't use the field's terms throughout yet.
 NOT_REWRITTEN = list(NOT_YET)
