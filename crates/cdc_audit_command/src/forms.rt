@@ -106,5 +106,6 @@ fn push_refused(text: &mut Vec<u8>, line: u64, why: Refusal) -> Result<(), Alloc
     push_named(text, "refused: line ", line)?;
     push(text, ": ")?;
     push_refusal(&why, text)?;
-    push(text, "\n")
+    push(text, "\n")?;
+    Ok(())
 }
