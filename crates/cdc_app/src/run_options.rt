@@ -232,7 +232,9 @@ fn asked_counts(
         let Some(count) = count_in(word, u64::MAX) else {
             return Err(bad_value(alloc, name, word, COUNTS)?);
         };
-        counts.push(count)?;
+        if counts.push(count).is_err() {
+            return Err(OptionsFault::OutOfMemory);
+        }
     }
     Ok(counts)
 }
@@ -254,7 +256,9 @@ fn asked_pairs(
         let Some(pair) = pair_in(word) else {
             return Err(bad_value(alloc, name, word, expected)?);
         };
-        pairs.push(pair)?;
+        if pairs.push(pair).is_err() {
+            return Err(OptionsFault::OutOfMemory);
+        }
     }
     Ok(pairs)
 }
