@@ -525,8 +525,9 @@ def changed(rng, body):
         part = part[name]
     value = int(part[path[-1]])
     other = rng.choice([value + 1, max(value - 1, 0), 0, value * 2 + 1, rng.randrange(2**16)])
-    if other == value:
-        other = value + 1
+    most = 2**64 - 1 if path[-1] == "timestamp" else 2**128 - 1
+    if other == value or other > most:
+        other = value - 1 if value else 1
     part[path[-1]] = str(other) if isinstance(part[path[-1]], str) else other % 2**16
     return copy, path
 
