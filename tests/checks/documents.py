@@ -53,7 +53,7 @@ NOT_YET = {
     "README.md": 797,
     "docs/GUIDE.md": 1_990,
     "docs/REFERENCE.md": 4_717,
-    "docs/FORMATS.md": 7_250,
+    "docs/FORMATS.md": 7_270,
     "docs/PROOFS.md": 11_694,
     "contrib/rabbitmq/README.md": 600,
 }

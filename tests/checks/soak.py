@@ -650,7 +650,8 @@ class PlanMaker:
         return self.rng.randint(1, len(self.events) + 3)
 
     def subscriber(self):
-        return self.rng.randint(1, self.subscribers + (self.rng.random() < 0.05))
+        # (a number above 8 is a usage error)
+        return min(self.rng.randint(1, self.subscribers + (self.rng.random() < 0.05)), 8)
 
     def progress(self, starts_late):
         """What was saved by an earlier run, if anything was; less often if this one is given a start."""
