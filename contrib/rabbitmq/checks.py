@@ -29,7 +29,6 @@ try:
     from publisher import Outgoing
     from session import Lost
 except SystemExit:
-    console.say('without pika only the arguments are checked')
     bridge = None
 
 EVENT = (b'{"kind":"message","headers":{"event_type":"single_phase","ledger":700,"transfer_code":1,"debit_account_code":10,'
@@ -292,4 +291,6 @@ class Arguments(Case):
 
 
 if __name__ == '__main__':
+    if bridge is None and '--help' not in sys.argv and '-h' not in sys.argv:
+        console.say('without pika only the arguments are checked')
     console.run(unittest.main)
