@@ -9,6 +9,8 @@
   capital inside or `::` is in some source; not in those OF_OTHER_DAYS, which describe earlier commits.
 - A clause that docs/PROOFS.md names is one of some function; a cell of a table there has at most 300 characters. The files of
   definitions that it has a reader believe, and the definitions that it picks of them, are in what tools/definitions prints.
+- A place in docs/PROOFS.md, as in `IsFaithful`, `cdc_laws/specs/Faithful.antt:56`, is the line that defines the name before
+  it. What is shown there of the checker names such a place.
 - No identifier, comment, diagnostic, help text, document or name of a file uses a term of tests/checks/terms.txt. Of must-fail/
   only the names are looked at; the documents NOT_REWRITTEN yet only with --prose.
 
@@ -54,7 +56,6 @@ NOT_YET = {
     "docs/GUIDE.md": 1_990,
     "docs/REFERENCE.md": 4_717,
     "docs/FORMATS.md": 7_270,
-    "docs/PROOFS.md": 11_694,
     "contrib/rabbitmq/README.md": 600,
 }
 # The documents that don't use the field's terms throughout yet.
@@ -66,6 +67,9 @@ LINK = re.compile(r"(?<!!)\[[^\]]+\]\(([^)\s]+)\)")
 ENDINGS = "antt|args|c|edit|errors|fish|bash|md|patch|progress|py|rt|script|sh|status|stdout|steps|txt|tar\\.xz|1"
 QUOTED = re.compile(r"`([^`\n]+)`")
 LOOKS_LIKE_A_FILE = re.compile(rf"\.?[\w./*-]+\.(?:{ENDINGS})|\.?[\w.-]+(?:/[\w.*-]+)+/?")
+# A place in a source, and how a line begins that defines a name.
+PLACE = re.compile(r"`([\w/]+\.(?:antt|rt)):(\d+)`")
+DEFINES = r"\s*(?:(?:abbrev|pub|record|data|const|fn|struct|enum|trait|type) )+"
 # Names for any name, and what the documents call a file that a command is given, or makes.
 STAND_INS = re.compile(r"NAME|CRATE|FUNCTION|METHOD|FILE|STEPS|PATH|PROGRESS|\b(?:out|play)/|^/|^\d|\.\.\.?$")
 # What is of the toolchain or of a format, and stands in no source here.
@@ -185,6 +189,39 @@ def cells_of(line):
     return [it.strip() for it in re.split(r"(?<!\\)\|", line.strip().strip("|"))]
 
 
+def checks_of_places(tree, proofs, definitions):
+    """Gives a check for each place of a definition or a function: that the line named defines it, and tools/definitions prints it."""
+    places = set()
+    for at, line in enumerate(proofs.split("\n"), 1):
+        for place in PLACE.finditer(line):
+            path, number, before = f"crates/{place[1]}", int(place[2]), re.search(r"`(\w+)`, $", line[: place.start()])
+            places.add(f"{place[1].partition('/')[2]}:{number}")
+            yield bool(before), f"docs/PROOFS.md:{at}: no name stands before {place[0]}"
+            if not before:
+                continue
+            name, lines = before[1], read(path).split("\n") if path in tree.files else []
+            defined = [it for it, text in enumerate(lines, 1) if re.match(DEFINES + rf"{name}\b", text)]
+            yield number in defined, f"docs/PROOFS.md:{at}: {name} is defined in {path} at {defined}, and not at {number}"
+            if path.endswith(".antt"):
+                is_printed = name in printed_of(definitions, place[1]) or is_listed(definitions, place[1])
+                yield is_printed, f"docs/PROOFS.md:{at}: tools/definitions prints neither {name} nor its file"
+    for place in re.findall(r"(?m)^    .*\b(src/\w+\.rt:\d+):", proofs):
+        yield place in places, f"docs/PROOFS.md shows {place} of the checker, which is no place that it names"
+
+
+def is_listed(definitions, path):
+    """Returns whether tools/definitions lists a file among those that single crates promise something by."""
+    crate, _, file = path.partition("/specs/")
+    return bool(re.search(rf"(?m)^- `{crate}`: (?:.*\W)?{re.escape(file)}\W", definitions.replace("\n  ", " ")))
+
+
+def printed_of(definitions, path):
+    """Returns the names of the definitions that tools/definitions prints of a file."""
+    crate, _, file = path.partition("/specs/")
+    of_crate = definitions.partition(f"## `{crate}`\n")[2].partition("\n## ")[0]
+    return re.findall(r"\*\*(.+?)\*\*", of_crate.partition(f"### {file}\n")[2].partition("\n###")[0])
+
+
 def checks(tree):
     """Gives each check: whether it passed, and what is said where it failed."""
     yield from checks_of_pages(tree)
@@ -204,12 +241,12 @@ def checks(tree):
                 yield it in tree.clauses, f"docs/PROOFS.md:{at}: no function has a clause {it}"
         for cell in cells_of(line) if line.startswith("|") else []:
             yield len(cell) <= MOST, f"docs/PROOFS.md:{at}: a cell of more than {MOST} characters: {cell[:60]}"
+    yield from checks_of_places(tree, proofs, definitions)
     for crate, file, names in believed_in(proofs):
-        of_crate = definitions.partition(f"## `{crate}`\n")[2].partition("\n## ")[0]
-        part = of_crate.partition(f"### {file}\n")[2].partition("\n###")[0]
-        yield bool(part), f"docs/PROOFS.md has a reader believe {file} of {crate}, which tools/definitions doesn't print"
+        known = printed_of(definitions, f"{crate}/specs/{file}")
+        yield bool(known), f"docs/PROOFS.md has a reader believe {file} of {crate}, which tools/definitions doesn't print"
         for it in names:
-            yield f"**{it}**" in part, f"docs/PROOFS.md has a reader believe {it} of {crate}, which tools/definitions doesn't print"
+            yield it in known, f"docs/PROOFS.md has a reader believe {it} of {crate}, which tools/definitions doesn't print"
 
 
 def believed_in(proofs):
