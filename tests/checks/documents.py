@@ -1,8 +1,7 @@
 #!/usr/bin/env python3
 """The documents: what they name and link exists, they stay short, and the terms are the field's.
 
-- No document has more than its BUDGET of words; those of NOT_YET may have as many as they have today, and can only shrink. A
-  word has a letter or a digit, so the bars of a table are none.
+- No document has more than its BUDGET of words. A word has a letter or a digit, so the bars of a table are none.
 - Each link within the repository leads to a file, and to a heading in it. Each document is linked from README.md, or from one
   that is.
 - In the documents each text in backquotes that looks like a file is one, and each name in backquotes that has an underscore, a
@@ -12,10 +11,10 @@
 - A place in docs/PROOFS.md, as in `IsFaithful`, `cdc_laws/specs/Faithful.antt:56`, is the line that defines the name before
   it. What is shown there of the checker names such a place.
 - No identifier, comment, diagnostic, help text, document or name of a file uses a term of tests/checks/terms.txt. Of must-fail/
-  only the names are looked at; the documents NOT_REWRITTEN yet only with --prose.
+  only the names are looked at.
 
-  tests/checks/documents.py [--prose]
-  tests/checks/documents.py --terms [--prose] [PATH..]    only the terms, in these files and folders, and each place
+  tests/checks/documents.py
+  tests/checks/documents.py --terms [PATH..]    only the terms, in these files and folders, and each place
 
 Prints each check that fails; the last line is 'documents: N checks, M failed'. Needs Python 3.8 or later.
 """
@@ -34,7 +33,7 @@ import ending
 import terms
 
 MOST = 300
-# How many words a document may have; more where it isn't rewritten yet. Documents of one line share their words.
+# How many words a document may have. Documents of one line share their words.
 BUDGETS = [
     (450, "README.md"),
     (1_600, "docs/GUIDE.md"),
@@ -51,12 +50,6 @@ BUDGETS = [
     (800, "CHANGELOG.md", "ROADMAP.md"),
     (600, "contrib/rabbitmq/README.md"),
 ]
-NOT_YET = {
-    "docs/GUIDE.md": 1_990,
-    "contrib/rabbitmq/README.md": 600,
-}
-# The documents that don't use the field's terms throughout yet.
-NOT_REWRITTEN = list(NOT_YET)
 FIRST = "README.md"
 # The documents whose names may be of another day.
 OF_OTHER_DAYS = ["docs/MEASURED.md", "CHANGELOG.md"]
@@ -164,7 +157,6 @@ def checks_of_pages(tree):
     every = documents(tree)
     for limit, *pages in BUDGETS:
         count = sum(words_in(read(it)) for it in pages if it in every)
-        limit = NOT_YET.get(pages[0], limit)
         yield count <= limit, f"{' and '.join(pages)}: {count} words, {limit} at most"
     for it in every:
         yield any(it in pages for _, *pages in BUDGETS), f"{it} has no budget of words"
@@ -257,10 +249,10 @@ def believed_in(proofs):
                 yield crate, path.rpartition("specs/")[2], re.findall(r"\w+", picked)
 
 
-def with_terms(tree, paths, prose):
+def with_terms(tree, paths):
     """Returns the files whose text is looked at for terms, and the files and folders whose name is."""
     is_asked = lambda path: not paths or any(path == it or path.startswith(f"{it}/") for it in paths)
-    is_prose = lambda path: path.endswith(".md") and (prose or path not in NOT_REWRITTEN)
+    is_prose = lambda path: path.endswith(".md")
     has_terms = lambda path: is_prose(path) or any(fnmatch.fnmatch(path, it) for it in WITH_TERMS)
     files = [it for it in tree.files if is_asked(it) and has_terms(it)]
     folders = {it[:at] for it in files for at in range(len(it)) if it[at] == "/"}
@@ -268,14 +260,14 @@ def with_terms(tree, paths, prose):
     return texts, sorted({*files, *(it for it in folders if is_asked(it))})
 
 
-def checks_of_terms(tree, paths, prose, most):
+def checks_of_terms(tree, paths, most):
     """Gives a check for each text and each name; what is printed of one has at most so many places."""
     try:
         known = terms.terms_in(read(terms.FILE))
     except terms.Unreadable as why:
         yield False, str(why)
         return
-    texts, names = with_terms(tree, paths, prose)
+    texts, names = with_terms(tree, paths)
     for path in names:
         places = [f"{path}: the name has '{what}': {instead}" for what, instead in terms.found_in_name(path, known)]
         yield not places, "\nfailed: ".join(places)
@@ -287,7 +279,6 @@ def checks_of_terms(tree, paths, prose, most):
 
 def main(arguments):
     parser = argparse.ArgumentParser(description=__doc__, formatter_class=argparse.RawDescriptionHelpFormatter)
-    parser.add_argument("--prose", action="store_true", help="looks for the terms in all documents")
     parser.add_argument("--terms", action="store_true", help="looks only for the terms, and prints each place")
     parser.add_argument("paths", nargs="*", metavar="PATH", help="with --terms: only in these files and folders")
     asked = parser.parse_args(arguments)
@@ -296,7 +287,7 @@ def main(arguments):
     tree, paths = Tree(), [os.path.relpath(it, TOP) for it in asked.paths]
     passed, failed = 0, 0
     found = [] if asked.terms else checks(tree)
-    for is_right, said in itertools.chain(found, checks_of_terms(tree, paths, asked.prose, None if asked.terms else MOST_PLACES)):
+    for is_right, said in itertools.chain(found, checks_of_terms(tree, paths, None if asked.terms else MOST_PLACES)):
         passed, failed = passed + is_right, failed + (not is_right)
         if not is_right:
             print(f"failed: {said}")
