@@ -733,7 +733,7 @@ same 'the example of two phases: its books' "$out" "${shown%\`\`\`}"
 counts 'the example of two phases: its books' 2 0
 
 # The example of a marketplace, worked out by hand: what each message is routed by, and the books, in which each euro that
-# was posted to one account was posted from another. The guide shows its results too.
+# was posted to one account was posted from another.
 its_headers='single_phase 1 9 1 0
 single_phase 1 9 1 0
 two_phase_pending 2 1 2 0

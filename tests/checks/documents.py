@@ -1,19 +1,20 @@
 #!/usr/bin/env python3
 """The documents: what they name and link exists, they stay short, and the terms are the field's.
 
-- No document has more than its BUDGET of words; those of NOT_YET may have as many as they have today, and can only shrink. A
-  word has a letter or a digit, so the bars of a table are none.
+- No document has more than its BUDGET of words. A word has a letter or a digit, so the bars of a table are none.
 - Each link within the repository leads to a file, and to a heading in it. Each document is linked from README.md, or from one
   that is.
 - In the documents each text in backquotes that looks like a file is one, and each name in backquotes that has an underscore, a
   capital inside or `::` is in some source; not in those OF_OTHER_DAYS, which describe earlier commits.
 - A clause that docs/PROOFS.md names is one of some function; a cell of a table there has at most 300 characters. The files of
   definitions that it has a reader believe, and the definitions that it picks of them, are in what tools/definitions prints.
+- A place in docs/PROOFS.md, as in `IsFaithful`, `cdc_laws/specs/Faithful.antt:56`, is the line that defines the name before
+  it. What is shown there of the checker names such a place.
 - No identifier, comment, diagnostic, help text, document or name of a file uses a term of tests/checks/terms.txt. Of must-fail/
-  only the names are looked at; the documents NOT_REWRITTEN yet only with --prose.
+  only the names are looked at.
 
-  tests/checks/documents.py [--prose]
-  tests/checks/documents.py --terms [--prose] [PATH..]    only the terms, in these files and folders, and each place
+  tests/checks/documents.py
+  tests/checks/documents.py --terms [PATH..]    only the terms, in these files and folders, and each place
 
 Prints each check that fails; the last line is 'documents: N checks, M failed'. Needs Python 3.8 or later.
 """
@@ -32,7 +33,7 @@ import ending
 import terms
 
 MOST = 300
-# How many words a document may have; more where it isn't rewritten yet. Documents of one line share their words.
+# How many words a document may have. Documents of one line share their words.
 BUDGETS = [
     (450, "README.md"),
     (1_600, "docs/GUIDE.md"),
@@ -49,16 +50,6 @@ BUDGETS = [
     (800, "CHANGELOG.md", "ROADMAP.md"),
     (600, "contrib/rabbitmq/README.md"),
 ]
-NOT_YET = {
-    "README.md": 797,
-    "docs/GUIDE.md": 1_990,
-    "docs/REFERENCE.md": 4_717,
-    "docs/FORMATS.md": 7_270,
-    "docs/PROOFS.md": 11_694,
-    "contrib/rabbitmq/README.md": 600,
-}
-# The documents that don't use the field's terms throughout yet.
-NOT_REWRITTEN = list(NOT_YET)
 FIRST = "README.md"
 # The documents whose names may be of another day.
 OF_OTHER_DAYS = ["docs/MEASURED.md", "CHANGELOG.md"]
@@ -66,6 +57,9 @@ LINK = re.compile(r"(?<!!)\[[^\]]+\]\(([^)\s]+)\)")
 ENDINGS = "antt|args|c|edit|errors|fish|bash|md|patch|progress|py|rt|script|sh|status|stdout|steps|txt|tar\\.xz|1"
 QUOTED = re.compile(r"`([^`\n]+)`")
 LOOKS_LIKE_A_FILE = re.compile(rf"\.?[\w./*-]+\.(?:{ENDINGS})|\.?[\w.-]+(?:/[\w.*-]+)+/?")
+# A place in a source, and how a line begins that defines a name.
+PLACE = re.compile(r"`([\w/]+\.(?:antt|rt)):(\d+)`")
+DEFINES = r"\s*(?:(?:abbrev|pub|record|data|const|fn|struct|enum|trait|type) )+"
 # Names for any name, and what the documents call a file that a command is given, or makes.
 STAND_INS = re.compile(r"NAME|CRATE|FUNCTION|METHOD|FILE|STEPS|PATH|PROGRESS|\b(?:out|play)/|^/|^\d|\.\.\.?$")
 # What is of the toolchain or of a format, and stands in no source here.
@@ -163,7 +157,6 @@ def checks_of_pages(tree):
     every = documents(tree)
     for limit, *pages in BUDGETS:
         count = sum(words_in(read(it)) for it in pages if it in every)
-        limit = NOT_YET.get(pages[0], limit)
         yield count <= limit, f"{' and '.join(pages)}: {count} words, {limit} at most"
     for it in every:
         yield any(it in pages for _, *pages in BUDGETS), f"{it} has no budget of words"
@@ -185,6 +178,39 @@ def cells_of(line):
     return [it.strip() for it in re.split(r"(?<!\\)\|", line.strip().strip("|"))]
 
 
+def checks_of_places(tree, proofs, definitions):
+    """Gives a check for each place of a definition or a function: that the line named defines it, and tools/definitions prints it."""
+    places = set()
+    for at, line in enumerate(proofs.split("\n"), 1):
+        for place in PLACE.finditer(line):
+            path, number, before = f"crates/{place[1]}", int(place[2]), re.search(r"`(\w+)`, $", line[: place.start()])
+            places.add(f"{place[1].partition('/')[2]}:{number}")
+            yield bool(before), f"docs/PROOFS.md:{at}: no name stands before {place[0]}"
+            if not before:
+                continue
+            name, lines = before[1], read(path).split("\n") if path in tree.files else []
+            defined = [it for it, text in enumerate(lines, 1) if re.match(DEFINES + rf"{name}\b", text)]
+            yield number in defined, f"docs/PROOFS.md:{at}: {name} is defined in {path} at {defined}, and not at {number}"
+            if path.endswith(".antt"):
+                is_printed = name in printed_of(definitions, place[1]) or is_listed(definitions, place[1])
+                yield is_printed, f"docs/PROOFS.md:{at}: tools/definitions prints neither {name} nor its file"
+    for place in re.findall(r"(?m)^    .*\b(src/\w+\.rt:\d+):", proofs):
+        yield place in places, f"docs/PROOFS.md shows {place} of the checker, which is no place that it names"
+
+
+def is_listed(definitions, path):
+    """Returns whether tools/definitions lists a file among those that single crates promise something by."""
+    crate, _, file = path.partition("/specs/")
+    return bool(re.search(rf"(?m)^- `{crate}`: (?:.*\W)?{re.escape(file)}\W", definitions.replace("\n  ", " ")))
+
+
+def printed_of(definitions, path):
+    """Returns the names of the definitions that tools/definitions prints of a file."""
+    crate, _, file = path.partition("/specs/")
+    of_crate = definitions.partition(f"## `{crate}`\n")[2].partition("\n## ")[0]
+    return re.findall(r"\*\*(.+?)\*\*", of_crate.partition(f"### {file}\n")[2].partition("\n###")[0])
+
+
 def checks(tree):
     """Gives each check: whether it passed, and what is said where it failed."""
     yield from checks_of_pages(tree)
@@ -204,12 +230,12 @@ def checks(tree):
                 yield it in tree.clauses, f"docs/PROOFS.md:{at}: no function has a clause {it}"
         for cell in cells_of(line) if line.startswith("|") else []:
             yield len(cell) <= MOST, f"docs/PROOFS.md:{at}: a cell of more than {MOST} characters: {cell[:60]}"
+    yield from checks_of_places(tree, proofs, definitions)
     for crate, file, names in believed_in(proofs):
-        of_crate = definitions.partition(f"## `{crate}`\n")[2].partition("\n## ")[0]
-        part = of_crate.partition(f"### {file}\n")[2].partition("\n###")[0]
-        yield bool(part), f"docs/PROOFS.md has a reader believe {file} of {crate}, which tools/definitions doesn't print"
+        known = printed_of(definitions, f"{crate}/specs/{file}")
+        yield bool(known), f"docs/PROOFS.md has a reader believe {file} of {crate}, which tools/definitions doesn't print"
         for it in names:
-            yield f"**{it}**" in part, f"docs/PROOFS.md has a reader believe {it} of {crate}, which tools/definitions doesn't print"
+            yield it in known, f"docs/PROOFS.md has a reader believe {it} of {crate}, which tools/definitions doesn't print"
 
 
 def believed_in(proofs):
@@ -223,10 +249,10 @@ def believed_in(proofs):
                 yield crate, path.rpartition("specs/")[2], re.findall(r"\w+", picked)
 
 
-def with_terms(tree, paths, prose):
+def with_terms(tree, paths):
     """Returns the files whose text is looked at for terms, and the files and folders whose name is."""
     is_asked = lambda path: not paths or any(path == it or path.startswith(f"{it}/") for it in paths)
-    is_prose = lambda path: path.endswith(".md") and (prose or path not in NOT_REWRITTEN)
+    is_prose = lambda path: path.endswith(".md")
     has_terms = lambda path: is_prose(path) or any(fnmatch.fnmatch(path, it) for it in WITH_TERMS)
     files = [it for it in tree.files if is_asked(it) and has_terms(it)]
     folders = {it[:at] for it in files for at in range(len(it)) if it[at] == "/"}
@@ -234,14 +260,14 @@ def with_terms(tree, paths, prose):
     return texts, sorted({*files, *(it for it in folders if is_asked(it))})
 
 
-def checks_of_terms(tree, paths, prose, most):
+def checks_of_terms(tree, paths, most):
     """Gives a check for each text and each name; what is printed of one has at most so many places."""
     try:
         known = terms.terms_in(read(terms.FILE))
     except terms.Unreadable as why:
         yield False, str(why)
         return
-    texts, names = with_terms(tree, paths, prose)
+    texts, names = with_terms(tree, paths)
     for path in names:
         places = [f"{path}: the name has '{what}': {instead}" for what, instead in terms.found_in_name(path, known)]
         yield not places, "\nfailed: ".join(places)
@@ -253,7 +279,6 @@ def checks_of_terms(tree, paths, prose, most):
 
 def main(arguments):
     parser = argparse.ArgumentParser(description=__doc__, formatter_class=argparse.RawDescriptionHelpFormatter)
-    parser.add_argument("--prose", action="store_true", help="looks for the terms in all documents")
     parser.add_argument("--terms", action="store_true", help="looks only for the terms, and prints each place")
     parser.add_argument("paths", nargs="*", metavar="PATH", help="with --terms: only in these files and folders")
     asked = parser.parse_args(arguments)
@@ -262,7 +287,7 @@ def main(arguments):
     tree, paths = Tree(), [os.path.relpath(it, TOP) for it in asked.paths]
     passed, failed = 0, 0
     found = [] if asked.terms else checks(tree)
-    for is_right, said in itertools.chain(found, checks_of_terms(tree, paths, asked.prose, None if asked.terms else MOST_PLACES)):
+    for is_right, said in itertools.chain(found, checks_of_terms(tree, paths, None if asked.terms else MOST_PLACES)):
         passed, failed = passed + is_right, failed + (not is_right)
         if not is_right:
             print(f"failed: {said}")

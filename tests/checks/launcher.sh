@@ -74,17 +74,38 @@ for it in sh bash python3 readlink find cmp cat env grep dirname basename rm; do
 PATH=$PATH_WITHOUT start books x
 check 'without a toolchain the program runs, since it fits the sources' 'run with books x' "$out"
 
-echo 'echo "no proof: a goal is open"; exit 1' >"$DO/high"
-echo '// wrong' >>"$room/top/crates/high/src/lib.rt"
-start books x
+# A crate that isn't proved: one line of what the checker printed is shown, the first of a goal in the source.
+cd "$room/top" || exit 1
+checker() { # checker LINE..: what the checker of `high` prints before it refuses
+    printf '%s\n' "$@" >"$DO/printed"
+    echo 'cat "$DO/printed"; exit 1' >"$DO/high"
+}
+refusal() { # refusal NAME WANTED
+    start books x
+    check "$1: what is printed" "$(printf '%s\n' "relayplum: high isn't proved: $2" \
+        'relayplum: crates/cdc_app/out/start/high.log has all that the checker printed')" "$(tail -n 2 <<<"$err")"
+    check "$1: the file has the rest" "$(cat "$DO/printed")" "$(cat crates/cdc_app/out/start/high.log)"
+}
+checker 'so far: note: src/lib.rt:1:1: it is not proved that so far' './proofs/lib/f/Answers.antt:1:1: error: a tactic fails' \
+    'fn high::f: not proved' 'note: src/lib.rt:2:5: it is not proved that the answer holds (`answer`)' \
+    'note: src/lib.rt:3:5: it is not proved that another holds' 'fn high::g: not proved'
+echo '// wrong' >>crates/high/src/lib.rt
+refusal 'a goal' 'src/lib.rt:2:5: it is not proved that the answer holds (`answer`)'
 check 'a crate that is refused ends the script' 1 "$status"
 check 'what it stands on is not proved again' 'high: proved, jobs 1' "$calls"
 check 'no program runs then' '' "$out"
-has 'it names the crate' '^relayplum: high isn.t proved$' "$err"
-has 'it shows why' 'a goal is open' "$err"
+check 'nothing else is printed of it' 1 "$(grep -c 'it is not proved' <<<"$err")"
+checker 'fn high::f: proved' './proofs/lib/f/Answers.antt:1:1: error: a tactic fails' 'fn high::f: not proved' 'the last line'
+refusal 'a goal in a proof' './proofs/lib/f/Answers.antt:1:1: error: a tactic fails'
+checker 'fn high::f: proved' 'fn high::g: not proved' 'the last line'
+refusal 'a function' 'fn high::g: not proved'
+checker 'so far: nothing' 'no proof: a goal is open' ''
+refusal 'anything else' 'no proof: a goal is open'
+echo ': >"$DO/printed"; exit 1' >"$DO/high"
+refusal 'a checker that prints nothing' 'the checker printed nothing'
 start books x
 check 'and again, until it is mended' 1 "$status"
-rm "$DO/high"
+rm "$DO/high" "$DO/printed"
 start books x
 check 'a mended crate builds, and what stands on it' "$upwards" "$calls"
 
@@ -165,7 +186,7 @@ echo 'echo "no proof: a goal is open"; exit 1' >>"$DO/low"
 echo 'echo $$ >"$DO/side.id"; exec sleep 100000' >"$DO/side"
 RT_JOBS=2 start books x
 check 'side by side: one that is refused ends the script' 1 "$status"
-has 'side by side: it names the crate' '^relayplum: low isn.t proved$' "$err"
+has 'side by side: it names the crate' '^relayplum: low isn.t proved: ' "$err"
 has 'side by side: it shows why' 'a goal is open' "$err"
 gone() { ! kill -0 "$1" 2>/dev/null || [ "$(cut -d' ' -f3 "/proc/$1/stat" 2>/dev/null)" = Z ]; }
 check 'side by side: the other is ended too' gone "$(gone "$(cat "$DO/side.id")" && echo gone)"

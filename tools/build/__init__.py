@@ -3,7 +3,7 @@ import sys
 
 
 class Stop(Exception):
-    """What ends the script: the sentence that it prints, and the exit status."""
+    """What ends the script: the sentences that it prints, each on a line, and the exit status."""
 
     def __init__(self, why, status=1):
         super().__init__(why)

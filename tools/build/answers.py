@@ -86,7 +86,7 @@ def unknown(help, commands, arguments):
                     next(rest, None)
     if wrong is None:
         return None
-    raise Stop(f"{wrong}\nrelayplum: `relayplum --help` lists all commands and flags", USAGE)
+    raise Stop(f"{wrong}\n`relayplum --help` lists all commands and flags", USAGE)
 
 
 def version(top):

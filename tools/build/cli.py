@@ -62,10 +62,8 @@ def main(top, arguments):
     try:
         return run(top, arguments)
     except Stop as why:
-        head, _, last = str(why).rpartition("\nrelayplum: ")
-        if head:
-            say(head) if why.status == answers.USAGE else sys.stderr.write(f"{head}\n")
-        say(last)
+        for line in str(why).split("\n"):
+            say(line)
         return why.status
     except KeyboardInterrupt:
         return 130

@@ -19,6 +19,8 @@ from .proved import Proved, Stale, put_together, unpack_library, unpacked
 EACH, MOST = 3_000_000_000, 2
 # What a crate takes however small it is, as so many bytes of its sources: the order of the crates goes by these.
 ANYWAY = 500_000
+# How much is printed of the line why a crate isn't proved.
+MOST_OF_A_REASON = 300
 # How a crate may be made, by what has to be trusted besides the toolchain: nothing, who wrote its record, who built its library.
 PROOF, RECORD, LIBRARY = "proof", "record", "library"
 WAYS = (LIBRARY, RECORD, PROOF)
@@ -200,11 +202,11 @@ class Build:
             raise Stop(f"{file} changed while the program was built: start it again")
 
     def unproved(self, crate):
-        """Returns what the checker printed of a crate that isn't proved, and the sentence."""
-        with contextlib.suppress(OSError):
-            with open(self.log(crate), encoding="utf-8", errors="replace") as it:
-                return f"{it.read()}relayplum: {crate.name} isn't proved"
-        return f"{crate.name} isn't proved"
+        """Returns why a crate isn't proved, in one line, and the file that has all that the checker printed."""
+        log = self.log(crate)
+        with open(log, encoding="utf-8", errors="replace") as it:
+            why = reason_in(it.read().split("\n"))
+        return f"{crate.name} isn't proved: {why}\n{os.path.relpath(log)} has all that the checker printed"
 
     def count(self, crate):
         return f"{self.crates.index(crate) + 1} of {len(self.crates)}"
@@ -258,6 +260,18 @@ class Build:
                 raise
         for crate in self.crates:
             self.stop_if_moved(crate)
+
+
+def reason_in(lines):
+    """Returns why a crate isn't proved, a line of what the checker printed: the first of a goal in its source, or else of an
+    error, or of a function, or the last one."""
+    lines = [it for it in lines if it.strip() and not it.startswith("so far: ")]
+    for pattern in (r"(?:note: |error: )?(src/\S+: it is not proved .*)", r"((?:\S+: )?error\b.*)", r"(.*: not proved)"):
+        for line in lines:
+            found = re.fullmatch(pattern, line)
+            if found:
+                return found[1][:MOST_OF_A_REASON]
+    return lines[-1][:MOST_OF_A_REASON] if lines else "the checker printed nothing"
 
 
 def killed(crate, number):
