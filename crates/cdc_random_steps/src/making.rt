@@ -17,6 +17,8 @@ use std::alloc::{AllocError, Global};
 use std::fmt::Write;
 use std::vec::IntoIter;
 
+mod finishing;
+
 /// How often in a row the world may refuse a drawn step before no more steps are generated.
 const TRIES: u64 = 256;
 
@@ -65,13 +67,16 @@ struct Maker {
     has_news: bool,
     /// How many lines the text has.
     lines: u32,
+    /// Whether a fault may close a subscriber.
+    may_close: bool,
     /// What is made so far.
     made: RandomSteps,
 }
 
 /// Generates steps for a script: its world takes them, one after another. Most of them make progress; faults are
-/// injected among them. `window` is how many events of a session may wait for their confirms at a time. A bad script
-/// gives no steps.
+/// injected among them. With `chances.to_end`, further steps follow without faults, until every subscriber has received
+/// the end-of-stream marker. `window` is how many events of a session may wait for their confirms at a time. A bad
+/// script gives no steps.
 pub fn random_steps(
     alloc: Global,
     script: &[u8],
@@ -107,6 +112,7 @@ pub fn random_steps(
         runs: false,
         has_news: false,
         lines: 0,
+        may_close: !chances.to_end,
         made: none,
     };
     make_in_world(alloc, bindings.into_vec(), window, chances, &mut maker)?;
@@ -126,7 +132,11 @@ fn make_in_world(
     requires { IsWindow window }
 {
     let mut world = World::new(alloc, bindings, window, MemoryStore::new())?;
-    maker.make(alloc, &mut world, chances)
+    maker.make(alloc, &mut world, chances)?;
+    if chances.to_end {
+        maker.finish(alloc, &mut world)?;
+    }
+    Ok(())
 }
 
 impl Maker {
@@ -280,9 +290,9 @@ impl Maker {
     }
 
     /// A subscriber's close, or a rewind instead, so that closes are rarer than other faults: a closed subscriber
-    /// shows little.
+    /// shows little, and never receives the end-of-stream marker.
     fn draw_close(&mut self, number: u64) -> Draw {
-        if self.below(4) == 0 {
+        if self.below(4) == 0 && self.may_close {
             Draw::Step(Step::Close(number))
         } else {
             Draw::Step(Step::Rewind(number))
