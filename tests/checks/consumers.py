@@ -78,7 +78,8 @@ def try_seed(program, seed, room):
 
     check("the last event is followed by an end", "end" in results and len(lines) == len(wanted))
     for name in WRONG:
-        check(f"{name}: it goes wrong at the first duplicate", first_difference(wanted, output_of(command(name), lines)) == duplicate)
+        at = first_difference(wanted, output_of(command(name), lines))
+        check(f"{name}: it goes wrong at the first duplicate", at == duplicate)
     check(f"{RIGHT}: what is expected", output_of(command(RIGHT, room / f"{seed}.book"), lines) == wanted)
     places = range(len(lines) + 1)
     for place in places if seed <= KILLED_EVERYWHERE else [random.Random(seed).choice(places)]:

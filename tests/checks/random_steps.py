@@ -33,16 +33,17 @@ WAYS = {
     "without faults": ["--faults", "0"],
     "without faults, to the end": ["--faults", "0", "--to-end"],
 }
-# A ninth of the faults that are drawn are of each kind, and of these a quarter are closes and the others rewinds. Some are drawn
-# that can't come, or can't be told from progress. A kind has at least this share of what is asked for.
+# A ninth of the faults that are drawn are of each kind, and of the closes three quarters are rewinds instead. What can't come is
+# drawn again, and a packet or a confirm can only be left out while one is on its way, which is seldom. Of what is asked for each
+# kind has at least this share.
 SHARES = {
-    "crash": 0.04,
-    "packet left out": 0.04,
-    "confirm left out": 0.04,
-    "arrive": 0.04,
-    "answer": 0.04,
-    "rewind": 0.08,
-    "break": 0.06,
+    "crash": 0.05,
+    "packet left out": 0.005,
+    "confirm left out": 0.005,
+    "arrive": 0.05,
+    "answer": 0.05,
+    "rewind": 0.1,
+    "break": 0.05,
     "ack": 0.03,
     "close": 0.01,
 }

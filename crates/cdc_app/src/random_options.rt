@@ -51,7 +51,7 @@ pub fn to_end_flag<'a>(alloc: Global) -> Result<Arg<'a>, AllocError> {
         .long("to-end")
         .action(ArgAction::SetTrue)
         .help(
-            "Go on after the random steps, without closes, until every subscriber has received the end mark",
+            "Go on until every subscriber has received the end mark; draw no close and no late start",
         )
         .conflicts_with("STEPS")?
         .requires_arg("random")

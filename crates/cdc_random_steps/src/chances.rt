@@ -10,6 +10,7 @@ pub struct Chances {
     /// How many faults are injected among the steps, if there is room for as many.
     pub faults: u64,
     /// Whether further steps follow these, until every subscriber has received the end-of-stream marker. If so, no
-    /// subscriber is closed.
+    /// subscriber is closed, and the first session starts before all events, so each subscriber receives all of its
+    /// events.
     pub to_end: bool,
 }

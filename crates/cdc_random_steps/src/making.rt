@@ -67,8 +67,9 @@ struct Maker {
     has_news: bool,
     /// How many lines the text has.
     lines: u32,
-    /// Whether a fault may close a subscriber.
-    may_close: bool,
+    /// Whether every subscriber is to receive all events and the end-of-stream marker: no subscriber is closed, and the
+    /// first session starts before all events.
+    to_end: bool,
     /// What is made so far.
     made: RandomSteps,
 }
@@ -112,7 +113,7 @@ pub fn random_steps(
         runs: false,
         has_news: false,
         lines: 0,
-        may_close: !chances.to_end,
+        to_end: chances.to_end,
         made: none,
     };
     make_in_world(alloc, bindings.into_vec(), window, chances, &mut maker)?;
@@ -223,12 +224,12 @@ impl Maker {
     }
 
     /// A session's start, or a crash if it waits for what was lost. The first session may be given a timestamp to
-    /// start after.
+    /// start after, unless every subscriber is to receive all events.
     fn start(&mut self, world: &World<MemoryStore>) -> Step {
         if self.runs && self.is_waiting {
             return Step::Crash;
         }
-        if world.packets() == 0 && self.below(4) == 0 {
+        if !self.to_end && world.packets() == 0 && self.below(4) == 0 {
             let last = world.ledger().last();
             if let Some(time) = EventTimestamp::new(self.below(last.saturating_add(1))) {
                 return Step::StartAt(time);
@@ -290,9 +291,9 @@ impl Maker {
     }
 
     /// A subscriber's close, or a rewind instead, so that closes are rarer than other faults: a closed subscriber
-    /// shows little, and never receives the end-of-stream marker.
+    /// shows little. Always a rewind if every subscriber is to receive all events.
     fn draw_close(&mut self, number: u64) -> Draw {
-        if self.below(4) == 0 && self.may_close {
+        if !self.to_end && self.below(4) == 0 {
             Draw::Step(Step::Close(number))
         } else {
             Draw::Step(Step::Rewind(number))
