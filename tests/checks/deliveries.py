@@ -6,9 +6,9 @@
 A case is a script of the soak, the arguments of `simulate --random`, with or without `--to-end`, and a subscriber, all made of the
 case's number alone. The model plays the steps that the program prints. What `simulate` prints with `--deliveries`, with `--expect`
 and without both has to be the model's, byte for byte, by the seed as by its step file, and standard error names each subscriber
-that was delivered more events than it applied. With `--to-end` every subscriber has received the end mark and is open. What is
-delivered is a stream that `follow` takes: it comes to the book that the simulation prints, `--chained` too, unless the connector
-has started after the first events.
+that was delivered more events than it applied. With `--to-end` every subscriber has received the end mark and is open, and has
+the book that `books` prints of it, unless the ledger refused a batch as a whole. What is delivered is a stream that `follow` takes:
+it comes to the book that the simulation prints, `--chained` too, unless the connector started after a timestamp.
 
 The last line is `deliveries: N passed, M failed`; the status is 1 if one failed.
 """
@@ -29,7 +29,7 @@ import rooms
 import soak
 
 SECONDS, JOBS = 300, 2  # that a run may take, a last guard; cases at a time
-CASES, FEWEST = 300, 100  # by default; from so many on each of COVERED has to come up
+CASES, FEWEST = 300, 300  # by default; from so many on each of COVERED has to come up
 MOST_SHOWN = 5
 COUNTED = re.compile(r"relayplum: subscriber (\d+) applied (\d+) of (\d+) deliveries")
 COVERED = (
@@ -91,11 +91,20 @@ class Trial:
                 self.same(" ".join(arguments), (wanted.status, wanted.text), self.run(*arguments)[:2])
         self.see(report)
         if self.case.is_to_end:
-            ends = {(seat.subscriber.ended, seat.subscriber.closed) for seat in report.world.seats}
-            self.same("to the end: whether each subscriber is ended and closed", {(True, False)}, ends)
+            self.ended(report.world, printed)
         if self.case.subscriber <= self.case.subscribers:
             self.followed(report.world)
         return self.wrong, self.seen
+
+    def ended(self, world, printed):
+        """Compares the subscribers of steps to the end with those of `books`."""
+        ends = {(seat.subscriber.ended, seat.subscriber.closed) for seat in world.seats}
+        self.same("to the end: whether each subscriber is ended and closed", {(True, False)}, ends)
+        if world.batches:
+            self.seen["a refused batch"] += 1
+        else:
+            wanted, found = (books_in(text) for text in (model.books(self.case.script).text, printed))
+            self.same("to the end: the books", wanted, found)
 
     def counts(self, world, what, said):
         """Compares the lines on standard error about deliveries that weren't applied."""
@@ -134,6 +143,11 @@ class Trial:
         self.seen["redelivered"] += any(it.redelivered for it in seat.deliveries)
         is_second_end = (it.item is model.END_MARK and it.answer != "ended" for it in seat.deliveries)
         self.seen["a duplicate of an end mark"] += any(is_second_end)
+
+
+def books_in(text):
+    """The lines of the subscribers."""
+    return [line for line in text.splitlines() if line.startswith(("subscriber ", "account "))]
 
 
 def try_case(asked):

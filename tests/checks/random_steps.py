@@ -59,12 +59,12 @@ class Steps:
         self.sent, self.acked = collections.Counter(), collections.Counter()  # acknowledgements of a subscriber
         self.faults = collections.Counter()
 
-    def comment(self, words):
-        if words[1:2] + words[3:] == ["packet", "is", "left", "out"]:
-            self.arrived, self.is_waiting = int(words[2]), True
+    def comment(self, parts):
+        if parts[1:2] + parts[3:] == ["packet", "is", "left", "out"]:
+            self.arrived, self.is_waiting = int(parts[2]), True
             self.faults["packet left out"] += 1
-        elif words[1:2] + words[3:] == ["confirm", "is", "left", "out"]:
-            self.answered, self.is_waiting = int(words[2]), True
+        elif parts[1:2] + parts[3:] == ["confirm", "is", "left", "out"]:
+            self.answered, self.is_waiting = int(parts[2]), True
             self.faults["confirm left out"] += 1
 
     def step(self, word, *numbers):
@@ -97,11 +97,11 @@ class Steps:
 def faults_of(text):
     """Returns how many faults of each kind show in a step file."""
     steps = Steps()
-    for words in map(str.split, text.splitlines()):
-        if words[:1] == ["#"]:
-            steps.comment(words)
-        elif words:
-            steps.step(*words)
+    for parts in map(str.split, text.splitlines()):
+        if parts[:1] == ["#"]:
+            steps.comment(parts)
+        elif parts:
+            steps.step(*parts)
     return steps.faults
 
 
