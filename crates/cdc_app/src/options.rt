@@ -148,9 +148,9 @@ fn simulate_arguments<'a>(alloc: Global) -> Result<Command<'a>, AllocError> {
         .arg(script_argument(alloc))?
         .arg(steps)?
         .arg(random_option(alloc)?)?
+        .arg(to_end_flag(alloc)?)?
         .arg(steps_option(alloc)?)?
         .arg(faults_option(alloc)?)?
-        .arg(to_end_flag(alloc)?)?
         .arg(window_option(alloc))?
         .arg(explain_flag(alloc))?
         .arg(trace_flag(alloc))?
