@@ -25,7 +25,7 @@ _relayplum() {
         case ${COMP_WORDS[first]} in
             books) words='--explain --json --check -h --help' ;;
             messages) words='--queue --json --check -h --help' ;;
-            simulate) words='--random --steps --faults --window --explain --trace --diagram --json --check -h --help' ;;
+            simulate) words='--random --to-end --steps --faults --window --explain --trace --diagram --json --check -h --help' ;;
             run)
                 words='--window --prefetch --lose-confirm --lose-publish --restart-after --repeat --close --start-after --progress --explain --trace --json -h --help'
                 ;;

@@ -19,6 +19,7 @@ complete -c relayplum -n '__fish_seen_subcommand_from simulate' -l diagram -d 'D
 complete -c relayplum -n '__fish_seen_subcommand_from simulate' -l random -x -d 'Take random steps, and print them on standard error'
 complete -c relayplum -n '__fish_seen_subcommand_from simulate' -l steps -x -d 'Number of random steps at most'
 complete -c relayplum -n '__fish_seen_subcommand_from simulate' -l faults -x -d 'Number of faults to inject'
+complete -c relayplum -n '__fish_seen_subcommand_from simulate' -l to-end -d 'Go on until every subscriber has received the end mark'
 complete -c relayplum -n '__fish_seen_subcommand_from simulate run' -l window -x -a '1 2 8 64' -d 'Number of events that a session waits for at a time'
 complete -c relayplum -n '__fish_seen_subcommand_from run' -l prefetch -x -d 'How many deliveries of a queue may be without an acknowledgement'
 complete -c relayplum -n '__fish_seen_subcommand_from run' -l lose-confirm -x -d 'Lose the confirm of the Nth accepted publish'

@@ -155,6 +155,9 @@ usage_error "'--random" simulate one.script --check --random 1
 usage_error "'--random" books one.script --random 1
 usage_error "'--steps" simulate one.script three.steps --steps 5
 usage_error "'--faults" simulate one.script three.steps --faults 5
+usage_error "'--to-end" simulate one.script three.steps --to-end
+usage_error "'--to-end" simulate one.script --random 1 --to-end --to-end
+usage_error "'--to-end" books one.script --to-end
 usage_error "relayplum simulate one.script --random 1" simulate one.script
 usage_error "can't both be standard input" simulate - -
 for seed in x 18446744073709551616 ''; do
@@ -1005,6 +1008,28 @@ run simulate two-phase.script --random 7 --steps 0
 same 'no random steps' 'steps 0 of 0' "$(head -n 1 output)"
 same 'no random steps: standard error' '# relayplum simulate FILE --random 7 --steps 0 --faults 10 --window 1
 ' "$err"
+# To the end: further steps follow the drawn ones. 999 transfers need some 28 steps each, for eight subscribers, which is more
+# than a file may have: a comment reports that.
+run simulate two-phase.script --random 7 --steps 0 --to-end
+same 'to the end, no random steps: the first line' \
+    '# relayplum simulate FILE --random 7 --steps 0 --faults 10 --to-end --window 1' "$(head -n 1 errors)"
+same 'to the end, no random steps: it ends' '' "$(grep '^subscriber' output | grep -v ' ended yes closed no$')"
+{
+    for number in {1..8}; do echo subscriber all; done
+    printf 'accounts 1\naccount id=1 ledger=1 code=1\naccount id=2 ledger=1 code=1\ntransfers 10\n'
+    for number in {1..999}; do
+        echo "transfer id=$number debit_account_id=1 credit_account_id=2 amount=1 ledger=1 code=1"
+    done
+} >many.script
+run simulate many.script --random 7 --to-end
+cp errors many.steps
+same 'to the end of too many steps: status' 0 "$status"
+limit='# the limit of 20000 steps is reached; not every subscriber has received the end mark'
+same 'to the end of too many steps: how many lines' 20000 "$(sed "/^$limit\$/,\$d" errors | sed 1d | wc -l)"
+same 'to the end of too many steps: the limit' "$limit" "$(grep 'the limit' errors)"
+made=$out
+run simulate many.script many.steps
+same 'to the end of too many steps, played again' "$made" "$out"
 run simulate number.script --random 7
 same 'random steps of a bad script: status' 2 "$status"
 same 'random steps of a bad script: standard output' 'fault: script line 2: bad_number

@@ -1,7 +1,8 @@
 #!/usr/bin/env bash
-# docs/GUIDE.md, REFERENCE.md, AUDIT.md and EXACTLY-ONCE.md as their reader meets them: each `sh` block of a page is run, in
-# their order, in one folder that begins with the program and the examples, and what it prints on standard output is compared
-# with the block of output after it. A block without one prints nothing. Whatever it writes is in the folder play/.
+# docs/GUIDE.md, REFERENCE.md, AUDIT.md, EXACTLY-ONCE.md and TESTING-A-CONSUMER.md as their reader meets them: each `sh` block
+# of a page is run, in their order, in one folder that begins with the program and the examples, and what it prints on standard
+# output is compared with the block of output after it. A block without one prints nothing. Whatever it writes is in the folder
+# play/.
 # Of README what it shows of the marketplace is compared, and its theorems have to stand in docs/PROOFS.md, word for word.
 # Takes the program's path, crates/cdc_app/out/cdc_app where none is given. Prints each block that fails.
 set -uo pipefail
@@ -77,7 +78,7 @@ run_page() {
     diff -r examples "$top/examples" || wrong "$name.md: an example was changed"
 }
 
-for name in GUIDE REFERENCE AUDIT EXACTLY-ONCE; do
+for name in GUIDE REFERENCE AUDIT EXACTLY-ONCE TESTING-A-CONSUMER; do
     run_page
 done
 

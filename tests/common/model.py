@@ -8,7 +8,7 @@ hundred lines.
 
     tests/common/model.py books FILE
     tests/common/model.py messages FILE
-    tests/common/model.py simulate FILE STEPS [--window N]
+    tests/common/model.py simulate FILE STEPS [--window N] [--deliveries SUBSCRIBER [--expect]]
     tests/common/model.py run FILE [--lose-confirm N].. [--lose-publish N].. [--restart-after N].. [--repeat QUEUE:POSITION]..
                             [--close SUBSCRIBER:N].. [--window N] [--prefetch N] [--start-after N]
 
@@ -809,13 +809,27 @@ def enabled_where(condition):
         raise StepRefused('not_enabled')
 
 
+@dataclass(frozen=True)
+class Delivery:
+    """An item that a subscriber took before its close, the position of its queue that it came from, and whether the queue had
+    sent that position before; the subscriber's answer, and how many events it had applied then."""
+
+    position: int
+    redelivered: bool
+    item: object
+    answer: str
+    applied: int
+
+
 class Seat:
-    """A subscriber, and what is on its way to it and from it. Deliveries and acknowledgements are positions."""
+    """A subscriber, and what is on its way to it and from it. Acknowledgements are positions."""
 
     def __init__(self):
         self.subscriber = Subscriber()
-        self.flight = []
+        self.sent = set()  # the positions that were ever sent
+        self.flight = []  # each a position, and whether it had been sent before
         self.acks = []  # all that were ever sent
+        self.deliveries = []
 
 
 class World:
@@ -939,7 +953,8 @@ class World:
         position = self.broker.cursors[place]
         enabled_where(position <= len(self.broker.queue(place)))
         self.broker.cursors[place] += 1
-        seat.flight.append(position)
+        seat.flight.append((position, position in seat.sent))
+        seat.sent.add(position)
         return 'delivered'
 
     def rewind(self, number):
@@ -960,9 +975,14 @@ class World:
     def take_delivery(self, number):
         seat = self.seat(number)
         enabled_where(seat.flight)
-        position = seat.flight.pop(0)
+        position, redelivered = seat.flight.pop(0)
         seat.acks.append(position)
-        return seat.subscriber.take(self.broker.queue(number - 1)[position - 1])
+        item = self.broker.queue(number - 1)[position - 1]
+        answer = seat.subscriber.take(item)
+        if answer != 'after close':
+            applied = len(seat.subscriber.applied)
+            seat.deliveries.append(Delivery(position, redelivered, item, answer, applied))
+        return answer
 
     def ack(self, number, which):
         seat = self.seat(number)
@@ -1384,6 +1404,78 @@ def simulate(script_data, steps_data, window=1):
     return report
 
 
+# What an answer to a delivery is in `simulate --expect`.
+RESULTS_OF_ANSWERS = {'applied': 'applied', 'repeat': 'duplicate', 'repeat after the end': 'duplicate', 'ended': 'end'}
+
+
+def short(members):
+    return json.dumps(members, separators=(',', ':')) + '\n'
+
+
+def delivery_lines(world, number):
+    """What is delivered to a subscriber up to its close: a line for each delivery, in the order of its takes."""
+    binding, text = world.broker.bindings[number - 1], ''
+    for count, delivery in enumerate(world.seats[number - 1].deliveries, start=1):
+        item, is_end = delivery.item, delivery.item is END_MARK
+        earlier = [it.timestamp for it in world.ledger.events if binding.matches(it)]
+        if not is_end:
+            earlier = [timestamp for timestamp in earlier if timestamp < item.timestamp]
+        members = {
+            'kind': 'delivery',
+            'delivery': count,
+            'position': delivery.position,
+            'redelivered': delivery.redelivered,
+            'previous': str(max(earlier, default=0)),
+        }
+        if is_end:
+            members['end'] = True
+        else:
+            members['headers'] = headers(item)
+            members['timestamp'] = item.timestamp // SECOND
+            members['body'] = json.loads(body(item))
+        text += short(members)
+    return text
+
+
+def expected_lines(world, number):
+    """What must come of each of these deliveries."""
+    seat, text = world.seats[number - 1], ''
+    for count, delivery in enumerate(seat.deliveries, start=1):
+        applied, accounts = seat.subscriber.applied[:delivery.applied], []
+        if delivery.answer == 'applied':
+            event = delivery.item
+            accounts = [(event.debit_account, event.debit_balances), (event.credit_account, event.credit_balances)]
+        members = {
+            'kind': 'expect',
+            'delivery': count,
+            'result': RESULTS_OF_ANSWERS[delivery.answer],
+            'applied': len(applied),
+            'last': str(applied[-1].timestamp if applied else 0),
+            'accounts': [{'id': str(it.request.id), **sums_of(balances)} for it, balances in accounts],
+        }
+        text += short(members)
+    return text
+
+
+def sums_of(balances):
+    return {column.name: str(getattr(balances, column.name)) for column in fields(balances)}
+
+
+def events_delivered(world, number):
+    """How many deliveries of a subscriber brought an event."""
+    return sum(it.item is not END_MARK for it in world.seats[number - 1].deliveries)
+
+
+def only_deliveries(report, number, expects):
+    """A report of a simulation with the deliveries of this subscriber in the place of the state, or what must come of them."""
+    if report.world is None:
+        return report
+    if not 1 <= number <= len(report.world.seats):
+        return replace(report, text='', status=2)
+    text = expected_lines(report.world, number) if expects else delivery_lines(report.world, number)
+    return replace(report, text=text)
+
+
 def play(world, steps, report):
     """Takes the steps in order up to the first that is refused."""
     for step in steps:
@@ -1443,11 +1535,17 @@ def bytes_of(name):
 
 
 def main(arguments):
-    window = 1
+    window, number, expects = 1, None, False
     if arguments[:1] == ['run'] and len(arguments) >= 2:
         report = run(bytes_of(arguments[1]), plan_of(arguments[2:]))
         sys.stdout.write(report.text)
         return report.status
+    if arguments[-1:] == ['--expect'] and arguments[-3:-2] == ['--deliveries']:
+        expects = True
+        arguments = arguments[:-1]
+    if arguments[:1] == ['simulate'] and arguments[-2:-1] == ['--deliveries']:
+        number = int(arguments[-1])
+        arguments = arguments[:-2]
     if len(arguments) >= 2 and arguments[-2] == '--window':
         window = int(arguments[-1])
         arguments = arguments[:-2]
@@ -1463,6 +1561,8 @@ def main(arguments):
             report = messages(bytes_of(name))
         case ['simulate', name, steps]:
             report = simulate(bytes_of(name), bytes_of(steps), window)
+            if number is not None:
+                report = only_deliveries(report, number, expects)
         case _:
             sys.exit(__doc__)
     sys.stdout.write(report.text)

@@ -8,7 +8,9 @@ use crate::audit_options::audit_arguments;
 pub use crate::command_line::{Diagnostics, Form, Options, OptionsFault, RunDiagnostics};
 use crate::follow_options::{follow_arguments, follow_plan};
 use crate::help;
-use crate::random_options::{asked_chances, faults_option, random_option, steps_option};
+use crate::random_options::{
+    asked_chances, faults_option, random_option, steps_option, to_end_flag,
+};
 use crate::run_options::{default_plan, run_arguments, run_plan};
 use crate::slips::push_tip;
 use crate::sources::STANDARD_INPUT;
@@ -146,6 +148,7 @@ fn simulate_arguments<'a>(alloc: Global) -> Result<Command<'a>, AllocError> {
         .arg(script_argument(alloc))?
         .arg(steps)?
         .arg(random_option(alloc)?)?
+        .arg(to_end_flag(alloc)?)?
         .arg(steps_option(alloc)?)?
         .arg(faults_option(alloc)?)?
         .arg(window_option(alloc))?

@@ -114,9 +114,11 @@ fn print_steps(rt: &HostRuntime, window: usize, chances: Chances, text: &str) {
         seed,
         steps: count,
         faults,
+        to_end,
     } = chances;
+    let end = if to_end { " --to-end" } else { "" };
     let _ = eprint!(rt;
-        "# relayplum simulate FILE --random {seed} --steps {count} --faults {faults} --window {window}\n{text}"
+        "# relayplum simulate FILE --random {seed} --steps {count} --faults {faults}{end} --window {window}\n{text}"
     );
 }
 

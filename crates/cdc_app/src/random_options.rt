@@ -46,6 +46,17 @@ pub fn faults_option<'a>(alloc: Global) -> Result<Arg<'a>, AllocError> {
         .requires_arg("random")
 }
 
+pub fn to_end_flag<'a>(alloc: Global) -> Result<Arg<'a>, AllocError> {
+    Arg::new(alloc, "to-end")
+        .long("to-end")
+        .action(ArgAction::SetTrue)
+        .help(
+            "Go on until every subscriber has received the end mark; draw no close and no late start",
+        )
+        .conflicts_with("STEPS")?
+        .requires_arg("random")
+}
+
 /// The seed and the numbers of steps and faults that the arguments give, or a usage error.
 pub fn asked_chances(alloc: Global, arguments: &ArgMatches<'_>) -> Result<Chances, OptionsFault> {
     let seed = arguments.get_str("random").unwrap_or("");
@@ -61,6 +72,7 @@ pub fn asked_chances(alloc: Global, arguments: &ArgMatches<'_>) -> Result<Chance
         seed: number as u64,
         steps: asked_count(alloc, arguments, "steps", DEFAULT_STEPS)?,
         faults: asked_count(alloc, arguments, "faults", DEFAULT_FAULTS)?,
+        to_end: arguments.get_flag("to-end"),
     })
 }
 

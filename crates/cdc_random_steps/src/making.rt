@@ -17,6 +17,8 @@ use std::alloc::{AllocError, Global};
 use std::fmt::Write;
 use std::vec::IntoIter;
 
+mod finishing;
+
 /// How often in a row the world may refuse a drawn step before no more steps are generated.
 const TRIES: u64 = 256;
 
@@ -65,13 +67,17 @@ struct Maker {
     has_news: bool,
     /// How many lines the text has.
     lines: u32,
+    /// Whether every subscriber is to receive all events and the end-of-stream marker: no subscriber is closed, and the
+    /// first session starts before all events.
+    to_end: bool,
     /// What is made so far.
     made: RandomSteps,
 }
 
 /// Generates steps for a script: its world takes them, one after another. Most of them make progress; faults are
-/// injected among them. `window` is how many events of a session may wait for their confirms at a time. A bad script
-/// gives no steps.
+/// injected among them. With `chances.to_end`, further steps follow without faults, until every subscriber has received
+/// the end-of-stream marker. `window` is how many events of a session may wait for their confirms at a time. A bad
+/// script gives no steps.
 pub fn random_steps(
     alloc: Global,
     script: &[u8],
@@ -107,6 +113,7 @@ pub fn random_steps(
         runs: false,
         has_news: false,
         lines: 0,
+        to_end: chances.to_end,
         made: none,
     };
     make_in_world(alloc, bindings.into_vec(), window, chances, &mut maker)?;
@@ -126,7 +133,11 @@ fn make_in_world(
     requires { IsWindow window }
 {
     let mut world = World::new(alloc, bindings, window, MemoryStore::new())?;
-    maker.make(alloc, &mut world, chances)
+    maker.make(alloc, &mut world, chances)?;
+    if chances.to_end {
+        maker.finish(alloc, &mut world)?;
+    }
+    Ok(())
 }
 
 impl Maker {
@@ -213,12 +224,12 @@ impl Maker {
     }
 
     /// A session's start, or a crash if it waits for what was lost. The first session may be given a timestamp to
-    /// start after.
+    /// start after, unless every subscriber is to receive all events.
     fn start(&mut self, world: &World<MemoryStore>) -> Step {
         if self.runs && self.is_waiting {
             return Step::Crash;
         }
-        if world.packets() == 0 && self.below(4) == 0 {
+        if !self.to_end && world.packets() == 0 && self.below(4) == 0 {
             let last = world.ledger().last();
             if let Some(time) = EventTimestamp::new(self.below(last.saturating_add(1))) {
                 return Step::StartAt(time);
@@ -280,9 +291,9 @@ impl Maker {
     }
 
     /// A subscriber's close, or a rewind instead, so that closes are rarer than other faults: a closed subscriber
-    /// shows little.
+    /// shows little. Always a rewind if every subscriber is to receive all events.
     fn draw_close(&mut self, number: u64) -> Draw {
-        if self.below(4) == 0 {
+        if !self.to_end && self.below(4) == 0 {
             Draw::Step(Step::Close(number))
         } else {
             Draw::Step(Step::Rewind(number))
