@@ -1,9 +1,9 @@
-// Holds a program in one call until the pipe `hold` in its folder has been opened for writing and closed again: the thread
-// that made the call sleeps meanwhile. holding.py builds it as a library and preloads it.
+// Holds a thread of a program in one call until the pipe `hold` in its folder has been opened for writing and closed again.
+// holding.py builds it as a library and preloads it.
 //
 //   HOLD     the call: `sync` (before an fsync), `rename` (after a rename), `look` (after a query of a file's state that
-//            found no file) or `thread` (before the first allocation on a thread)
-//   HOLD_AT  which of these calls, counted from 1; threads count in the order in which they are started
+//            found no file) or `thread` (a thread, before it does anything)
+//   HOLD_AT  which of these calls, or which thread in the order in which they are started, from 1
 #define _GNU_SOURCE
 #include <dlfcn.h>
 #include <errno.h>
@@ -13,11 +13,6 @@
 #include <string.h>
 #include <sys/syscall.h>
 #include <unistd.h>
-
-extern void *__libc_malloc(size_t);
-extern void *__libc_calloc(size_t, size_t);
-extern void *__libc_realloc(void *, size_t);
-extern void *__libc_memalign(size_t, size_t);
 
 struct statx;
 
@@ -63,44 +58,6 @@ int statx(int folder, const char *path, int flags, unsigned mask, struct statx *
     return answer;
 }
 
-// The number of this thread, or 0 once it has allocated and for a thread that isn't held.
-static __thread int thread;
-
-static void allocate(void) {
-    int number = thread;
-    thread = 0;
-    if (number && is_held("thread", number)) hold();
-}
-
-void *malloc(size_t size) {
-    allocate();
-    return __libc_malloc(size);
-}
-
-void *calloc(size_t many, size_t size) {
-    allocate();
-    return __libc_calloc(many, size);
-}
-
-void *realloc(void *old, size_t size) {
-    allocate();
-    return __libc_realloc(old, size);
-}
-
-void *memalign(size_t alignment, size_t size) {
-    allocate();
-    return __libc_memalign(alignment, size);
-}
-
-void *aligned_alloc(size_t alignment, size_t size) { return memalign(alignment, size); }
-
-int posix_memalign(void **place, size_t alignment, size_t size) {
-    void *block = memalign(alignment, size);
-    if (!block) return ENOMEM;
-    *place = block;
-    return 0;
-}
-
 // What each thread runs, by its number.
 static struct {
     void *(*start)(void *);
@@ -108,7 +65,8 @@ static struct {
 } starts[64];
 
 static void *begin(void *number) {
-    thread = (int)(long)number;
+    int thread = (int)(long)number;
+    if (is_held("thread", thread)) hold();
     return starts[thread].start(starts[thread].with);
 }
 

@@ -9,11 +9,35 @@ SUBSCRIBER = re.compile(
     r'(?:; the other (?:(one) is an end mark, or|(\d+) are end marks, or) came after a close)?'
 )
 BEYOND = 2**64  # the end mark's place behind all events
+DEFAULT_PREFETCH = 8
 
 
 def given(plan, option):
     """The numbers that a plan has for an option, each once."""
     return {int(value) for argument, value in zip(plan, plan[1:]) if argument == option}
+
+
+def pairs(plan, option):
+    """The pairs of numbers that a plan has for an option, each once."""
+    return {tuple(map(int, value.split(':'))) for argument, value in zip(plan, plan[1:]) if argument == option}
+
+
+def missed(plan, applied, again):
+    """The rewinds of a plan that had to come, and didn't: of each subscriber it is known how many events it has applied, and which
+    positions came again. A queue that rewinds at a position delivers it again, if two of its deliveries may be on their way:
+    the position isn't acknowledged before those that were delivered earlier. It has a position for each event that its
+    subscriber has applied, and one for the end mark. A subscriber that closes may receive more than it applies."""
+    if min(given(plan, '--prefetch'), default=DEFAULT_PREFETCH) < 2:
+        return []
+    closed = {subscriber for subscriber, _ in pairs(plan, '--close')}
+    return [
+        f'{queue}:{position}'
+        for queue, position in sorted(pairs(plan, '--repeat'))
+        if queue in applied
+        and queue not in closed
+        and position <= applied[queue] + 1
+        and position not in again.get(queue, [])
+    ]
 
 
 def complaints(plan, printed, trace):
@@ -57,6 +81,8 @@ def complaints(plan, printed, trace):
     for number, (deliveries, _, duplicates) in lines.items():
         if len(again.get(number, [])) != duplicates or any(it > deliveries for it in again.get(number, [])):
             wrong.append(f'duplicates of subscriber {number}: {again.get(number)}')
+    for rewind in missed(plan, applied, again):
+        wrong.append(f'--repeat {rewind}: the position never came again')
     # The first subscriber applies every event, so its count and the end mark are the items that are published.
     fates = [fate for item in sendings for fate in item]
     publishes = applied.get(1, 0) + 1 + len(fates) - len(sendings)
