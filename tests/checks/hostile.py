@@ -52,7 +52,7 @@ STORE = b"fault: store\n"
 NO_MEMORY = b"fault: out_of_memory\n"
 EXHAUSTED = b"fault: sessions_exhausted\n"
 GREATEST = 2**64 - 1
-# What standard error says of a file, behind its name: the store's error, and what to do.
+# What standard error reports of a file, after its name: the error of the store, and what to do.
 UNREAD = "read_fault: it can't be read, or another run has it: let that one end, or name another file"
 UNOPENED = "read_fault: it can't be opened: name a file that can be read, or one that isn't there in a folder that is"
 NO_FILE = "read_fault: it is no regular file: name another one"

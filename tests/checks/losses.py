@@ -5,7 +5,7 @@
 
 The script and what a run of it prints are those of a row of tests/rows. A lost confirm, a lost publish, a restart of the
 connector and queues that rewind mustn't show in what is printed, wherever they come. The trace of each run has to agree with
-its plan: what can be lost was lost, and each position at which a queue rewinds came again (traces.py).
+its plan: what can be lost was lost, and each position at which a queue rewinds was redelivered (traces.py).
 
 The last line is `losses: N passed, M failed`; the status is 1 where one failed.
 """
@@ -23,7 +23,7 @@ import traces
 ROW = f"{rooms.TOP}/tests/rows/run-a-confirm-is-lost-and-the-connector-restarts"
 SECONDS, JOBS = 300, 2  # that a run may take, a last guard against one that hangs; runs at a time
 WINDOWS = (1, 2, 64)
-# Each thing that may go wrong, once, and several rewinds: flags with their words. The script has three events: the first queue gets all of them and the
+# Each thing that may go wrong, once, and several rewinds: flags with their values. The script has three events: the first queue gets all of them and the
 # end mark, the second one event and the end mark. So some of these name what there never is.
 FAULTS = [
     *[(flag, str(number)) for flag in ("--lose-confirm", "--lose-publish", "--restart-after") for number in range(1, 7)],

@@ -8,10 +8,11 @@ publishes all of these before it looks at a confirm. A restart after the last on
 again; a restart after one more has it send no more than a window again. So the trace shows the window.
 
 A subscriber's thread is held before it does anything, until all other threads wait (holding.py). By then its queue has
-delivered as many positions as its prefetch allows. If the plan lets it rewind at the last of these, each
-acknowledgement has it deliver the position after that once more: all but the first. So the trace shows the prefetch.
+delivered as many positions as its prefetch allows. If the plan has it rewind at the last of these, each acknowledgement has
+it redeliver the next position, so all but the first are redelivered. So the trace shows the prefetch.
 
-Then queues rewind at several positions: the trace shows each position again, if at least two deliveries may be on their way.
+Then queues rewind at several positions: the trace shows that each is redelivered, if at least two deliveries may be
+unacknowledged.
 
 Each run prints what it would print without a plan. Without a C compiler, `cc`, the prefetch isn't tried, and a line
 reports that. The last line is `plans: N passed, M failed`; the status is 1 if one failed.
@@ -128,12 +129,12 @@ class Plans:
         return trace
 
     def prefetch(self, plan, prefetch, library):
-        """A plan whose prefetch is this one: the positions that come again to a subscriber."""
+        """A plan whose prefetch is this one: the positions that are redelivered to a subscriber."""
         for subscriber in range(1, len(SUBSCRIBERS) + 1):
             arguments = [*plan, "--repeat", f"{subscriber}:{prefetch}"]
             again = AGAIN.findall(self.held(subscriber, arguments, library))
             wanted = [(str(subscriber), str(position)) for position in range(2, prefetch + 1)]
-            self.check(f"{' '.join(arguments)}: delivered again", wanted, again)
+            self.check(f"{' '.join(arguments)}: redelivered", wanted, again)
 
     def prefetches(self):
         library = holding.library_in(self.room, "plans", "prefetches")
@@ -153,7 +154,7 @@ class Plans:
             for more in ([], ["--prefetch", "2"], ["--prefetch", "64", "--window", "64"]):
                 places = {(queue, position) for queue, position in AGAIN.findall(self.trace([*more, *plan]))}
                 wanted = {tuple(it.split(":")) for it in plan[1::2]}
-                self.check(f"{' '.join([*more, *plan])}: delivered again", set(), wanted - places)
+                self.check(f"{' '.join([*more, *plan])}: redelivered", set(), wanted - places)
 
 
 def main(arguments):

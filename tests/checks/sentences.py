@@ -5,7 +5,8 @@
 
 Each row has arguments, the exit status and all of standard error. Sentences on lines of scripts and step files are rows of
 tests/checks/arguments/faults.rows, and those on files of progress are in tests/checks/hostile.py. Then which fault a command
-reports, as text and as JSON: a read that fails is no want of memory, and a bad script comes before steps that can't be read.
+reports, as text and as JSON: a read that fails isn't reported as out of memory, and a bad script comes before steps that
+can't be read.
 
 The last line is `sentences: N passed, M failed`; the status is 1 if one failed.
 """

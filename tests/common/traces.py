@@ -23,10 +23,10 @@ def pairs(plan, option):
 
 
 def missed(plan, applied, again):
-    """The rewinds of a plan that had to come, and didn't: of each subscriber it is known how many events it has applied, and which
-    positions came again. A queue that rewinds at a position delivers it again, if two of its deliveries may be on their way:
-    the position isn't acknowledged before those that were delivered earlier. It has a position for each event that its
-    subscriber has applied, and one for the end mark. A subscriber that closes may receive more than it applies."""
+    """The rewinds of a plan that had to happen and didn't. It is known how many events each subscriber has applied, and which
+    positions were redelivered to it. A queue that rewinds at a position redelivers it, if two of its deliveries may be
+    unacknowledged: that position is acknowledged only after those that were delivered before it. A queue has a position for each
+    event that its subscriber has applied, and one for the end mark. A subscriber that closes may receive more than it applies."""
     if min(given(plan, '--prefetch'), default=DEFAULT_PREFETCH) < 2:
         return []
     closed = {subscriber for subscriber, _ in pairs(plan, '--close')}
@@ -82,7 +82,7 @@ def complaints(plan, printed, trace):
         if len(again.get(number, [])) != duplicates or any(it > deliveries for it in again.get(number, [])):
             wrong.append(f'duplicates of subscriber {number}: {again.get(number)}')
     for rewind in missed(plan, applied, again):
-        wrong.append(f'--repeat {rewind}: the position never came again')
+        wrong.append(f'--repeat {rewind}: the position was never redelivered')
     # The first subscriber applies every event, so its count and the end mark are the items that are published.
     fates = [fate for item in sendings for fate in item]
     publishes = applied.get(1, 0) + 1 + len(fates) - len(sendings)
