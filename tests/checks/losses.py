@@ -23,8 +23,8 @@ import traces
 ROW = f"{rooms.TOP}/tests/rows/run-a-confirm-is-lost-and-the-connector-restarts"
 SECONDS, JOBS = 300, 2  # that a run may take, a last guard against one that hangs; runs at a time
 WINDOWS = (1, 2, 64)
-# Each thing that may go wrong, once, and several rewinds: flags with their values. The script has three events: the first queue gets all of them and the
-# end mark, the second one event and the end mark. So some of these name what there never is.
+# Each thing that may go wrong, once, and several rewinds: flags with their values. The script has three events: the first queue
+# gets all of them and the end mark, the second one event and the end mark. So some of these name what there never is.
 FAULTS = [
     *[(flag, str(number)) for flag in ("--lose-confirm", "--lose-publish", "--restart-after") for number in range(1, 7)],
     *[("--repeat", f"1:{position}") for position in range(1, 5)],

@@ -1,4 +1,4 @@
-"""The trace of a run, compared with its plan and with what it printed: for tests/checks/stress.py."""
+"""The trace of a run, compared with its plan and with what it printed."""
 import re
 
 ITEM = re.compile(r'(?:event (?P<timestamp>\d+), transfer \d+.*?|end mark): sent by session (?P<sent>.*)')
@@ -40,6 +40,19 @@ def missed(plan, applied, again):
     ]
 
 
+def missed_in(plan, printed, trace):
+    """The rewinds of a plan that a run's trace lacks, by what the run printed."""
+    again = {}
+    for queue, position in re.findall(r'(?m)^again (\d+): position (\d+), ', trace):
+        again.setdefault(int(queue), []).append(int(position))
+    return missed(plan, applied_in(printed), again)
+
+
+def applied_in(printed):
+    """How many events each subscriber has applied, by what a run printed."""
+    return {int(a): int(b) for a, b in re.findall(r'(?m)^subscriber (\d+) applied (\d+) ', printed)}
+
+
 def complaints(plan, printed, trace):
     """What is wrong with a trace, a text each."""
     wrong, places, sendings, again, lines = [], [], [], {}, {}
@@ -75,7 +88,7 @@ def complaints(plan, printed, trace):
             wrong.append(f'not understood: {line}')
     if places != sorted(set(places)):
         wrong.append(f'not in the order of the ledger: {places}')
-    applied = {int(a): int(b) for a, b in re.findall(r'(?m)^subscriber (\d+) applied (\d+) ', printed)}
+    applied = applied_in(printed)
     if {number: line[1] for number, line in lines.items()} != applied:
         wrong.append(f'applied {lines}, printed {applied}')
     for number, (deliveries, _, duplicates) in lines.items():
