@@ -1,5 +1,5 @@
 #!/usr/bin/env python3
-"""What a run's plan asks for is what it does: its window, its prefetch and each of its rewinds.
+"""What a run's plan asks for is what it does: its window, its prefetch and each of its rewinds. Random steps have each fault.
 
   tests/checks/plans.py [PROGRAM]    PROGRAM: crates/cdc_app/out/cdc_app
 
@@ -13,6 +13,8 @@ it redeliver the next position, so all but the first are redelivered. So the tra
 
 Then queues rewind at several positions: the trace shows that each is redelivered, if at least two deliveries may be
 unacknowledged.
+
+Random steps have no fault if none is asked for. If many are, each kind is among the steps of some seeds.
 
 Each run prints what it would print without a plan. Without a C compiler, `cc`, the prefetch isn't tried, and a line
 reports that. The last line is `plans: N passed, M failed`; the status is 1 if one failed.
@@ -33,7 +35,9 @@ SECONDS = 300  # that a run may take: a last guard against one that hangs
 TRANSFERS = 70  # more than any window or prefetch
 WINDOWS, DEFAULT_WINDOW = (1, 2, 3, 8, 64), 1
 PREFETCHES, DEFAULT_PREFETCH = (1, 2, 3, 8, 64), 8
-# Of each event: its timestamp, as the batch begins at it.
+SEEDS = 10  # of random steps
+FAULTS = {"crash", "rewind", "break", "close", "arrive twice", "answer twice", "arrive never", "answer never", "ack of an earlier one"}
+# The timestamp of the first event: that of its batch.
 FIRST = 2000
 ACCOUNTS = "accounts 1000\naccount id=1 ledger=700 code=10\naccount id=2 ledger=700 code=10\n"
 SUBSCRIBERS = ("all", "all ledger=700", "any ledger=700")
@@ -55,6 +59,26 @@ def printed_of(transfers):
     book = f"account 1 0 {transfers} 0 0\naccount 2 0 0 0 {transfers}\n"
     books = [f"subscriber {it} applied {transfers} last {last} ended yes closed no\n{book}" for it in range(1, len(SUBSCRIBERS) + 1)]
     return f"batch 1: 0 0\nbatch 2:{results}\n" + "".join(books)
+
+
+def faults_in(steps):
+    """The kinds of faults in the lines of a step file. A packet or a confirm is lost if it never comes, and a later one does; an
+    acknowledgement is an earlier one if it is no later than another one of its subscriber before it."""
+    found, seen, acked = set(), {"arrive": [], "answer": []}, {}
+    for word, *numbers in map(str.split, steps):
+        if word in ("crash", "rewind", "break", "close"):
+            found.add(word)
+        elif word in seen:
+            found |= {f"{word} twice"} if numbers[0] in seen[word] else set()
+            seen[word].append(numbers[0])
+        elif word == "ack":
+            subscriber, number = map(int, numbers)
+            found |= {"ack of an earlier one"} if number <= acked.get(subscriber, 0) else set()
+            acked[subscriber] = max(number, acked.get(subscriber, 0))
+    for word, came in seen.items():
+        if came and set(range(1, max(map(int, came)))) - set(map(int, came)):
+            found.add(f"{word} never")
+    return found
 
 
 class Plans:
@@ -156,12 +180,28 @@ class Plans:
                 wanted = {tuple(it.split(":")) for it in plan[1::2]}
                 self.check(f"{' '.join([*more, *plan])}: redelivered", set(), wanted - places)
 
+    # -- random steps
+
+    def random_faults(self, faults):
+        """The kinds of faults of random steps, so many for each seed."""
+        found = set()
+        for seed in range(1, SEEDS + 1):
+            arguments = ["simulate", "script", "--random", str(seed), "--steps", "400", "--faults", str(faults)]
+            ran = subprocess.run([self.program, *arguments], cwd=self.room, capture_output=True, timeout=SECONDS)
+            self.check(f"{' '.join(arguments)}: the status", 0, ran.returncode)
+            found |= faults_in(it for it in ran.stderr.decode().splitlines() if not it.startswith("#"))
+        return found
+
+    def random(self):
+        self.check("no random fault", set(), self.random_faults(0))
+        self.check("each random fault", FAULTS, self.random_faults(40))
+
 
 def main(arguments):
     program = rooms.options_of(rooms.parser_of_first(__doc__), arguments).program
     with rooms.room("plans-") as room:
         plans = Plans(program, room)
-        for part in (plans.windows, plans.prefetches, plans.rewinds):
+        for part in (plans.windows, plans.prefetches, plans.rewinds, plans.random):
             part()
     print(f"plans: {plans.passed} passed, {plans.failed} failed")
     return 1 if plans.failed else 0
