@@ -17,43 +17,25 @@ import concurrent.futures
 import json
 import os
 import random
-import subprocess
 import sys
 
 sys.dont_write_bytecode = True
 sys.path += [os.path.join(os.path.dirname(os.path.realpath(__file__)), "..", it) for it in ("common", "checks")]
+import commands
 import ending
 import model
 import rooms
 import soak
+from commands import check, run
 
-SECONDS, JOBS = 300, 2  # that a run may take, a last guard; runs at a time
+JOBS = 2  # runs at a time
 STREAMS = 400
-MOST_SHOWN = 10
 BALANCES = ("debits_pending", "debits_posted", "credits_pending", "credits_posted")
 SIDES = ("debit_account", "credit_account")
 FIXED = ("user_data_128", "user_data_64", "user_data_32", "ledger", "code", "flags", "timestamp")
 STORES = ("single_phase", "two_phase_pending", "two_phase_posted", "two_phase_voided")
 MOVES, HOLDS = ("single_phase", "two_phase_posted"), ("two_phase_pending",)
 SETTLES = ("two_phase_posted", "two_phase_voided", "two_phase_expired")
-program = None
-passed = 0
-failures = []
-
-
-def check(name, is_right, found):
-    """Counts a check, and keeps what was found if it failed."""
-    global passed
-    if is_right:
-        passed += 1
-    else:
-        failures.append(f"failed: {name}: {found!r}"[:1500])
-
-
-def run(arguments, stream):
-    """Runs the command over these bytes: its status, standard output and standard error."""
-    done = subprocess.run([program, "audit", *arguments], input=stream, capture_output=True, timeout=SECONDS)
-    return done.returncode, done.stdout.decode(), done.stderr.decode(errors="replace")
 
 
 def text_of(bodies):
@@ -587,7 +569,7 @@ def random_stream(seed):
 
 def random_streams(count):
     counts = collections.Counter()
-    with concurrent.futures.ProcessPoolExecutor(JOBS, initializer=given, initargs=(program,)) as pool:
+    with concurrent.futures.ProcessPoolExecutor(JOBS, initializer=commands.begin, initargs=(commands.program, "audit")) as pool:
         for wrong, missed in pool.map(random_stream, range(count), chunksize=20):
             check("a random stream", not wrong, wrong)
             counts.update(missed)
@@ -596,24 +578,15 @@ def random_streams(count):
     print(f"audit: accepted all the same: {accepted}")
 
 
-def given(path):
-    global program
-    program = path
-
-
 def main(arguments):
-    global program
     parser = rooms.parser_of_first(__doc__)
     parser.add_argument("--streams", type=int, default=STREAMS, metavar="N", help="random streams; default: %(default)s")
     options = rooms.options_of(parser, arguments)
-    program = options.program
+    commands.begin(options.program, "audit")
     with rooms.room("audit-") as folder:
         by_hand(folder)
         random_streams(options.streams)
-    for it in failures[:MOST_SHOWN]:
-        print(it)
-    print(f"audit: {passed} passed, {len(failures)} failed")
-    return 1 if failures else 0
+    return commands.ended()
 
 
 if __name__ == "__main__":

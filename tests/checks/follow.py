@@ -24,33 +24,16 @@ import sys
 
 sys.dont_write_bytecode = True
 sys.path += [os.path.join(os.path.dirname(os.path.realpath(__file__)), "..", it) for it in ("common", "faults")]
+import commands
 import ending
 import needs
 import rooms
 import sweep
+from commands import check, run
 
-SECONDS, JOBS = 300, 2  # that a run may take, a last guard; runs at a time
+JOBS = 2  # runs at a time
 STREAMS, MOST_LINES = 300, 40  # random streams, and lines of each
-MOST_SHOWN = 10
 KINDS = ("single_phase", "two_phase_pending", "two_phase_posted", "two_phase_voided", "two_phase_expired")
-program = None
-passed = 0
-failures = []
-
-
-def check(name, is_right, found):
-    """Counts a check, and keeps what was found where it failed."""
-    global passed
-    if is_right:
-        passed += 1
-    else:
-        failures.append(f"failed: {name}: {found!r}"[:1500])
-
-
-def run(arguments, stdin, env=None):
-    """Runs the command: its status, standard output and standard error."""
-    done = subprocess.run([program, "follow", *arguments], input=stdin, capture_output=True, env=env, timeout=SECONDS)
-    return done.returncode, done.stdout.decode(), done.stderr.decode(errors="replace")
 
 
 # ---------------------------------------------------------------------------------------------------------------------
@@ -529,7 +512,7 @@ def memory(folder):
         with open(file, "w", encoding="ascii") as it:
             for number in range(1, count + 1):
                 it.write(own(event(number)) + "\n")
-        child = subprocess.Popen([program, "follow", file], stdout=subprocess.PIPE)
+        child = subprocess.Popen([commands.program, "follow", file], stdout=subprocess.PIPE)
         out = child.stdout.read()
         _, status, used = os.wait4(child.pid, 0)
         child.returncode = status
@@ -540,21 +523,17 @@ def memory(folder):
 
 
 def main(arguments):
-    global program
     parser = rooms.parser_of_first(__doc__)
     parser.add_argument("--streams", type=int, default=STREAMS, metavar="N", help="random streams; default: %(default)s")
     options = rooms.options_of(parser, arguments)
-    program = options.program
+    commands.begin(options.program, "follow")
     with rooms.room("follow-") as folder:
         for part in (by_hand, books, killed, memory):
             room = os.path.join(folder, part.__name__)
             os.mkdir(room)
             part(room)
         random_streams(options.streams)
-    for it in failures[:MOST_SHOWN]:
-        print(it)
-    print(f"follow: {passed} passed, {len(failures)} failed")
-    return 1 if failures else 0
+    return commands.ended()
 
 
 if __name__ == "__main__":

@@ -8,13 +8,15 @@ error, and leaves the folder as it was; one that isn't leaves the record, in the
 check is run as root, the program is run as nobody, so that modes and owners count.
 
 Runs that may not have all their threads, or whose address space is small, are out of memory. A run that comes while another
-one is held in a save is refused; without a C compiler, cc, that part is left out, and a line reports it. Then runs are ended
+one is held in a save is refused, and so is one whose file something else writes meanwhile; without a C compiler, cc, these
+parts are left out, and a line reports it. Then runs are ended
 halfway, by SIGTERM and by a standard output that nobody reads any more: the file holds a whole record, or isn't there; the
 file next to it holds at most a prefix of a record, and the next run removes it.
 
 The last line is `hostile: N passed, M failed`; the status is 1 where one failed.
 """
 import contextlib
+import fcntl
 import os
 import random
 import re
@@ -50,6 +52,20 @@ STORE = b"fault: store\n"
 NO_MEMORY = b"fault: out_of_memory\n"
 EXHAUSTED = b"fault: sessions_exhausted\n"
 GREATEST = 2**64 - 1
+# What standard error reports of a file, after its name: the error of the store, and what to do.
+UNREAD = "read_fault: it can't be read, or another run has it: let that one end, or name another file"
+UNOPENED = "read_fault: it can't be opened: name a file that can be read, or one that isn't there in a folder that is"
+NO_FILE = "read_fault: it is no regular file: name another one"
+UNWRITTEN = (
+    "write_fault: the record can't be written: the file and its folder have to be writable, no other run may have the file, and "
+    "what stands at its name with .new behind it has to be what a save left"
+)
+OTHER = "bad_record: it holds something else than a progress record: name another file"
+EMPTY = "bad_record: it is empty, and no progress record: name another file, or remove it to start from scratch"
+DAMAGED = (
+    "bad_record: it begins as a progress record, and isn't a whole one: restore it, or remove it to start from scratch"
+)
+USED_UP = b"relayplum: sessions_exhausted: the saved session has the greatest number there is\n"
 RECORD = re.compile(rb"tb-cdc 2 (0|[1-9][0-9]*) (0|[1-9][0-9]*) (0|[1-9][0-9]*)\n")
 # A prefix of a record, as a save leaves it that was broken off.
 PREFIX = re.compile(rb"(t|tb|tb-|tb-c|tb-cd|tb-cdc|tb-cdc [0-9 ]*\n?)?")
@@ -61,8 +77,9 @@ def record(session, timestamp, start=0):
     return b"tb-cdc 2 %d %d %d\n" % (session, timestamp, start)
 
 
-def as_nobody(processes=None, megabytes=None):
-    """Makes a process nobody's, who may have so many processes and threads, and it so much of an address space."""
+def as_nobody(processes=None, megabytes=None, written=None):
+    """Makes a process nobody's, who may have so many processes and threads, and it so much of an address space and so many bytes
+    in a file that it writes."""
     if os.geteuid() == 0:
         os.setgroups([])
         os.setgid(NOBODY)
@@ -71,6 +88,10 @@ def as_nobody(processes=None, megabytes=None):
         resource.setrlimit(resource.RLIMIT_NPROC, (processes, processes))
     if megabytes is not None:
         resource.setrlimit(resource.RLIMIT_AS, (megabytes << 20, megabytes << 20))
+    if written is not None:
+        # (a write beyond the limit fails, and the signal that comes with it ends nothing)
+        signal.signal(signal.SIGXFSZ, signal.SIG_IGN)
+        resource.setrlimit(resource.RLIMIT_FSIZE, (written, written))
 
 
 class Hostile:
@@ -135,14 +156,15 @@ class Hostile:
             return ("none", f"it hasn't ended after {SECONDS} seconds"), b""
         return (run.returncode, out), errors
 
-    def refused(self, what, folder, saved, printed=STORE, script="script"):
-        """A run is refused, and the folder is as it was."""
+    def refused(self, what, folder, saved, why, script="script", **limits):
+        """A run is refused by its store, and the folder is as it was."""
         before = contents(folder)
-        ended, errors = self.end(self.start(folder, saved, script))
-        self.check(what, (1, printed), ended)
-        wanted = f"{saved}: store: ".encode() if printed == STORE else printed[len("fault: ") : -1] + b": "
-        self.check(f"{what}: standard error", True, wanted in errors and errors.count(b"\n") == 1 or errors)
+        self.is_refused(what, self.end(self.start(folder, saved, script, **limits)), saved, why)
         self.check(f"{what}: what is left", before, contents(folder))
+
+    def is_refused(self, what, ended, saved, why):
+        """A run has ended since its store refused the file."""
+        self.check(what, ((1, STORE), f"{saved}: store: {why}\n"), (ended[0], ended[1].decode(errors="replace")))
 
     def done(self, what, folder, saved, printed, changed):
         """A run comes to its end, and changes these files alone, or takes them away."""
@@ -177,70 +199,104 @@ def plain(text, mode=0o644):
 
 
 def unreachable(hostile):
-    hostile.refused("a folder that isn't there", hostile.folder(), "nowhere/saved")
-    hostile.refused("a path below a file", hostile.folder(), "script/saved")
+    hostile.refused("a folder that isn't there", hostile.folder(), "nowhere/saved", UNWRITTEN)
+    hostile.refused("a path below a file", hostile.folder(), "script/saved", UNOPENED)
     folder = hostile.folder()
     hostile.make(folder, "saved", os.mkdir)
-    hostile.refused("a folder", folder, "saved")
+    hostile.refused("a folder", folder, "saved", NO_FILE)
     folder = hostile.folder()
     hostile.make(folder, "saved", os.symlink, "other")
     hostile.make(folder, "other", os.symlink, "saved")
-    hostile.refused("links that lead to one another", folder, "saved")
+    hostile.refused("links that lead to one another", folder, "saved", UNOPENED)
     folder = hostile.folder()
     hostile.make(folder, "saved", os.symlink, "nowhere")
-    hostile.refused("a link that leads nowhere", folder, "saved")
+    hostile.refused("a link that leads nowhere", folder, "saved", UNWRITTEN)
     folder = hostile.folder()
     hostile.make(folder, "saved", os.mkfifo)
-    hostile.refused("a pipe", folder, "saved")
-    hostile.refused("a device", hostile.folder(), "/dev/null")
-    hostile.refused("a name that is too long", hostile.folder(), 300 * "x")
+    hostile.refused("a pipe", folder, "saved", NO_FILE)
+    hostile.refused("a device", hostile.folder(), "/dev/null", NO_FILE)
+    hostile.refused("a name that is too long", hostile.folder(), 300 * "x", UNOPENED)
+    hostile.refused("a name that is too long with .new behind it", hostile.folder(), 252 * "x", UNWRITTEN)
+    # (the first byte of a process's memory is never there)
+    hostile.refused("a file of which no byte can be read", hostile.folder(), "/proc/self/mem", UNREAD)
 
 
 def unwritable(hostile):
     folder = hostile.folder()
     hostile.write(folder, "saved", record(3, 0), 0o200)
-    hostile.refused("a file that can't be read", folder, "saved")
+    hostile.refused("a file that can't be read", folder, "saved", UNREAD)
     folder = hostile.folder()
     hostile.write(folder, "saved", record(3, 0), 0o444)
-    hostile.refused("a file that nobody may write", folder, "saved")
+    hostile.refused("a file that nobody may write", folder, "saved", UNWRITTEN)
     for name, held in (("with a record", True), ("without one", False)):
         folder = hostile.folder()
         if held:
             hostile.write(folder, "saved", record(3, 0))
         os.chmod(folder, 0o555)
-        hostile.refused(f"a folder that can't be written, {name}", folder, "saved")
+        hostile.refused(f"a folder that can't be written, {name}", folder, "saved", UNWRITTEN)
+
+
+def no_room(hostile):
+    """A save whose write fails at once, or halfway, leaves nothing at the new name; the next run finds nothing in its way."""
+    for written in (0, 10):
+        for held in (None, record(3, 0)):
+            folder = hostile.folder()
+            if held:
+                hostile.write(folder, "saved", held)
+            what = f"room for {written} bytes, {held!r} saved"
+            hostile.refused(what, folder, "saved", UNWRITTEN, written=written)
+            hostile.done(f"{what}, then room", folder, "saved", PRINTED, {"saved": plain(record(4 if held else 1, 2000))})
 
 
 def no_record(hostile):
-    texts = [b"x", b"", record(3, 0)[:-1], record(3, 0) + b"\n", record(3, 0) + 120 * b"0", SCRIPT, record(GREATEST + 1, 0), record(3, 0, 1), b"tb-cdc 3 3 0 0\n"]
-    for text in texts:
+    for text, why in [
+        (b"x", OTHER),
+        (b"", EMPTY),
+        (record(3, 0)[:-1], DAMAGED),
+        (record(3, 0) + b"\n", DAMAGED),
+        (record(3, 0) + 120 * b"0", DAMAGED),
+        (SCRIPT, OTHER),
+        (record(GREATEST + 1, 0), DAMAGED),
+        (record(3, 0, 1), DAMAGED),
+        (b"tb-cdc 3 3 0 0\n", DAMAGED),
+    ]:
         folder = hostile.folder()
         hostile.write(folder, "saved", text)
-        hostile.refused(f"a file of {text[:40]!r}", folder, "saved")
+        hostile.refused(f"a file of {text[:40]!r}", folder, "saved", why)
     folder = hostile.folder()
-    hostile.refused("the script itself", folder, "script")
+    hostile.refused("the script itself", folder, "script", OTHER)
     folder = hostile.folder()
     hostile.write(folder, "saved", record(GREATEST, 0))
-    hostile.refused("the greatest session", folder, "saved", EXHAUSTED)
+    before = contents(folder)
+    hostile.check("the greatest session", ((1, EXHAUSTED), USED_UP), hostile.end(hostile.start(folder, "saved")))
+    hostile.check("the greatest session: what is left", before, contents(folder))
 
 
 def in_the_way(hostile):
-    """What stands at the name that a save writes first, and isn't of a save."""
+    """What stands at the name that a save writes first, and isn't of a save, or is of one that goes on."""
     folder = hostile.folder()
     hostile.make(folder, "saved.new", os.mkdir)
-    hostile.refused("a folder at the new name", folder, "saved")
+    hostile.refused("a folder at the new name", folder, "saved", UNWRITTEN)
     folder = hostile.folder()
     os.rename(f"{folder}/script", f"{folder}/saved.new")
-    hostile.refused("the script at the new name", folder, "saved", script="saved.new")
+    hostile.refused("the script at the new name", folder, "saved", UNWRITTEN, script="saved.new")
     for text in (b"x", record(3, 0) + 120 * b"0"):
         folder = hostile.folder()
         hostile.write(folder, "saved", record(3, 0))
         hostile.write(folder, "saved.new", text)
-        hostile.refused(f"a file of {text[:20]!r} at the new name", folder, "saved")
+        hostile.refused(f"a file of {text[:20]!r} at the new name", folder, "saved", UNWRITTEN)
     folder = hostile.folder()
     hostile.write(folder, "other", record(7, 0))
     hostile.make(folder, "saved.new", os.symlink, "other")
-    hostile.refused("a link at the new name", folder, "saved")
+    hostile.refused("a link at the new name", folder, "saved", UNWRITTEN)
+    for name, why in (("saved", UNREAD), ("saved.new", UNWRITTEN)):
+        folder = hostile.folder()
+        hostile.write(folder, name, record(3, 0))
+        with open(f"{folder}/{name}", "rb") as held:
+            fcntl.flock(held, fcntl.LOCK_EX)
+            hostile.refused(f"{name} is locked", folder, "saved", why)
+        changed = {"saved": plain(record(4 if name == "saved" else 1, 2000)), "saved.new": None}
+        hostile.done(f"{name} was locked", folder, "saved", PRINTED, changed)
 
 
 # ---------------------------------------------------------------------------------------------------------------------
@@ -317,8 +373,7 @@ def a_run_while_another_is_on(hostile):
     held = holding.wait_until_held(first, f"{folder}/hold")
     hostile.check(f"{what}: it is on, with a record saved", True, held is not None and os.path.exists(f"{folder}/saved"))
     second = hostile.end(hostile.start(folder, "saved", "long"))
-    hostile.check(f"{what}: it is refused", (1, STORE), second[0])
-    hostile.check(f"{what}: standard error", True, b"saved: store: " in second[1] or second[1])
+    hostile.is_refused(f"{what}: it is refused", second, "saved", UNREAD)
     if held is not None:
         os.close(held)
     ended, errors = hostile.end(first)
@@ -326,6 +381,27 @@ def a_run_while_another_is_on(hostile):
     left = contents(folder)
     hostile.check(f"{what}: the record", True, "saved" in left and bool(RECORD.fullmatch(left["saved"][1])) or left)
     hostile.check(f"{what}: the new name", False, "saved.new" in left)
+
+
+def a_file_that_something_else_writes(hostile):
+    """Something that knows no locks writes the file: as the run is held between two saves, or between the load that found no
+    file and the first save. The run is refused, and what was written stays."""
+    library = holding.library_in(hostile.room, "hostile", "a file that something else writes")
+    if library is None:
+        return
+    for call, when in (("rename", "after a save"), ("look", "after a load that found none")):
+        for text in (record(7, 2000), record(0, 0), SCRIPT, b""):
+            what, folder = f"{text[:20]!r} is written {when}", hostile.folder()
+            hostile.make(folder, "hold", os.mkfifo)
+            run = hostile.start(folder, "saved", env=holding.environment(library, call=call))
+            held = holding.wait_until_held(run, f"{folder}/hold")
+            hostile.check(f"{what}: it is held", (True, call == "rename"), (held is not None, os.path.exists(f"{folder}/saved")))
+            hostile.write(folder, "saved", text)
+            before = contents(folder)
+            if held is not None:
+                os.close(held)
+            hostile.is_refused(what, hostile.end(run), "saved", UNWRITTEN)
+            hostile.check(f"{what}: what is left", before, contents(folder))
 
 
 def two_runs(hostile):
@@ -382,11 +458,27 @@ def ended_runs(hostile, seed=1):
         goes_on(hostile, how, folder)
 
 
+PARTS = (
+    unreachable,
+    unwritable,
+    no_room,
+    no_record,
+    in_the_way,
+    kept,
+    few_threads,
+    small_spaces,
+    a_run_while_another_is_on,
+    a_file_that_something_else_writes,
+    two_runs,
+    ended_runs,
+)
+
+
 def main(arguments):
     program = rooms.options_of(rooms.parser_of_first(__doc__), arguments).program
     with rooms.room("hostile-") as room:
         hostile = Hostile(program, room)
-        for part in (unreachable, unwritable, no_record, in_the_way, kept, few_threads, small_spaces, a_run_while_another_is_on, two_runs, ended_runs):
+        for part in PARTS:
             part(hostile)
     print(f"hostile: {hostile.passed} passed, {hostile.failed} failed")
     return 1 if hostile.failed else 0

@@ -31,7 +31,8 @@ WITHOUT_HELP = {"tests/checks/launcher.sh", "tests/checks/proved.sh"}
 WITH_TRACEBACK = {"tests/mutants.py"}
 # Which scripts need the newer Python, since they read the model, and which need rt even for their help.
 OF_MODEL = {f"tests/{it}.py" for it in (
-    "checks/soak", "checks/audit", "checks/deliveries", "checks/stress", "checks/kill", "bench/speed", "common/model")}
+    "checks/soak", "checks/audit", "checks/deliveries", "checks/messages", "checks/stress", "checks/kill", "bench/speed",
+    "common/model")}
 WITH_RT = {"tests/mutants.py"}
 passed, failures = 0, []
 

@@ -7,10 +7,11 @@
 A case is a script, a step file and the arguments of a run, made of the seed and the case's number alone. The program runs
 on it under `books`, `messages`, `simulate` and `run`; output and exit status have to be the model's, and under `run`
 the progress that is saved. Batches of several clients may come to the ledger in any order that keeps each client's:
-which it was is taken from what `run` printed (orders.py), and that has to be what the model does in this order. Where
-they differ, lines are left out while the difference stays, and what is left is printed with the arguments that bring it
-back; of a run it may take some tries. In the end, and where the soak is stopped (SIGTERM, Ctrl-C), it prints how often
-each result, fault, step and answer came up, and which never did.
+which it was is taken from what `run` printed (orders.py), and that has to be what the model does in this order; its trace
+has each rewind of the plan that had to happen (traces.py). Where they differ, lines are left out while the difference
+stays, and what is left is printed with the arguments that bring it back; of a run it may take some tries. In the end, and
+where the soak is stopped (SIGTERM, Ctrl-C), it prints how often each result, fault, step and answer came up, and which
+never did.
 
 Without --count it goes on for --seconds; with neither, 1,000 cases. Exit status 1 where there was a difference.
 """
@@ -31,6 +32,7 @@ import ending
 import model
 import orders
 import rooms
+import traces
 
 CHUNK = 20  # cases that a worker takes at once
 LONGEST = 300  # seconds that a run may take: a last guard against one that hangs
@@ -871,7 +873,7 @@ def arguments_of(command, case):
     if command == 'simulate':
         return ['simulate', 'soak.script', 'soak.steps', *case.arguments_of_window]
     if command == 'run':
-        return ['run', 'soak.script', *case.plan, *(['--progress', 'soak.progress'] if case.saves else [])]
+        return ['run', 'soak.script', '--trace', *case.plan, *(['--progress', 'soak.progress'] if case.saves else [])]
     return [command, 'soak.script']
 
 
@@ -886,11 +888,13 @@ def record_of(progress, version=2):
 
 @dataclass(frozen=True)
 class Found:
-    """What the program printed, its exit status, and what it left in the file of progress."""
+    """What the program printed, its exit status, what it left in the file of progress, and which rewinds of a run's plan its trace
+    lacks."""
 
     text: bytes
     status: object
     record: bytes
+    missed: tuple = ()
 
 
 class Runner:
@@ -915,13 +919,16 @@ class Runner:
                 cwd=self.folder,
                 stdin=subprocess.DEVNULL,
                 stdout=subprocess.PIPE,
-                stderr=subprocess.DEVNULL,
+                stderr=subprocess.PIPE,
                 timeout=LONGEST,
             )
         except subprocess.TimeoutExpired:
             return Found(b'', f'none within {LONGEST} seconds', None)
         record = self.progress.read_bytes() if self.progress.exists() else None
-        return Found(run.stdout, run.returncode, record)
+        missed = ()
+        if command == 'run' and run.returncode == 0:
+            missed = traces.missed_in(case.plan, *(it.decode('utf-8', 'replace') for it in (run.stdout, run.stderr)))
+        return Found(run.stdout, run.returncode, record, tuple(missed))
 
 
 def wanted(report, case):
@@ -1024,6 +1031,7 @@ def report_on(seed, number, command, case, report, found):
     for name, outcome in [('wanted', one) for one in wanted(report, case)] + [('found', found)]:
         text += f'{name}, with exit status {outcome.status}'
         text += f' and progress {outcome.record}' if command == 'run' else ''
+        text += f', without the rewinds {", ".join(outcome.missed)}' if outcome.missed else ''
         text += f':\n{outcome.text.decode("utf-8", "backslashreplace")}'
     return text
 

@@ -1,5 +1,6 @@
 use cdc_progress::{FileStore, Progress, ProgressStore, StoreError, parse, print};
 use std::alloc::{AllocError, Global};
+use std::fs::{File, OpenFile};
 use std::test::Fail;
 use std::{fs, process};
 
@@ -180,6 +181,124 @@ fn a_store_goes_by_its_file(rt: HostRuntime) -> Result<(), Fail> {
     assert_eq!(rt; text_at(&rt, path.as_str())?.as_str(), "tb-cdc 2 2 20 10\n");
     fs::remove_dir_all(&rt, folder.as_str())?;
     Ok(())
+}
+
+// What a store keeps locked, and for how long: the file that it has loaded, until its next call; after a call that failed
+// nothing.
+#[test]
+fn a_loaded_file_stays_locked(rt: HostRuntime) -> Result<(), Fail> {
+    let folder = scratch(&rt)?;
+    let path = format!(in rt.alloc(); "{folder}/loaded")?;
+    let first = Progress::new(1, 10, 0);
+    let second = Progress::new(2, 20, 10);
+    fs::write(&rt, path.as_str(), "tb-cdc 2 1 10 0\n")?;
+    let mut store = FileStore::at(&rt, path.as_str());
+    assert_eq!(rt; store.load(), Ok(Some(first)));
+    assert_eq!(rt; load_at(&rt, path.as_str()), Err(StoreError::ReadFault));
+    let answer = save_at(&rt, path.as_str(), second);
+    assert_eq!(rt; answer, Err(StoreError::WriteFault));
+    assert_eq!(rt; text_at(&rt, path.as_str())?.as_str(), "tb-cdc 2 1 10 0\n");
+    fs::write(&rt, path.as_str(), "no record\n")?;
+    assert_eq!(rt; store.load(), Err(StoreError::BadRecord));
+    fs::write(&rt, path.as_str(), "tb-cdc 2 2 20 10\n")?;
+    assert_eq!(rt; load_at(&rt, path.as_str()), Ok(Some(second)));
+    fs::remove_dir_all(&rt, folder.as_str())?;
+    Ok(())
+}
+
+// A store whose load has found no file replaces none that has come since, whatever it holds.
+#[test]
+fn a_file_that_appears_is_not_replaced(rt: HostRuntime) -> Result<(), Fail> {
+    let folder = scratch(&rt)?;
+    let path = format!(in rt.alloc(); "{folder}/appears")?;
+    let beside = format!(in rt.alloc(); "{folder}/appears.new")?;
+    for text in [
+        "tb-cdc 2 1 10 0\n",
+        "tb-cdc 2 0 0 0\n",
+        "subscriber all\n",
+        "",
+    ] {
+        let mut store = FileStore::at(&rt, path.as_str());
+        assert_eq!(rt; store.load(), Ok(None));
+        fs::write(&rt, path.as_str(), text)?;
+        let answer = store.save(Progress::new(2, 20, 10));
+        assert_eq!(rt; answer, Err(StoreError::WriteFault), "{text}");
+        assert_eq!(rt; text_at(&rt, path.as_str())?.as_str(), text);
+        assert!(rt; !fs::exists(&rt, beside.as_str())?, "{text}");
+        fs::remove_file(&rt, path.as_str())?;
+    }
+    fs::remove_dir_all(&rt, folder.as_str())?;
+    Ok(())
+}
+
+// A file that something else has written over since this store saved it isn't replaced, nor one that holds no record.
+#[test]
+fn an_overwritten_file_is_not_replaced(rt: HostRuntime) -> Result<(), Fail> {
+    let folder = scratch(&rt)?;
+    let path = format!(in rt.alloc(); "{folder}/overwritten")?;
+    for text in [
+        "tb-cdc 2 1 9 0\n",
+        "tb-cdc 2 1 10 1\n",
+        "subscriber all\n",
+        "",
+    ] {
+        let mut store = FileStore::at(&rt, path.as_str());
+        assert_eq!(rt; store.save(Progress::new(1, 10, 0)), Ok(()));
+        fs::write(&rt, path.as_str(), text)?;
+        let answer = store.save(Progress::new(2, 20, 10));
+        assert_eq!(rt; answer, Err(StoreError::WriteFault), "{text}");
+        assert_eq!(rt; text_at(&rt, path.as_str())?.as_str(), text);
+        fs::remove_file(&rt, path.as_str())?;
+    }
+    fs::remove_dir_all(&rt, folder.as_str())?;
+    Ok(())
+}
+
+// The leftover of a save that isn't interrupted yet stays: its store has it locked.
+#[test]
+fn a_new_file_that_is_locked_stays(rt: HostRuntime) -> Result<(), Fail> {
+    let folder = scratch(&rt)?;
+    let path = format!(in rt.alloc(); "{folder}/taken")?;
+    let beside = format!(in rt.alloc(); "{folder}/taken.new")?;
+    fs::write(&rt, beside.as_str(), "tb-cdc 2 4 20")?;
+    let held = File::open(&rt, beside.as_str())?;
+    assert!(rt; held.try_lock().is_ok());
+    let answer = save_at(&rt, path.as_str(), Progress::new(3, 2000, 0));
+    assert_eq!(rt; answer, Err(StoreError::WriteFault));
+    assert_eq!(rt; text_at(&rt, beside.as_str())?.as_str(), "tb-cdc 2 4 20");
+    assert!(rt; !fs::exists(&rt, path.as_str())?);
+    assert!(rt; held.unlock().is_ok());
+    let answer = save_at(&rt, path.as_str(), Progress::new(3, 2000, 0));
+    assert_eq!(rt; answer, Ok(()));
+    fs::remove_dir_all(&rt, folder.as_str())?;
+    Ok(())
+}
+
+// After a save that failed a store knows what it knew before, and its next one succeeds once nothing is in the way.
+#[test]
+fn a_failed_save_can_be_done_again(rt: HostRuntime) -> Result<(), Fail> {
+    let folder = scratch(&rt)?;
+    let path = format!(in rt.alloc(); "{folder}/again")?;
+    let beside = format!(in rt.alloc(); "{folder}/again.new")?;
+    let mut store = FileStore::at(&rt, path.as_str());
+    for (session, timestamp, start, text) in RECORDS {
+        let progress = progress(session, timestamp, start);
+        fs::write(&rt, beside.as_str(), "in the way\n")?;
+        assert_eq!(rt; store.save(progress), Err(StoreError::WriteFault));
+        assert_eq!(rt; store.save(progress), Err(StoreError::WriteFault));
+        fs::remove_file(&rt, beside.as_str())?;
+        assert_eq!(rt; store.save(progress), Ok(()));
+        assert_eq!(rt; text_at(&rt, path.as_str())?.as_str(), text);
+    }
+    assert_eq!(rt; store.failures(), 12);
+    fs::remove_dir_all(&rt, folder.as_str())?;
+    Ok(())
+}
+
+// A regular file whose first byte can't be read: the memory of this process, at the address 0.
+#[test]
+fn a_read_that_fails_is_a_fault(rt: HostRuntime) {
+    assert_eq!(rt; load_at(&rt, "/proc/self/mem"), Err(StoreError::ReadFault));
 }
 
 // A record with more after it, this many bytes in all.

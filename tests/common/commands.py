@@ -1,0 +1,37 @@
+"""What the checks of one command share: runs of it, and the count of what passed."""
+import subprocess
+
+SECONDS = 300  # that a run may take: a last guard against one that hangs
+MOST_SHOWN = 10
+program = command = None
+passed = 0
+failures = []
+
+
+def begin(of_program, of_command):
+    """Sets the program and the command that are checked."""
+    global program, command
+    program, command = of_program, of_command
+
+
+def check(name, is_right, found):
+    """Counts a check, and keeps what was found if it failed."""
+    global passed
+    if is_right:
+        passed += 1
+    else:
+        failures.append(f"failed: {name}: {found!r}"[:1500])
+
+
+def run(arguments, stream, env=None):
+    """Runs the command over these bytes: its status, standard output and standard error."""
+    done = subprocess.run([program, command, *arguments], input=stream, capture_output=True, env=env, timeout=SECONDS)
+    return done.returncode, done.stdout.decode(), done.stderr.decode(errors="replace")
+
+
+def ended():
+    """Prints what failed, and how many checks passed; returns the status."""
+    for it in failures[:MOST_SHOWN]:
+        print(it)
+    print(f"{command}: {passed} passed, {len(failures)} failed")
+    return 1 if failures else 0
