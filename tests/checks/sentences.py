@@ -13,8 +13,12 @@ The last line is `sentences: N passed, M failed`; the status is 1 if one failed.
 import fcntl
 import json
 import os
+import pty
+import re
+import select
 import subprocess
 import sys
+import time
 
 sys.dont_write_bytecode = True
 sys.path.insert(0, os.path.join(os.path.dirname(os.path.realpath(__file__)), "..", "common"))
@@ -86,6 +90,7 @@ NO_FILE = "read_fault: it is no regular file: name another one\n"
 UNOPENED = "read_fault: it can't be opened: name a file that can be read, or one that isn't there in a folder that is\n"
 TAKEN = "read_fault: it can't be read, or another program has it: let that one end, or name another file\n"
 LATE = "the broker accepted only"
+BINDING = "all or any, and up to ten pairs of a header and its value"
 
 
 def rows():
@@ -97,7 +102,7 @@ def rows():
         ("--queue", ["messages", "one.script"], "9", "the number of a subscriber, from 1 to 8"),
         ("--repeat", ["run", "one.script"], "9:1", "a queue from 1 to 8, a colon and a position from 1, such as 1:2"),
         ("--close", ["run", "one.script"], "1", "a subscriber from 1 to 8, a colon and a number of events from 1, such as 1:2"),
-        ("--binding", ["follow", "gap.stream"], "some", "all or any, and up to ten pairs of a header and its value, such as 'all ledger=700'"),
+        ("--binding", ["follow", "gap.stream"], "some", f"{BINDING}, such as 'all ledger=700'"),
         ("--start-after", ["run", "one.script"], "x", "a timestamp in nanoseconds, from 0 to 9223372036854775807"),
         ("--lose-confirm", ["run", "one.script"], "0", "a number from 1 to 18446744073709551615"),
         ("--prefetch", ["run", "one.script"], "65", "a number from 1 to 64"),
@@ -266,6 +271,28 @@ class Sentences:
             wanted = [f"{step}: {it}" for step, it in steps]
             self.same(f"a trace over {script}", (0, wanted), (status, errors.splitlines()))
 
+    def watched(self):
+        """On a terminal `follow` reports each second how many lines were read. Blank lines are written until it does."""
+        typed, terminal = pty.openpty()
+        how = {"stdin": subprocess.PIPE, "stdout": subprocess.PIPE, "stderr": terminal}
+        with subprocess.Popen([self.program, "follow"], cwd=self.room, **how) as run:
+            os.close(terminal)
+            until, lines, errors = time.monotonic() + SECONDS, 0, b""
+            while b"\n" not in errors and time.monotonic() < until:
+                run.stdin.write(b"\n")
+                run.stdin.flush()
+                lines += 1
+                if select.select([typed], [], [], 0.05)[0]:
+                    errors += os.read(typed, 4096)
+            run.stdin.close()
+            run.stdout.read()
+        os.close(typed)
+        found = re.match(rb"standard input: (\d+) lines read, (\d+) a second\r\n", errors)
+        read, rate = map(int, found.groups()) if found else (0, 0)
+        # (so many lines in one second, or in several)
+        is_right = found is not None and 0 < read <= lines and rate in (read // it for it in range(1, SECONDS))
+        self.same("follow on a terminal", True, is_right or errors)
+
     # -- which fault
 
     def read_faults(self):
@@ -307,7 +334,14 @@ def main(arguments):
     program = rooms.options_of(rooms.parser_of_first(__doc__), arguments).program
     with rooms.room("sentences-") as room:
         sentences = Sentences(program, room)
-        for part in (sentences.rows, sentences.held_book, sentences.traces, sentences.read_faults, sentences.bad_script_first):
+        for part in (
+            sentences.rows,
+            sentences.held_book,
+            sentences.traces,
+            sentences.watched,
+            sentences.read_faults,
+            sentences.bad_script_first,
+        ):
             part()
     print(f"sentences: {sentences.passed} passed, {sentences.failed} failed")
     return 1 if sentences.failed else 0
