@@ -43,7 +43,11 @@ class Case:
 
     def __init__(self, number):
         rng = random.Random(f"deliveries {number}")
-        self.script = "".join(f"{line}\n" for line in soak.ScriptMaker(rng).script()).encode()
+        for _ in range(3):
+            # (a third of the soak's scripts has no event)
+            self.script = "".join(f"{line}\n" for line in soak.ScriptMaker(rng).script()).encode()
+            if model.run_batches(model.read_script(self.script))[0].events:
+                break
         self.window = rng.choice([1, 1, 2, 3, 8, 64])
         self.is_to_end = rng.random() < 0.5
         self.random = ["--random", str(number), "--steps", str(rng.choice([0, 20, 60, 120, 200, 400]))]
@@ -121,7 +125,6 @@ class Trial:
         wanted = model.subscriber_lines(1, subscriber).replace(" closed yes\n", " closed no\n")
         start = 0 if world.progress is None else world.progress[2]
         is_late = any(world.broker.bindings[number - 1].matches(it) for it in world.ledger.events if it.timestamp <= start)
-        self.seen["a later start"] += is_late
         for arguments in (["follow"], ["follow", "--chained"])[: 1 if is_late else 2]:
             self.same(" ".join(arguments), (0, wanted), self.run(*arguments, stream=stream)[:2])
 
@@ -130,6 +133,8 @@ class Trial:
         self.seen.update({step.word for step, _ in report.steps})
         self.seen["the end"] += self.case.is_to_end
         self.seen["no event"] += not report.world.ledger.events
+        start = 0 if report.world.progress is None else report.world.progress[2]
+        self.seen["a later start"] += any(it.timestamp <= start for it in report.world.ledger.events)
         if self.case.subscriber > self.case.subscribers:
             self.seen["no such subscriber"] += 1
             return
