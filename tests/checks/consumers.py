@@ -5,8 +5,8 @@
 
 A consumer reads what `simulate --random SEED --to-end --deliveries 1` prints, and prints what `--expect` has. Those without a check
 for duplicates go wrong in just those seeds that have one, at the first one. The one that saves the last timestamp with its book
-never does, even if it is killed between two lines and started again with the lines since: at one place of each seed, and at each
-place of some. It is killed when it has printed a line and waits for the next one, which comes through a pipe.
+never does, even if it is killed between two lines and started again with the lines since: at one place of every fourth seed, and
+at each place of some. It is killed when it has printed a line and waits for the next one, which comes through a pipe.
 
 The last line is `consumers: N passed, M failed`; the status is 1 if one failed.
 """
@@ -28,7 +28,7 @@ WRONG, RIGHT = ("adding", "overwriting"), "remembering"
 MOST_LINES = 40
 SCRIPT = rooms.TOP / "examples/marketplace.script"
 SECONDS, JOBS = 300, 2  # that a run may take, a last guard; seeds at a time
-SEEDS, KILLED_EVERYWHERE = 200, 3
+SEEDS, KILLED_EVERYWHERE = 200, 2
 
 
 def command(name, *arguments):
@@ -82,7 +82,9 @@ def try_seed(program, seed, room):
         check(f"{name}: it goes wrong at the first duplicate", at == duplicate)
     check(f"{RIGHT}: what is expected", output_of(command(RIGHT, room / f"{seed}.book"), lines) == wanted)
     places = range(len(lines) + 1)
-    for place in places if seed <= KILLED_EVERYWHERE else [random.Random(seed).choice(places)]:
+    if seed > KILLED_EVERYWHERE:
+        places = [random.Random(seed).choice(places)] if seed % 4 == 0 else []
+    for place in places:
         found = killed(room / f"{seed}-{place}.book", lines, place)
         check(f"{RIGHT}, killed after {place} lines: what is expected", found == wanted)
     return duplicate is not None, checks, wrong

@@ -3,10 +3,10 @@
 
   tests/checks/deliveries.py [PROGRAM] [--cases N] [--case K]    PROGRAM: crates/cdc_app/out/cdc_app; N cases, 300 by default
 
-A case is a script of the soak, the arguments of `simulate --random`, with or without `--to-end`, and a subscriber, all made of the
-case's number alone. The model plays the steps that the program prints. What `simulate` prints with `--deliveries`, with `--expect`
-and without both has to be the model's, byte for byte, by the seed as by its step file, and standard error names each subscriber
-that was delivered more events than it applied. With `--to-end` every subscriber has received the end mark and is open, and has
+A case is a script of the soak, a subscriber, and steps: mostly those of `simulate --random`, with or without `--to-end`, else a
+step file of the soak. All are made of the case's number alone. The model plays the steps. What `simulate` prints with
+`--deliveries`, with `--expect` and without both has to be the model's, byte for byte, by the seed as by the step file that it
+prints, and standard error names each subscriber that was delivered more events than it applied. With `--to-end` every subscriber has received the end mark and is open, and has
 the book that `books` prints of it, unless the ledger refused a batch as a whole. What is delivered is a stream that `follow` takes:
 it comes to the book that the simulation prints, `--chained` too, unless the connector started after a timestamp.
 
@@ -34,21 +34,30 @@ MOST_SHOWN = 5
 COUNTED = re.compile(r"relayplum: subscriber (\d+) applied (\d+) of (\d+) deliveries")
 COVERED = (
     "applied", "duplicate", "end", "redelivered", "a duplicate of an end mark", "closed", "not ended", "nothing is delivered",
-    "no such subscriber", "the end", "no event", "a filtered queue", "a later start", "close", "break", "rewind", "crash",
+    "no such subscriber", "the end", "a refused step", "no event", "a filtered queue", "a later start", "close", "break", "rewind", "crash",
 )
 
 
 class Case:
-    """A script, the arguments that make random steps, and a subscriber."""
+    """A script, the arguments that make random steps, or None and a step file, and a subscriber."""
 
     def __init__(self, number):
         rng = random.Random(f"deliveries {number}")
-        self.script = "".join(f"{line}\n" for line in soak.ScriptMaker(rng).script()).encode()
+        for _ in range(3):
+            # (a third of the soak's scripts has no event)
+            self.script = "".join(f"{line}\n" for line in soak.ScriptMaker(rng).script()).encode()
+            if model.run_batches(model.read_script(self.script))[0].events:
+                break
         self.window = rng.choice([1, 1, 2, 3, 8, 64])
-        self.is_to_end = rng.random() < 0.5
-        self.random = ["--random", str(number), "--steps", str(rng.choice([0, 20, 60, 120, 200, 400]))]
-        self.random += ["--faults", str(rng.choice([0, 3, 10, 10, 40]))] + ["--to-end"] * self.is_to_end
-        self.subscribers = len(model.read_script(self.script).bindings)
+        script = model.read_script(self.script)
+        self.subscribers = len(script.bindings)
+        kind = rng.choice(["random", "random", "to the end", "to the end", "steps"])
+        self.is_to_end, self.random, self.steps = kind == "to the end", None, b""
+        if kind == "steps":
+            self.steps = "".join(f"{line}\n" for line in soak.StepMaker(rng, script, self.window).steps()).encode()
+        else:
+            self.random = ["--random", str(number), "--steps", str(rng.choice([0, 20, 60, 120, 200, 400]))]
+            self.random += ["--faults", str(rng.choice([0, 3, 10, 10, 40]))] + ["--to-end"] * self.is_to_end
         self.subscriber = min(rng.randint(1, self.subscribers + (rng.random() < 0.05)), model.MOST_SUBSCRIBERS)
 
 
@@ -72,22 +81,22 @@ class Trial:
     def tried(self):
         self.room.mkdir()
         (self.room / "script").write_bytes(self.case.script)
-        window = ["--window", str(self.case.window)]
-        by_seed = ["simulate", "script", *self.case.random, *window]
-        status, printed, steps = self.run(*by_seed)
-        (self.room / "steps").write_text(steps)
-        by_steps = ["simulate", "script", "steps", *window]
-        report = model.simulate(self.case.script, steps.encode(), self.case.window)
-        self.same("random steps", (report.status, report.text), (status, printed))
-        again = self.run(*by_steps)
-        self.same("their step file", (report.status, report.text), again[:2])
-        self.counts(report.world, "standard error, by the seed", steps)
-        self.counts(report.world, "standard error, by the step file", again[2])
+        ways, steps, window = [], self.case.steps, ["--window", str(self.case.window)]
+        if self.case.random:
+            ways.append(["simulate", "script", *self.case.random, *window])
+            steps = self.run(*ways[0])[2].encode()
+        (self.room / "steps").write_bytes(steps)
+        ways.append(["simulate", "script", "steps", *window])
+        report = model.simulate(self.case.script, steps, self.case.window)
+        for way in ways:
+            status, printed, said = self.run(*way)
+            self.same(" ".join(way), (report.status, report.text), (status, printed))
+            self.counts(report.world, " ".join(way), said)
         asked = ["--deliveries", str(self.case.subscriber)]
         for expects in (False, True):
             wanted = model.only_deliveries(report, self.case.subscriber, expects)
-            for ways in (by_seed, by_steps):
-                arguments = [*ways, *asked, *["--expect"] * expects]
+            for way in ways:
+                arguments = [*way, *asked, *["--expect"] * expects]
                 self.same(" ".join(arguments), (wanted.status, wanted.text), self.run(*arguments)[:2])
         self.see(report)
         if self.case.is_to_end:
@@ -107,12 +116,12 @@ class Trial:
             self.same("to the end: the books", wanted, found)
 
     def counts(self, world, what, said):
-        """Compares the lines on standard error about deliveries that weren't applied."""
+        """Compares the lines on standard error about deliveries that were not applied."""
         wanted = []
         for number, seat in enumerate(world.seats, 1):
             if model.events_delivered(world, number) != len(seat.subscriber.applied):
                 wanted.append((number, len(seat.subscriber.applied), model.events_delivered(world, number)))
-        self.same(what, wanted, [tuple(map(int, it)) for it in COUNTED.findall(said)])
+        self.same(f"{what}, standard error", wanted, [tuple(map(int, it)) for it in COUNTED.findall(said)])
 
     def followed(self, world):
         """Compares the book of a follower of the deliveries with that of the subscriber."""
@@ -121,7 +130,6 @@ class Trial:
         wanted = model.subscriber_lines(1, subscriber).replace(" closed yes\n", " closed no\n")
         start = 0 if world.progress is None else world.progress[2]
         is_late = any(world.broker.bindings[number - 1].matches(it) for it in world.ledger.events if it.timestamp <= start)
-        self.seen["a later start"] += is_late
         for arguments in (["follow"], ["follow", "--chained"])[: 1 if is_late else 2]:
             self.same(" ".join(arguments), (0, wanted), self.run(*arguments, stream=stream)[:2])
 
@@ -129,7 +137,10 @@ class Trial:
         """Notes what came up."""
         self.seen.update({step.word for step, _ in report.steps})
         self.seen["the end"] += self.case.is_to_end
+        self.seen["a refused step"] += report.refused is not None
         self.seen["no event"] += not report.world.ledger.events
+        start = 0 if report.world.progress is None else report.world.progress[2]
+        self.seen["a later start"] += any(it.timestamp <= start for it in report.world.ledger.events)
         if self.case.subscriber > self.case.subscribers:
             self.seen["no such subscriber"] += 1
             return
