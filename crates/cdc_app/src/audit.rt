@@ -65,8 +65,8 @@ fn advise_on_audit(rt: &HostRuntime, file: &str, ending: AuditEnding) {
         AuditEnding::Stopped(AuditStop::Refused(line, why)) => {
             let rule = why.name();
             eprintln!(rt;
-                "{place}:{line}: {rule}: no ledger publishes this event after those before it: one of them was lost, doubled, \
-                 moved or changed, or this one was"
+                "{place}:{line}: {rule}: no ledger publishes this event after those before it: one of them was lost, \
+                 doubled, moved or changed, or this one was"
             )
         }
         AuditEnding::Stopped(AuditStop::BadLine(line, error)) => {

@@ -147,6 +147,17 @@ step_leads number old new (Some bytes) left line (Some why) taken leads = λ sta
     subst (λ lines. EndsAs (lines_audited state number lines) why new) (sym taken.2)
     (leads state stands (lines_of taken.0))
 
+-- what reading a line and auditing it lead to
+pub step_taken : (number : ℕ) (old new : AuditorState) (known left : Option (List ℕ)) (line : List ℕ) (more : Bool)
+    (result : Result (Option AuditStop) FollowError) → more ≡ true
+    → IfSome known (λ bytes. TakesLine more bytes line left)
+    → IfOk result (λ stops. LineLeadsTo number line old stops new)
+    → IfOk result (λ stops. IfSome known (λ bytes. StepLeadsTo number old bytes stops new left))
+step_taken number old new known left line more (Ok stops) is taken leads =
+    step_leads number old new known left line stops
+    (subst (λ more. IfSome known (λ bytes. TakesLine more bytes line left)) is taken) leads
+step_taken number old new known left line more (Err error) is taken leads = tt
+
 -- no line is left
 step_ends : (number : ℕ) (auditor : AuditorState) (known left : Option (List ℕ)) → IfSome known (λ bytes. bytes ≡ [])
     → IfSome known (λ bytes. StepLeadsTo number auditor bytes (Some stop.AtEnd) auditor left)

@@ -5,6 +5,7 @@ use Rattle.std.specs.Option.{option_or}
 use Rattle.std.specs.Result.{is_err}
 use Rattle.std.proofs.lemmas.Bool.Decides.{nat_tests}
 use Rattle.cdc_types.specs.declared.accounts.Balances.{Balances}
+use Rattle.cdc_types.specs.declared.bounds.TheConstants.Limits.{TIMESTAMP}
 use Rattle.cdc_types.specs.declared.events.Event.{Event}
 use Rattle.cdc_types.specs.Lines.{first_line}
 use Rattle.cdc_types.specs.Timestamps.{last_timestamp}
@@ -28,15 +29,17 @@ use Rattle.cdc_audit.specs.declared.refusals.Refusal.{Refusal}
 use Rattle.cdc_audit.specs.declared.refusals.Refusal.TheVariants.{AfterEnd, KnownId, NotPending, Settled}
 use Rattle.cdc_audit.specs.Audits.{AuditState, entry_refusal, next_audit}
 use Rattle.cdc_audit.specs.Checks.{account_lines, amount_in, balances_lines, fixed_lines, lines, nothing, released, transfer_lines, was_settled}
-use Rattle.cdc_audit.specs.Known.{balances_after, ends_in_chain, is_linked, is_settled, is_stored, pending_amount, settled_id}
+use Rattle.cdc_audit.specs.Known.{balances_after, ends_in_chain, expiry_or, is_linked, is_settled, is_stored}
+use Rattle.cdc_audit.specs.Known.{last_expiry, pending_amount, settled_id}
 use Rattle.cdc_audit.specs.Rules as rules
 use Rattle.cdc_audit.specs.Rules.{chain_lines, event_lines, held, order_lines, posted, refusal, settled_event}
 use Rattle.cdc_audit.specs.EventShapes.{shape_lines}
+use Rattle.cdc_audit.specs.Expiries.{expiry_lines}
 use Rattle.cdc_audit.specs.Fields.{created_lines, fields_lines}
 use Rattle.cdc_audit.specs.Limits.{limits_lines}
 use Rattle.cdc_audit.specs.Settling.{settling_lines}
 use Rattle.cdc_audit.specs.Standing.{AuditorState, IsKnownOf, KeepsAccounts, StandsFor, facts_of, kept_after, open_then, open_under, stored_under, with_own, with_settled}
-use Rattle.cdc_audit.proofs.KnownLemmas.{fields-step, known-step, linked_from-push, open_one-step}
+use Rattle.cdc_audit.proofs.KnownLemmas.{fields-step, known-step, last_expiry_from-push, linked_from-push, open_one-step}
 
 -- the refusal by two parts of the lines
 pub either_is : (both one other : Option Refusal) (first second : List (Bool × Refusal)) → both ≡ option_or one other
@@ -74,13 +77,15 @@ two_of_seven order shape fixed transfer settling limits balances none =
 -- an event that no line on its order refuses is later than the last one, and has two accounts
 in_order : (last : ℕ) (e : Event) → first_line (order_lines last e) ≡ None
     → (nat_lt last e.timestamp ≡ true) × ((e.debit_account.id == e.credit_account.id) ≡ false)
-in_order last e = by (nat_lt last e.timestamp) (e.debit_account.id == e.credit_account.id) _ _
+in_order last e =
+    by (nat_lt last e.timestamp) (e.debit_account.id == e.credit_account.id) (nat_lt TIMESTAMP e.timestamp) _ _ _
   where
-    by : (later one : Bool) (r s : Refusal) → cond (not later) (Some r) (cond one (Some s) None) ≡ None
+    by : (later one high : Bool) (r s t : Refusal)
+        → cond (not later) (Some r) (cond one (Some s) (cond high (Some t) None)) ≡ None
         → (later ≡ true) × (one ≡ false)
-    by true false r s is = (refl, refl)
-    by true true r s is = cc
-    by false one r s is = cc
+    by true false high r s t is = (refl, refl)
+    by true true high r s t is = cc
+    by false one high r s t is = cc
 
 -- and each test on its transfers fails if none of those lines refuses it
 may_be_stored : (facts : Facts) (e : Event) → first_line (transfer_lines facts e) ≡ None
@@ -157,7 +162,8 @@ same_lines auditor state e stands =
     let other = stands.transfers (settled_id e) in
     seven-same (order_lines facts.last e) (order_lines (last_timestamp past) e) (shape_lines e)
     (fixed_lines facts e) (rules.fixed_lines past e) (transfer_lines facts e) (rules.transfer_lines past e)
-    (settling_lines facts.open_one e) (settling_lines (settled_event past e) e)
+    (settling_lines facts.open_one e ++ expiry_lines facts.expired e)
+    (settling_lines (settled_event past e) e ++ expiry_lines (last_expiry past) e)
     (chain_lines facts.linked facts.last e ++ limits_lines e)
     (chain_lines (ends_in_chain past) (last_timestamp past) e ++ limits_lines e)
     (balances_lines facts e) (rules.balances_lines past e)
@@ -171,7 +177,8 @@ same_lines auditor state e stands =
     (is_none (pending_amount past (settled_id e))) (ap is_none other.amount))
     (guarded (settles e.kind) was_settled (stored_under auditor.transfers (settled_id e))
     (is_settled past (settled_id e)) other.settled))
-    (ap (λ o. settling_lines (cond (settles e.kind) o None) e) (stands.open_ones (settled_id e)))
+    (ap₂ (λ o last. settling_lines (cond (settles e.kind) o None) e ++ expiry_lines last e)
+    (stands.open_ones (settled_id e)) stands.expired)
     (ap₂ (λ linked last. chain_lines linked last e ++ limits_lines e) stands.linked
     (ap (λ (kept : SubscriberState). kept.last) stands.kept))
     (balances_lines-at facts e
@@ -233,13 +240,13 @@ pub accepts : (auditor after : AuditorState) (state : AuditState) (e : Event)
     → after.transfers ≡ with_settled (with_own auditor.transfers e) e (released (facts_of auditor e) e)
     → ((id : ℕ) → open_under after.open_ones id ≡ open_then auditor.open_ones e id)
     → KeepsAccounts auditor.fields (facts_of auditor e) e after.fields → after.linked ≡ is_linked e
-    → StandsFor auditor state → StandsFor after (next_audit state (content.Event e))
-accepts auditor after state e open_yet none kept transfers opened fields linked stands =
+    → after.expired ≡ expiry_or auditor.expired e → StandsFor auditor state → StandsFor after (next_audit state (content.Event e))
+accepts auditor after state e open_yet none kept transfers opened fields linked expired stands =
     let going : state.ended ≡ false = sym (ap (λ (kept : SubscriberState). kept.ended) stands.kept) ∙ open_yet in
     let facts = facts_of auditor e in
     let parts = two_of_seven (order_lines facts.last e) (shape_lines e) (fixed_lines facts e) (transfer_lines facts e)
-    (settling_lines facts.open_one e) (chain_lines facts.linked facts.last e ++ limits_lines e)
-    (balances_lines facts e) none in
+    (settling_lines facts.open_one e ++ expiry_lines facts.expired e)
+    (chain_lines facts.linked facts.last e ++ limits_lines e) (balances_lines facts e) none in
     let order = in_order facts.last e parts.0 in
     let free = may_be_stored facts e parts.1 in
     let later : nat_lt (last_timestamp state.past) e.timestamp ≡ true =
@@ -253,6 +260,7 @@ accepts auditor after state e open_yet none kept transfers opened fields linked 
       fields = λ id. fields-step auditor.fields after.fields (facts_of auditor e) state.past e refl refl order.1
           stands.fields fields id;
       linked = linked ∙ sym (linked_from-push false state.past e);
+      expired = expired ∙ ap (λ last. expiry_or last e) stands.expired ∙ sym (last_expiry_from-push None state.past e);
     }
 
 -- what is kept of accounts, from equal fields and by equal facts

@@ -15,6 +15,7 @@ use Rattle.cdc_audit.specs.declared.refusals.Refusal.{Refusal}
 use Rattle.cdc_audit.specs.declared.refusals.Refusal.TheVariants.{KnownId, NotPending, Settled}
 use Rattle.cdc_audit.specs.Known.{settled_id}
 use Rattle.cdc_audit.specs.EventShapes.{shape_lines}
+use Rattle.cdc_audit.specs.Expiries.{expiry_lines}
 use Rattle.cdc_audit.specs.Fields.{created_lines, fields_lines}
 use Rattle.cdc_audit.specs.Limits.{limits_lines}
 use Rattle.cdc_audit.specs.Rules.{balance_line, chain_lines, held, order_lines, posted}
@@ -92,5 +93,5 @@ transfer_lines facts e =
 abbrev pub lines : Facts → Event → List (Bool × Refusal)
 lines facts e =
     order_lines facts.last e ++ shape_lines e ++ fixed_lines facts e ++ transfer_lines facts e
-    ++ settling_lines facts.open_one e ++ (chain_lines facts.linked facts.last e ++ limits_lines e)
-    ++ balances_lines facts e
+    ++ (settling_lines facts.open_one e ++ expiry_lines facts.expired e)
+    ++ (chain_lines facts.linked facts.last e ++ limits_lines e) ++ balances_lines facts e

@@ -1,6 +1,7 @@
 -- what has to be believed
 pub mod Known
 pub mod Settling
+pub mod Expiries
 pub mod EventShapes
 pub mod Fields
 pub mod Limits

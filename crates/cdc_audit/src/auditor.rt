@@ -16,6 +16,7 @@ ghost use Rattle.cdc_audit.specs.Standing.{KeepsAccounts, StandsFor, kept_after}
 use crate::checks::{
     Facts, Stored, holds, is_linked, refusal_by, released, settled_id, settles, stored_by, stores,
 };
+use crate::expiries::expiry_or;
 use crate::fields::{FixedFields, fixed_fields};
 use crate::refusals::Refusal;
 use cdc_follow::Content;
@@ -35,6 +36,8 @@ pub struct Auditor {
     fields: IndexMap<u128, FixedFields>,
     /// Whether the last event stored a linked transfer.
     linked: bool,
+    /// The last expiry.
+    expired: Option<Event>,
 }
 
 impl Drop for Auditor {
@@ -45,6 +48,7 @@ impl Drop for Auditor {
             open_ones: _,
             fields: _,
             linked: _,
+            expired: _,
         } = self;
     }
 }
@@ -54,7 +58,14 @@ impl Model for Auditor {
 
     ghost Value = { AuditorState };
 
-    ghost view = { λ a. record { kept = a.subscriber; transfers = a.transfers.entries; open_ones = a.open_ones.entries; fields = a.fields.entries; linked = a.linked } };
+    ghost view = { λ a. record {
+      kept = a.subscriber;
+      transfers = a.transfers.entries;
+      open_ones = a.open_ones.entries;
+      fields = a.fields.entries;
+      linked = a.linked;
+      expired = a.expired;
+    } };
 }
 
 impl Auditor {
@@ -68,6 +79,7 @@ impl Auditor {
             open_ones: IndexMap::new(alloc),
             fields: IndexMap::new(alloc),
             linked: false,
+            expired: None,
         }
     }
 
@@ -146,6 +158,7 @@ impl Auditor {
         Facts {
             last: self.subscriber.last(),
             linked: self.linked,
+            expired: self.expired,
             own: self.stored_if(stores(event.kind), event.transfer.id),
             settled: self.stored_if(settles(event.kind), settled_id(event)),
             open_one: self.open_if(settles(event.kind), settled_id(event)),
@@ -182,6 +195,7 @@ impl Auditor {
         keep_open(&mut self.open_ones, event);
         keep_accounts(&mut self.fields, &facts, event);
         self.linked = is_linked(event);
+        self.expired = expiry_or(self.expired, event);
         Ok(None)
     }
 }

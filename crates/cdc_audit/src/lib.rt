@@ -3,6 +3,7 @@
 
 pub mod auditor;
 pub mod checks;
+pub mod expiries;
 pub mod fields;
 pub mod limits;
 pub mod refusals;
