@@ -527,7 +527,34 @@ def rows_of_times():
     yield "no expiry time", [PAID, at(GREATEST, HELD)], f"accepted 2 last {GREATEST}\n", 0
 
 
+def rows_of_another_ledger():
+    """The rows with flags that this ledger hasn't: what they are, the stream, what is printed with --foreign, and the status."""
+    first, second = "accepted 0 last 0\nrefused: line 1: ", "accepted 1 last 10\nrefused: line 2: "
+    yield "a transfer's flag", [with_transfer(PAID, flags=16)], "accepted 1 last 10\n", 0
+    yield "a flag and another timestamp", [with_transfer(PAID, flags=256, timestamp="5")], "accepted 1 last 10\n", 0
+    yield "no flag and another timestamp", [with_transfer(PAID, timestamp="5")], (
+        first + "shape: transfer 1 has timestamp 5, in an event at 10\n"
+    ), 1
+    yield "a linked transfer's flag", [with_transfer(PAID, flags=17), HELD], (
+        second + "chains: event 20 isn't the next of the chain at 10\n"
+    ), 1
+    timed = with_transfer(TIMED, flags=18)
+    yield "an expiry's flag", [PAID, timed, {**EXPIRY, "transfer": timed["transfer"]}], f"accepted 3 last {UP}\n", 0
+    open_one = {**PAID, "debit_account": account(1, 0, 30, 0, 0, flags=16)}
+    closed = {**HELD, "debit_account": account(1, 10, 30, 0, 0, flags=48)}
+    yield "an account's flags that change", [open_one, closed], "accepted 2 last 20\n", 0
+    other = {**HELD, "debit_account": account(1, 10, 30, 0, 0, flags=24)}
+    yield "a flag of ours that changes", [open_one, other], second + "fields: account 1 has flags 8, after 0\n", 1
+    limited = {**PAID, "debit_account": account(1, 0, 30, 0, 0, flags=18)}
+    yield "a limit and a flag", [limited], first + "limits: account 1 has debits of 30, above its credits of 0\n", 1
+
+
 def by_hand(folder):
+    for name, stream, printed, status in rows_of_another_ledger():
+        found = run(["--foreign"], text_of(stream))
+        check(f"--foreign, {name}", found[:2] == (status, printed), found)
+        plain = run([], text_of(stream))
+        check(f"{name}, without --foreign", plain[0] == 1 and plain[1].endswith((": reserved_flag\n", "event at 10\n")), plain)
     for name, stream, printed, status in rows():
         found = run([], text_of(stream))
         check(name, found[:2] == (status, printed) and bool(found[2]) == (status != 0), found)

@@ -69,7 +69,8 @@ entry_line state number line rest entry answer is refusal =
     ∙ entries-first state (stop_at later.bad) (record { line = number; entry = entry }) later.entries answer refusal
 
 -- no lines are audited to the end
-no_lines : (state : AuditState) (number : ℕ) → lines_audited state number [] ≡ record { state = state; stop = stop.AtEnd }
+no_lines : (state : AuditState) (number : ℕ)
+    → lines_audited state number [] ≡ record { state = state; stop = stop.AtEnd }
 unfolding stream_of_lines audit_entries
 no_lines state number = refl
 

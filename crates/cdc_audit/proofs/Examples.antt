@@ -122,7 +122,7 @@ unfolding refusal follows_on
 one_is_lost = refl
 
 -- each rule refuses an event
-after_the_end : entry_refusal (record { past = moved ∷ []; ended = true }) (content.Event held_back)
+after_the_end : entry_refusal (record { foreign = false; past = moved ∷ []; ended = true }) (content.Event held_back)
     ≡ Some (AfterEnd 2000)
 after_the_end = refl
 
@@ -204,8 +204,8 @@ other_accounts : refusal (moved ∷ held_back ∷ []) (record posted_then { cred
 unfolding refusal
 other_accounts = refl
 
-other_transfer : refusal (moved ∷ held_timed ∷ []) (record expired { transfer = record held_back.transfer { timeout = 2 } })
-    ≡ Some (OtherFields 11)
+other_transfer : refusal (moved ∷ held_timed ∷ [])
+    (record expired { transfer = record held_back.transfer { timeout = 2 } }) ≡ Some (OtherFields 11)
 unfolding refusal
 other_transfer = refl
 

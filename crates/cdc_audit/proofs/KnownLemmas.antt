@@ -48,7 +48,8 @@ pending_event-push past e id = find-append (λ (f : Event). holds f.kind && (f.t
 
 amount-or : (one other : Option Event)
     → option_map (λ (e : Event). e.transfer.amount) (option_or one other)
-    ≡ option_or (option_map (λ (e : Event). e.transfer.amount) one) (option_map (λ (e : Event). e.transfer.amount) other)
+    ≡ option_or (option_map (λ (e : Event). e.transfer.amount) one)
+    (option_map (λ (e : Event). e.transfer.amount) other)
 amount-or None other = refl
 amount-or (Some e) other = refl
 
@@ -86,7 +87,8 @@ eqb_same n = elim (eqb_tells n n) [
 
 -- what is known under an id after an insertion
 stored_under-insert : (transfers : List (ℕ × Stored)) (key : ℕ) (stored : Stored) (id : ℕ)
-    → stored_under (insert_entry nat_eq transfers key stored) id ≡ cond (key == id) (Some stored) (stored_under transfers id)
+    → stored_under (insert_entry nat_eq transfers key stored) id
+    ≡ cond (key == id) (Some stored) (stored_under transfers id)
 stored_under-insert [] key stored id =
     elim (eqb_tells key id) [
       | inl same ↦ rw (same.0, ← same.1, eqb_same key) refl
@@ -215,7 +217,8 @@ pending_one false known there open_yet is = cc
 pub known-step : (transfers : List (ℕ × Stored)) (past : List Event) (e : Event)
     → ((id : ℕ) → IsKnownOf (stored_under transfers id) past id)
     → (stores e.kind && is_some (cond (stores e.kind) (stored_under transfers e.transfer.id) None)) ≡ false
-    → (settles e.kind && is_none (amount_in (cond (settles e.kind) (stored_under transfers (settled_id e)) None))) ≡ false
+    → (settles e.kind && is_none (amount_in (cond (settles e.kind) (stored_under transfers (settled_id e)) None)))
+    ≡ false
     → (settles e.kind && was_settled (cond (settles e.kind) (stored_under transfers (settled_id e)) None)) ≡ false
     → (id : ℕ) → IsKnownOf (stored_under (with_settled (with_own transfers e) e (cond (settles e.kind)
     (unwrap_or (amount_in (cond (settles e.kind) (stored_under transfers (settled_id e)) None)) 0) 0)) id)

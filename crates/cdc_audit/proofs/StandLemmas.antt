@@ -1,6 +1,6 @@
 -- An auditor's answer to an event, and what it stands for after it.
 use Rattle.std.proofs.Common.{◌≡◌, ℕ, ◌+◌, Bool, true, false, cond, min, length, List, [], ◌∷◌, ◌++◌, Option, Some, None, Result, Ok, Err, refl, sym, ap, ap₂, ◌∙◌, subst, length-append, arith}
-use Rattle.std.specs.Prelude.{◌==◌, ◌&&◌, not, nat_le, nat_lt, is_none, is_some, unwrap_or, OnOk}
+use Rattle.std.specs.Prelude.{◌==◌, ◌&&◌, not, nat_le, nat_lt, is_none, is_some, unwrap_or, IfOk, OnOk}
 use Rattle.std.specs.Option.{option_or}
 use Rattle.std.specs.Result.{is_err}
 use Rattle.std.proofs.lemmas.Bool.Decides.{nat_tests}
@@ -21,13 +21,14 @@ use Rattle.cdc_subscriber.specs.Steps.{next_state}
 use Rattle.cdc_subscriber.specs.SubscriberState.{SubscriberState}
 use Rattle.cdc_subscriber.proofs.BookFinds.{balances_in-book_of}
 use Rattle.cdc_subscriber.proofs.BookLemmas.{book_of-push}
+use Rattle.cdc_follow.specs.declared.entries.Content.{Content}
 use Rattle.cdc_follow.specs.declared.entries.Content.TheVariants as content
 use Rattle.cdc_audit.specs.declared.checks.Facts.{Facts}
 use Rattle.cdc_audit.specs.declared.checks.Stored.{Stored}
 use Rattle.cdc_audit.specs.declared.fields.FixedFields.{FixedFields}
 use Rattle.cdc_audit.specs.declared.refusals.Refusal.{Refusal}
 use Rattle.cdc_audit.specs.declared.refusals.Refusal.TheVariants.{AfterEnd, KnownId, NotPending, Settled}
-use Rattle.cdc_audit.specs.Audits.{AuditState, entry_refusal, next_audit}
+use Rattle.cdc_audit.specs.Audits.{AuditState, entry_refusal, event_refusal, next_audit, with_event}
 use Rattle.cdc_audit.specs.Checks.{account_lines, amount_in, balances_lines, fixed_lines, lines, nothing, released, transfer_lines, was_settled}
 use Rattle.cdc_audit.specs.Known.{balances_after, ends_in_chain, expiry_or, is_linked, is_settled, is_stored}
 use Rattle.cdc_audit.specs.Known.{last_expiry, pending_amount, settled_id}
@@ -36,6 +37,7 @@ use Rattle.cdc_audit.specs.Rules.{chain_lines, event_lines, held, order_lines, p
 use Rattle.cdc_audit.specs.EventShapes.{shape_lines}
 use Rattle.cdc_audit.specs.Expiries.{expiry_lines}
 use Rattle.cdc_audit.specs.Fields.{created_lines, fields_lines}
+use Rattle.cdc_audit.specs.Foreign.{audited_event}
 use Rattle.cdc_audit.specs.Limits.{limits_lines}
 use Rattle.cdc_audit.specs.Settling.{settling_lines}
 use Rattle.cdc_audit.specs.Standing.{AuditorState, IsKnownOf, KeepsAccounts, StandsFor, facts_of, kept_after, open_then, open_under, stored_under, with_own, with_settled}
@@ -59,8 +61,8 @@ seven-same : (order order2 shape fixed fixed2 transfer transfer2 settling settli
     → limits ≡ limits2 → balances ≡ balances2
     → seven order shape fixed transfer settling limits balances
     ≡ seven order2 shape fixed2 transfer2 settling2 limits2 balances2
-seven-same order order2 shape fixed fixed2 transfer transfer2 settling settling2 limits limits2 balances balances2 p q r s
-    t u = cc
+seven-same order order2 shape fixed fixed2 transfer transfer2 settling settling2 limits limits2 balances balances2 p q r
+    s t u = cc
 
 -- if none of them applies, none of the first and of the fourth part does
 two_of_seven : (order shape fixed transfer settling limits balances : List (Bool × Refusal))
@@ -196,7 +198,7 @@ refusal-lines past e = refl
 -- an open auditor refuses an event for the reason that the audit gives
 pub answers : (auditor : AuditorState) (state : AuditState) (e : Event) (answer : Option Refusal)
     → auditor.kept.ended ≡ false → answer ≡ first_line (lines (facts_of auditor e) e) → StandsFor auditor state
-    → answer ≡ entry_refusal state (content.Event e)
+    → answer ≡ event_refusal state e
 answers auditor state e answer open_yet is stands =
     let going : state.ended ≡ false = sym (ap (λ (kept : SubscriberState). kept.ended) stands.kept) ∙ open_yet in
     is ∙ ap first_line (same_lines auditor state e stands) ∙ sym (refusal-lines state.past e)
@@ -204,7 +206,7 @@ answers auditor state e answer open_yet is stands =
 
 -- and an auditor that received the end refuses each event
 pub answers_ended : (auditor : AuditorState) (state : AuditState) (e : Event) → auditor.kept.ended ≡ true
-    → StandsFor auditor state → Some (AfterEnd e.timestamp) ≡ entry_refusal state (content.Event e)
+    → StandsFor auditor state → Some (AfterEnd e.timestamp) ≡ event_refusal state e
 answers_ended auditor state e ended stands =
     let over : state.ended ≡ true = sym (ap (λ (kept : SubscriberState). kept.ended) stands.kept) ∙ ended in
     sym (ap (λ ended. cond ended (Some (AfterEnd e.timestamp)) (refusal state.past e)) over)
@@ -221,8 +223,9 @@ kept_same : (book book2 : List BookEntry) (last last2 applied applied2 : ℕ) �
 kept_same book book2 last last2 applied applied2 p q r = cc
 
 -- what a subscriber keeps after a later event
-kept-next : (state : AuditState) (e : Event) → state.ended ≡ false → nat_lt (last_timestamp state.past) e.timestamp ≡ true
-    → next_state (kept_after state) (item.Event e) ≡ kept_after (next_audit state (content.Event e))
+kept-next : (state : AuditState) (e : Event) → state.ended ≡ false
+    → nat_lt (last_timestamp state.past) e.timestamp ≡ true
+    → next_state (kept_after state) (item.Event e) ≡ kept_after (with_event state e)
 kept-next state e going later =
     let new : nat_le e.timestamp (last_timestamp state.past) ≡ false = grind (arith, nat_tests) in
     rw (going, new) (kept_same _ _ _ _ _ _
@@ -240,8 +243,9 @@ pub accepts : (auditor after : AuditorState) (state : AuditState) (e : Event)
     → after.transfers ≡ with_settled (with_own auditor.transfers e) e (released (facts_of auditor e) e)
     → ((id : ℕ) → open_under after.open_ones id ≡ open_then auditor.open_ones e id)
     → KeepsAccounts auditor.fields (facts_of auditor e) e after.fields → after.linked ≡ is_linked e
-    → after.expired ≡ expiry_or auditor.expired e → StandsFor auditor state → StandsFor after (next_audit state (content.Event e))
-accepts auditor after state e open_yet none kept transfers opened fields linked expired stands =
+    → after.expired ≡ expiry_or auditor.expired e → after.foreign ≡ auditor.foreign
+    → StandsFor auditor state → StandsFor after (with_event state e)
+accepts auditor after state e open_yet none kept transfers opened fields linked expired foreign stands =
     let going : state.ended ≡ false = sym (ap (λ (kept : SubscriberState). kept.ended) stands.kept) ∙ open_yet in
     let facts = facts_of auditor e in
     let parts = two_of_seven (order_lines facts.last e) (shape_lines e) (fixed_lines facts e) (transfer_lines facts e)
@@ -252,6 +256,7 @@ accepts auditor after state e open_yet none kept transfers opened fields linked 
     let later : nat_lt (last_timestamp state.past) e.timestamp ≡ true =
     sym (ap (λ (kept : SubscriberState). nat_lt kept.last e.timestamp) stands.kept) ∙ order.0 in
     record {
+      foreign = foreign ∙ stands.foreign;
       kept = kept ∙ ap (λ kept. next_state kept (item.Event e)) stands.kept ∙ kept-next state e going later;
       transfers = λ id. subst (λ known. IsKnownOf (stored_under known id) (state.past ++ e ∷ []) id) (sym transfers)
           (known-step auditor.transfers state.past e stands.transfers free.0 free.1 free.2 id);
@@ -274,3 +279,27 @@ accounts_from old old2 facts facts2 e new fields_are facts_are kept =
 pub unless_error : {T E : Type 0} (result : Result T E) (P : Type 0) → is_err result ≡ false → OnOk result P → P
 unless_error (Ok value) P is holds = holds
 unless_error (Err error) P is holds = cc
+
+-- an auditor's answer to an entry is that to what is audited of its event
+pub taken_answer : {E : Type 0} (result : Result (Option Refusal) E) (old : AuditorState) (entry : Content) (e own : Event)
+    → entry ≡ content.Event e → own ≡ audited_event old.foreign e
+    → IfOk result (λ answer. (state : AuditState) → StandsFor old state → answer ≡ event_refusal state own)
+    → IfOk result (λ answer. (state : AuditState) → StandsFor old state → answer ≡ entry_refusal state entry)
+taken_answer (Ok answer) old entry e own is own_is answers = λ state stands.
+    answers state stands ∙ ap (event_refusal state) (own_is ∙ ap (λ foreign. audited_event foreign e) stands.foreign)
+    ∙ sym (ap (entry_refusal state) is)
+taken_answer (Err error) old entry e own is own_is answers = tt
+
+-- and so is what it stands for after it
+pub taken_accepted : {E : Type 0} (result : Result (Option Refusal) E) (old new : AuditorState) (entry : Content)
+    (e own : Event) → entry ≡ content.Event e → own ≡ audited_event old.foreign e
+    → IfOk result (λ answer. (state : AuditState) → StandsFor old state → answer ≡ None
+    → StandsFor new (with_event state own))
+    → IfOk result (λ answer. (state : AuditState) → StandsFor old state → answer ≡ None
+    → StandsFor new (next_audit state entry))
+taken_accepted (Ok answer) old new entry e own is own_is goes = λ state stands none.
+    subst (StandsFor new)
+    (ap (with_event state) (own_is ∙ ap (λ foreign. audited_event foreign e) stands.foreign)
+    ∙ sym (ap (next_audit state) is))
+    (goes state stands none)
+taken_accepted (Err error) old new entry e own is own_is goes = tt

@@ -65,7 +65,8 @@ abbrev pub account_lines : EventAccount → Balances → Amounts → Amounts →
 account_lines account before debits credits =
     balance_line account.id DebitsPending account.debits_pending before.debits_pending debits.held debits.released ∷
     balance_line account.id DebitsPosted account.debits_posted before.debits_posted debits.posted 0 ∷
-    balance_line account.id CreditsPending account.credits_pending before.credits_pending credits.held credits.released ∷
+    balance_line account.id CreditsPending account.credits_pending before.credits_pending credits.held
+    credits.released ∷
     balance_line account.id CreditsPosted account.credits_posted before.credits_posted credits.posted 0 ∷
     []
 
@@ -78,7 +79,8 @@ balances_lines facts e =
 -- the lines on the fields of both accounts that never change
 abbrev pub fixed_lines : Facts → Event → List (Bool × Refusal)
 fixed_lines facts e =
-    fields_lines facts.debit_fields e.ledger e.debit_account ++ fields_lines facts.credit_fields e.ledger e.credit_account
+    fields_lines facts.debit_fields e.ledger e.debit_account
+    ++ fields_lines facts.credit_fields e.ledger e.credit_account
     ++ created_lines e
 
 -- the lines on the transfers

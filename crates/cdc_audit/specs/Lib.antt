@@ -6,6 +6,7 @@ pub mod EventShapes
 pub mod Fields
 pub mod Limits
 pub mod Rules
+pub mod Foreign
 pub mod Audits
 pub mod Standing
 pub mod Stops

@@ -19,10 +19,11 @@ use Rattle.cdc_audit.specs.Checks.{amount_in, stored_by, was_settled}
 use Rattle.cdc_audit.specs.Fields.{fields_before, fixed_fields}
 use Rattle.cdc_audit.specs.Known.{ends_in_chain, is_settled, is_stored, last_expiry, open_event, pending_amount, settled_id}
 
--- what an auditor keeps: what its subscriber keeps, what is known of each stored transfer, by its id, the event of each
+-- what an auditor keeps: whether the stream is another ledger's, what its subscriber keeps, what is known of each stored transfer, by its id, the event of each
 -- open pending one, the fields of each account that never change, whether the last event stored a linked transfer, and
 -- the last expiry
 pub record AuditorState : Type 0 where
+  pub foreign : Bool
   pub kept : SubscriberState
   pub transfers : List (ℕ × Stored)
   pub open_ones : List (ℕ × Event)
@@ -62,6 +63,7 @@ pub record IsKnownOf (known : Option Stored) (past : List Event) (id : ℕ) : Ty
 -- knows each of their transfers, has the events of the open pending ones and the fields of each account, and knows
 -- whether they end within a chain
 pub record StandsFor (auditor : AuditorState) (state : AuditState) : Type 0 where
+  pub foreign : auditor.foreign ≡ state.foreign
   pub kept : auditor.kept ≡ kept_after state
   pub transfers : (id : ℕ) → IsKnownOf (stored_under auditor.transfers id) state.past id
   pub open_ones : (id : ℕ) → open_under auditor.open_ones id ≡ open_event state.past id

@@ -91,7 +91,8 @@ at_times before id between one other =
 -- a pending transfer that is settled too soon or too late, and when it expires
 abbrev pub time_text : ℕ → List ℕ → ℕ → ℕ → List ℕ
 time_text id between timestamp end =
-    around (codes "pending transfer ") id between ++ (decimal timestamp ++ (codes ", and its time is up at " ++ decimal end))
+    around (codes "pending transfer ") id between
+    ++ (decimal timestamp ++ (codes ", and its time is up at " ++ decimal end))
 
 -- a pending transfer that expires after another one
 abbrev pub expiry_text : ℕ → List ℕ → ℕ → List ℕ → List ℕ
@@ -118,14 +119,16 @@ reason_text (TooHigh timestamp) = around [] timestamp (codes " is above the grea
 reason_text (OneAccount id) = around (codes "account ") id (codes " is debited and credited")
 reason_text (TransferShape id result) = around (codes "transfer ") id (codes " is invalid: ") ++ transfer_name result
 reason_text (OtherKind id) = around (codes "transfer ") id (codes " has the flags of another kind")
-reason_text (OtherTimestamp id shown timestamp) = at_times (codes "transfer ") id (codes " has timestamp ") shown timestamp
+reason_text (OtherTimestamp id shown timestamp) =
+    at_times (codes "transfer ") id (codes " has timestamp ") shown timestamp
 reason_text (AccountShape id result) = around (codes "account ") id (codes " is invalid: ") ++ account_name result
 reason_text (AccountField mismatch) = field_text mismatch
 reason_text (CreatedLater id created timestamp) = at_times (codes "account ") id (codes " at ") created timestamp
 reason_text (KnownId id) = around (codes "transfer ") id (codes " came before")
 reason_text (NotPending id) = around (codes "no pending transfer ") id (codes " came before")
 reason_text (Settled id) = around (codes "pending transfer ") id (codes " ended before")
-reason_text (OtherFields id) = around (codes "pending transfer ") id (codes " has other accounts, another ledger, code or user data")
+reason_text (OtherFields id) =
+    around (codes "pending transfer ") id (codes " has other accounts, another ledger, code or user data")
 reason_text (Amount amount id held) =
     around [] amount (codes " of pending transfer ") ++ (decimal id ++ (codes ", which holds " ++ decimal held))
 reason_text (NoTimeout id) = around (codes "pending transfer ") id (codes " has no timeout")

@@ -8,7 +8,7 @@ ghost use Rattle.cdc_message.specs.declared.items.Item.TheVariants as item;
 ghost use Rattle.cdc_ledger.specs.Accounts.{no_balances};
 ghost use Rattle.cdc_subscriber.specs.Book.{balances_in};
 ghost use Rattle.cdc_subscriber.specs.Steps.{next_state};
-ghost use Rattle.cdc_audit.specs.Audits.{AuditState, begins, entry_refusal, next_audit};
+ghost use Rattle.cdc_audit.specs.Audits.{AuditState, begins, entry_refusal, event_refusal, next_audit, with_event};
 ghost use Rattle.cdc_audit.specs.Checks as spec;
 ghost use Rattle.cdc_audit.specs.Standing as standing;
 ghost use Rattle.cdc_audit.specs.Standing.{KeepsAccounts, StandsFor, kept_after};
@@ -18,6 +18,7 @@ use crate::checks::{
 };
 use crate::expiries::expiry_or;
 use crate::fields::{FixedFields, fixed_fields};
+use crate::foreign::audited_event;
 use crate::refusals::Refusal;
 use cdc_follow::Content;
 use cdc_subscriber::Subscriber;
@@ -28,6 +29,8 @@ use std::marker::Model;
 
 /// An auditor of a stream. It keeps the book of the events that it accepted, and what is known of each stored transfer.
 pub struct Auditor {
+    /// Whether the stream is another ledger's.
+    foreign: bool,
     subscriber: Subscriber,
     transfers: IndexMap<u128, Stored>,
     /// The events that stored the open pending transfers, by these transfers' ids.
@@ -43,6 +46,7 @@ pub struct Auditor {
 impl Drop for Auditor {
     fn drop(self) {
         let Auditor {
+            foreign: _,
             subscriber: _,
             transfers: _,
             open_ones: _,
@@ -59,6 +63,7 @@ impl Model for Auditor {
     ghost Value = { AuditorState };
 
     ghost view = { λ a. record {
+      foreign = a.foreign;
       kept = a.subscriber;
       transfers = a.transfers.entries;
       open_ones = a.open_ones.entries;
@@ -69,11 +74,13 @@ impl Model for Auditor {
 }
 
 impl Auditor {
-    /// An auditor of a stream from a ledger's first event on.
-    pub fn new(alloc: Global) -> Auditor
-        ensures { StandsFor result begins }
+    /// An auditor of a stream from a ledger's first event on. `foreign`: another ledger's, whose flags may have more bits
+    /// than ours; these are let be.
+    pub fn new(alloc: Global, foreign: bool) -> Auditor
+        ensures { StandsFor result (begins foreign) }
     {
         Auditor {
+            foreign,
             subscriber: Subscriber::new(alloc),
             transfers: IndexMap::new(alloc),
             open_ones: IndexMap::new(alloc),
@@ -94,7 +101,10 @@ impl Auditor {
         ensures err { OnErr result (self.new ≡ self.old) }
     {
         match content {
-            Content::Event(event) => self.take_event(event),
+            Content::Event(event) => {
+                let event = audited_event(self.foreign, event);
+                self.take_event(&event)
+            }
             Content::End => {
                 let _taking = self.subscriber.take_end();
                 Ok(None)
@@ -169,12 +179,12 @@ impl Auditor {
         }
     }
 
-    /// Takes an event.
+    /// Takes an event, as it is audited.
     fn take_event(&mut self, event: &Event) -> Result<Option<Refusal>, AllocError>
         ensures answer { IfOk result (λ answer. (state : AuditState) → StandsFor self.old state
-            → answer ≡ entry_refusal state (Content.Event event.now)) }
+            → answer ≡ event_refusal state event.now) }
         ensures accepted { IfOk result (λ answer. (state : AuditState) → StandsFor self.old state
-            → answer ≡ None → StandsFor self.new (next_audit state (Content.Event event.now))) }
+            → answer ≡ None → StandsFor self.new (with_event state event.now)) }
         ensures refused { IfOk result (λ answer. IsSome answer → self.new ≡ self.old) }
         ensures err { OnErr result (self.new ≡ self.old) }
     {

@@ -27,6 +27,7 @@ pub returns-clause-accepted : goal.returns-clause-accepted
 returns-clause-accepted c = λ state stands _.
     let e = c.args.event.now in
     accepts c.args.self.now (record {
+      foreign = c.self.inside.foreign;
       kept = c.take_event.new.self;
       transfers = c.keep.new.transfers.entries;
       open_ones = c.keep_open.new.events.entries;
@@ -51,4 +52,5 @@ returns-clause-accepted c = λ state stands _.
     (c.in_ok-reserve-3.ensures.entries ∙ ap (λ (a : AuditorState). a.fields) c.self.view_is) c.facts-facts.ensures
     c.keep_accounts.ensures)
     c.is_linked-self-inside.ensures
-    (c.expiry_or-self-inside.ensures ∙ ap (λ (a : AuditorState). expiry_or a.expired e) c.self.view_is) stands
+    (c.expiry_or-self-inside.ensures ∙ ap (λ (a : AuditorState). expiry_or a.expired e) c.self.view_is)
+    (ap (λ (a : AuditorState). a.foreign) c.self.view_is) stands
