@@ -30,7 +30,7 @@ _relayplum() {
                 words='--window --prefetch --lose-confirm --lose-publish --restart-after --repeat --close --start-after --progress --explain --trace --json -h --help'
                 ;;
             follow) words='--chained --skip-gaps --binding --book --every --json -h --help' ;;
-            audit) words='--book --json -h --help' ;;
+            audit) words='--book --foreign --json -h --help' ;;
         esac
     fi
     # Where there is no such word, files are offered.

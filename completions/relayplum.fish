@@ -35,6 +35,7 @@ complete -c relayplum -n '__fish_seen_subcommand_from follow' -l binding -x -d '
 complete -c relayplum -n '__fish_seen_subcommand_from follow' -l book -r -d 'The file that the book is saved in'
 complete -c relayplum -n '__fish_seen_subcommand_from follow' -l every -x -d 'Number of lines after which the book is saved, at the latest'
 complete -c relayplum -n '__fish_seen_subcommand_from audit' -l book -d 'Print the last balances of each account'
+complete -c relayplum -n '__fish_seen_subcommand_from audit' -l foreign -d "Accept flags that this ledger doesn't have"
 # Called by a path, it may be the launcher in the repository, which takes options before the command.
 function __relayplum_may_be_launcher
     string match -q '*/*' -- (commandline -opc)[1]

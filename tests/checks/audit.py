@@ -8,7 +8,8 @@ streams are the events of the model's ledger for random scripts of the soak: eac
 Then one event is left out, doubled, swapped with the next one or changed in one field: the program has to accept or refuse
 just what a small model of the rules does, at the same line and by the same rule, which reads JSON by Python's own parser. A
 double, a swap, another balance, and another amount that is moved or held have to be refused; so has what follows an event that is
-left out, if its amount isn't 0 and one of its accounts appears again. What no rule finds is counted by kind and printed.
+left out, if its amount isn't 0 and one of its accounts appears again. What no rule finds is counted by kind and printed. Random
+scripts of pending transfers that expire, many of them at once, do the same with two expiries exchanged.
 
 The last line is `audit: N passed, M failed`; the status is 1 if one failed.
 """
@@ -36,6 +37,9 @@ FIXED = ("user_data_128", "user_data_64", "user_data_32", "ledger", "code", "fla
 STORES = ("single_phase", "two_phase_pending", "two_phase_posted", "two_phase_voided")
 MOVES, HOLDS = ("single_phase", "two_phase_posted"), ("two_phase_pending",)
 SETTLES = ("two_phase_posted", "two_phase_voided", "two_phase_expired")
+DATA = ("user_data_128", "user_data_64", "user_data_32")
+GREATEST = 2**63 - 1  # timestamp
+SECOND = 10**9
 
 
 def text_of(bodies):
@@ -49,6 +53,11 @@ def text_of(bodies):
 def settled_id(body):
     transfer = body["transfer"]
     return int(transfer["id"] if body["type"] == "two_phase_expired" else transfer["pending_id"])
+
+
+def expires_at(body):
+    """When the pending transfer of a body expires."""
+    return int(body["transfer"]["timestamp"]) + int(body["transfer"]["timeout"]) * SECOND
 
 
 def flags_of(flags):
@@ -73,6 +82,7 @@ def transfer_result(body):
         (not pending and int(transfer["timeout"]), "timeout_reserved_for_pending_transfer"),
         (int(body["ledger"]) == 0, "ledger_must_not_be_zero"),
         (int(transfer["code"]) == 0, "code_must_not_be_zero"),
+        (body["type"] in HOLDS and int(transfer["timeout"]) and expires_at(body) > GREATEST, "overflows_timeout"),
     )
     return next((name for test, name in lines if test), None)
 
@@ -134,7 +144,7 @@ class Audit:
     """What an audit knows of the events so far, and why the next one is refused."""
 
     def __init__(self):
-        self.count, self.last, self.linked = 0, 0, False
+        self.count, self.last, self.linked, self.expired = 0, 0, False, None
         self.balances, self.stored, self.pending, self.settled, self.fixed = {}, set(), {}, set(), {}
 
     def refusal(self, body):
@@ -146,6 +156,8 @@ class Audit:
             return f"timestamps: {timestamp}, after {self.last}"
         if int(debit["id"]) == int(credit["id"]):
             return f"accounts: account {int(debit['id'])} is debited and credited"
+        if timestamp > GREATEST:
+            return f"timestamps: {timestamp} is above the greatest timestamp"
         why = shape(body) or self.other_fields(body)
         if why:
             return why
@@ -159,6 +171,9 @@ class Audit:
             if of in self.settled:
                 return f"ended: pending transfer {of} ended before"
             why = self.other_transfer(body, self.pending[of])
+            if why:
+                return why
+            why = self.other_order(body)
             if why:
                 return why
             released = int(self.pending[of]["transfer"]["amount"])
@@ -191,7 +206,7 @@ class Audit:
                     return f"fields: account {id} has {name} {shown[name]}, after {before}"
         for side in SIDES:
             id, created = int(body[side]["id"]), int(body[side]["timestamp"])
-            if created >= int(body["timestamp"]):
+            if not 0 < created < int(body["timestamp"]):
                 return f"created: account {id} at {created}, in an event at {int(body['timestamp'])}"
         return None
 
@@ -202,12 +217,13 @@ class Audit:
         same = same and int(body["ledger"]) == int(pending["ledger"])
         names = ["code"] if body["type"] in STORES else pending["transfer"]
         same = same and all(int(body["transfer"][it]) == int(pending["transfer"][it]) for it in names)
+        if body["type"] in STORES:
+            same = same and all(int(body["transfer"][it]) or not int(pending["transfer"][it]) for it in DATA)
         if not same:
-            return f"settles: pending transfer {of} has other accounts, another ledger or code"
+            return f"settles: pending transfer {of} has other accounts, another ledger, code or user data"
         if amount > held or body["type"] not in MOVES and amount < held:
             return f"amount: {amount} of pending transfer {of}, which holds {held}"
-        timestamp, timeout = int(body["timestamp"]), int(pending["transfer"]["timeout"])
-        end = int(pending["transfer"]["timestamp"]) + timeout * 10**9
+        timestamp, timeout, end = int(body["timestamp"]), int(pending["transfer"]["timeout"]), expires_at(pending)
         if body["type"] not in STORES and timeout == 0:
             return f"timeouts: pending transfer {of} has no timeout"
         if body["type"] not in STORES and timestamp < end:
@@ -216,8 +232,22 @@ class Audit:
             return f"timeouts: pending transfer {of} is settled at {timestamp}, and its time is up at {end}"
         return None
 
+    def other_order(self, body):
+        """The sentence on an expiry that doesn't come after the last one before it, or None."""
+        if body["type"] in STORES or self.expired is None:
+            return None
+        id, last = settled_id(body), settled_id(self.expired)
+        one, other = ((expires_at(it), int(it["transfer"]["timestamp"])) for it in (body, self.expired))
+        if one < other:
+            return f"expiries: pending transfer {id} expires after pending transfer {last}, and is first to expire"
+        if one[0] == other[0] and int(body["timestamp"]) != int(self.expired["timestamp"]) + 1:
+            return f"expiries: pending transfer {id} expires with pending transfer {last}, and not right after it"
+        return None
+
     def take(self, body):
         """Takes an event that isn't refused."""
+        if body["type"] not in STORES:
+            self.expired = body
         self.count, self.last = self.count + 1, int(body["timestamp"])
         self.linked = body["type"] in STORES and bool(int(body["transfer"]["flags"]) & 1)
         if body["type"] in STORES:
@@ -288,7 +318,7 @@ POST = event(30, 3, POSTED, 4, (1, 0, 34, 0, 0), (2, 0, 0, 0, 34), 2)
 VOID = event(30, 3, VOIDED, 10, (1, 0, 30, 0, 0), (2, 0, 0, 0, 30), 2)
 # Or it holds back 10 for a second, after which they expire.
 TIMED = with_transfer(HELD, timeout=1)
-UP = 20 + 10**9
+UP = 20 + SECOND
 EXPIRY = {**VOID, "timestamp": str(UP), "type": EXPIRED, "transfer": TIMED["transfer"]}
 END = {"end": True}
 
@@ -351,8 +381,8 @@ def rows():
         f"accepted 1 last 10\nrefused: line 2: balances: account 1 has debits_posted 0, after {most} and this transfer's 1\n"
     ), 1
 
-
     yield from rows_of_fields()
+    yield from rows_of_times()
 
 
 def rows_of_fields():
@@ -383,11 +413,20 @@ def rows_of_fields():
     yield "another ledger", [PAID, other], second + "fields: account 1 has ledger 701, after 700\n", 1
     later = {**PAID, "debit_account": account(1, 0, 30, 0, 0, timestamp="10")}
     yield "an account of later", [later], first + "created: account 1 at 10, in an event at 10\n", 1
-    settles = "settles: pending transfer 2 has other accounts, another ledger or code\n"
+    nothing = {**PAID, "debit_account": account(1, 0, 30, 0, 0, timestamp="0")}
+    yield "an account of 0", [nothing], first + "created: account 1 at 0, in an event at 10\n", 1
+    settles = "settles: pending transfer 2 has other accounts, another ledger, code or user data\n"
     other = event(30, 3, POSTED, 4, (1, 6, 34, 0, 0), (3, 0, 0, 0, 4), 2)
     yield "a post to another account", [PAID, HELD, other], third + settles, 1
     yield "a void with another code", [PAID, HELD, with_transfer(VOID, code=2)], third + settles, 1
     yield "an expiry with another timeout", [PAID, TIMED, with_transfer(EXPIRY, timeout=2)], third + settles, 1
+    for name in DATA:
+        held = with_transfer(HELD, **{name: 7 if name == "user_data_32" else "7"})
+        yield f"a post without {name}", [PAID, held, POST], third + settles, 1
+        yield f"a void without {name}", [PAID, held, VOID], third + settles, 1
+        given = with_transfer(POST, **{name: 8 if name == "user_data_32" else "8"})
+        yield f"a post with another {name}", [PAID, held, given], "accepted 3 last 30\n", 0
+        yield f"a post with a {name}", [PAID, HELD, given], "accepted 3 last 30\n", 0
     more = event(30, 3, POSTED, 11, (1, 0, 41, 0, 0), (2, 0, 0, 0, 41), 2)
     yield "a post of more", [PAID, HELD, more], third + "amount: 11 of pending transfer 2, which holds 10\n", 1
     yield "a void of less", [PAID, HELD, with_transfer(VOID, amount="9")], (
@@ -413,7 +452,91 @@ def rows_of_fields():
     yield "debits above 128 bits", [full], first + "limits: account 1 has debits above 128 bits\n", 1
 
 
+def at(timestamp, body):
+    """A body at another timestamp, with the transfer that it stores."""
+    return with_transfer({**body, "timestamp": str(timestamp)}, timestamp=str(timestamp))
+
+
+def expiry(timestamp, pending, held):
+    """The expiry of a pending transfer between accounts 1 and 2, after which so much is held."""
+    balances = {"debit_account": account(1, held, 30, 0, 0), "credit_account": account(2, 0, 0, held, 30)}
+    return {**pending, **balances, "timestamp": str(timestamp), "type": EXPIRED}
+
+
+# Account 1 holds back 5 more until the 10 of transfer 2 have expired, or until both expire at once.
+THREE = with_transfer(event(30, 3, PENDING, 5, (1, 15, 30, 0, 0), (2, 0, 0, 15, 30)), timeout=2)
+LONG = with_transfer(HELD, timeout=2)
+LATE = with_transfer(at(UP, THREE), timeout=1)
+UP_BOTH = 20 + 2 * SECOND
+
+
+def rows_of_times():
+    """The rows of the order in which pending transfers expire, and of the greatest timestamp."""
+    fifth, up = f"accepted 4 last {30 + 2 * SECOND}\nrefused: line 5: expiries: ", 30 + 2 * SECOND
+    one, other = expiry(up, TIMED, 5), expiry(up + 1, THREE, 0)
+    yield "two expiries", [PAID, TIMED, THREE, one, other], f"accepted 5 last {up + 1}\n", 0
+    yield "two expiries apart", [PAID, TIMED, THREE, one, expiry(up + 9, THREE, 0)], f"accepted 5 last {up + 9}\n", 0
+    one, other = expiry(up, THREE, 10), expiry(up + 1, TIMED, 0)
+    yield "two expiries in the wrong order", [PAID, TIMED, THREE, one, other], (
+        fifth + "pending transfer 2 expires after pending transfer 3, and is first to expire\n"
+    ), 1
+    both = [PAID, LONG, LATE]
+    one, other = expiry(UP_BOTH, LONG, 5), expiry(UP_BOTH + 1, LATE, 0)
+    yield "two expiries of one time", [*both, one, other], f"accepted 5 last {UP_BOTH + 1}\n", 0
+    fifth = f"accepted 4 last {UP_BOTH}\nrefused: line 5: expiries: "
+    yield "two expiries of one time apart", [*both, one, expiry(UP_BOTH + 2, LATE, 0)], (
+        fifth + "pending transfer 3 expires with pending transfer 2, and not right after it\n"
+    ), 1
+    paid = event(UP_BOTH + 1, 4, SINGLE, 1, (1, 5, 31, 0, 0), (2, 0, 0, 5, 31))
+    balances = {"debit_account": account(1, 0, 31, 0, 0), "credit_account": account(2, 0, 0, 0, 31)}
+    between = [*both, one, paid, {**expiry(UP_BOTH + 2, LATE, 0), **balances}]
+    yield "an event between two expiries of one time", between, (
+        f"accepted 5 last {UP_BOTH + 1}\nrefused: line 6: expiries: "
+        "pending transfer 3 expires with pending transfer 2, and not right after it\n"
+    ), 1
+    one, other = expiry(UP_BOTH, LATE, 10), expiry(UP_BOTH + 1, LONG, 0)
+    yield "two expiries of one time in the wrong order", [*both, one, other], (
+        fifth + "pending transfer 2 expires after pending transfer 3, and is first to expire\n"
+    ), 1
+    yield "the greatest timestamp", [at(GREATEST, PAID)], f"accepted 1 last {GREATEST}\n", 0
+    yield "a greater timestamp", [at(GREATEST + 1, PAID)], (
+        f"accepted 0 last 0\nrefused: line 1: timestamps: {GREATEST + 1} is above the greatest timestamp\n"
+    ), 1
+    yield "the greatest expiry time", [PAID, at(GREATEST - SECOND, TIMED)], f"accepted 2 last {GREATEST - SECOND}\n", 0
+    yield "a greater expiry time", [PAID, at(GREATEST - SECOND + 1, TIMED)], (
+        "accepted 1 last 10\nrefused: line 2: shape: transfer 2 is invalid: overflows_timeout\n"
+    ), 1
+    yield "no expiry time", [PAID, at(GREATEST, HELD)], f"accepted 2 last {GREATEST}\n", 0
+
+
+def rows_of_another_ledger():
+    """The rows with flags that this ledger hasn't: what they are, the stream, what is printed with --foreign, and the status."""
+    first, second = "accepted 0 last 0\nrefused: line 1: ", "accepted 1 last 10\nrefused: line 2: "
+    yield "a transfer's flag", [with_transfer(PAID, flags=16)], "accepted 1 last 10\n", 0
+    yield "a flag and another timestamp", [with_transfer(PAID, flags=256, timestamp="5")], "accepted 1 last 10\n", 0
+    yield "no flag and another timestamp", [with_transfer(PAID, timestamp="5")], (
+        first + "shape: transfer 1 has timestamp 5, in an event at 10\n"
+    ), 1
+    yield "a linked transfer's flag", [with_transfer(PAID, flags=17), HELD], (
+        second + "chains: event 20 isn't the next of the chain at 10\n"
+    ), 1
+    timed = with_transfer(TIMED, flags=18)
+    yield "an expiry's flag", [PAID, timed, {**EXPIRY, "transfer": timed["transfer"]}], f"accepted 3 last {UP}\n", 0
+    open_one = {**PAID, "debit_account": account(1, 0, 30, 0, 0, flags=16)}
+    closed = {**HELD, "debit_account": account(1, 10, 30, 0, 0, flags=48)}
+    yield "an account's flags that change", [open_one, closed], "accepted 2 last 20\n", 0
+    other = {**HELD, "debit_account": account(1, 10, 30, 0, 0, flags=24)}
+    yield "a flag of ours that changes", [open_one, other], second + "fields: account 1 has flags 8, after 0\n", 1
+    limited = {**PAID, "debit_account": account(1, 0, 30, 0, 0, flags=18)}
+    yield "a limit and a flag", [limited], first + "limits: account 1 has debits of 30, above its credits of 0\n", 1
+
+
 def by_hand(folder):
+    for name, stream, printed, status in rows_of_another_ledger():
+        found = run(["--foreign"], text_of(stream))
+        check(f"--foreign, {name}", found[:2] == (status, printed), found)
+        plain = run([], text_of(stream))
+        check(f"{name}, without --foreign", plain[0] == 1 and plain[1].endswith((": reserved_flag\n", "event at 10\n")), plain)
     for name, stream, printed, status in rows():
         found = run([], text_of(stream))
         check(name, found[:2] == (status, printed) and bool(found[2]) == (status != 0), found)
@@ -454,6 +577,11 @@ def json_rows():
     wrong = event(30, 3, POSTED, 4, (1, 6, 34, 0, 0), (2, 0, 0, 6, 34), 2)
     yield [PAID, END, HELD], {"rule": "end", "timestamp": "20"}
     yield [PAID, PAID], {"rule": "timestamps", "timestamp": "10", "last": "10"}
+    yield [at(GREATEST + 1, PAID)], {"rule": "timestamps", "timestamp": str(GREATEST + 1)}
+    pending, up = [PAID, TIMED, THREE], 30 + 2 * SECOND
+    yield [*pending, expiry(up, THREE, 10), expiry(up + 1, TIMED, 0)], {"rule": "expiries", "transfer": "2", "after": "3"}
+    apart = [PAID, LONG, LATE, expiry(UP_BOTH, LONG, 5), expiry(UP_BOTH + 2, LATE, 0)]
+    yield apart, {"rule": "expiries", "transfer": "3", "after": "2"}
     yield [one], {"rule": "accounts", "account": "1"}
     yield [PAID, again], {"rule": "id", "transfer": "1"}
     yield [PAID, TIMED, POST, EXPIRY], {"rule": "ended", "transfer": "2"}
@@ -484,13 +612,35 @@ def json_rows():
 # Random streams.
 
 PATHS = [("timestamp",), ("ledger",)]
-PATHS += [("transfer", it) for it in ("id", "amount", "pending_id", "timeout", "code", "flags", "timestamp")]
+PATHS += [("transfer", it) for it in ("id", "amount", "pending_id", "timeout", "code", "flags", "timestamp", *DATA)]
 PATHS += [(side, it) for side in ("debit_account", "credit_account") for it in (*BALANCES, "id", "code", "flags", "timestamp")]
 
 
 def bodies_of(seed):
-    """The events of a random script that the model's ledger took, as bodies; and its balances."""
-    script = soak.case_of("audit", seed).script
+    """The events of a random script that the model's ledger took, as bodies."""
+    return bodies_in(soak.case_of("audit", seed).script)
+
+
+def expiries_of(seed):
+    """The same of a script of pending transfers, many of which expire at once."""
+    rng = random.Random(f"expiries {seed}")
+    lines = ["subscriber all", "accounts 10", *(f"account id={it} ledger=700 code=1" for it in (1, 2))]
+    batches = [(1000 + it * SECOND, rng.randrange(1, 4)) for it in range(rng.randrange(2, 6))]
+    pulses = [(rng.randrange(1, 9) * SECOND + rng.randrange(2000), 0) for _ in range(rng.randrange(1, 4))]
+    id = 0
+    for time, count in sorted(batches + pulses):
+        lines += [f"transfers {time}"] if count else [f"pulse {time}"]
+        for _ in range(count):
+            id += 1
+            between = f"debit_account_id=1 credit_account_id=2 amount={rng.randrange(1, 9)}"
+            lines.append(f"transfer id={id} {between} ledger=700 code=1 flags=2 timeout={rng.randrange(1, 5)}")
+        if count and id > 1 and rng.random() < 0.3:
+            lines += [f"transfers {time + 10}", f"transfer id={100 + id} pending_id={rng.randrange(1, id)} flags={rng.choice((4, 8))}"]
+    return bodies_in("\n".join([*lines, f"pulse {20 * SECOND}", ""]).encode())
+
+
+def bodies_in(script):
+    """The events of a script that the model's ledger took, as bodies; none if it is refused."""
     try:
         ledger, _ = model.run_batches(model.read_script(script))
     except model.Fault:
@@ -507,7 +657,7 @@ def changed(rng, body):
         part = part[name]
     value = int(part[path[-1]])
     other = rng.choice([value + 1, max(value - 1, 0), 0, value * 2 + 1, rng.randrange(2**16)])
-    most = 2**64 - 1 if path[-1] == "timestamp" else 2**128 - 1
+    most = 2**64 - 1 if path[-1] in ("timestamp", "user_data_64") else 2**128 - 1
     if other == value or other > most:
         other = value - 1 if value else 1
     part[path[-1]] = str(other) if isinstance(part[path[-1]], str) else other % 2**16
@@ -529,6 +679,25 @@ def must_be_found(kind, path, bodies, place):
         amount = int(body["transfer"]["amount"])
         return amount > 0 and body["type"] in (*MOVES, *HOLDS) and appears_later(bodies, place)
     return path[-1] in BALANCES or path == ("transfer", "amount") and body["type"] in (*MOVES, *HOLDS)
+
+
+def exchanged(bodies):
+    """The streams in which two expiries, one right after the other, are exchanged, with the balances that follow."""
+    for place in range(len(bodies) - 1):
+        one, other = bodies[place : place + 2]
+        if one["type"] != EXPIRED or other["type"] != EXPIRED:
+            continue
+        less = int(other["transfer"]["amount"]) - int(one["transfer"]["amount"])
+        debit, credit = one["debit_account"], one["credit_account"]
+        first = {
+            **other,
+            "timestamp": one["timestamp"],
+            "debit_account": {**debit, "debits_pending": str(int(debit["debits_pending"]) - less)},
+            "credit_account": {**credit, "credits_pending": str(int(credit["credits_pending"]) - less)},
+        }
+        sides = {side: other[side] for side in SIDES}
+        second = {**one, "timestamp": other["timestamp"], **sides}
+        yield "exchanged", [*bodies[:place], first, second, *bodies[place + 2 :]], True
 
 
 def mutants(rng, bodies):
@@ -553,12 +722,15 @@ def mutants(rng, bodies):
 def random_stream(seed):
     """What is wrong with what the program makes of a random stream and of its mutants, and what of these it didn't refuse."""
     rng = random.Random(f"audit {seed}")
-    bodies, wrong, missed = bodies_of(seed), [], []
-    text, status = audited(bodies, True)
-    found = run(["--book"], text_of(bodies))
-    if status or found[:2] != (0, text):
-        wrong.append(f"seed {seed}: {found!r}, not {text!r}")
-    for kind, stream, must in mutants(rng, bodies) if bodies else ():
+    bodies, expiries, wrong, missed = bodies_of(seed), expiries_of(seed), [], []
+    for stream in (bodies, expiries):
+        text, status = audited(stream, True)
+        found = run(["--book"], text_of(stream))
+        if status or found[:2] != (0, text):
+            wrong.append(f"seed {seed}: {found!r}, not {text!r}")
+    changes = list(mutants(rng, bodies)) if bodies else []
+    changes += rng.sample(list(exchanged(expiries)), min(1, len(list(exchanged(expiries)))))
+    for kind, stream, must in changes:
         text, status = audited(stream)
         found = run([], text_of(stream))
         if found[:2] != (status, text) or must and status == 0:

@@ -14,15 +14,21 @@ use std::io::BufReader;
 /// The bytes of a stream that are read at a time.
 const BUFFER_BYTES: usize = 65_536;
 
-/// Audits the stream in the file of this name, with the balances in the end if `shows_book` is true, and reports on
-/// standard error why that stopped before the end.
-pub fn run_audit(rt: &HostRuntime, file: &str, shows_book: bool, form: Form) -> AuditEnding {
+/// Audits the stream in the file of this name, another ledger's if `foreign` is true, with the balances in the end if
+/// `shows_book` is true, and reports on standard error why that stopped before the end.
+pub fn run_audit(
+    rt: &HostRuntime,
+    file: &str,
+    shows_book: bool,
+    foreign: bool,
+    form: Form,
+) -> AuditEnding {
     let mut writer = io::writer(rt);
     let source = Source::of_script(rt, file);
     let Ok(mut reader) = BufReader::with_capacity(rt.alloc(), BUFFER_BYTES, source) else {
         return out_of_memory(rt, file, form);
     };
-    let mut auditor = Auditor::new(rt.alloc());
+    let mut auditor = Auditor::new(rt.alloc(), foreign);
     let ending = match form {
         Form::Text => audit_command(
             &Text,
@@ -65,8 +71,8 @@ fn advise_on_audit(rt: &HostRuntime, file: &str, ending: AuditEnding) {
         AuditEnding::Stopped(AuditStop::Refused(line, why)) => {
             let rule = why.name();
             eprintln!(rt;
-                "{place}:{line}: {rule}: no ledger publishes this event after those before it: one of them was lost, doubled, \
-                 moved or changed, or this one was"
+                "{place}:{line}: {rule}: no ledger publishes this event after those before it: one of them was lost, \
+                 doubled, moved or changed, or this one was"
             )
         }
         AuditEnding::Stopped(AuditStop::BadLine(line, error)) => {

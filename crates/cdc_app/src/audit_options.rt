@@ -12,7 +12,15 @@ pub fn audit_arguments<'a>(alloc: Global) -> Result<Command<'a>, AllocError> {
         .after_help(help::AUDIT)
         .arg(stream_argument(alloc))?
         .arg(book_flag(alloc))?
+        .arg(foreign_flag(alloc))?
         .arg(json_flag(alloc))
+}
+
+fn foreign_flag<'a>(alloc: Global) -> Arg<'a> {
+    Arg::new(alloc, "foreign")
+        .long("foreign")
+        .action(ArgAction::SetTrue)
+        .help("Accept flags that this ledger doesn't have")
 }
 
 fn book_flag<'a>(alloc: Global) -> Arg<'a> {

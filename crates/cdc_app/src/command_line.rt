@@ -73,6 +73,8 @@ pub enum Options<'a> {
         file: &'a str,
         /// Whether the last balances are printed.
         shows_book: bool,
+        /// Whether it is another ledger's, whose flags may have more bits.
+        foreign: bool,
         form: Form,
     },
     /// A text on the program itself: help, or its version.

@@ -114,6 +114,9 @@ each of the eight balances is the one before with this event's amount. The first
 with the rule that it breaks and the numbers. So a lost, doubled, swapped or changed event is found; docs/AUDIT.md
 describes what can't be.
 
+Another ledger of this kind may have more flags. With --foreign they are ignored, and a transfer that is stored with
+such a flag may have any timestamp.
+
 The output is how many events are accepted and the last one's timestamp; with --book also the balances that they show
 last, as the command books prints them; and at the end the line of the event that is refused, if one is.
 

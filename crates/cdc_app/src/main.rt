@@ -155,9 +155,10 @@ fn run_arguments<T: Threads + Wait + Sync>(rt: &HostRuntime, threads: &T, args: 
             Options::Audit {
                 file,
                 shows_book,
+                foreign,
                 form,
             },
-        ) => return run_audit(rt, file, shows_book, form).status(),
+        ) => return run_audit(rt, file, shows_book, foreign, form).status(),
         Ok(Options::Explain { text }) => explain(rt, text.as_str()),
         Err(OptionsFault::BadWords { message }) => refuse_arguments(rt, message.as_str()),
         Err(OptionsFault::OutOfMemory) => abort(rt, ProgramFault::OutOfMemory, Form::Text),

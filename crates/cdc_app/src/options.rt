@@ -295,6 +295,7 @@ fn asked_of<'a>(
         ("audit", _) => Ok(Options::Audit {
             file,
             shows_book: arguments.get_flag("book"),
+            foreign: arguments.get_flag("foreign"),
             form,
         }),
         _ => Err(usage_error(alloc, "error: no command has such arguments\n")?),

@@ -69,7 +69,8 @@ entry_line state number line rest entry answer is refusal =
     ∙ entries-first state (stop_at later.bad) (record { line = number; entry = entry }) later.entries answer refusal
 
 -- no lines are audited to the end
-no_lines : (state : AuditState) (number : ℕ) → lines_audited state number [] ≡ record { state = state; stop = stop.AtEnd }
+no_lines : (state : AuditState) (number : ℕ)
+    → lines_audited state number [] ≡ record { state = state; stop = stop.AtEnd }
 unfolding stream_of_lines audit_entries
 no_lines state number = refl
 
@@ -146,6 +147,17 @@ step_leads number old new (Some bytes) left line None taken leads = (line, taken
 step_leads number old new (Some bytes) left line (Some why) taken leads = λ state stands.
     subst (λ lines. EndsAs (lines_audited state number lines) why new) (sym taken.2)
     (leads state stands (lines_of taken.0))
+
+-- what reading a line and auditing it lead to
+pub step_taken : (number : ℕ) (old new : AuditorState) (known left : Option (List ℕ)) (line : List ℕ) (more : Bool)
+    (result : Result (Option AuditStop) FollowError) → more ≡ true
+    → IfSome known (λ bytes. TakesLine more bytes line left)
+    → IfOk result (λ stops. LineLeadsTo number line old stops new)
+    → IfOk result (λ stops. IfSome known (λ bytes. StepLeadsTo number old bytes stops new left))
+step_taken number old new known left line more (Ok stops) is taken leads =
+    step_leads number old new known left line stops
+    (subst (λ more. IfSome known (λ bytes. TakesLine more bytes line left)) is taken) leads
+step_taken number old new known left line more (Err error) is taken leads = tt
 
 -- no line is left
 step_ends : (number : ℕ) (auditor : AuditorState) (known left : Option (List ℕ)) → IfSome known (λ bytes. bytes ≡ [])

@@ -1,6 +1,6 @@
 -- Streams of a few events: one that is accepted, one that each rule refuses, and the texts of the refusals.
 use Rattle.std.proofs.Common.{◌≡◌, ℕ, true, false, [], ◌∷◌, Some, refl}
-use Rattle.std.specs.Prelude.{codes}
+use Rattle.std.specs.Prelude.{codes, ◌-◌, ◌^◌}
 use Rattle.std.specs.Fmt.{digits}
 use Rattle.cdc_types.specs.declared.events.Event.{Event}
 use Rattle.cdc_types.specs.declared.events.EventAccount.{EventAccount}
@@ -12,8 +12,8 @@ use Rattle.cdc_types.specs.Widths.{max_128}
 use Rattle.cdc_follow.specs.declared.entries.Content.TheVariants as content
 use Rattle.cdc_audit.specs.declared.refusals.BalanceField.TheVariants.{DebitsPosted, DebitsPending}
 use Rattle.cdc_audit.specs.declared.refusals.FixedField.TheVariants.{Code}
-use Rattle.cdc_audit.specs.declared.refusals.Refusal.TheVariants.{AfterEnd, NotLater, OneAccount, TransferShape, OtherKind, OtherTimestamp, AccountShape, AccountField, CreatedLater}
-use Rattle.cdc_audit.specs.declared.refusals.Refusal.TheVariants.{KnownId, NotPending, Settled, OtherFields, Amount, NoTimeout, TooSoon, TooLate, BrokenChain, TooLarge, Limit, Balance}
+use Rattle.cdc_audit.specs.declared.refusals.Refusal.TheVariants.{AfterEnd, NotLater, TooHigh, OneAccount, TransferShape, OtherKind, OtherTimestamp, AccountShape, AccountField, CreatedLater}
+use Rattle.cdc_audit.specs.declared.refusals.Refusal.TheVariants.{KnownId, NotPending, Settled, OtherFields, Amount, NoTimeout, TooSoon, TooLate, ExpiresLate, ExpiresApart, BrokenChain, TooLarge, Limit, Balance}
 use Rattle.cdc_audit.specs.declared.refusals.Side.TheVariants.{Debits, Credits}
 use Rattle.cdc_audit.specs.Audits.{entry_refusal, follows_on, is_accepted}
 use Rattle.cdc_audit.specs.Rules.{refusal}
@@ -122,7 +122,7 @@ unfolding refusal follows_on
 one_is_lost = refl
 
 -- each rule refuses an event
-after_the_end : entry_refusal (record { past = moved ∷ []; ended = true }) (content.Event held_back)
+after_the_end : entry_refusal (record { foreign = false; past = moved ∷ []; ended = true }) (content.Event held_back)
     ≡ Some (AfterEnd 2000)
 after_the_end = refl
 
@@ -204,8 +204,8 @@ other_accounts : refusal (moved ∷ held_back ∷ []) (record posted_then { cred
 unfolding refusal
 other_accounts = refl
 
-other_transfer : refusal (moved ∷ held_timed ∷ []) (record expired { transfer = record held_back.transfer { timeout = 2 } })
-    ≡ Some (OtherFields 11)
+other_transfer : refusal (moved ∷ held_timed ∷ [])
+    (record expired { transfer = record held_back.transfer { timeout = 2 } }) ≡ Some (OtherFields 11)
 unfolding refusal
 other_transfer = refl
 
@@ -232,6 +232,71 @@ too_late : refusal (moved ∷ held_timed ∷ []) (event 1000002000 TwoPhasePoste
     ≡ Some (TooLate 11 1000002000 1000002000)
 unfolding refusal
 too_late = refl
+
+-- seven are held back for two seconds, and five for the last one of these
+abbrev held_long : Event
+held_long = record held_back { transfer = record held_back.transfer { timeout = 2 } }
+
+abbrev held_last : Event
+held_last = let later = event 1000002000 TwoPhasePending 12 0 5 12 5 in
+    record later { transfer = record later.transfer { timeout = 1 } }
+
+-- they expire at once: first the seven, and one nanosecond later the five
+abbrev expired_long : Event
+expired_long = record held_long {
+  timestamp = 2000002000;
+  kind = TwoPhaseExpired;
+  debit_account = debited 1 5 5;
+  credit_account = credited 2 5 5;
+}
+
+abbrev expired_last : Event
+expired_last = record held_last {
+  timestamp = 2000002001;
+  kind = TwoPhaseExpired;
+  debit_account = debited 1 0 5;
+  credit_account = credited 2 0 5;
+}
+
+accepted-expiries : is_accepted (moved ∷ held_long ∷ held_last ∷ expired_long ∷ expired_last ∷ []) ≡ true
+unfolding refusal follows_on
+accepted-expiries = refl
+
+expires_late : refusal (moved ∷ held_long ∷ held_last ∷ record expired_last {
+  timestamp = 2000002000;
+  debit_account = debited 1 7 5;
+  credit_account = credited 2 7 5;
+} ∷ []) (record expired_long { timestamp = 2000002001 }) ≡ Some (ExpiresLate 11 12)
+unfolding refusal
+expires_late = refl
+
+expires_apart : refusal (moved ∷ held_long ∷ held_last ∷ expired_long ∷ [])
+    (record expired_last { timestamp = 2000002002 }) ≡ Some (ExpiresApart 12 11)
+unfolding refusal
+expires_apart = refl
+
+-- a post has no user data, and its pending transfer has
+drops_data : refusal
+    (moved ∷ record held_back { transfer = record held_back.transfer { user_data_64 = 7 } } ∷ []) posted_then
+    ≡ Some (OtherFields 11)
+unfolding refusal
+drops_data = refl
+
+-- a timestamp and an expiry time above the greatest timestamp, and an account that was created at 0
+too_high : refusal [] (event (2 ^ 63) SinglePhase 10 0 5 0 5) ≡ Some (TooHigh (2 ^ 63))
+unfolding refusal
+too_high = refl
+
+expires_too_late : refusal [] (let late = event (2 ^ 63 - 1) TwoPhasePending 10 0 5 5 0 in
+    record late { transfer = record late.transfer { timeout = 1 } })
+    ≡ Some (TransferShape 10 transfer.OverflowsTimeout)
+unfolding refusal
+expires_too_late = refl
+
+created_never : refusal [] (record moved { credit_account = record (credited 2 0 5) { timestamp = 0 } })
+    ≡ Some (CreatedLater 2 0 1000)
+unfolding refusal
+created_never = refl
 
 -- the post of six releases the seven that are held, not six
 releases_the_whole : refusal (moved ∷ held_back ∷ []) (event 3000 TwoPhasePosted 12 11 6 1 11)
@@ -309,7 +374,7 @@ unfolding refusal_text digits
 text-too_large = refl
 
 text-settles : refusal_text (OtherFields 7)
-    ≡ codes "settles: pending transfer 7 has other accounts, another ledger or code"
+    ≡ codes "settles: pending transfer 7 has other accounts, another ledger, code or user data"
 unfolding refusal_text digits
 text-settles = refl
 
@@ -330,6 +395,20 @@ text-too_late = refl
 text-amount : refusal_text (Amount 12 7 10) ≡ codes "amount: 12 of pending transfer 7, which holds 10"
 unfolding refusal_text digits
 text-amount = refl
+
+text-expires_late : refusal_text (ExpiresLate 7 8)
+    ≡ codes "expiries: pending transfer 7 expires after pending transfer 8, and is first to expire"
+unfolding refusal_text digits
+text-expires_late = refl
+
+text-expires_apart : refusal_text (ExpiresApart 7 8)
+    ≡ codes "expiries: pending transfer 7 expires with pending transfer 8, and not right after it"
+unfolding refusal_text digits
+text-expires_apart = refl
+
+text-too_high : refusal_text (TooHigh 50) ≡ codes "timestamps: 50 is above the greatest timestamp"
+unfolding refusal_text digits
+text-too_high = refl
 
 text-end : refusal_text (AfterEnd 2001) ≡ codes "end: event 2001 came after the end"
 unfolding refusal_text digits

@@ -18,7 +18,8 @@ use Rattle.cdc_audit.specs.Checks.{amount_in, stored_by, was_settled}
 use Rattle.cdc_audit.specs.declared.checks.Facts.{Facts}
 use Rattle.cdc_audit.specs.declared.fields.FixedFields.{FixedFields}
 use Rattle.cdc_audit.specs.Fields.{accounts_of, fields_before, fixed_fields}
-use Rattle.cdc_audit.specs.Known.{is_linked, is_settled, is_stored, linked_from, open_event, pending_amount, pending_event, settled_id}
+use Rattle.cdc_audit.specs.Known.{expiry_or, is_linked, is_settled, is_stored, last_expiry_from, linked_from, open_event}
+use Rattle.cdc_audit.specs.Known.{pending_amount, pending_event, settled_id}
 use Rattle.cdc_audit.specs.Standing.{IsKnownOf, KeepsAccounts, fields_under, open_then, open_under, stored_under, with_own, with_settled}
 
 or_false : (b : Bool) → (b || false) ≡ b
@@ -47,7 +48,8 @@ pending_event-push past e id = find-append (λ (f : Event). holds f.kind && (f.t
 
 amount-or : (one other : Option Event)
     → option_map (λ (e : Event). e.transfer.amount) (option_or one other)
-    ≡ option_or (option_map (λ (e : Event). e.transfer.amount) one) (option_map (λ (e : Event). e.transfer.amount) other)
+    ≡ option_or (option_map (λ (e : Event). e.transfer.amount) one)
+    (option_map (λ (e : Event). e.transfer.amount) other)
 amount-or None other = refl
 amount-or (Some e) other = refl
 
@@ -85,7 +87,8 @@ eqb_same n = elim (eqb_tells n n) [
 
 -- what is known under an id after an insertion
 stored_under-insert : (transfers : List (ℕ × Stored)) (key : ℕ) (stored : Stored) (id : ℕ)
-    → stored_under (insert_entry nat_eq transfers key stored) id ≡ cond (key == id) (Some stored) (stored_under transfers id)
+    → stored_under (insert_entry nat_eq transfers key stored) id
+    ≡ cond (key == id) (Some stored) (stored_under transfers id)
 stored_under-insert [] key stored id =
     elim (eqb_tells key id) [
       | inl same ↦ rw (same.0, ← same.1, eqb_same key) refl
@@ -214,7 +217,8 @@ pending_one false known there open_yet is = cc
 pub known-step : (transfers : List (ℕ × Stored)) (past : List Event) (e : Event)
     → ((id : ℕ) → IsKnownOf (stored_under transfers id) past id)
     → (stores e.kind && is_some (cond (stores e.kind) (stored_under transfers e.transfer.id) None)) ≡ false
-    → (settles e.kind && is_none (amount_in (cond (settles e.kind) (stored_under transfers (settled_id e)) None))) ≡ false
+    → (settles e.kind && is_none (amount_in (cond (settles e.kind) (stored_under transfers (settled_id e)) None)))
+    ≡ false
     → (settles e.kind && was_settled (cond (settles e.kind) (stored_under transfers (settled_id e)) None)) ≡ false
     → (id : ℕ) → IsKnownOf (stored_under (with_settled (with_own transfers e) e (cond (settles e.kind)
     (unwrap_or (amount_in (cond (settles e.kind) (stored_under transfers (settled_id e)) None)) 0) 0)) id)
@@ -282,6 +286,12 @@ open_one-step transfers events past e knows opened new id =
     (was.settled ∙ ap was_settled none, no_event (pending_event past id) (was.amount ∙ ap amount_in none))))
     ∙ sym (ap (λ b. cond b None (pending_event (past ++ e ∷ []) id)) (is_settled-push past e id)
     ∙ ap (λ o. cond (is_settled past id || settled) None o) (pending_event-push past e id))
+
+-- the last expiry is the last event, or the one before
+pub last_expiry_from-push : (last : Option Event) (past : List Event) (e : Event)
+    → last_expiry_from last (past ++ e ∷ []) ≡ expiry_or (last_expiry_from last past) e
+last_expiry_from-push last [] e = refl
+last_expiry_from-push last (x ∷ past) e = last_expiry_from-push (expiry_or last x) past e
 
 -- whether events end within a chain is up to the last one
 pub linked_from-push : (b : Bool) (past : List Event) (e : Event) → linked_from b (past ++ e ∷ []) ≡ is_linked e

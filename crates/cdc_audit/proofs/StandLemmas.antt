@@ -1,10 +1,11 @@
 -- An auditor's answer to an event, and what it stands for after it.
 use Rattle.std.proofs.Common.{◌≡◌, ℕ, ◌+◌, Bool, true, false, cond, min, length, List, [], ◌∷◌, ◌++◌, Option, Some, None, Result, Ok, Err, refl, sym, ap, ap₂, ◌∙◌, subst, length-append, arith}
-use Rattle.std.specs.Prelude.{◌==◌, ◌&&◌, not, nat_le, nat_lt, is_none, is_some, unwrap_or, OnOk}
+use Rattle.std.specs.Prelude.{◌==◌, ◌&&◌, not, nat_le, nat_lt, is_none, is_some, unwrap_or, IfOk, OnOk}
 use Rattle.std.specs.Option.{option_or}
 use Rattle.std.specs.Result.{is_err}
 use Rattle.std.proofs.lemmas.Bool.Decides.{nat_tests}
 use Rattle.cdc_types.specs.declared.accounts.Balances.{Balances}
+use Rattle.cdc_types.specs.declared.bounds.TheConstants.Limits.{TIMESTAMP}
 use Rattle.cdc_types.specs.declared.events.Event.{Event}
 use Rattle.cdc_types.specs.Lines.{first_line}
 use Rattle.cdc_types.specs.Timestamps.{last_timestamp}
@@ -20,23 +21,27 @@ use Rattle.cdc_subscriber.specs.Steps.{next_state}
 use Rattle.cdc_subscriber.specs.SubscriberState.{SubscriberState}
 use Rattle.cdc_subscriber.proofs.BookFinds.{balances_in-book_of}
 use Rattle.cdc_subscriber.proofs.BookLemmas.{book_of-push}
+use Rattle.cdc_follow.specs.declared.entries.Content.{Content}
 use Rattle.cdc_follow.specs.declared.entries.Content.TheVariants as content
 use Rattle.cdc_audit.specs.declared.checks.Facts.{Facts}
 use Rattle.cdc_audit.specs.declared.checks.Stored.{Stored}
 use Rattle.cdc_audit.specs.declared.fields.FixedFields.{FixedFields}
 use Rattle.cdc_audit.specs.declared.refusals.Refusal.{Refusal}
 use Rattle.cdc_audit.specs.declared.refusals.Refusal.TheVariants.{AfterEnd, KnownId, NotPending, Settled}
-use Rattle.cdc_audit.specs.Audits.{AuditState, entry_refusal, next_audit}
+use Rattle.cdc_audit.specs.Audits.{AuditState, entry_refusal, event_refusal, next_audit, with_event}
 use Rattle.cdc_audit.specs.Checks.{account_lines, amount_in, balances_lines, fixed_lines, lines, nothing, released, transfer_lines, was_settled}
-use Rattle.cdc_audit.specs.Known.{balances_after, ends_in_chain, is_linked, is_settled, is_stored, pending_amount, settled_id}
+use Rattle.cdc_audit.specs.Known.{balances_after, ends_in_chain, expiry_or, is_linked, is_settled, is_stored}
+use Rattle.cdc_audit.specs.Known.{last_expiry, pending_amount, settled_id}
 use Rattle.cdc_audit.specs.Rules as rules
 use Rattle.cdc_audit.specs.Rules.{chain_lines, event_lines, held, order_lines, posted, refusal, settled_event}
 use Rattle.cdc_audit.specs.EventShapes.{shape_lines}
+use Rattle.cdc_audit.specs.Expiries.{expiry_lines}
 use Rattle.cdc_audit.specs.Fields.{created_lines, fields_lines}
+use Rattle.cdc_audit.specs.Foreign.{audited_event}
 use Rattle.cdc_audit.specs.Limits.{limits_lines}
 use Rattle.cdc_audit.specs.Settling.{settling_lines}
 use Rattle.cdc_audit.specs.Standing.{AuditorState, IsKnownOf, KeepsAccounts, StandsFor, facts_of, kept_after, open_then, open_under, stored_under, with_own, with_settled}
-use Rattle.cdc_audit.proofs.KnownLemmas.{fields-step, known-step, linked_from-push, open_one-step}
+use Rattle.cdc_audit.proofs.KnownLemmas.{fields-step, known-step, last_expiry_from-push, linked_from-push, open_one-step}
 
 -- the refusal by two parts of the lines
 pub either_is : (both one other : Option Refusal) (first second : List (Bool × Refusal)) → both ≡ option_or one other
@@ -56,8 +61,8 @@ seven-same : (order order2 shape fixed fixed2 transfer transfer2 settling settli
     → limits ≡ limits2 → balances ≡ balances2
     → seven order shape fixed transfer settling limits balances
     ≡ seven order2 shape fixed2 transfer2 settling2 limits2 balances2
-seven-same order order2 shape fixed fixed2 transfer transfer2 settling settling2 limits limits2 balances balances2 p q r s
-    t u = cc
+seven-same order order2 shape fixed fixed2 transfer transfer2 settling settling2 limits limits2 balances balances2 p q r
+    s t u = cc
 
 -- if none of them applies, none of the first and of the fourth part does
 two_of_seven : (order shape fixed transfer settling limits balances : List (Bool × Refusal))
@@ -74,13 +79,15 @@ two_of_seven order shape fixed transfer settling limits balances none =
 -- an event that no line on its order refuses is later than the last one, and has two accounts
 in_order : (last : ℕ) (e : Event) → first_line (order_lines last e) ≡ None
     → (nat_lt last e.timestamp ≡ true) × ((e.debit_account.id == e.credit_account.id) ≡ false)
-in_order last e = by (nat_lt last e.timestamp) (e.debit_account.id == e.credit_account.id) _ _
+in_order last e =
+    by (nat_lt last e.timestamp) (e.debit_account.id == e.credit_account.id) (nat_lt TIMESTAMP e.timestamp) _ _ _
   where
-    by : (later one : Bool) (r s : Refusal) → cond (not later) (Some r) (cond one (Some s) None) ≡ None
+    by : (later one high : Bool) (r s t : Refusal)
+        → cond (not later) (Some r) (cond one (Some s) (cond high (Some t) None)) ≡ None
         → (later ≡ true) × (one ≡ false)
-    by true false r s is = (refl, refl)
-    by true true r s is = cc
-    by false one r s is = cc
+    by true false high r s t is = (refl, refl)
+    by true true high r s t is = cc
+    by false one high r s t is = cc
 
 -- and each test on its transfers fails if none of those lines refuses it
 may_be_stored : (facts : Facts) (e : Event) → first_line (transfer_lines facts e) ≡ None
@@ -157,7 +164,8 @@ same_lines auditor state e stands =
     let other = stands.transfers (settled_id e) in
     seven-same (order_lines facts.last e) (order_lines (last_timestamp past) e) (shape_lines e)
     (fixed_lines facts e) (rules.fixed_lines past e) (transfer_lines facts e) (rules.transfer_lines past e)
-    (settling_lines facts.open_one e) (settling_lines (settled_event past e) e)
+    (settling_lines facts.open_one e ++ expiry_lines facts.expired e)
+    (settling_lines (settled_event past e) e ++ expiry_lines (last_expiry past) e)
     (chain_lines facts.linked facts.last e ++ limits_lines e)
     (chain_lines (ends_in_chain past) (last_timestamp past) e ++ limits_lines e)
     (balances_lines facts e) (rules.balances_lines past e)
@@ -171,7 +179,8 @@ same_lines auditor state e stands =
     (is_none (pending_amount past (settled_id e))) (ap is_none other.amount))
     (guarded (settles e.kind) was_settled (stored_under auditor.transfers (settled_id e))
     (is_settled past (settled_id e)) other.settled))
-    (ap (λ o. settling_lines (cond (settles e.kind) o None) e) (stands.open_ones (settled_id e)))
+    (ap₂ (λ o last. settling_lines (cond (settles e.kind) o None) e ++ expiry_lines last e)
+    (stands.open_ones (settled_id e)) stands.expired)
     (ap₂ (λ linked last. chain_lines linked last e ++ limits_lines e) stands.linked
     (ap (λ (kept : SubscriberState). kept.last) stands.kept))
     (balances_lines-at facts e
@@ -189,7 +198,7 @@ refusal-lines past e = refl
 -- an open auditor refuses an event for the reason that the audit gives
 pub answers : (auditor : AuditorState) (state : AuditState) (e : Event) (answer : Option Refusal)
     → auditor.kept.ended ≡ false → answer ≡ first_line (lines (facts_of auditor e) e) → StandsFor auditor state
-    → answer ≡ entry_refusal state (content.Event e)
+    → answer ≡ event_refusal state e
 answers auditor state e answer open_yet is stands =
     let going : state.ended ≡ false = sym (ap (λ (kept : SubscriberState). kept.ended) stands.kept) ∙ open_yet in
     is ∙ ap first_line (same_lines auditor state e stands) ∙ sym (refusal-lines state.past e)
@@ -197,7 +206,7 @@ answers auditor state e answer open_yet is stands =
 
 -- and an auditor that received the end refuses each event
 pub answers_ended : (auditor : AuditorState) (state : AuditState) (e : Event) → auditor.kept.ended ≡ true
-    → StandsFor auditor state → Some (AfterEnd e.timestamp) ≡ entry_refusal state (content.Event e)
+    → StandsFor auditor state → Some (AfterEnd e.timestamp) ≡ event_refusal state e
 answers_ended auditor state e ended stands =
     let over : state.ended ≡ true = sym (ap (λ (kept : SubscriberState). kept.ended) stands.kept) ∙ ended in
     sym (ap (λ ended. cond ended (Some (AfterEnd e.timestamp)) (refusal state.past e)) over)
@@ -214,8 +223,9 @@ kept_same : (book book2 : List BookEntry) (last last2 applied applied2 : ℕ) �
 kept_same book book2 last last2 applied applied2 p q r = cc
 
 -- what a subscriber keeps after a later event
-kept-next : (state : AuditState) (e : Event) → state.ended ≡ false → nat_lt (last_timestamp state.past) e.timestamp ≡ true
-    → next_state (kept_after state) (item.Event e) ≡ kept_after (next_audit state (content.Event e))
+kept-next : (state : AuditState) (e : Event) → state.ended ≡ false
+    → nat_lt (last_timestamp state.past) e.timestamp ≡ true
+    → next_state (kept_after state) (item.Event e) ≡ kept_after (with_event state e)
 kept-next state e going later =
     let new : nat_le e.timestamp (last_timestamp state.past) ≡ false = grind (arith, nat_tests) in
     rw (going, new) (kept_same _ _ _ _ _ _
@@ -233,18 +243,20 @@ pub accepts : (auditor after : AuditorState) (state : AuditState) (e : Event)
     → after.transfers ≡ with_settled (with_own auditor.transfers e) e (released (facts_of auditor e) e)
     → ((id : ℕ) → open_under after.open_ones id ≡ open_then auditor.open_ones e id)
     → KeepsAccounts auditor.fields (facts_of auditor e) e after.fields → after.linked ≡ is_linked e
-    → StandsFor auditor state → StandsFor after (next_audit state (content.Event e))
-accepts auditor after state e open_yet none kept transfers opened fields linked stands =
+    → after.expired ≡ expiry_or auditor.expired e → after.foreign ≡ auditor.foreign
+    → StandsFor auditor state → StandsFor after (with_event state e)
+accepts auditor after state e open_yet none kept transfers opened fields linked expired foreign stands =
     let going : state.ended ≡ false = sym (ap (λ (kept : SubscriberState). kept.ended) stands.kept) ∙ open_yet in
     let facts = facts_of auditor e in
     let parts = two_of_seven (order_lines facts.last e) (shape_lines e) (fixed_lines facts e) (transfer_lines facts e)
-    (settling_lines facts.open_one e) (chain_lines facts.linked facts.last e ++ limits_lines e)
-    (balances_lines facts e) none in
+    (settling_lines facts.open_one e ++ expiry_lines facts.expired e)
+    (chain_lines facts.linked facts.last e ++ limits_lines e) (balances_lines facts e) none in
     let order = in_order facts.last e parts.0 in
     let free = may_be_stored facts e parts.1 in
     let later : nat_lt (last_timestamp state.past) e.timestamp ≡ true =
     sym (ap (λ (kept : SubscriberState). nat_lt kept.last e.timestamp) stands.kept) ∙ order.0 in
     record {
+      foreign = foreign ∙ stands.foreign;
       kept = kept ∙ ap (λ kept. next_state kept (item.Event e)) stands.kept ∙ kept-next state e going later;
       transfers = λ id. subst (λ known. IsKnownOf (stored_under known id) (state.past ++ e ∷ []) id) (sym transfers)
           (known-step auditor.transfers state.past e stands.transfers free.0 free.1 free.2 id);
@@ -253,6 +265,7 @@ accepts auditor after state e open_yet none kept transfers opened fields linked 
       fields = λ id. fields-step auditor.fields after.fields (facts_of auditor e) state.past e refl refl order.1
           stands.fields fields id;
       linked = linked ∙ sym (linked_from-push false state.past e);
+      expired = expired ∙ ap (λ last. expiry_or last e) stands.expired ∙ sym (last_expiry_from-push None state.past e);
     }
 
 -- what is kept of accounts, from equal fields and by equal facts
@@ -266,3 +279,27 @@ accounts_from old old2 facts facts2 e new fields_are facts_are kept =
 pub unless_error : {T E : Type 0} (result : Result T E) (P : Type 0) → is_err result ≡ false → OnOk result P → P
 unless_error (Ok value) P is holds = holds
 unless_error (Err error) P is holds = cc
+
+-- an auditor's answer to an entry is that to what is audited of its event
+pub taken_answer : {E : Type 0} (result : Result (Option Refusal) E) (old : AuditorState) (entry : Content) (e own : Event)
+    → entry ≡ content.Event e → own ≡ audited_event old.foreign e
+    → IfOk result (λ answer. (state : AuditState) → StandsFor old state → answer ≡ event_refusal state own)
+    → IfOk result (λ answer. (state : AuditState) → StandsFor old state → answer ≡ entry_refusal state entry)
+taken_answer (Ok answer) old entry e own is own_is answers = λ state stands.
+    answers state stands ∙ ap (event_refusal state) (own_is ∙ ap (λ foreign. audited_event foreign e) stands.foreign)
+    ∙ sym (ap (entry_refusal state) is)
+taken_answer (Err error) old entry e own is own_is answers = tt
+
+-- and so is what it stands for after it
+pub taken_accepted : {E : Type 0} (result : Result (Option Refusal) E) (old new : AuditorState) (entry : Content)
+    (e own : Event) → entry ≡ content.Event e → own ≡ audited_event old.foreign e
+    → IfOk result (λ answer. (state : AuditState) → StandsFor old state → answer ≡ None
+    → StandsFor new (with_event state own))
+    → IfOk result (λ answer. (state : AuditState) → StandsFor old state → answer ≡ None
+    → StandsFor new (next_audit state entry))
+taken_accepted (Ok answer) old new entry e own is own_is goes = λ state stands none.
+    subst (StandsFor new)
+    (ap (with_event state) (own_is ∙ ap (λ foreign. audited_event foreign e) stands.foreign)
+    ∙ sym (ap (next_audit state) is))
+    (goes state stands none)
+taken_accepted (Err error) old new entry e own is own_is goes = tt

@@ -9,6 +9,7 @@ use Rattle.cdc_audit.specs.declared.refusals.Refusal.{Refusal}
 use Rattle.cdc_audit.specs.declared.refusals.Refusal.TheVariants.{AfterEnd}
 use Rattle.cdc_audit.specs.declared.streams.AuditStop.{AuditStop}
 use Rattle.cdc_audit.specs.declared.streams.AuditStop.TheVariants as stop
+use Rattle.cdc_audit.specs.Foreign.{audited_event}
 use Rattle.cdc_audit.specs.Rules.{refusal}
 
 -- each of these events follows from those before it, the first ones after these
@@ -20,23 +21,33 @@ follows_on past (e ∷ rest) = is_none (refusal past e) && follows_on (past ++ e
 abbrev pub is_accepted : List Event → Bool
 is_accepted events = follows_on [] events
 
--- what was audited so far: the events, all of them accepted, and whether the end of the stream was received
+-- what was audited so far: whether it is another ledger's stream, the events, all of them accepted, and whether the end
+-- of the stream was received
 pub record AuditState : Type 0 where
+  pub foreign : Bool
   pub past : List Event
   pub ended : Bool
 
 -- nothing was audited yet
-abbrev pub begins : AuditState
-begins = record { past = []; ended = false }
+abbrev pub begins : Bool → AuditState
+begins foreign = record { foreign = foreign; past = []; ended = false }
+
+-- why an event is refused, if it is
+abbrev pub event_refusal : AuditState → Event → Option Refusal
+event_refusal state e = if state.ended then Some (AfterEnd e.timestamp) else refusal state.past e
+
+-- what was audited after an event that is accepted
+abbrev pub with_event : AuditState → Event → AuditState
+with_event state e = record state { past = state.past ++ e ∷ [] }
 
 -- why an entry is refused, if it is; a second end isn't
 abbrev pub entry_refusal : AuditState → Content → Option Refusal
-entry_refusal state (content.Event e) = if state.ended then Some (AfterEnd e.timestamp) else refusal state.past e
+entry_refusal state (content.Event e) = event_refusal state (audited_event state.foreign e)
 entry_refusal state content.End = None
 
 -- what was audited after an entry that is accepted
 abbrev pub next_audit : AuditState → Content → AuditState
-next_audit state (content.Event e) = record state { past = state.past ++ e ∷ [] }
+next_audit state (content.Event e) = with_event state (audited_event state.foreign e)
 next_audit state content.End = record state { ended = true }
 
 -- what was audited in the end, and why auditing stops

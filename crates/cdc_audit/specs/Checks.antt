@@ -15,6 +15,7 @@ use Rattle.cdc_audit.specs.declared.refusals.Refusal.{Refusal}
 use Rattle.cdc_audit.specs.declared.refusals.Refusal.TheVariants.{KnownId, NotPending, Settled}
 use Rattle.cdc_audit.specs.Known.{settled_id}
 use Rattle.cdc_audit.specs.EventShapes.{shape_lines}
+use Rattle.cdc_audit.specs.Expiries.{expiry_lines}
 use Rattle.cdc_audit.specs.Fields.{created_lines, fields_lines}
 use Rattle.cdc_audit.specs.Limits.{limits_lines}
 use Rattle.cdc_audit.specs.Rules.{balance_line, chain_lines, held, order_lines, posted}
@@ -64,7 +65,8 @@ abbrev pub account_lines : EventAccount → Balances → Amounts → Amounts →
 account_lines account before debits credits =
     balance_line account.id DebitsPending account.debits_pending before.debits_pending debits.held debits.released ∷
     balance_line account.id DebitsPosted account.debits_posted before.debits_posted debits.posted 0 ∷
-    balance_line account.id CreditsPending account.credits_pending before.credits_pending credits.held credits.released ∷
+    balance_line account.id CreditsPending account.credits_pending before.credits_pending credits.held
+    credits.released ∷
     balance_line account.id CreditsPosted account.credits_posted before.credits_posted credits.posted 0 ∷
     []
 
@@ -77,7 +79,8 @@ balances_lines facts e =
 -- the lines on the fields of both accounts that never change
 abbrev pub fixed_lines : Facts → Event → List (Bool × Refusal)
 fixed_lines facts e =
-    fields_lines facts.debit_fields e.ledger e.debit_account ++ fields_lines facts.credit_fields e.ledger e.credit_account
+    fields_lines facts.debit_fields e.ledger e.debit_account
+    ++ fields_lines facts.credit_fields e.ledger e.credit_account
     ++ created_lines e
 
 -- the lines on the transfers
@@ -92,5 +95,5 @@ transfer_lines facts e =
 abbrev pub lines : Facts → Event → List (Bool × Refusal)
 lines facts e =
     order_lines facts.last e ++ shape_lines e ++ fixed_lines facts e ++ transfer_lines facts e
-    ++ settling_lines facts.open_one e ++ (chain_lines facts.linked facts.last e ++ limits_lines e)
-    ++ balances_lines facts e
+    ++ (settling_lines facts.open_one e ++ expiry_lines facts.expired e)
+    ++ (chain_lines facts.linked facts.last e ++ limits_lines e) ++ balances_lines facts e

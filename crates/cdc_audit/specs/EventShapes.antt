@@ -1,6 +1,7 @@
 -- The fields of an event by itself: its transfer and its accounts have what a ledger lets a request have.
-use Rattle.std.specs.Prelude.{ℕ, Bool, true, ◌==◌, ◌&&◌, not, List, [], ◌∷◌, ◌++◌, Option, Some, None, if◌then◌else◌}
+use Rattle.std.specs.Prelude.{ℕ, Bool, true, ◌==◌, ◌&&◌, not, nat_lt, List, [], ◌∷◌, ◌++◌, Option, Some, None, if◌then◌else◌}
 use Rattle.cdc_types.specs.declared.accounts.NewAccount.{NewAccount}
+use Rattle.cdc_types.specs.declared.bounds.TheConstants.Limits.{TIMESTAMP}
 use Rattle.cdc_types.specs.declared.events.Event.{Event}
 use Rattle.cdc_types.specs.declared.events.EventAccount.{EventAccount}
 use Rattle.cdc_types.specs.declared.events.EventKind.{EventKind}
@@ -9,9 +10,10 @@ use Rattle.cdc_types.specs.declared.results.TransferResult.TheVariants as transf
 use Rattle.cdc_types.specs.declared.transfers.NewTransfer.{NewTransfer}
 use Rattle.cdc_types.specs.Flags.{is_pending_request, is_plain_request, is_post_request, is_void_request}
 use Rattle.cdc_types.specs.Shapes.{account_refusal, transfer_refusal}
-use Rattle.cdc_ledger.specs.Kinds.{stores}
+use Rattle.cdc_ledger.specs.Kinds.{holds, stores}
 use Rattle.cdc_audit.specs.declared.refusals.Refusal.{Refusal}
 use Rattle.cdc_audit.specs.declared.refusals.Refusal.TheVariants.{TransferShape, OtherKind, OtherTimestamp, AccountShape}
+use Rattle.cdc_audit.specs.Settling.{expires_at}
 
 -- an event's transfer as a request for it
 abbrev pub asked_transfer : Event → NewTransfer
@@ -60,7 +62,10 @@ abbrev pub stored_lines : Event → List (Bool × Refusal)
 stored_lines e =
     refused_as (TransferShape e.transfer.id) (transfer_refusal (asked_transfer e)) ++ (
     (e.ledger == 0, TransferShape e.transfer.id transfer.LedgerMustNotBeZero) ∷
-    (e.transfer.code == 0, TransferShape e.transfer.id transfer.CodeMustNotBeZero) ∷
+    (e.transfer.code == 0, TransferShape e.transfer.id transfer.CodeMustNotBeZero) ∷ (
+      holds e.kind && not (e.transfer.timeout == 0) && nat_lt TIMESTAMP (expires_at e.transfer),
+      TransferShape e.transfer.id transfer.OverflowsTimeout,
+    ) ∷
     (not (is_of_kind e.kind (asked_transfer e)), OtherKind e.transfer.id) ∷ (
       not (e.transfer.timestamp == e.timestamp),
       OtherTimestamp e.transfer.id e.transfer.timestamp e.timestamp,

@@ -1,5 +1,5 @@
 -- The fields of an account that never change.
-use Rattle.std.specs.Prelude.{ℕ, Bool, ◌==◌, nat_eq, nat_lt, not, List, [], ◌∷◌, Option, unwrap_or}
+use Rattle.std.specs.Prelude.{ℕ, Bool, ◌==◌, ◌&&◌, nat_eq, nat_lt, not, List, [], ◌∷◌, Option, unwrap_or}
 use Rattle.std.specs.List.{flat_map}
 use Rattle.std.specs.Map.{lookup}
 use Rattle.cdc_types.specs.declared.events.Event.{Event}
@@ -57,13 +57,17 @@ abbrev pub fields_lines : Option FixedFields → ℕ → EventAccount → List (
 fields_lines before ledger a =
     same_lines a.id (fixed_fields ledger a) (unwrap_or before (fixed_fields ledger a))
 
+-- an account was created before this timestamp, and no account is created at 0
+abbrev pub is_created : EventAccount → ℕ → Bool
+is_created a t = nat_lt 0 a.timestamp && nat_lt a.timestamp t
+
 -- the lines on the accounts' timestamps: both were created before the event
 abbrev pub created_lines : Event → List (Bool × Refusal)
 created_lines e = (
-  not (nat_lt e.debit_account.timestamp e.timestamp),
+  not (is_created e.debit_account e.timestamp),
   CreatedLater e.debit_account.id e.debit_account.timestamp e.timestamp,
 ) ∷ (
-  not (nat_lt e.credit_account.timestamp e.timestamp),
+  not (is_created e.credit_account e.timestamp),
   CreatedLater e.credit_account.id e.credit_account.timestamp e.timestamp,
 ) ∷
     []

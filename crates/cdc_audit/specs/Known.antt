@@ -1,5 +1,5 @@
 -- What the events before an event show: the balances of each account, and which transfers were stored and settled.
-use Rattle.std.specs.Prelude.{ℕ, Bool, false, ◌==◌, ◌&&◌, List, [], ◌∷◌, find, Option, None, option_map, unwrap_or, if◌then◌else◌}
+use Rattle.std.specs.Prelude.{ℕ, Bool, false, ◌==◌, ◌&&◌, List, [], ◌∷◌, find, Option, Some, None, option_map, unwrap_or, if◌then◌else◌}
 use Rattle.std.specs.List.{list_any}
 use Rattle.cdc_types.specs.declared.accounts.Balances.{Balances}
 use Rattle.cdc_types.specs.declared.events.Event.{Event}
@@ -24,6 +24,19 @@ linked_from linked (e ∷ es) = linked_from (is_linked e) es
 -- these events end within a chain: the last one stored a linked transfer
 abbrev pub ends_in_chain : List Event → Bool
 ends_in_chain past = linked_from false past
+
+-- the event if it is an expiry; otherwise this value
+abbrev pub expiry_or : Option Event → Event → Option Event
+expiry_or last e = if stores e.kind then last else Some e
+
+-- the last expiry of these events; this value if there is none
+abbrev pub last_expiry_from : Option Event → List Event → Option Event
+last_expiry_from last [] = last
+last_expiry_from last (e ∷ es) = last_expiry_from (expiry_or last e) es
+
+-- the last expiry of these events, if there is one
+abbrev pub last_expiry : List Event → Option Event
+last_expiry past = last_expiry_from None past
 
 -- the balances of an account after these events: those that its last event shows; four zeros before its first one
 abbrev pub balances_after : List Event → ℕ → Balances

@@ -1,10 +1,12 @@
 -- what has to be believed
 pub mod Known
 pub mod Settling
+pub mod Expiries
 pub mod EventShapes
 pub mod Fields
 pub mod Limits
 pub mod Rules
+pub mod Foreign
 pub mod Audits
 pub mod Standing
 pub mod Stops

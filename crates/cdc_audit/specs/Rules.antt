@@ -1,5 +1,6 @@
 -- The rules by which an event follows the events before it.
 use Rattle.std.specs.Prelude.{ℕ, ◌+◌, Bool, ◌==◌, ◌&&◌, not, nat_lt, is_none, List, [], ◌∷◌, ◌++◌, Option, None, unwrap_or, if◌then◌else◌}
+use Rattle.cdc_types.specs.declared.bounds.TheConstants.Limits.{TIMESTAMP}
 use Rattle.cdc_types.specs.declared.events.Event.{Event}
 use Rattle.cdc_types.specs.Lines.{first_line}
 use Rattle.cdc_types.specs.Timestamps.{last_timestamp}
@@ -7,9 +8,10 @@ use Rattle.cdc_ledger.specs.Kinds.{holds, moves, settles, stores}
 use Rattle.cdc_audit.specs.declared.refusals.BalanceField.{BalanceField}
 use Rattle.cdc_audit.specs.declared.refusals.BalanceField.TheVariants.{DebitsPending, DebitsPosted, CreditsPending, CreditsPosted}
 use Rattle.cdc_audit.specs.declared.refusals.Refusal.{Refusal}
-use Rattle.cdc_audit.specs.declared.refusals.Refusal.TheVariants.{BrokenChain, NotLater, OneAccount, KnownId, NotPending, Settled, Balance}
-use Rattle.cdc_audit.specs.Known.{balances_after, ends_in_chain, is_settled, is_stored, open_event, pending_amount, settled_id}
+use Rattle.cdc_audit.specs.declared.refusals.Refusal.TheVariants.{BrokenChain, NotLater, OneAccount, TooHigh, KnownId, NotPending, Settled, Balance}
+use Rattle.cdc_audit.specs.Known.{balances_after, ends_in_chain, is_settled, is_stored, last_expiry, open_event, pending_amount, settled_id}
 use Rattle.cdc_audit.specs.EventShapes.{shape_lines}
+use Rattle.cdc_audit.specs.Expiries.{expiry_lines}
 use Rattle.cdc_audit.specs.Fields.{created_lines, fields_before, fields_lines}
 use Rattle.cdc_audit.specs.Limits.{limits_lines}
 use Rattle.cdc_audit.specs.Settling.{settling_lines}
@@ -83,11 +85,12 @@ fixed_lines past e =
 abbrev pub balances_lines : List Event → Event → List (Bool × Refusal)
 balances_lines past e = debit_lines past e ++ credit_lines past e
 
--- the lines on an event's timestamp, which follows this one, and on its accounts being one
+-- the lines on an event's timestamp, which follows this one and has a bound, and on its accounts being one
 abbrev pub order_lines : ℕ → Event → List (Bool × Refusal)
 order_lines last e =
     (not (nat_lt last e.timestamp), NotLater e.timestamp last) ∷
     (e.debit_account.id == e.credit_account.id, OneAccount e.debit_account.id) ∷
+    (nat_lt TIMESTAMP e.timestamp, TooHigh e.timestamp) ∷
     []
 
 -- the line on an event after one of a linked transfer: it stores a transfer, one nanosecond later
@@ -99,7 +102,7 @@ chain_lines linked last e =
 abbrev pub event_lines : List Event → Event → List (Bool × Refusal)
 event_lines past e =
     order_lines (last_timestamp past) e ++ shape_lines e ++ fixed_lines past e ++ transfer_lines past e
-    ++ settling_lines (settled_event past e) e
+    ++ (settling_lines (settled_event past e) e ++ expiry_lines (last_expiry past) e)
     ++ (chain_lines (ends_in_chain past) (last_timestamp past) e ++ limits_lines e) ++ balances_lines past e
 
 -- why an event can't follow those before it, if it can't

@@ -14,13 +14,23 @@ is_same_transfer x y =
     && (x.user_data_64 == y.user_data_64) && (x.user_data_32 == y.user_data_32) && (x.timeout == y.timeout)
     && (x.code == y.code) && (x.flags == y.flags) && (x.timestamp == y.timestamp)
 
--- an event has the accounts, the ledger and the code of the pending transfer, which this one stored; an expiry has the
--- whole transfer
+-- a field of a post or a void is 0 only if the pending transfer's own is
+abbrev pub is_taken_over : ℕ → ℕ → Bool
+is_taken_over shown own = not (shown == 0) || (own == 0)
+
+-- so it is with the user data of this transfer, which posts or voids the pending one
+abbrev pub has_data_of : EventTransfer → EventTransfer → Bool
+has_data_of pending x =
+    is_taken_over x.user_data_128 pending.user_data_128 && is_taken_over x.user_data_64 pending.user_data_64
+    && is_taken_over x.user_data_32 pending.user_data_32
+
+-- an event has the accounts, the ledger, the code and the user data of the pending transfer, which this one stored; an
+-- expiry has the whole transfer
 abbrev pub has_fields_of : Event → Event → Bool
 has_fields_of pending e =
     (e.debit_account.id == pending.debit_account.id) && (e.credit_account.id == pending.credit_account.id)
     && (e.ledger == pending.ledger) && (e.transfer.code == pending.transfer.code)
-    && (stores e.kind || is_same_transfer e.transfer pending.transfer)
+    && (if stores e.kind then has_data_of pending.transfer e.transfer else is_same_transfer e.transfer pending.transfer)
 
 -- a post has at most the amount that is held; a void and an expiry have just this amount
 abbrev pub has_amount_of : ℕ → Event → Bool

@@ -17,16 +17,19 @@ use Rattle.cdc_audit.specs.declared.checks.Stored.TheVariants as stored
 use Rattle.cdc_audit.specs.Audits.{AuditState}
 use Rattle.cdc_audit.specs.Checks.{amount_in, stored_by, was_settled}
 use Rattle.cdc_audit.specs.Fields.{fields_before, fixed_fields}
-use Rattle.cdc_audit.specs.Known.{ends_in_chain, is_settled, is_stored, open_event, pending_amount, settled_id}
+use Rattle.cdc_audit.specs.Known.{ends_in_chain, is_settled, is_stored, last_expiry, open_event, pending_amount, settled_id}
 
--- what an auditor keeps: what its subscriber keeps, what is known of each stored transfer, by its id, the event of each
--- open pending one, the fields of each account that never change, and whether the last event stored a linked transfer
+-- what an auditor keeps: whether the stream is another ledger's, what its subscriber keeps, what is known of each stored transfer, by its id, the event of each
+-- open pending one, the fields of each account that never change, whether the last event stored a linked transfer, and
+-- the last expiry
 pub record AuditorState : Type 0 where
+  pub foreign : Bool
   pub kept : SubscriberState
   pub transfers : List (ℕ × Stored)
   pub open_ones : List (ℕ × Event)
   pub fields : List (ℕ × FixedFields)
   pub linked : Bool
+  pub expired : Option Event
 
 -- what is known of the transfer with this id, if one is stored
 abbrev pub stored_under : List (ℕ × Stored) → ℕ → Option Stored
@@ -60,11 +63,13 @@ pub record IsKnownOf (known : Option Stored) (past : List Event) (id : ℕ) : Ty
 -- knows each of their transfers, has the events of the open pending ones and the fields of each account, and knows
 -- whether they end within a chain
 pub record StandsFor (auditor : AuditorState) (state : AuditState) : Type 0 where
+  pub foreign : auditor.foreign ≡ state.foreign
   pub kept : auditor.kept ≡ kept_after state
   pub transfers : (id : ℕ) → IsKnownOf (stored_under auditor.transfers id) state.past id
   pub open_ones : (id : ℕ) → open_under auditor.open_ones id ≡ open_event state.past id
   pub fields : (id : ℕ) → fields_under auditor.fields id ≡ fields_before state.past id
   pub linked : auditor.linked ≡ ends_in_chain state.past
+  pub expired : auditor.expired ≡ last_expiry state.past
 
 -- ---- private: the parts of an auditor's step
 
@@ -81,6 +86,7 @@ abbrev pub facts_of : AuditorState → Event → Facts
 facts_of auditor e = record {
   last = auditor.kept.last;
   linked = auditor.linked;
+  expired = auditor.expired;
   own = stored_if (stores e.kind) auditor.transfers e.transfer.id;
   settled = stored_if (settles e.kind) auditor.transfers (settled_id e);
   open_one = open_if (settles e.kind) auditor.open_ones (settled_id e);

@@ -9,8 +9,8 @@ use Rattle.cdc_audit.specs.declared.refusals.FixedField.{FixedField}
 use Rattle.cdc_audit.specs.declared.refusals.FixedField.TheVariants.{UserData128, UserData64, UserData32, Ledger, Code, Flags, Timestamp}
 use Rattle.cdc_audit.specs.declared.refusals.Mismatch.{Mismatch}
 use Rattle.cdc_audit.specs.declared.refusals.Refusal.{Refusal}
-use Rattle.cdc_audit.specs.declared.refusals.Refusal.TheVariants.{AfterEnd, NotLater, OneAccount, TransferShape, OtherKind, OtherTimestamp, AccountShape, AccountField, CreatedLater}
-use Rattle.cdc_audit.specs.declared.refusals.Refusal.TheVariants.{KnownId, NotPending, Settled, OtherFields, Amount, NoTimeout, TooSoon, TooLate, BrokenChain, TooLarge, Limit, Balance}
+use Rattle.cdc_audit.specs.declared.refusals.Refusal.TheVariants.{AfterEnd, NotLater, TooHigh, OneAccount, TransferShape, OtherKind, OtherTimestamp, AccountShape, AccountField, CreatedLater}
+use Rattle.cdc_audit.specs.declared.refusals.Refusal.TheVariants.{KnownId, NotPending, Settled, OtherFields, Amount, NoTimeout, TooSoon, TooLate, ExpiresLate, ExpiresApart, BrokenChain, TooLarge, Limit, Balance}
 use Rattle.cdc_audit.specs.declared.refusals.Side.{Side}
 use Rattle.cdc_audit.specs.declared.refusals.Side.TheVariants.{Debits, Credits}
 
@@ -18,6 +18,7 @@ use Rattle.cdc_audit.specs.declared.refusals.Side.TheVariants.{Debits, Credits}
 abbrev pub refusal_name : Refusal → List ℕ
 refusal_name (AfterEnd timestamp) = codes "end"
 refusal_name (NotLater timestamp last) = codes "timestamps"
+refusal_name (TooHigh timestamp) = codes "timestamps"
 refusal_name (OneAccount id) = codes "accounts"
 refusal_name (TransferShape id result) = codes "shape"
 refusal_name (OtherKind id) = codes "shape"
@@ -33,6 +34,8 @@ refusal_name (Amount amount id held) = codes "amount"
 refusal_name (NoTimeout id) = codes "timeouts"
 refusal_name (TooSoon id timestamp end) = codes "timeouts"
 refusal_name (TooLate id timestamp end) = codes "timeouts"
+refusal_name (ExpiresLate id other) = codes "expiries"
+refusal_name (ExpiresApart id other) = codes "expiries"
 refusal_name (BrokenChain timestamp last) = codes "chains"
 refusal_name (TooLarge id side) = codes "limits"
 refusal_name (Limit excess) = codes "limits"
@@ -88,7 +91,12 @@ at_times before id between one other =
 -- a pending transfer that is settled too soon or too late, and when it expires
 abbrev pub time_text : ℕ → List ℕ → ℕ → ℕ → List ℕ
 time_text id between timestamp end =
-    around (codes "pending transfer ") id between ++ (decimal timestamp ++ (codes ", and its time is up at " ++ decimal end))
+    around (codes "pending transfer ") id between
+    ++ (decimal timestamp ++ (codes ", and its time is up at " ++ decimal end))
+
+-- a pending transfer that expires after another one
+abbrev pub expiry_text : ℕ → List ℕ → ℕ → List ℕ → List ℕ
+expiry_text id between other after = around (codes "pending transfer ") id between ++ (decimal other ++ after)
 
 -- a field of an account that isn't as its first event showed it
 abbrev pub field_text : FieldMismatch → List ℕ
@@ -107,22 +115,29 @@ excess_text x =
 abbrev pub reason_text : Refusal → List ℕ
 reason_text (AfterEnd timestamp) = around (codes "event ") timestamp (codes " came after the end")
 reason_text (NotLater timestamp last) = around [] timestamp (codes ", after ") ++ decimal last
+reason_text (TooHigh timestamp) = around [] timestamp (codes " is above the greatest timestamp")
 reason_text (OneAccount id) = around (codes "account ") id (codes " is debited and credited")
 reason_text (TransferShape id result) = around (codes "transfer ") id (codes " is invalid: ") ++ transfer_name result
 reason_text (OtherKind id) = around (codes "transfer ") id (codes " has the flags of another kind")
-reason_text (OtherTimestamp id shown timestamp) = at_times (codes "transfer ") id (codes " has timestamp ") shown timestamp
+reason_text (OtherTimestamp id shown timestamp) =
+    at_times (codes "transfer ") id (codes " has timestamp ") shown timestamp
 reason_text (AccountShape id result) = around (codes "account ") id (codes " is invalid: ") ++ account_name result
 reason_text (AccountField mismatch) = field_text mismatch
 reason_text (CreatedLater id created timestamp) = at_times (codes "account ") id (codes " at ") created timestamp
 reason_text (KnownId id) = around (codes "transfer ") id (codes " came before")
 reason_text (NotPending id) = around (codes "no pending transfer ") id (codes " came before")
 reason_text (Settled id) = around (codes "pending transfer ") id (codes " ended before")
-reason_text (OtherFields id) = around (codes "pending transfer ") id (codes " has other accounts, another ledger or code")
+reason_text (OtherFields id) =
+    around (codes "pending transfer ") id (codes " has other accounts, another ledger, code or user data")
 reason_text (Amount amount id held) =
     around [] amount (codes " of pending transfer ") ++ (decimal id ++ (codes ", which holds " ++ decimal held))
 reason_text (NoTimeout id) = around (codes "pending transfer ") id (codes " has no timeout")
 reason_text (TooSoon id timestamp end) = time_text id (codes " expires at ") timestamp end
 reason_text (TooLate id timestamp end) = time_text id (codes " is settled at ") timestamp end
+reason_text (ExpiresLate id other) =
+    expiry_text id (codes " expires after pending transfer ") other (codes ", and is first to expire")
+reason_text (ExpiresApart id other) =
+    expiry_text id (codes " expires with pending transfer ") other (codes ", and not right after it")
 reason_text (BrokenChain timestamp last) =
     around (codes "event ") timestamp (codes " isn't the next of the chain at ") ++ decimal last
 reason_text (TooLarge id side) =

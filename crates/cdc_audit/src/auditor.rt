@@ -8,7 +8,7 @@ ghost use Rattle.cdc_message.specs.declared.items.Item.TheVariants as item;
 ghost use Rattle.cdc_ledger.specs.Accounts.{no_balances};
 ghost use Rattle.cdc_subscriber.specs.Book.{balances_in};
 ghost use Rattle.cdc_subscriber.specs.Steps.{next_state};
-ghost use Rattle.cdc_audit.specs.Audits.{AuditState, begins, entry_refusal, next_audit};
+ghost use Rattle.cdc_audit.specs.Audits.{AuditState, begins, entry_refusal, event_refusal, next_audit, with_event};
 ghost use Rattle.cdc_audit.specs.Checks as spec;
 ghost use Rattle.cdc_audit.specs.Standing as standing;
 ghost use Rattle.cdc_audit.specs.Standing.{KeepsAccounts, StandsFor, kept_after};
@@ -16,7 +16,9 @@ ghost use Rattle.cdc_audit.specs.Standing.{KeepsAccounts, StandsFor, kept_after}
 use crate::checks::{
     Facts, Stored, holds, is_linked, refusal_by, released, settled_id, settles, stored_by, stores,
 };
+use crate::expiries::expiry_or;
 use crate::fields::{FixedFields, fixed_fields};
+use crate::foreign::audited_event;
 use crate::refusals::Refusal;
 use cdc_follow::Content;
 use cdc_subscriber::Subscriber;
@@ -27,6 +29,8 @@ use std::marker::Model;
 
 /// An auditor of a stream. It keeps the book of the events that it accepted, and what is known of each stored transfer.
 pub struct Auditor {
+    /// Whether the stream is another ledger's.
+    foreign: bool,
     subscriber: Subscriber,
     transfers: IndexMap<u128, Stored>,
     /// The events that stored the open pending transfers, by these transfers' ids.
@@ -35,16 +39,20 @@ pub struct Auditor {
     fields: IndexMap<u128, FixedFields>,
     /// Whether the last event stored a linked transfer.
     linked: bool,
+    /// The last expiry.
+    expired: Option<Event>,
 }
 
 impl Drop for Auditor {
     fn drop(self) {
         let Auditor {
+            foreign: _,
             subscriber: _,
             transfers: _,
             open_ones: _,
             fields: _,
             linked: _,
+            expired: _,
         } = self;
     }
 }
@@ -54,20 +62,31 @@ impl Model for Auditor {
 
     ghost Value = { AuditorState };
 
-    ghost view = { λ a. record { kept = a.subscriber; transfers = a.transfers.entries; open_ones = a.open_ones.entries; fields = a.fields.entries; linked = a.linked } };
+    ghost view = { λ a. record {
+      foreign = a.foreign;
+      kept = a.subscriber;
+      transfers = a.transfers.entries;
+      open_ones = a.open_ones.entries;
+      fields = a.fields.entries;
+      linked = a.linked;
+      expired = a.expired;
+    } };
 }
 
 impl Auditor {
-    /// An auditor of a stream from a ledger's first event on.
-    pub fn new(alloc: Global) -> Auditor
-        ensures { StandsFor result begins }
+    /// An auditor of a stream from a ledger's first event on. `foreign`: another ledger's, whose flags may have more bits
+    /// than ours; these are let be.
+    pub fn new(alloc: Global, foreign: bool) -> Auditor
+        ensures { StandsFor result (begins foreign) }
     {
         Auditor {
+            foreign,
             subscriber: Subscriber::new(alloc),
             transfers: IndexMap::new(alloc),
             open_ones: IndexMap::new(alloc),
             fields: IndexMap::new(alloc),
             linked: false,
+            expired: None,
         }
     }
 
@@ -82,7 +101,10 @@ impl Auditor {
         ensures err { OnErr result (self.new ≡ self.old) }
     {
         match content {
-            Content::Event(event) => self.take_event(event),
+            Content::Event(event) => {
+                let event = audited_event(self.foreign, event);
+                self.take_event(&event)
+            }
             Content::End => {
                 let _taking = self.subscriber.take_end();
                 Ok(None)
@@ -146,6 +168,7 @@ impl Auditor {
         Facts {
             last: self.subscriber.last(),
             linked: self.linked,
+            expired: self.expired,
             own: self.stored_if(stores(event.kind), event.transfer.id),
             settled: self.stored_if(settles(event.kind), settled_id(event)),
             open_one: self.open_if(settles(event.kind), settled_id(event)),
@@ -156,12 +179,12 @@ impl Auditor {
         }
     }
 
-    /// Takes an event.
+    /// Takes an event, as it is audited.
     fn take_event(&mut self, event: &Event) -> Result<Option<Refusal>, AllocError>
         ensures answer { IfOk result (λ answer. (state : AuditState) → StandsFor self.old state
-            → answer ≡ entry_refusal state (Content.Event event.now)) }
+            → answer ≡ event_refusal state event.now) }
         ensures accepted { IfOk result (λ answer. (state : AuditState) → StandsFor self.old state
-            → answer ≡ None → StandsFor self.new (next_audit state (Content.Event event.now))) }
+            → answer ≡ None → StandsFor self.new (with_event state event.now)) }
         ensures refused { IfOk result (λ answer. IsSome answer → self.new ≡ self.old) }
         ensures err { OnErr result (self.new ≡ self.old) }
     {
@@ -182,6 +205,7 @@ impl Auditor {
         keep_open(&mut self.open_ones, event);
         keep_accounts(&mut self.fields, &facts, event);
         self.linked = is_linked(event);
+        self.expired = expiry_or(self.expired, event);
         Ok(None)
     }
 }

@@ -7,12 +7,13 @@ ghost use Rattle.cdc_audit.specs.Checks as spec;
 ghost use Rattle.cdc_audit.specs.Known as known;
 ghost use Rattle.cdc_audit.specs.Rules as rules;
 
+use crate::expiries::expiry_refusal;
 use crate::fields::{FixedFields, created_refusal, fields_refusal};
 use crate::limits::limits_refusal;
 use crate::refusals::{BalanceField, Mismatch, Refusal};
 use crate::settling::settling_refusal;
 use crate::shapes::shape_refusal;
-use cdc_types::{Balances, Event, EventAccount, EventKind, TransferFlags};
+use cdc_types::{Balances, Event, EventAccount, EventKind, Limits, TransferFlags};
 
 /// What is known of a stored transfer.
 #[derive(Clone, Copy, Debug, PartialEq, Eq)]
@@ -32,6 +33,8 @@ pub(crate) struct Facts {
     pub(crate) last: u64,
     /// Whether that event stored a linked transfer.
     pub(crate) linked: bool,
+    /// The last expiry before it.
+    pub(crate) expired: Option<Event>,
     /// The transfer that is stored under the id of the one that the event stores.
     pub(crate) own: Option<Stored>,
     /// The transfer that is stored under the id of the pending one that the event settles.
@@ -264,6 +267,8 @@ fn order_refusal(last: u64, event: &Event) -> Option<Refusal>
         Some(Refusal::NotLater(event.timestamp, last))
     } else if event.debit_account.id == event.credit_account.id {
         Some(Refusal::OneAccount(event.debit_account.id))
+    } else if event.timestamp > Limits::TIMESTAMP {
+        Some(Refusal::TooHigh(event.timestamp))
     } else {
         None
     }
@@ -307,7 +312,7 @@ fn chain_refusal(linked: bool, last: u64, event: &Event) -> Option<Refusal>
 }
 
 /// Whether a timestamp is one nanosecond later.
-fn is_next(last: u64, timestamp: u64) -> bool
+pub(crate) fn is_next(last: u64, timestamp: u64) -> bool
     ensures { result ≡ (timestamp == last + 1) }
 {
     last < timestamp && timestamp - last == 1
@@ -328,7 +333,7 @@ pub(crate) fn refusal_by(facts: &Facts, event: &Event) -> Option<Refusal>
         .or(shape_refusal(event))
         .or(fixed_refusal(facts, event))
         .or(transfer_refusal(facts, event))
-        .or(settling_refusal(facts.open_one, event))
+        .or(settling_refusal(facts.open_one, event).or(expiry_refusal(facts.expired, event)))
         .or(chain_refusal(facts.linked, facts.last, event).or(limits_refusal(event)))
         .or(balances_refusal(facts, event))
 }

@@ -94,14 +94,21 @@ pub(crate) fn fields_refusal(
     same_refusal(account.id, shown, before.unwrap_or(shown))
 }
 
+/// Whether an account was created before this timestamp, and not at 0.
+fn is_created(account: &EventAccount, timestamp: u64) -> bool
+    ensures { result ≡ spec.is_created account.now timestamp }
+{
+    0 < account.timestamp && account.timestamp < timestamp
+}
+
 /// The refusal of an event by the timestamps of its accounts.
 pub(crate) fn created_refusal(event: &Event) -> Option<Refusal>
     ensures { result ≡ first_line (spec.created_lines event.now) }
 {
     let (debited, credited) = (&event.debit_account, &event.credit_account);
-    if debited.timestamp >= event.timestamp {
+    if !is_created(debited, event.timestamp) {
         Some(Refusal::CreatedLater(debited.id, debited.timestamp, event.timestamp))
-    } else if credited.timestamp >= event.timestamp {
+    } else if !is_created(credited, event.timestamp) {
         Some(Refusal::CreatedLater(credited.id, credited.timestamp, event.timestamp))
     } else {
         None

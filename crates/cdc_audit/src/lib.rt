@@ -3,7 +3,9 @@
 
 pub mod auditor;
 pub mod checks;
+pub mod expiries;
 pub mod fields;
+pub mod foreign;
 pub mod limits;
 pub mod refusals;
 pub mod settling;

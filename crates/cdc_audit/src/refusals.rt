@@ -80,6 +80,8 @@ pub enum Refusal {
     AfterEnd(u64),
     /// Its timestamp isn't later than that of the event before it, the second one; 0 before the first event.
     NotLater(u64, u64),
+    /// Its timestamp, this one, is above the greatest one that a ledger gives.
+    TooHigh(u64),
     /// It debits and credits one account, of this id.
     OneAccount(u128),
     /// It stores the transfer of this id, and a ledger refuses a request for it with this result.
@@ -100,8 +102,8 @@ pub enum Refusal {
     NotPending(u128),
     /// It settles the pending transfer of this id, and an event before it did.
     Settled(u128),
-    /// It settles the pending transfer of this id, and its accounts, its ledger or its code are other ones. Or it is an
-    /// expiry, and another field of the transfer is another one.
+    /// It settles the pending transfer of this id, and its accounts, its ledger or its code are other ones, or it has
+    /// no user data and the pending transfer has. Or it is an expiry, and another field of the transfer is another one.
     OtherFields(u128),
     /// It has this amount of the pending transfer of this id, which holds another amount, the last one: a post has
     /// more, or a void or an expiry hasn't the whole.
@@ -114,6 +116,12 @@ pub enum Refusal {
     /// It posts or voids the pending transfer of this id, at the second number, and that one's time was up by then, at
     /// the last number.
     TooLate(u128, u64, u128),
+    /// It is the expiry of the pending transfer of the first id, and the last expiry before it is that of the second
+    /// one, which expires later.
+    ExpiresLate(u128, u128),
+    /// It is the expiry of the pending transfer of the first id, and the last expiry before it is that of the second
+    /// one. The time of both was up at once, and it doesn't come one nanosecond after that expiry.
+    ExpiresApart(u128, u128),
     /// It has the first timestamp, and the event before it, at the second one, stored a linked transfer: so it has to
     /// store a transfer, one nanosecond later.
     BrokenChain(u64, u64),
@@ -186,6 +194,7 @@ impl Refusal {
         match self {
             Refusal::AfterEnd(_) => "end",
             Refusal::NotLater(_, _) => "timestamps",
+            Refusal::TooHigh(_) => "timestamps",
             Refusal::OneAccount(_) => "accounts",
             Refusal::TransferShape(_, _) => "shape",
             Refusal::OtherKind(_) => "shape",
@@ -201,6 +210,8 @@ impl Refusal {
             Refusal::NoTimeout(_) => "timeouts",
             Refusal::TooSoon(_, _, _) => "timeouts",
             Refusal::TooLate(_, _, _) => "timeouts",
+            Refusal::ExpiresLate(_, _) => "expiries",
+            Refusal::ExpiresApart(_, _) => "expiries",
             Refusal::BrokenChain(_, _) => "chains",
             Refusal::TooLarge(_, _) => "limits",
             Refusal::Limit(_) => "limits",

@@ -1,7 +1,8 @@
 //! The rules on the pending transfer that an event settles.
 
-ghost use Rattle.std.specs.Prelude.{◌≡◌};
+ghost use Rattle.std.specs.Prelude.{◌≡◌, if◌then◌else◌};
 ghost use Rattle.cdc_types.specs.Lines.{first_line};
+ghost use Rattle.cdc_ledger.specs.Kinds as kinds;
 ghost use Rattle.cdc_audit.specs.Settling as spec;
 
 use crate::checks::{moves, settled_id, stores};
@@ -24,8 +25,37 @@ fn is_same_transfer(one: &EventTransfer, other: &EventTransfer) -> bool
         && one.timestamp == other.timestamp
 }
 
-/// Whether an event has the accounts, the ledger and the code of the pending transfer, or for an expiry the whole
-/// transfer.
+/// Whether a field of a post or a void is 0 only if the pending transfer's own is.
+fn is_taken_over(shown: u128, own: u128) -> bool
+    ensures { result ≡ spec.is_taken_over shown own }
+{
+    shown != 0 || own == 0
+}
+
+/// Whether the user data of a transfer that posts or voids a pending one is 0 only if that one's is.
+fn has_data_of(pending: &EventTransfer, transfer: &EventTransfer) -> bool
+    ensures { result ≡ spec.has_data_of pending.now transfer.now }
+{
+    is_taken_over(transfer.user_data_128, pending.user_data_128)
+        && is_taken_over(transfer.user_data_64.into(), pending.user_data_64.into())
+        && is_taken_over(transfer.user_data_32.into(), pending.user_data_32.into())
+}
+
+/// Whether the transfer of an event has the fields that are its own of the pending transfer: its user data, or for an
+/// expiry all of them.
+fn has_own_of(pending: &EventTransfer, event: &Event) -> bool
+    ensures { result ≡ (if kinds.stores event.now.kind then spec.has_data_of pending.now event.now.transfer
+        else spec.is_same_transfer event.now.transfer pending.now) }
+{
+    if stores(event.kind) {
+        has_data_of(pending, &event.transfer)
+    } else {
+        is_same_transfer(&event.transfer, pending)
+    }
+}
+
+/// Whether an event has the accounts, the ledger, the code and the user data of the pending transfer, or for an expiry
+/// the whole transfer.
 fn has_fields_of(pending: &Event, event: &Event) -> bool
     ensures { result ≡ spec.has_fields_of pending.now event.now }
 {
@@ -33,7 +63,7 @@ fn has_fields_of(pending: &Event, event: &Event) -> bool
         && event.credit_account.id == pending.credit_account.id
         && event.ledger == pending.ledger
         && event.transfer.code == pending.transfer.code
-        && (stores(event.kind) || is_same_transfer(&event.transfer, &pending.transfer))
+        && has_own_of(&pending.transfer, event)
 }
 
 /// Whether an event has an amount that this kind of event may have of a pending transfer that holds so much.
@@ -48,7 +78,7 @@ fn has_amount_of(held: u128, event: &Event) -> bool
 }
 
 /// When a pending transfer expires, in nanoseconds.
-fn expires_at(pending: &EventTransfer) -> u128
+pub(crate) fn expires_at(pending: &EventTransfer) -> u128
     ensures { result ≡ spec.expires_at pending.now }
 {
     u128::from(pending.timestamp) + u128::from(pending.timeout) * 1_000_000_000

@@ -1,13 +1,16 @@
 //! The rules on an event's own fields.
 
-ghost use Rattle.std.specs.Prelude.{◌≡◌, if◌then◌else◌, []};
+ghost use Rattle.std.specs.Prelude.{◌≡◌, ◌==◌, ◌&&◌, not, nat_lt, if◌then◌else◌, []};
 ghost use Rattle.cdc_types.specs.Lines.{first_line};
 ghost use Rattle.cdc_ledger.specs.Kinds as kinds;
+ghost use Rattle.cdc_types.specs.declared.bounds.TheConstants.Limits.{TIMESTAMP};
 ghost use Rattle.cdc_audit.specs.EventShapes as spec;
+ghost use Rattle.cdc_audit.specs.Settling as settling;
 
-use crate::checks::stores;
+use crate::checks::{holds, stores};
 use crate::refusals::Refusal;
-use cdc_types::{Event, EventAccount, EventKind, NewAccount, NewTransfer, TransferResult};
+use crate::settling::expires_at;
+use cdc_types::{Event, EventAccount, EventKind, Limits, NewAccount, NewTransfer, TransferResult};
 
 /// An event's transfer as a request for it.
 fn asked_transfer(event: &Event) -> NewTransfer
@@ -58,6 +61,16 @@ fn is_of_kind(kind: EventKind, request: &NewTransfer) -> bool
     }
 }
 
+/// Whether an event stores a pending transfer that expires after the greatest timestamp.
+fn expires_too_late(event: &Event) -> bool
+    ensures { result ≡ (kinds.holds event.now.kind && not (event.now.transfer.timeout == 0)
+        && nat_lt TIMESTAMP (settling.expires_at event.now.transfer)) }
+{
+    holds(event.kind)
+        && event.transfer.timeout != 0
+        && u128::from(Limits::TIMESTAMP) < expires_at(&event.transfer)
+}
+
 /// The refusal of an event by the fields of the transfer that it stores.
 fn stored_refusal(event: &Event) -> Option<Refusal>
     ensures { result ≡ first_line (spec.stored_lines event.now) }
@@ -70,6 +83,8 @@ fn stored_refusal(event: &Event) -> Option<Refusal>
         Some(Refusal::TransferShape(id, TransferResult::LedgerMustNotBeZero))
     } else if event.transfer.code == 0 {
         Some(Refusal::TransferShape(id, TransferResult::CodeMustNotBeZero))
+    } else if expires_too_late(event) {
+        Some(Refusal::TransferShape(id, TransferResult::OverflowsTimeout))
     } else if !is_of_kind(event.kind, &request) {
         Some(Refusal::OtherKind(id))
     } else if timestamp != event.timestamp {

@@ -30,6 +30,9 @@ fn push_reason(why: Refusal, text: &mut Vec<u8>) -> Result<(), AllocError>
             " came after the end",
         ),
         Refusal::NotLater(timestamp, last) => push_order(text, timestamp, last),
+        Refusal::TooHigh(timestamp) => {
+            push_around(text, "", timestamp, " is above the greatest timestamp")
+        }
         Refusal::OneAccount(id) => push_around(text, "account ", id, " is debited and credited"),
         Refusal::TransferShape(id, why) => push_invalid(text, "transfer ", id, why.name()),
         Refusal::OtherKind(id) => {
@@ -50,7 +53,7 @@ fn push_reason(why: Refusal, text: &mut Vec<u8>) -> Result<(), AllocError>
             text,
             "pending transfer ",
             id,
-            " has other accounts, another ledger or code",
+            " has other accounts, another ledger, code or user data",
         ),
         Refusal::Amount(amount, id, held) => push_amount(text, amount, id, held),
         Refusal::NoTimeout(id) => push_around(text, "pending transfer ", id, " has no timeout"),
@@ -58,6 +61,20 @@ fn push_reason(why: Refusal, text: &mut Vec<u8>) -> Result<(), AllocError>
         Refusal::TooLate(id, timestamp, end) => {
             push_end(text, id, " is settled at ", timestamp, end)
         }
+        Refusal::ExpiresLate(id, other) => push_expiry(
+            text,
+            id,
+            " expires after pending transfer ",
+            other,
+            ", and is first to expire",
+        ),
+        Refusal::ExpiresApart(id, other) => push_expiry(
+            text,
+            id,
+            " expires with pending transfer ",
+            other,
+            ", and not right after it",
+        ),
         Refusal::BrokenChain(timestamp, last) => push_chain(text, timestamp, last),
         Refusal::TooLarge(id, side) => push_side(text, id, side),
         Refusal::Limit(excess) => push_excess(&excess, text),
@@ -116,6 +133,22 @@ fn push_end(
     push_number(text, timestamp)?;
     push(text, ", and its time is up at ")?;
     push_number(text, end)
+}
+
+/// Adds a pending transfer that expires after another one.
+fn push_expiry(
+    text: &mut Vec<u8>,
+    id: u128,
+    between: &str,
+    other: u128,
+    after: &str,
+) -> Result<(), AllocError>
+    ensures { OnOk result (text.new.items
+        ≡ text.old.items ++ spec.expiry_text id between.now other after.now) }
+{
+    push_around(text, "pending transfer ", id, between)?;
+    push_number(text, other)?;
+    push(text, after)
 }
 
 /// Adds a field of an account that isn't as its first event showed it.

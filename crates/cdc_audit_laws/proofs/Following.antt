@@ -1,15 +1,17 @@
 -- What an event that follows others has, in equations.
 use Rattle.std.proofs.Common.{◌≡◌, ◌≢◌, ℕ, ◌+◌, ◌<◌, Bool, true, false, not, List, [], ◌∷◌, ◌++◌, Some, None, is_none, if◌then◌else◌, refl}
-use Rattle.std.specs.Prelude.{◌==◌, ◌&&◌}
+use Rattle.std.specs.Prelude.{◌==◌, ◌&&◌, nat_lt}
 use Rattle.std.proofs.lemmas.Bool.{eq-eqb, eqb-false, eqb-true, lt-ltb, ltb-true, ne_eqb, not-false, not_from_true}
 use Rattle.cdc_types.specs.declared.accounts.Balances.{Balances}
+use Rattle.cdc_types.specs.declared.bounds.TheConstants.Limits.{TIMESTAMP}
 use Rattle.cdc_types.specs.declared.events.Event.{Event}
 use Rattle.cdc_types.specs.Lines.{first_line}
 use Rattle.cdc_types.specs.Timestamps.{last_timestamp}
 use Rattle.cdc_ledger.specs.Kinds.{settles, stores}
-use Rattle.cdc_audit.specs.Known.{balances_after, ends_in_chain, is_settled, is_stored, pending_amount, settled_id}
+use Rattle.cdc_audit.specs.Known.{balances_after, ends_in_chain, is_settled, is_stored, last_expiry, pending_amount, settled_id}
 use Rattle.cdc_audit.specs.declared.refusals.Refusal.{Refusal}
 use Rattle.cdc_audit.specs.EventShapes.{shape_lines}
+use Rattle.cdc_audit.specs.Expiries.{expiry_lines}
 use Rattle.cdc_audit.specs.Limits.{limits_lines}
 use Rattle.cdc_audit.specs.Rules.{balances_lines, chain_lines, credit_lines, debit_lines, fixed_lines, held, order_lines, posted, refusal, released, settled_event, transfer_lines}
 use Rattle.cdc_audit.specs.Settling.{settling_lines}
@@ -75,12 +77,14 @@ pub record IsCredited (past : List Event) (e : Event) (before : Balances) : Type
 pub record CanFollow (past : List Event) (e : Event) : Type 0 where
   pub later : last_timestamp past < e.timestamp
   pub apart : e.debit_account.id ≢ e.credit_account.id
+  pub within : nat_lt TIMESTAMP e.timestamp ≡ false
   pub shape : NoneApplies (shape_lines e)
   pub fixed : NoneApplies (fixed_lines past e)
   pub new : (stores e.kind && is_stored past e.transfer.id) ≡ false
   pub pending : (settles e.kind && is_none (pending_amount past (settled_id e))) ≡ false
   pub unsettled : (settles e.kind && is_settled past (settled_id e)) ≡ false
   pub settling : NoneApplies (settling_lines (settled_event past e) e)
+  pub expiry : NoneApplies (expiry_lines (last_expiry past) e)
   pub chain : NoneApplies (chain_lines (ends_in_chain past) (last_timestamp past) e)
   pub limits : NoneApplies (limits_lines e)
   pub debited : IsDebited past e (balances_after past e.debit_account.id)
@@ -175,8 +179,9 @@ pub unrefused : (past : List Event) (e : Event) → refusal past e ≡ None → 
 unfolding refusal
 unrefused past e none =
     let all = of_seven (order_lines (last_timestamp past) e) (shape_lines e) (fixed_lines past e)
-    (transfer_lines past e) (settling_lines (settled_event past e) e)
+    (transfer_lines past e) (settling_lines (settled_event past e) e ++ expiry_lines (last_expiry past) e)
     (chain_lines (ends_in_chain past) (last_timestamp past) e ++ limits_lines e) (balances_lines past e) none in
+    let ends = none_both (settling_lines (settled_event past e) e) (expiry_lines (last_expiry past) e) all.settling in
     let bounds = none_both (chain_lines (ends_in_chain past) (last_timestamp past) e) (limits_lines e) all.limits in
     let order = all.order in
     let transfer = all.transfer in
@@ -184,12 +189,14 @@ unrefused past e none =
     record {
       later = ltb-true (last_timestamp past) e.timestamp (not-false _ order.0);
       apart = eqb-false e.debit_account.id e.credit_account.id order.1.0;
+      within = order.1.1.0;
       shape = all.shape;
       fixed = all.fixed;
       new = transfer.0;
       pending = transfer.1.0;
       unsettled = transfer.1.1.0;
-      settling = all.settling;
+      settling = ends.0;
+      expiry = ends.1;
       chain = bounds.0;
       limits = bounds.1;
       debited = balances.0;
@@ -201,16 +208,17 @@ pub no_refusal : (past : List Event) (e : Event) → CanFollow past e → refusa
 unfolding refusal
 no_refusal past e can =
     seven (order_lines (last_timestamp past) e) (shape_lines e) (fixed_lines past e) (transfer_lines past e)
-    (settling_lines (settled_event past e) e) (chain_lines (ends_in_chain past) (last_timestamp past) e ++ limits_lines e)
-    (balances_lines past e) (record {
+    (settling_lines (settled_event past e) e ++ expiry_lines (last_expiry past) e)
+    (chain_lines (ends_in_chain past) (last_timestamp past) e ++ limits_lines e) (balances_lines past e) (record {
       order = (
         not_from_true _ (lt-ltb (last_timestamp past) e.timestamp can.later),
-        (ne_eqb e.debit_account.id e.credit_account.id can.apart, tt),
+        (ne_eqb e.debit_account.id e.credit_account.id can.apart, (can.within, tt)),
       );
       shape = can.shape;
       fixed = can.fixed;
       transfer = (can.new, (can.pending, (can.unsettled, tt)));
-      settling = can.settling;
+      settling = none_of_both (settling_lines (settled_event past e) e) (expiry_lines (last_expiry past) e) can.settling
+          can.expiry;
       limits = none_of_both (chain_lines (ends_in_chain past) (last_timestamp past) e) (limits_lines e) can.chain
           can.limits;
       balances = follow_balances past e can.debited can.credited;

@@ -34,6 +34,7 @@ use Rattle.cdc_ledger.proofs.KeptLaws.{after_last, submit_parts, within_end}
 use Rattle.cdc_ledger.proofs.PulseLaws.{Follows-open, HaveOwnIds, IsOpen, due_ids, due_open}
 use Rattle.cdc_ledger.proofs.SoundLaws.{IsSound-empty, IsSound-pushed, IsSound-timed, IsSound-with_account}
 use Rattle.cdc_ledger.proofs.StoredLaws.{stored-pushed_kept}
+use Rattle.cdc_audit_laws.proofs.Pulses.{Clear, ComesAfter, IsPulsing, clear-stored, clear_later, last_expiry, pulsing-due, pulsing-next}
 
 -- the expiry of one transfer leaves another one open
 open_after : (h : History) (p q : Transfer) (t : ℕ) → IsSound h → h.last < t → p.id ≢ q.id → IsOpen h q
@@ -125,7 +126,8 @@ stores_asked r = by (is_pending_request r) (is_post_request r) (is_void_request 
   where
     by : (pending post void : Bool)
         → stores
-        (if pending then TwoPhasePending else if post then TwoPhasePosted else if void then TwoPhaseVoided else SinglePhase)
+        (if pending then TwoPhasePending else if post then TwoPhasePosted
+        else if void then TwoPhaseVoided else SinglePhase)
         ≡ true
     by true post void = refl
     by false true void = refl
@@ -135,6 +137,16 @@ stores_asked r = by (is_pending_request r) (is_post_request r) (is_void_request 
 -- so it links if it is linked
 links_asked : (h : History) (r : NewTransfer) (t : ℕ) → links (entry_of h r t) ≡ is_linked_transfer r
 links_asked h r t = ap₂ (λ b n. b && has_flag n LINKED) (stores_asked r) (same_flags h r t)
+
+-- a request that is filled in has this timestamp
+at_its_time : (h : History) (r : NewTransfer) (t : ℕ) → (filled h r t).timestamp ≡ t
+at_its_time h r t = by (is_plain_request r) (stored h r.pending_id)
+  where
+    by : (plain : Bool) (named : Option Entry)
+        → (if plain then as_asked r t else filled_by named r t).timestamp ≡ t
+    by true named = refl
+    by false None = refl
+    by false (Some x) = refl
 
 -- how many items there are in these chains
 abbrev total : {A : Type 0} → List (List A) → ℕ
@@ -162,18 +174,19 @@ module _ (P : History → Type 0) (on_empty : P empty_history)
     → (is_in_chain h ≡ true → t ≡ end_from 0 h.entries + 1) → transfer_refused h r t ≡ None
     → IsSound (pushed h (entry_of h r t)) → P h → P (pushed h (entry_of h r t)))
     (on_expiry : (h : History) (p : Transfer) (t : ℕ) → IsSound h → h.last < t → IsOpen h p
-    → IsUp p t → is_in_chain h ≡ false → IsSound (pushed h (expiry p t)) → P h → P (pushed h (expiry p t)))
+    → IsUp p t → is_in_chain h ≡ false → ComesAfter (last_expiry h) p t → IsSound (pushed h (expiry p t)) → P h
+    → P (pushed h (expiry p t)))
     (on_account : (h : History) (a : NewAccount) (t : ℕ) → IsSound h → h.last < t → account_refused h a ≡ None → P h
     → P (with_account h (opened_by a t)))
     (on_timed : (h : History) (t : ℕ) → IsSound h → h.last ≤ t → P h → P (timed h t))
     (on_closed : (h : History) (closed : Bool) → P h → P (record h { closed = closed })) where
-  -- the history is sound, and has the property
+  -- the history is sound, has the property, and no pulse left a transfer behind
   abbrev Inner : History → Type 0
-  Inner h = IsSound h × P h
+  Inner h = IsSound h × P h × Clear h []
 
   -- and it doesn't end within a chain
   abbrev Keeps : History → Type 0
-  Keeps h = IsSound h × P h × (is_in_chain h ≡ false)
+  Keeps h = IsSound h × P h × (is_in_chain h ≡ false) × Clear h []
 
   -- requests for accounts
   keeps-accounts : (h : History) (t : ℕ) (rs : List NewAccount) → Keeps h → h.last < t
@@ -184,11 +197,13 @@ module _ (P : History → Type 0) (on_empty : P empty_history)
         IsSound-with_account g (opened_by a n) so_far.0 (accepted_account g a none).1 (omega arith) within,
         on_account g a n so_far.0 later' none so_far.1,
         so_far.2,
+        clear_later g (with_account g (opened_by a n)) [] so_far.0 refl (omega arith) so_far.3,
       ))
       (λ g n so_far later' within. (
         IsSound-timed g n so_far.0 (omega arith) within,
         on_timed g n so_far.0 (omega arith) so_far.1,
         so_far.2,
+        clear_later g (timed g n) [] so_far.0 refl (omega arith) so_far.3,
       ))
       (λ g a n. refl) h t rs keeps later
       (λ n from below. let whole : t + length rs ≤ max_timestamp + 1 = fits (omega arith) in omega arith)
@@ -200,7 +215,11 @@ module _ (P : History → Type 0) (on_empty : P empty_history)
   keeps-request h r t inner later within next none =
       let sound : IsSound (pushed h (entry_of h r t)) =
       IsSound-pushed h (entry_of h r t) inner.0 (Follows-accepted h r t inner.0 later none) later within in
-      (sound, on_request h r t inner.0 later next none sound inner.1)
+      let at : (filled h r t).timestamp ≡ t = at_its_time h r t in (
+        sound,
+        on_request h r t inner.0 later next none sound inner.1,
+        clear-stored h (entry_of h r t) inner.0 later (stores_asked r) (omega arith) inner.2,
+      )
 
   -- a history after a chain, before this timestamp
   record Past (t : ℕ) (g : History) : Type 0 where
@@ -218,7 +237,7 @@ module _ (P : History → Type 0) (on_empty : P empty_history)
       → ((n : ℕ) → t ≤ n → n < t + length chain → n ≤ max_timestamp)
       → IfSome (played transfer_rules h t chain).1 (Past (t + length chain))
   keeps-played h t [] inner later next ends fits =
-      record { keeps = (inner.0, inner.1, ends refl); before = omega arith }
+      record { keeps = (inner.0, inner.1, ends refl, inner.2); before = omega arith }
   keeps-played h t (r ∷ rest) inner later next ends fits =
       by (refused_in_chain transfer_rules h r (is_none_left rest) t) refl (λ own none.
       keeps-played (pushed h (entry_of h r t)) (t + 1) rest
@@ -240,7 +259,8 @@ module _ (P : History → Type 0) (on_empty : P empty_history)
       by : (o : Option TransferResult) → refused_in_chain transfer_rules h r (is_none_left rest) t ≡ o
           → ((is_linked_transfer r && is_none_left rest) ≡ false → transfer_refused h r t ≡ None
           → IfSome (played transfer_rules (pushed h (entry_of h r t)) (t + 1) rest).1 (Past (t + 1 + length rest)))
-          → IfSome (before_others transfer_rules o rest (played transfer_rules (pushed h (entry_of h r t)) (t + 1) rest)).1
+          → IfSome
+          (before_others transfer_rules o rest (played transfer_rules (pushed h (entry_of h r t)) (t + 1) rest)).1
           (Past (t + length (r ∷ rest)))
       by (Some why) is more = tt
       by None is more =
@@ -255,7 +275,7 @@ module _ (P : History → Type 0) (on_empty : P empty_history)
   keeps-chain h t [] keeps later fits = record { keeps = keeps; before = omega arith }
   keeps-chain h t (r ∷ rest) keeps later fits =
       by (played transfer_rules h t (r ∷ rest)).1
-      (keeps-played h t (r ∷ rest) (keeps.0, keeps.1) later (λ is. absurd (false≢true (sym keeps.2 ∙ is)))
+      (keeps-played h t (r ∷ rest) (keeps.0, keeps.1, keeps.3) later (λ is. absurd (false≢true (sym keeps.2 ∙ is)))
       (λ none. absurd (false≢true none)) fits)
     where
       by : (o : Option History) → IfSome o (Past (t + length (r ∷ rest)))
@@ -268,6 +288,7 @@ module _ (P : History → Type 0) (on_empty : P empty_history)
               IsSound-timed h end keeps.0 (omega arith) within,
               on_timed h end keeps.0 (omega arith) keeps.1,
               keeps.2,
+              clear_later h (timed h end) [] keeps.0 refl (omega arith) keeps.3,
             );
             before = omega arith;
           }
@@ -291,22 +312,21 @@ module _ (P : History → Type 0) (on_empty : P empty_history)
       let all = total-chains_of is_linked_transfer rs in
       let whole : t + length rs ≤ max_timestamp + 1 = fits (omega arith) in omega arith)
 
-  -- open transfers that expire one after another
-  keeps-expiries : (h : History) (t : ℕ) (ps : List Transfer) → Keeps h → AllByRecursion (IsOpen h) ps
-      → AllByRecursion (λ p. IsUp p t) ps → HaveOwnIds ps → h.last < t → (0 < length ps → t + length ps ≤ max_timestamp + 1)
-      → Keeps (expiries_from h t ps)
-  keeps-expiries h t [] keeps all up own later fits = keeps
-  keeps-expiries h t (p ∷ ps) keeps all up own later fits =
+  -- open transfers that a pulse lets expire, one after another
+  keeps-expiries : (h : History) (now t : ℕ) (ps : List Transfer) → IsSound h → P h → is_in_chain h ≡ false
+      → IsPulsing h now t ps → AllByRecursion (IsOpen h) ps → AllByRecursion (λ p. IsUp p t) ps → HaveOwnIds ps
+      → h.last < t → (0 < length ps → t + length ps ≤ max_timestamp + 1) → Keeps (expiries_from h t ps)
+  keeps-expiries h now t [] sound has unchained pulsing all up own later fits = (sound, has, unchained, pulsing.clear)
+  keeps-expiries h now t (p ∷ ps) sound has unchained pulsing all up own later fits =
       let whole : t + length (p ∷ ps) ≤ max_timestamp + 1 = fits (omega arith) in
-      let sound : IsSound (pushed h (expiry p t)) =
-      IsSound-pushed h (expiry p t) keeps.0 (Follows-open h p t keeps.0 all.0) later (omega arith) in
-      keeps-expiries (pushed h (expiry p t)) (t + 1) ps (
-        sound,
-        on_expiry h p t keeps.0 later all.0 up.0 keeps.2 sound keeps.1,
-        links_from-push false h.entries (expiry p t),
-      )
+      let next : IsSound (pushed h (expiry p t)) =
+      IsSound-pushed h (expiry p t) sound (Follows-open h p t sound all.0) later (omega arith) in
+      keeps-expiries (pushed h (expiry p t)) now (t + 1) ps next
+      (on_expiry h p t sound later all.0 up.0 unchained pulsing.first next has)
+      (links_from-push false h.entries (expiry p t))
+      (pulsing-next h now t p ps sound later up.0.ended pulsing)
       (AllByRecursion-weaker (λ q. (p.id ≢ q.id) × IsOpen h q) (IsOpen (pushed h (expiry p t)))
-      (λ q at. open_after h p q t keeps.0 later at.0 at.1) ps
+      (λ q at. open_after h p q t sound later at.0 at.1) ps
       (AllByRecursion-both (λ q. p.id ≢ q.id) (IsOpen h) ps own.0 all.1))
       (up_later t (t + 1) ps (omega arith) up.1)
       own.1 (omega arith) (λ some. omega arith)
@@ -328,7 +348,10 @@ module _ (P : History → Type 0) (on_empty : P empty_history)
       let parts : (is_past_the_end h now (length (due h now)) ≡ false) × (taken h (batch.Pulse now) ≡ answer) =
       submit_parts h (batch.Pulse now) answer e in
       subst (λ (a : BatchResults × History). Keeps a.1) parts.1
-      (keeps-expiries h (base h now) (due h now) keeps (due_open h now keeps.0)
+      (keeps-expiries h now (base h now) (due h now) keeps.0 keeps.1 keeps.2
+      (pulsing-due h now (base h now) keeps.3
+      (AllByRecursion-weaker (λ p. IsUp p now) (λ p. expires_at p ≤ now) (λ p up. up.ended) (due h now) (due_up h now)))
+      (due_open h now keeps.0)
       (up_later now (base h now) (due h now) (omega arith) (due_up h now)) (due_ids h now keeps.0)
       (after_last h now) (within_end h now (length (due h now)) parts.0))
 
@@ -350,4 +373,4 @@ module _ (P : History → Type 0) (on_empty : P empty_history)
       let before : History = after_batches empty_history legal.batches in
       subst P (sym legal.made)
       (on_closed before (legal.close || before.closed)
-      (keeps-after_batches empty_history legal.batches (IsSound-empty, on_empty, refl)).1)
+      (keeps-after_batches empty_history legal.batches (IsSound-empty, on_empty, refl, tt)).1)

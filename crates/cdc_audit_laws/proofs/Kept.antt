@@ -30,13 +30,14 @@ use Rattle.cdc_audit_laws.proofs.Requests.{Enters, HasLedger, account_of}
 
 -- balances keep the limits that an account's flags set
 pub record IsLimited (flags : ℕ) (b : Balances) : Type 0 where
-  pub debits : has_flag flags DEBITS_MUST_NOT_EXCEED_CREDITS ≡ true → b.debits_pending + b.debits_posted ≤ b.credits_posted
+  pub debits : has_flag flags DEBITS_MUST_NOT_EXCEED_CREDITS ≡ true
+      → b.debits_pending + b.debits_posted ≤ b.credits_posted
   pub credits : has_flag flags CREDITS_MUST_NOT_EXCEED_DEBITS ≡ true
       → b.credits_pending + b.credits_posted ≤ b.debits_posted
 
--- an account has the fields of one that is accepted, and was created by this time
+-- an account has the fields of one that is accepted, and was created by this time, and not at 0
 abbrev pub IsCreated : ℕ → Opened → Type 0
-IsCreated t o = (account_refusal o.request ≡ None) × (o.timestamp ≤ t)
+IsCreated t o = (account_refusal o.request ≡ None) × (o.timestamp ≤ t) × (0 < o.timestamp)
 
 -- what holds of every legal history
 pub record IsKept (h : History) : Type 0 where
@@ -55,7 +56,7 @@ kept-empty = record {
 created_later : (s t : ℕ) (os : List Opened) → s ≤ t → AllByRecursion (IsCreated s) os
     → AllByRecursion (IsCreated t) os
 created_later s t os later all =
-    AllByRecursion-weaker (IsCreated s) (IsCreated t) (λ o is. (is.0, let before = is.1 in omega arith)) os all
+    AllByRecursion-weaker (IsCreated s) (IsCreated t) (λ o is. (is.0, let before = is.1 in omega arith, is.2)) os all
 
 pub kept-timed : (h : History) (t : ℕ) → IsSound h → h.last ≤ t → IsKept h → IsKept (timed h t)
 kept-timed h t sound later kept = record {
@@ -111,7 +112,7 @@ module _ (h : History) (a : NewAccount) (t : ℕ) (sound : IsSound h) (later : h
   kept-account = record {
     accounts = AllByRecursion_push (IsCreated t) h.accounts (opened_by a t)
         (created_later h.last t h.accounts (omega arith) kept.accounts)
-        ((accepted_account h a none).0, omega arith);
+        ((accepted_account h a none).0, omega arith, omega arith);
     ledgers = AllByRecursion-weaker (λ e. HasAccounts h e × HasLedger h e) (HasLedger after) ledger_still h.entries
         (AllByRecursion-both (HasAccounts h) (HasLedger h) h.entries sound.known kept.ledgers);
     limits = λ id. subst (IsLimited (account_of after id).request.flags)

@@ -1,11 +1,13 @@
 -- The events of a ledger are accepted.
 use Rattle.std.proofs.Common.{◌≡◌, ◌≢◌, ℕ, ◌<◌, ◌≤◌, Bool, true, false, List, [], ◌∷◌, ◌++◌, Option, Some, None, is_none, map, ◌+◌, refl, sym, ap, ap₂, ◌∙◌, subst, inl, inr, arith}
 use Rattle.std.specs.List.{AllByRecursion, flat_map}
+use Rattle.std.specs.Option.{option_map}
 use Rattle.std.specs.Map.{lookup}
-use Rattle.std.specs.Prelude.{◌==◌, ◌&&◌, ◌||◌, nat_eq, nat_le, nat_lt, not, IsSome, if◌then◌else◌, unwrap_or}
-use Rattle.std.proofs.lemmas.Bool.{and_from, and_left, and_right, and_parts, eq-eqb, eqb-true, le-ltb, leb-true, lt-ltb, ne_eqb, not_from_true}
+use Rattle.std.specs.Prelude.{◌==◌, ◌&&◌, nat_eq, nat_le, nat_lt, not, IsSome, if◌then◌else◌, unwrap_or}
+use Rattle.std.proofs.lemmas.Bool.{and_from, and_left, and_right, and_parts, eq-eqb, eqb-false, eqb-true, le-ltb, leb-true, lt-ltb, ne_eqb, not_from_true}
 use Rattle.std.proofs.lemmas.Bool.Decides.{eqb_tells}
 use Rattle.cdc_types.specs.declared.accounts.Balances.{Balances}
+use Rattle.cdc_types.specs.declared.bounds.TheConstants.Limits.{TIMESTAMP}
 use Rattle.cdc_types.specs.declared.events.Entry.{Entry}
 use Rattle.cdc_types.specs.declared.events.Event.{Event}
 use Rattle.cdc_types.specs.declared.events.EventKind.{EventKind}
@@ -30,9 +32,10 @@ use Rattle.cdc_ledger.specs.Events.{event_of, events, nobody, shown_transfer}
 use Rattle.cdc_ledger.specs.Filling.{expires_at, stored}
 use Rattle.cdc_ledger.specs.Follows.{Follows, SettlesOpen}
 use Rattle.cdc_ledger.specs.History.{History, Opened, empty_history, opened}
-use Rattle.cdc_ledger.specs.Kinds.{settled_id, settles, stores}
+use Rattle.cdc_ledger.specs.Kinds.{holds, settled_id, settles, stores}
 use Rattle.cdc_ledger.specs.Sound.{HasAccounts, IsSound}
 use Rattle.cdc_ledger.specs.Submit.{entry_of, opened_by}
+use Rattle.cdc_ledger.specs.Verdict.{max_timestamp}
 use Rattle.cdc_ledger.proofs.AcceptedLaws.{Follows-accepted}
 use Rattle.cdc_ledger.proofs.BalanceLaws.{balances-pushed, balances_later, released_credit, released_debit, same_balances, settled_by_is, settled_by_none}
 use Rattle.cdc_ledger.proofs.Elements.{AllByRecursion-every}
@@ -42,20 +45,24 @@ use Rattle.cdc_ledger.proofs.OpenedLaws.{opened_id}
 use Rattle.cdc_ledger.proofs.PulseLaws.{Follows-open}
 use Rattle.cdc_ledger.proofs.StoredLaws.{find_all, is_stored as stores_id, stored_has}
 use Rattle.cdc_audit.specs.Audits.{is_accepted}
-use Rattle.cdc_audit.specs.Known.{balances_after, ends_in_chain, is_settled, is_stored, linked_from, open_event, pending_amount, pending_event, settled_id_by}
+use Rattle.cdc_audit.specs.Known.{balances_after, ends_in_chain, is_settled, is_stored, last_expiry as last_shown, last_expiry_from, linked_from}
+use Rattle.cdc_audit.specs.Known.{open_event, pending_amount, pending_event, settled_id_by}
 use Rattle.cdc_audit.specs.declared.fields.FixedFields.{FixedFields}
 use Rattle.cdc_audit.specs.declared.refusals.Refusal.TheVariants.{TransferShape, OtherKind, OtherTimestamp}
 use Rattle.cdc_audit.specs.EventShapes.{account_lines as shape_account_lines, asked_account, asked_transfer, is_of_kind, refused_as, shape_lines, stored_lines}
 use Rattle.cdc_audit.specs.Fields.{accounts_of, created_lines, fields_before, fields_lines, fixed_fields, same_lines}
 use Rattle.cdc_audit.specs.Limits.{all_credits, all_debits, limit_lines, limits_lines}
 use Rattle.cdc_audit.specs.Rules.{chain_lines, fixed_lines, released, settled_event}
-use Rattle.cdc_audit.specs.Settling.{is_same_transfer, settling_lines}
+use Rattle.cdc_audit.specs.Settling.{expires_at as expires_at_shown, has_data_of, is_same_transfer, settling_lines}
+use Rattle.cdc_audit.specs.Expiries.{expiry_lines}
 use Rattle.cdc_audit_laws.specs.Laws.{LedgersAreAccepted}
 use Rattle.cdc_audit_laws.proofs.Entries.{last_timestamp-events, pending_amount-events, pending_event-events, settled_id-shown, unsettled, unstored}
 use Rattle.cdc_audit_laws.proofs.Following.{CanFollow, IsCredited, IsDebited, NoneApplies, none_of_both}
 use Rattle.cdc_audit_laws.proofs.Keeping.{end_from, is_in_chain, kept_by_legal, links, links_from}
 use Rattle.cdc_audit_laws.proofs.Kept.{IsCreated, IsKept, IsLimited, kept-account, kept-closed, kept-empty, kept-pushed, kept-timed}
-use Rattle.cdc_audit_laws.proofs.Requests.{Enters, HasLedger, HasShape, KeepsFields, account_of, asked, enters-accepted, enters-expiry}
+use Rattle.cdc_audit_laws.proofs.Requests.{Enters, HasLedger, HasShape, KeepsFields, account_of, asked, enters-accepted}
+use Rattle.cdc_audit_laws.proofs.Requests.{enters-expiry, keeps_data}
+use Rattle.cdc_audit_laws.proofs.Pulses.{ComesAfter, expiry_from, last_expiry}
 use Rattle.cdc_audit_laws.proofs.Shown.{balances_after-credited, balances_after-debited, balances_after-other, balances_of}
 use Rattle.cdc_audit_laws.proofs.Streams.{accepted-push, none_follows, prefixes_are_accepted}
 
@@ -93,14 +100,15 @@ is_same x =
     (eq-eqb x.user_data_32 x.user_data_32 refl)) (eq-eqb x.timeout x.timeout refl)) (eq-eqb x.code x.code refl))
     (eq-eqb x.flags x.flags refl)) (eq-eqb x.timestamp x.timestamp refl)
 
--- an expiry has the whole transfer that it settles
-whole : (k : EventKind) (x p : Transfer) → (k ≡ TwoPhaseExpired → x ≡ p)
-    → (stores k || is_same_transfer (shown_transfer x) (shown_transfer p)) ≡ true
-whole SinglePhase x p shown = refl
-whole TwoPhasePending x p shown = refl
-whole TwoPhasePosted x p shown = refl
-whole TwoPhaseVoided x p shown = refl
-whole TwoPhaseExpired x p shown =
+-- an expiry has the whole transfer that it settles, and any other one its user data
+whole : (k : EventKind) (x p : Transfer) → (k ≡ TwoPhaseExpired → x ≡ p) → (stores k ≡ true → keeps_data p x ≡ true)
+    → (if stores k then has_data_of (shown_transfer p) (shown_transfer x)
+    else is_same_transfer (shown_transfer x) (shown_transfer p)) ≡ true
+whole SinglePhase x p shown kept = kept refl
+whole TwoPhasePending x p shown kept = kept refl
+whole TwoPhasePosted x p shown kept = kept refl
+whole TwoPhaseVoided x p shown kept = kept refl
+whole TwoPhaseExpired x p shown kept =
     ap (λ (y : Transfer). is_same_transfer (shown_transfer x) (shown_transfer y)) (sym (shown refl))
     ∙ is_same (shown_transfer x)
 
@@ -198,6 +206,28 @@ not_too_late false up is = refl
 same_chain : (h : History) (b : Bool) (es : List Entry) → linked_from b (map (event_of h) es) ≡ links_from b es
 same_chain h b [] = refl
 same_chain h b (e ∷ es) = same_chain h (links e) es
+
+-- and so is the last expiry
+same_expiry : (h : History) (last : Option Entry) (es : List Entry)
+    → last_expiry_from (option_map (event_of h) last) (map (event_of h) es)
+    ≡ option_map (event_of h) (expiry_from last es)
+same_expiry h last [] = refl
+same_expiry h last (e ∷ es) =
+    ap (λ o. last_expiry_from o (map (event_of h) es)) (by (stores e.kind))
+    ∙ same_expiry h (if stores e.kind then last else Some e) es
+  where
+    by : (b : Bool) → (if b then option_map (event_of h) last else Some (event_of h e))
+        ≡ option_map (event_of h) (if b then last else Some e)
+    by true = refl
+    by false = refl
+
+-- a test of one time after another that is equal to it
+apart_only : (a b t s : ℕ) → (a ≡ b → t ≡ s + 1) → ((a == b) && not (t == s + 1)) ≡ false
+apart_only a b t s next = by (a == b) refl
+  where
+    by : (same : Bool) → (a == b) ≡ same → (same && not (t == s + 1)) ≡ false
+    by true is = not_from_true _ (eq-eqb t (s + 1) (next (eqb-true a b is)))
+    by false is = refl
 
 same_end : (h : History) (t : ℕ) (es : List Entry) → last_timestamp_from t (map (event_of h) es) ≡ end_from t es
 same_end h t [] = refl
@@ -298,7 +328,7 @@ module _ (h : History) (e : Entry) (sound : IsSound h) (follows : Follows h e) (
                 (eq-eqb _ _ (debit_id ∙ of.settles.debit ∙ sym ids.0))
                 (eq-eqb _ _ (credit_id ∙ of.settles.credit ∙ sym ids.1)))
                 (eq-eqb _ _ keeps.ledger)) (eq-eqb _ _ keeps.code))
-                (whole e.kind e.transfer x.transfer of.settles.shown)),
+                (whole e.kind e.transfer x.transfer of.settles.shown keeps.user_data)),
             (
               not_from_true _ keeps.amount,
               (
@@ -313,7 +343,8 @@ module _ (h : History) (e : Entry) (sound : IsSound h) (follows : Follows h e) (
 
   -- the transfer as a request, and its accounts as requests
   asked_is : asked_transfer event ≡ asked e.transfer
-  asked_is = ap₂ (λ d c. let r : NewTransfer = record (asked e.transfer) { debit_account_id = d; credit_account_id = c } in r)
+  asked_is =
+      ap₂ (λ d c. let r : NewTransfer = record (asked e.transfer) { debit_account_id = d; credit_account_id = c } in r)
       debit_id credit_id
 
   debit_asked : asked_account event.ledger event.debit_account
@@ -349,6 +380,18 @@ module _ (h : History) (e : Entry) (sound : IsSound h) (follows : Follows h e) (
       (account_shape_lines (account_of h e.transfer.debit_account_id).request)
       (created e.transfer.debit_account_id follows.accounts.0).0
 
+  -- a pending transfer with a timeout expires by the greatest timestamp
+  expires_in_time : (holds e.kind && not (e.transfer.timeout == 0) && nat_lt max_timestamp (expires_at e.transfer))
+      ≡ false
+  expires_in_time = by (holds e.kind) refl (e.transfer.timeout == 0) refl
+    where
+      by : (holding : Bool) → holds e.kind ≡ holding → (zero : Bool) → (e.transfer.timeout == 0) ≡ zero
+          → (holding && not zero && nat_lt max_timestamp (expires_at e.transfer)) ≡ false
+      by false held zero is = refl
+      by true held true is = refl
+      by true held false is =
+          le-ltb max_timestamp (expires_at e.transfer) (follows.timely held (eqb-false e.transfer.timeout 0 is))
+
   has_shape : NoneApplies (shape_lines event)
   has_shape =
       none_of_both (if stores e.kind then stored_lines event else [])
@@ -364,7 +407,11 @@ module _ (h : History) (e : Entry) (sound : IsSound h) (follows : Follows h e) (
           let shape : HasShape e = enters.shape is in
           none_of_both (refused_as (TransferShape event.transfer.id) (transfer_refusal (asked_transfer event))) (
           (event.ledger == 0, TransferShape event.transfer.id transfer.LedgerMustNotBeZero) ∷
-          (event.transfer.code == 0, TransferShape event.transfer.id transfer.CodeMustNotBeZero) ∷
+          (event.transfer.code == 0, TransferShape event.transfer.id transfer.CodeMustNotBeZero) ∷ (
+            holds event.kind && not (event.transfer.timeout == 0)
+                && nat_lt TIMESTAMP (expires_at_shown event.transfer),
+            TransferShape event.transfer.id transfer.OverflowsTimeout,
+          ) ∷
           (not (is_of_kind event.kind (asked_transfer event)), OtherKind event.transfer.id) ∷ (
             not (event.transfer.timestamp == event.timestamp),
             OtherTimestamp event.transfer.id event.transfer.timestamp event.timestamp,
@@ -376,8 +423,11 @@ module _ (h : History) (e : Entry) (sound : IsSound h) (follows : Follows h e) (
             (
               enters.ledger.code,
               (
-                not_from_true _ (ap (is_of_kind e.kind) asked_is ∙ shape.kind),
-                (not_from_true _ (eq-eqb e.transfer.timestamp e.timestamp (follows.dated is)), tt),
+                expires_in_time,
+                (
+                  not_from_true _ (ap (is_of_kind e.kind) asked_is ∙ shape.kind),
+                  (not_from_true _ (eq-eqb e.transfer.timestamp e.timestamp (follows.dated is)), tt),
+                ),
               ),
             ),
           )
@@ -392,7 +442,8 @@ module _ (h : History) (e : Entry) (sound : IsSound h) (follows : Follows h e) (
       → NoneApplies (fields_lines before event.ledger a)
   fields_none before a o now_is before_is = all_same a.id _ _ (by before refl)
     where
-      by : (b : Option FixedFields) → before ≡ b → fixed_fields event.ledger a ≡ unwrap_or b (fixed_fields event.ledger a)
+      by : (b : Option FixedFields) → before ≡ b
+          → fixed_fields event.ledger a ≡ unwrap_or b (fixed_fields event.ledger a)
       by None is = refl
       by (Some x) is = now_is ∙ sym (before_is x is)
 
@@ -412,8 +463,13 @@ module _ (h : History) (e : Entry) (sound : IsSound h) (follows : Follows h e) (
       (fields_none _ event.credit_account (account_of h c)
       (ap (λ n. record (fixed_of (account_of h c)) { ledger = n }) enters.ledger.credit)
       (λ x is. first_fields h sound kept c x (sym (ap (fields_before (events h)) credit_id) ∙ is)))) (
-        not_from_true _ (lt-ltb (account_of h d).timestamp e.timestamp (let b = d_there.1 in omega arith)),
-        (not_from_true _ (lt-ltb (account_of h c).timestamp e.timestamp (let b = c_there.1 in omega arith)), tt),
+        not_from_true _ (and_from _ _ (lt-ltb 0 (account_of h d).timestamp d_there.2)
+            (lt-ltb (account_of h d).timestamp e.timestamp (let b = d_there.1 in omega arith))),
+        (
+          not_from_true _ (and_from _ _ (lt-ltb 0 (account_of h c).timestamp c_there.2)
+              (lt-ltb (account_of h c).timestamp e.timestamp (let b = c_there.1 in omega arith))),
+          tt,
+        ),
       )
 
   -- the sums of both accounts are within their bounds
@@ -431,10 +487,32 @@ module _ (h : History) (e : Entry) (sound : IsSound h) (follows : Follows h e) (
           le-ltb max_128 (all_credits a) bounded.1,
           (
             guard (has_flag a.flags DEBITS_MUST_NOT_EXCEED_CREDITS) a.credits_posted (all_debits a) limited.debits,
-            (guard (has_flag a.flags CREDITS_MUST_NOT_EXCEED_DEBITS) a.debits_posted (all_credits a) limited.credits, tt),
+            (
+              guard (has_flag a.flags CREDITS_MUST_NOT_EXCEED_DEBITS) a.debits_posted (all_credits a) limited.credits,
+              tt,
+            ),
           ),
         ),
       )
+
+  -- an expiry comes after the last one before it
+  has_order : NoneApplies (expiry_lines (last_shown (events h)) event)
+  has_order =
+      subst (λ o. NoneApplies (expiry_lines o event)) (sym (same_expiry h None h.entries))
+      (by (stores e.kind) refl (last_expiry h) enters.order)
+    where
+      by : (b : Bool) → stores e.kind ≡ b → (o : Option Entry)
+          → (stores e.kind ≡ false → ComesAfter o e.transfer e.timestamp)
+          → NoneApplies (expiry_lines (option_map (event_of h) o) event)
+      by b is None order = tt
+      by true is (Some x) order = rw is (refl, (refl, tt))
+      by false is (Some x) order =
+          let after = order is in
+          let first = after.0 in
+          rw is (
+            first,
+            (apart_only (expires_at x.transfer) (expires_at e.transfer) e.timestamp x.timestamp after.1, tt),
+          )
 
   -- after a linked transfer it stores one, one nanosecond later
   has_next : NoneApplies (chain_lines (ends_in_chain (events h)) (last_timestamp (events h)) event)
@@ -532,12 +610,14 @@ module _ (h : History) (e : Entry) (sound : IsSound h) (follows : Follows h e) (
       record {
         later = omega (arith, past, after);
         apart = apart;
+        within = le-ltb max_timestamp e.timestamp next.within;
         shape = has_shape;
         fixed = has_fields;
         new = is_new;
         pending = is_pending;
         unsettled = is_unsettled;
         settling = is_settling;
+        expiry = has_order;
         chain = has_next;
         limits = has_limits;
         debited = debited;
@@ -633,9 +713,9 @@ ledgers_are_accepted h count legal =
     (λ g r t sound later chained none next is.
     auditable-pushed g (entry_of g r t) sound (Follows-accepted g r t sound later none) later next
     (enters-accepted g r t sound later is.0.ledgers chained none) is)
-    (λ g p t sound later is_open up unchained next is.
+    (λ g p t sound later is_open up unchained order next is.
     auditable-pushed g (expiry p t) sound (Follows-open g p t sound is_open) later next
-    (enters-expiry g p t is.0.ledgers is_open up unchained) is)
+    (enters-expiry g p t is.0.ledgers is_open up unchained order) is)
     (λ g a t sound later none is.
     (kept-account g a t sound later none is.0, audited-account g (opened_by a t) sound (omega arith) is.1))
     (λ g t sound later is. (kept-timed g t sound later is.0, audited-timed g t sound later is.1))

@@ -3,6 +3,7 @@ pub mod Following
 pub mod Streams
 pub mod Sums
 pub mod Changes
+pub mod Pulses
 pub mod Keeping
 pub mod Requests
 pub mod Kept

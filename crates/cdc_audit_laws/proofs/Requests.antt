@@ -1,9 +1,9 @@
--- What a transfer that is accepted has: fields that a ledger lets it have, the ledger of its accounts, and what it settles
--- of its pending transfer.
+-- What a transfer that is accepted has: fields that a ledger lets it have, the ledger of its accounts, and what it
+-- settles of its pending transfer.
 use Rattle.std.proofs.Common.{◌≡◌, ℕ, ◌≤◌, Bool, true, false, not, List, ◌++◌, ◌+◌, ◌<◌, Option, Some, None, refl, sym, ap, ap₂, ◌∙◌, subst, arith}
 use Rattle.std.specs.Prelude.{◌==◌, ◌&&◌, ◌||◌, nat_le, nat_lt, if◌then◌else◌, unwrap_or}
 use Rattle.std.specs.List.{AllByRecursion}
-use Rattle.std.proofs.lemmas.Bool.{and_from, and_left, eq-eqb, eqb-true, false≢true, le-leb, ltb-false, not-false, not_from_false, or_parts}
+use Rattle.std.proofs.lemmas.Bool.{and_from, and_left, eq-eqb, eqb-true, false≢true, le-leb, ltb-false, not-false, not_from_false, or_left, or_parts, or_right}
 use Rattle.cdc_types.specs.declared.accounts.Balances.{Balances}
 use Rattle.cdc_types.specs.declared.accounts.TheConstants.AccountFlags.{CREDITS_MUST_NOT_EXCEED_DEBITS, DEBITS_MUST_NOT_EXCEED_CREDITS}
 use Rattle.cdc_types.specs.declared.events.Entry.{Entry}
@@ -31,15 +31,25 @@ use Rattle.cdc_ledger.proofs.LineLaws.{first_line_append_none_parts, test_fails,
 use Rattle.cdc_ledger.proofs.PulseLaws.{IsOpen}
 use Rattle.cdc_ledger.proofs.StoredLaws.{stored_has}
 use Rattle.cdc_audit.specs.EventShapes.{is_of_kind}
+use Rattle.cdc_audit.specs.Settling.{is_taken_over}
 use Rattle.cdc_audit_laws.proofs.Keeping.{IsUp, end_from, is_in_chain}
+use Rattle.cdc_audit_laws.proofs.Pulses.{ComesAfter, last_expiry}
 use Rattle.cdc_audit_laws.proofs.Following.{no_first_line, none_applies}
 
--- the entry has the ledger and the code of the pending transfer, and an amount of it that its kind may have
+-- the user data of a transfer is 0 only if that of the pending one is
+abbrev pub keeps_data : Transfer → Transfer → Bool
+keeps_data p x =
+    is_taken_over x.user_data_128 p.user_data_128 && is_taken_over x.user_data_64 p.user_data_64
+    && is_taken_over x.user_data_32 p.user_data_32
+
+-- the entry has the ledger, the code and the user data of the pending transfer, and an amount of it that its kind may
+-- have
 pub record KeepsFields (e : Entry) (p : Transfer) : Type 0 where
   pub ledger : e.transfer.ledger ≡ p.ledger
   pub code : e.transfer.code ≡ p.code
   pub timely : stores e.kind ≡ true → (not (p.timeout == 0) && nat_le (expires_at p) e.timestamp) ≡ false
   pub ended : stores e.kind ≡ false → (not (p.timeout == 0) && nat_le (expires_at p) e.timestamp) ≡ true
+  pub user_data : stores e.kind ≡ true → keeps_data p e.transfer ≡ true
   pub amount : (if moves e.kind then nat_le e.transfer.amount p.amount else (e.transfer.amount == p.amount)) ≡ true
 
 -- whichever pending transfer the entry settles
@@ -97,6 +107,7 @@ pub record Enters (h : History) (e : Entry) : Type 0 where
   pub shape : stores e.kind ≡ true → HasShape e
   pub limits : settles e.kind ≡ false → KeepsLimits h e
   pub chain : is_in_chain h ≡ true → (stores e.kind ≡ true) × (e.timestamp ≡ end_from 0 h.entries + 1)
+  pub order : stores e.kind ≡ false → ComesAfter (last_expiry h) e.transfer e.timestamp
 
 -- the lines on the accounts of a plain request, or on the pending transfer that a post or a void names
 abbrev own_lines : Bool → Option Entry → History → NewTransfer → ℕ → List (Bool × TransferResult)
@@ -135,6 +146,16 @@ own_given given own line = by (given == 0) (given == own) refl line
     by false true is other = eqb-true given own is
     by false false is other = absurd (false≢true (sym other))
 
+-- and it is 0 only if that one's own is
+own_taken : (given own : ℕ) → is_taken_over (or_own given own) own ≡ true
+own_taken given own = by (given == 0) (own == 0) refl refl
+  where
+    by : (none own_none : Bool) → (given == 0) ≡ none → (own == 0) ≡ own_none
+        → (not ((if none then own else given) == 0) || own_none) ≡ true
+    by true true is own_is = or_right _ true refl
+    by true false is own_is = or_left _ false (not_from_false _ own_is)
+    by false own_none is own_is = or_left _ own_none (not_from_false _ is)
+
 -- a post or a void that no line refuses, of the pending entry x
 module _ (h : History) (r : NewTransfer) (t : ℕ) (x : Entry)
     (none : first_line (settling_lines (Some x) h r t) ≡ None) where
@@ -166,6 +187,9 @@ module _ (h : History) (r : NewTransfer) (t : ℕ) (x : Entry)
     ended = λ no. absurd (false≢true (sym no ∙ storing));
     ledger = same_ledger;
     code = same_code;
+    user_data = λ is. and_from _ _ (and_from _ _
+        (own_taken r.user_data_128 x.transfer.user_data_128) (own_taken r.user_data_64 x.transfer.user_data_64))
+        (own_taken r.user_data_32 x.transfer.user_data_32);
     amount = by (moves k) voids;
   }
     where
@@ -322,7 +346,8 @@ record PlainEnters (d c : Option Opened) (h : History) (r : NewTransfer) (t : �
       → (balances h r.debit_account_id t).debits_pending + (balances h r.debit_account_id t).debits_posted + r.amount
       ≤ (balances h r.debit_account_id t).credits_posted
   credits : has_flag (unwrap_or c nobody).request.flags CREDITS_MUST_NOT_EXCEED_DEBITS ≡ true
-      → (balances h r.credit_account_id t).credits_pending + (balances h r.credit_account_id t).credits_posted + r.amount
+      → (balances h r.credit_account_id t).credits_pending + (balances h r.credit_account_id t).credits_posted
+      + r.amount
       ≤ (balances h r.credit_account_id t).debits_posted
 
 -- a limit that a line on it doesn't refuse
@@ -350,8 +375,10 @@ plain_enters (Some d) (Some c) h r t none =
     record {
       debit = own;
       credit = own ∙ same_number d.request.ledger c.request.ledger (line transfer.AccountsMustHaveTheSameLedger);
-      debits = within_limit (has_flag d.request.flags DEBITS_MUST_NOT_EXCEED_CREDITS) _ _ (line transfer.ExceedsCredits);
-      credits = within_limit (has_flag c.request.flags CREDITS_MUST_NOT_EXCEED_DEBITS) _ _ (line transfer.ExceedsDebits);
+      debits = within_limit (has_flag d.request.flags DEBITS_MUST_NOT_EXCEED_CREDITS) _ _
+          (line transfer.ExceedsCredits);
+      credits = within_limit (has_flag c.request.flags CREDITS_MUST_NOT_EXCEED_DEBITS) _ _
+          (line transfer.ExceedsDebits);
     }
 
 -- so an accepted post or void keeps the fields of its pending transfer
@@ -411,6 +438,7 @@ enters-accepted h r t sound later ledgers next none = by (is_plain_request r) re
                 (plain.credits flag);
           });
           chain = λ linked. (storing, next linked);
+          order = λ no. absurd (false≢true (sym no ∙ storing));
         }
     by false is =
         let settling_one : settles (kind_of r) ≡ true = settles_unless ∙ ap not is in
@@ -427,6 +455,7 @@ enters-accepted h r t sound later ledgers next none = by (is_plain_request r) re
           });
           limits = λ no. absurd (false≢true (sym no ∙ settling_one));
           chain = λ linked. (storing, next linked);
+          order = λ no. absurd (false≢true (sym no ∙ storing));
         }
       where
         named_entry : (o : Option Entry) → stored h r.pending_id ≡ o → first_line (settling_lines o h r t) ≡ None
@@ -438,8 +467,8 @@ enters-accepted h r t sound later ledgers next none = by (is_plain_request r) re
 
 -- and so does an expiry, which has the whole pending transfer
 pub enters-expiry : (h : History) (p : Transfer) (t : ℕ) → AllByRecursion (HasLedger h) h.entries → IsOpen h p
-    → IsUp p t → is_in_chain h ≡ false → Enters h (expiry p t)
-enters-expiry h p t ledgers is_open up unchained = record {
+    → IsUp p t → is_in_chain h ≡ false → ComesAfter (last_expiry h) p t → Enters h (expiry p t)
+enters-expiry h p t ledgers is_open up unchained order = record {
   settled = λ is x there. keeps x
       (sym is_open.same ∙ ap transfer_or (sym is_open.there ∙ there));
   ledger = subst (λ (x : Transfer). HasLedger h (expiry x t)) is_open.same
@@ -447,6 +476,7 @@ enters-expiry h p t ledgers is_open up unchained = record {
   shape = λ no. cc;
   limits = λ no. cc;
   chain = λ is. absurd (false≢true (sym unchained ∙ is));
+  order = λ is. order;
 }
   where
     transfer_or : Option Entry → Transfer
@@ -461,6 +491,7 @@ enters-expiry h p t ledgers is_open up unchained = record {
           (and_from _ _ (not_from_false (p.timeout == 0) up.timed) (le-leb (expires_at p) t up.ended));
       ledger = ap (λ (y : Transfer). y.ledger) same;
       code = ap (λ (y : Transfer). y.code) same;
+      user_data = λ no. cc;
       amount = eq-eqb p.amount x.transfer.amount (ap (λ (y : Transfer). y.amount) same);
     }
 

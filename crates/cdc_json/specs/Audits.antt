@@ -6,8 +6,8 @@ use Rattle.cdc_subscriber.specs.SubscriberState.{SubscriberState}
 use Rattle.cdc_types.specs.Results.{account_name, transfer_name}
 use Rattle.cdc_audit.specs.Texts.{field_name, fixed_name, refusal_name, side_name}
 use Rattle.cdc_audit.specs.declared.refusals.Refusal.{Refusal}
-use Rattle.cdc_audit.specs.declared.refusals.Refusal.TheVariants.{AfterEnd, NotLater, OneAccount, TransferShape, OtherKind, OtherTimestamp, AccountShape, AccountField, CreatedLater}
-use Rattle.cdc_audit.specs.declared.refusals.Refusal.TheVariants.{KnownId, NotPending, Settled, OtherFields, Amount, NoTimeout, TooSoon, TooLate, BrokenChain, TooLarge, Limit, Balance}
+use Rattle.cdc_audit.specs.declared.refusals.Refusal.TheVariants.{AfterEnd, NotLater, TooHigh, OneAccount, TransferShape, OtherKind, OtherTimestamp, AccountShape, AccountField, CreatedLater}
+use Rattle.cdc_audit.specs.declared.refusals.Refusal.TheVariants.{KnownId, NotPending, Settled, OtherFields, Amount, NoTimeout, TooSoon, TooLate, ExpiresLate, ExpiresApart, BrokenChain, TooLarge, Limit, Balance}
 use Rattle.cdc_audit.specs.declared.streams.AuditStop.{AuditStop}
 use Rattle.cdc_audit.specs.declared.streams.AuditStop.TheVariants.{AtEnd, Refused, BadLine}
 use Rattle.cdc_json.specs.Lines.{json_line, json_lines, line_of, subscriber_values}
@@ -26,6 +26,7 @@ abbrev pub refusal_members : Refusal → Members
 refusal_members (AfterEnd timestamp) = member (codes "timestamp") (wide timestamp) no_members
 refusal_members (NotLater timestamp last) =
     member (codes "timestamp") (wide timestamp) (member (codes "last") (wide last) no_members)
+refusal_members (TooHigh timestamp) = member (codes "timestamp") (wide timestamp) no_members
 refusal_members (OneAccount account) = member (codes "account") (wide account) no_members
 refusal_members (TransferShape transfer why) =
     member (codes "transfer") (wide transfer) (member (codes "result") (string (transfer_name why)) no_members)
@@ -68,6 +69,10 @@ refusal_members (TooLate transfer timestamp end) =
     member (codes "timestamp") (wide timestamp) (
     member (codes "end") (wide end)
     no_members))
+refusal_members (ExpiresLate transfer other) =
+    member (codes "transfer") (wide transfer) (member (codes "after") (wide other) no_members)
+refusal_members (ExpiresApart transfer other) =
+    member (codes "transfer") (wide transfer) (member (codes "after") (wide other) no_members)
 refusal_members (BrokenChain timestamp last) =
     member (codes "timestamp") (wide timestamp) (member (codes "last") (wide last) no_members)
 refusal_members (TooLarge account side) =

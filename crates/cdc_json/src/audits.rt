@@ -8,8 +8,12 @@ ghost use Rattle.cdc_message.specs.Values.{wide};
 ghost use Rattle.serde_json.specs.Data.{member, no_members, string};
 
 use crate::lines::{Field, Lines, Member};
+use crate::refusals::{
+    push_amount, push_created, push_end, push_excess, push_expiry, push_field, push_mismatch,
+    push_transfer_time,
+};
 use crate::streams::push_bad_line;
-use cdc_audit::{AuditStop, Excess, FieldMismatch, Mismatch, Refusal};
+use cdc_audit::{AuditStop, Refusal};
 use cdc_subscriber::Subscriber;
 use std::alloc::{AllocError, Global};
 
@@ -57,7 +61,7 @@ fn push_refused(alloc: Global, lines: &mut Lines, line: u64, why: Refusal) -> Re
 {
     let rule = why.name();
     match why {
-        Refusal::AfterEnd(timestamp) => {
+        Refusal::AfterEnd(timestamp) | Refusal::TooHigh(timestamp) => {
             push_number(alloc, lines, line, rule, "timestamp", timestamp.into())
         }
         Refusal::NotLater(timestamp, last) | Refusal::BrokenChain(timestamp, last) => {
@@ -108,6 +112,9 @@ fn push_refused(alloc: Global, lines: &mut Lines, line: u64, why: Refusal) -> Re
         }
         Refusal::TooSoon(transfer, timestamp, end) | Refusal::TooLate(transfer, timestamp, end) => {
             push_end(alloc, lines, line, rule, transfer, timestamp, end)
+        }
+        Refusal::ExpiresLate(transfer, other) | Refusal::ExpiresApart(transfer, other) => {
+            push_expiry(alloc, lines, line, rule, transfer, other)
         }
         Refusal::TooLarge(account, side) => {
             push_named(
@@ -194,57 +201,6 @@ fn push_timestamps(
     )
 }
 
-/// Adds the line of an event that is refused by this rule, with the balance that doesn't follow.
-fn push_mismatch(
-    alloc: Global,
-    lines: &mut Lines,
-    line: u64,
-    rule: &str,
-    mismatch: Mismatch,
-) -> Result<(), AllocError>
-    ensures { OnOk result (lines.new.text.items ≡ lines.old.text.items
-        ++ json_line (rule_value line rule.now (refusal_members (Refusals.Balance mismatch)))) }
-{
-    lines.push(
-        alloc,
-        "refusal",
-        &[
-            Member {
-                name: "line",
-                value: Field::Number(line),
-            },
-            Member {
-                name: "rule",
-                value: Field::Text(rule),
-            },
-            Member {
-                name: "account",
-                value: Field::Wide(mismatch.account),
-            },
-            Member {
-                name: "field",
-                value: Field::Text(mismatch.field.name()),
-            },
-            Member {
-                name: "shown",
-                value: Field::Wide(mismatch.shown),
-            },
-            Member {
-                name: "before",
-                value: Field::Wide(mismatch.before),
-            },
-            Member {
-                name: "added",
-                value: Field::Wide(mismatch.added),
-            },
-            Member {
-                name: "released",
-                value: Field::Wide(mismatch.released),
-            },
-        ],
-    )
-}
-
 /// Adds the line of an event that is refused by this rule, with an id and a name.
 fn push_named<'a>(
     alloc: Global,
@@ -257,7 +213,8 @@ fn push_named<'a>(
     text: &'a str,
 ) -> Result<(), AllocError>
     ensures { OnOk result (lines.new.text.items ≡ lines.old.text.items
-        ++ json_line (rule_value line rule.now (member name.now (wide id) (member other.now (string text.now) no_members)))) }
+        ++ json_line (rule_value line rule.now
+        (member name.now (wide id) (member other.now (string text.now) no_members)))) }
 {
     lines.push(
         alloc,
@@ -278,257 +235,6 @@ fn push_named<'a>(
             Member {
                 name: other,
                 value: Field::Text(text),
-            },
-        ],
-    )
-}
-
-/// Adds the line of an event that is refused by this rule, with a transfer's timestamp that isn't the event's.
-fn push_transfer_time(
-    alloc: Global,
-    lines: &mut Lines,
-    line: u64,
-    rule: &str,
-    transfer: u128,
-    shown: u64,
-    timestamp: u64,
-) -> Result<(), AllocError>
-    ensures { OnOk result (lines.new.text.items ≡ lines.old.text.items
-        ++ json_line (rule_value line rule.now (refusal_members (Refusals.OtherTimestamp transfer shown timestamp)))) }
-{
-    lines.push(
-        alloc,
-        "refusal",
-        &[
-            Member {
-                name: "line",
-                value: Field::Number(line),
-            },
-            Member {
-                name: "rule",
-                value: Field::Text(rule),
-            },
-            Member {
-                name: "transfer",
-                value: Field::Wide(transfer),
-            },
-            Member {
-                name: "shown",
-                value: Field::Wide(shown.into()),
-            },
-            Member {
-                name: "timestamp",
-                value: Field::Wide(timestamp.into()),
-            },
-        ],
-    )
-}
-
-/// Adds the line of an event that is refused by this rule, with a field of an account that changed.
-fn push_field(
-    alloc: Global,
-    lines: &mut Lines,
-    line: u64,
-    rule: &str,
-    mismatch: FieldMismatch,
-) -> Result<(), AllocError>
-    ensures { OnOk result (lines.new.text.items ≡ lines.old.text.items
-        ++ json_line (rule_value line rule.now (refusal_members (Refusals.AccountField mismatch)))) }
-{
-    lines.push(
-        alloc,
-        "refusal",
-        &[
-            Member {
-                name: "line",
-                value: Field::Number(line),
-            },
-            Member {
-                name: "rule",
-                value: Field::Text(rule),
-            },
-            Member {
-                name: "account",
-                value: Field::Wide(mismatch.account),
-            },
-            Member {
-                name: "field",
-                value: Field::Text(mismatch.field.name()),
-            },
-            Member {
-                name: "shown",
-                value: Field::Wide(mismatch.shown),
-            },
-            Member {
-                name: "before",
-                value: Field::Wide(mismatch.before),
-            },
-        ],
-    )
-}
-
-/// Adds the line of an event that is refused by this rule, with an account that was created later.
-fn push_created(
-    alloc: Global,
-    lines: &mut Lines,
-    line: u64,
-    rule: &str,
-    account: u128,
-    created: u64,
-    timestamp: u64,
-) -> Result<(), AllocError>
-    ensures { OnOk result (lines.new.text.items ≡ lines.old.text.items
-        ++ json_line (rule_value line rule.now (refusal_members (Refusals.CreatedLater account created timestamp)))) }
-{
-    lines.push(
-        alloc,
-        "refusal",
-        &[
-            Member {
-                name: "line",
-                value: Field::Number(line),
-            },
-            Member {
-                name: "rule",
-                value: Field::Text(rule),
-            },
-            Member {
-                name: "account",
-                value: Field::Wide(account),
-            },
-            Member {
-                name: "created",
-                value: Field::Wide(created.into()),
-            },
-            Member {
-                name: "timestamp",
-                value: Field::Wide(timestamp.into()),
-            },
-        ],
-    )
-}
-
-/// Adds the line of an event that is refused by this rule, with an amount that isn't that of the pending transfer.
-fn push_amount(
-    alloc: Global,
-    lines: &mut Lines,
-    line: u64,
-    rule: &str,
-    amount: u128,
-    transfer: u128,
-    held: u128,
-) -> Result<(), AllocError>
-    ensures { OnOk result (lines.new.text.items ≡ lines.old.text.items
-        ++ json_line (rule_value line rule.now (refusal_members (Refusals.Amount amount transfer held)))) }
-{
-    lines.push(
-        alloc,
-        "refusal",
-        &[
-            Member {
-                name: "line",
-                value: Field::Number(line),
-            },
-            Member {
-                name: "rule",
-                value: Field::Text(rule),
-            },
-            Member {
-                name: "transfer",
-                value: Field::Wide(transfer),
-            },
-            Member {
-                name: "amount",
-                value: Field::Wide(amount),
-            },
-            Member {
-                name: "held",
-                value: Field::Wide(held),
-            },
-        ],
-    )
-}
-
-/// Adds the line of an event that is refused by this rule, with a sum that exceeds its limit.
-fn push_excess(
-    alloc: Global,
-    lines: &mut Lines,
-    line: u64,
-    rule: &str,
-    excess: Excess,
-) -> Result<(), AllocError>
-    ensures { OnOk result (lines.new.text.items ≡ lines.old.text.items
-        ++ json_line (rule_value line rule.now (refusal_members (Refusals.Limit excess)))) }
-{
-    lines.push(
-        alloc,
-        "refusal",
-        &[
-            Member {
-                name: "line",
-                value: Field::Number(line),
-            },
-            Member {
-                name: "rule",
-                value: Field::Text(rule),
-            },
-            Member {
-                name: "account",
-                value: Field::Wide(excess.account),
-            },
-            Member {
-                name: "side",
-                value: Field::Text(excess.side.name()),
-            },
-            Member {
-                name: "sum",
-                value: Field::Wide(excess.sum),
-            },
-            Member {
-                name: "limit",
-                value: Field::Wide(excess.limit),
-            },
-        ],
-    )
-}
-
-/// Adds the line of an event that is refused by this rule, with when it settles a pending transfer, and when that one's
-/// time is up.
-fn push_end(
-    alloc: Global,
-    lines: &mut Lines,
-    line: u64,
-    rule: &str,
-    transfer: u128,
-    timestamp: u64,
-    end: u128,
-) -> Result<(), AllocError>
-    ensures { OnOk result (lines.new.text.items ≡ lines.old.text.items
-        ++ json_line (rule_value line rule.now (refusal_members (Refusals.TooSoon transfer timestamp end)))) }
-{
-    lines.push(
-        alloc,
-        "refusal",
-        &[
-            Member {
-                name: "line",
-                value: Field::Number(line),
-            },
-            Member {
-                name: "rule",
-                value: Field::Text(rule),
-            },
-            Member {
-                name: "transfer",
-                value: Field::Wide(transfer),
-            },
-            Member {
-                name: "timestamp",
-                value: Field::Wide(timestamp.into()),
-            },
-            Member {
-                name: "end",
-                value: Field::Wide(end),
             },
         ],
     )

@@ -9,6 +9,7 @@ mod faults;
 mod lines;
 mod messages;
 mod objects;
+mod refusals;
 mod simulations;
 mod streams;
 mod subscribers;

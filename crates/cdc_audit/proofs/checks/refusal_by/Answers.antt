@@ -1,5 +1,6 @@
 use Rattle.cdc_audit.specs.Checks.{balances_lines, fixed_lines, transfer_lines}
 use Rattle.cdc_audit.specs.EventShapes.{shape_lines}
+use Rattle.cdc_audit.specs.Expiries.{expiry_lines}
 use Rattle.cdc_audit.specs.Limits.{limits_lines}
 use Rattle.cdc_audit.specs.Rules.{chain_lines, order_lines}
 use Rattle.cdc_audit.specs.Settling.{settling_lines}
@@ -15,14 +16,16 @@ returns c =
     let shape = shape_lines e in
     let fixed = fixed_lines facts e in
     let transfer = transfer_lines facts e in
-    let settling = settling_lines facts.open_one e in
+    let settling = settling_lines facts.open_one e ++ expiry_lines facts.expired e in
     let limits = chain_lines facts.linked facts.last e ++ limits_lines e in
-    either_is _ _ _ (order ++ shape ++ fixed ++ transfer ++ settling ++ limits) (balances_lines facts e) c.or-7.ensures
-    (either_is _ _ _ (order ++ shape ++ fixed ++ transfer ++ settling) limits c.or-6.ensures
-    (either_is _ _ _ (order ++ shape ++ fixed ++ transfer) settling c.or-4.ensures
+    either_is _ _ _ (order ++ shape ++ fixed ++ transfer ++ settling ++ limits) (balances_lines facts e) c.or-8.ensures
+    (either_is _ _ _ (order ++ shape ++ fixed ++ transfer ++ settling) limits c.or-7.ensures
+    (either_is _ _ _ (order ++ shape ++ fixed ++ transfer) settling c.or-5.ensures
     (either_is _ _ _ (order ++ shape ++ fixed) transfer c.or-3.ensures
     (either_is _ _ _ (order ++ shape) fixed c.or-2.ensures
     (either_is _ _ _ order shape c.or.ensures c.order_refusal.ensures c.shape_refusal.ensures) c.fixed_refusal.ensures)
-    c.transfer_refusal.ensures) c.settling_refusal.ensures)
-    (either_is _ _ _ (chain_lines facts.linked facts.last e) (limits_lines e) c.or-5.ensures c.chain_refusal.ensures
+    c.transfer_refusal.ensures)
+    (either_is _ _ _ (settling_lines facts.open_one e) (expiry_lines facts.expired e) c.or-4.ensures
+    c.settling_refusal.ensures c.expiry_refusal.ensures))
+    (either_is _ _ _ (chain_lines facts.linked facts.last e) (limits_lines e) c.or-6.ensures c.chain_refusal.ensures
     c.limits_refusal.ensures)) c.balances_refusal.ensures

@@ -4,6 +4,7 @@ use Rattle.cdc_subscriber.specs.Steps.{next_state}
 use Rattle.cdc_types.specs.Lines.{first_line}
 use Rattle.cdc_audit.specs.declared.checks.Facts.{Facts}
 use Rattle.cdc_audit.specs.Checks.{lines, released}
+use Rattle.cdc_audit.specs.Known.{expiry_or}
 use Rattle.cdc_audit.specs.Standing.{AuditorState, open_then, with_own, with_settled}
 use Rattle.cdc_audit.proofs.StandLemmas.{accepts, accounts_from, answers, unless_error}
 use Rattle.cdc_audit.proofs.auditor.Auditor.take_event.Goals as goal
@@ -26,11 +27,13 @@ pub returns-clause-accepted : goal.returns-clause-accepted
 returns-clause-accepted c = λ state stands _.
     let e = c.args.event.now in
     accepts c.args.self.now (record {
+      foreign = c.self.inside.foreign;
       kept = c.take_event.new.self;
       transfers = c.keep.new.transfers.entries;
       open_ones = c.keep_open.new.events.entries;
       fields = c.keep_accounts.new.fields.entries;
       linked = c.is_linked-self-inside.result;
+      expired = c.expiry_or-self-inside.result;
     }) state e
     (sym (ap (λ (a : AuditorState). a.kept.ended) c.self.view_is) ∙ (sym c.ended.ensures ∙ c.if-ended.false))
     (sym (ap (λ (facts : Facts). first_line (lines facts e)) c.facts-facts.ensures) ∙ sym c.refusal_by.ensures
@@ -48,4 +51,6 @@ returns-clause-accepted c = λ state stands _.
     (accounts_from _ _ _ _ e _
     (c.in_ok-reserve-3.ensures.entries ∙ ap (λ (a : AuditorState). a.fields) c.self.view_is) c.facts-facts.ensures
     c.keep_accounts.ensures)
-    c.is_linked-self-inside.ensures stands
+    c.is_linked-self-inside.ensures
+    (c.expiry_or-self-inside.ensures ∙ ap (λ (a : AuditorState). expiry_or a.expired e) c.self.view_is)
+    (ap (λ (a : AuditorState). a.foreign) c.self.view_is) stands

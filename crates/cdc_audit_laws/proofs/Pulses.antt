@@ -1,0 +1,325 @@
+-- The order in which pending transfers expire: a pulse lets them expire in the order of their expiry times, and none is
+-- left after it whose time was up.
+use Rattle.std.proofs.Common.{ℕ, ◌+◌, ◌<◌, ◌≤◌, Bool, true, false, List, [], ◌∷◌, ◌++◌, ◌≡◌, Option, Some, None, map, refl, sym, ap, ◌∙◌, subst, arith}
+use Rattle.std.specs.Prelude.{◌==◌, ◌&&◌, ◌||◌, not, nat_le, nat_lt, filter, if◌then◌else◌, IfSome}
+use Rattle.std.specs.List.{AllByRecursion, list_any}
+use Rattle.std.proofs.lemmas.Bool.{and_from, and_parts, eq-eqb, false≢true, not-true, not_from_false, or_from, or_left, or_parts, or_right}
+use Rattle.std.proofs.lemmas.Bool.Decides.{nat_tests}
+use Rattle.cdc_types.specs.declared.events.Entry.{Entry}
+use Rattle.cdc_types.specs.declared.transfers.Transfer.{Transfer}
+use Rattle.cdc_ledger.specs.Balances.{resolved}
+use Rattle.cdc_ledger.specs.Changes.{expiry, pushed}
+use Rattle.cdc_ledger.specs.Due.{due, in_order_of_end, insert_by_end, is_due, is_sooner}
+use Rattle.cdc_ledger.specs.Filling.{expires_at}
+use Rattle.cdc_ledger.specs.History.{History}
+use Rattle.cdc_ledger.specs.Kinds.{holds, stores}
+use Rattle.cdc_ledger.specs.Sound.{IsSound}
+use Rattle.cdc_ledger.proofs.BalanceLaws.{resolved_later, resolved_then}
+use Rattle.cdc_ledger.proofs.DueOrder.{All-in_order, All-insert_by_end, is_sooner-once}
+use Rattle.cdc_ledger.proofs.Elements.{AllByRecursion-weaker, AllByRecursion_push}
+
+-- ---- the order
+
+-- q doesn't expire sooner than p
+abbrev pub IsNoSooner : Transfer → Transfer → Type 0
+IsNoSooner p q = is_sooner q p ≡ false
+
+-- each of these transfers expires no sooner than those before it
+abbrev pub AreInOrder : List Transfer → Type 0
+AreInOrder [] = Unit {0}
+AreInOrder (p ∷ ps) = AllByRecursion (IsNoSooner p) ps × AreInOrder ps
+
+-- of three pairs of numbers, if the second isn't before the first, nor the third before the second, the third isn't
+-- before the first
+no_sooner_pairs : (a b c s t u : ℕ) → (nat_lt b a || ((b == a) && nat_lt t s)) ≡ false
+    → (nat_lt c b || ((c == b) && nat_lt u t)) ≡ false → (nat_lt c a || ((c == a) && nat_lt u s)) ≡ false
+no_sooner_pairs a b c s t u one other = grind (arith, nat_tests)
+
+no_sooner_then : (p q r : Transfer) → IsNoSooner p q → IsNoSooner q r → IsNoSooner p r
+no_sooner_then p q r = no_sooner_pairs (expires_at p) (expires_at q) (expires_at r) p.timestamp q.timestamp r.timestamp
+
+-- a pair whose first number is greater isn't before the other one
+later_pair : (a b s t : ℕ) → a < b → (nat_lt b a || ((b == a) && nat_lt t s)) ≡ false
+later_pair a b s t later = grind (arith, nat_tests, later)
+
+placed_in_order : (p : Transfer) (qs : List Transfer) → AreInOrder qs → AreInOrder (insert_by_end p qs)
+placed_in_order p [] in_order = (tt, tt)
+placed_in_order p (q ∷ qs) in_order = either (is_sooner q p) refl (placed_in_order p qs in_order.1)
+  where
+    either : (b : Bool) → is_sooner q p ≡ b → AreInOrder (insert_by_end p qs)
+        → AreInOrder (if b then q ∷ insert_by_end p qs else p ∷ q ∷ qs)
+    either true is more = (All-insert_by_end (IsNoSooner q) p qs (is_sooner-once q p is) in_order.0, more)
+    either false is more = (
+      (is, AllByRecursion-weaker (IsNoSooner q) (IsNoSooner p) (λ r. no_sooner_then p q r is) qs in_order.0),
+      in_order,
+    )
+
+all_in_order : (ps : List Transfer) → AreInOrder (in_order_of_end ps)
+all_in_order [] = tt
+all_in_order (p ∷ ps) = placed_in_order p (in_order_of_end ps) (all_in_order ps)
+
+-- ---- which transfers are due
+
+-- one of these transfers has this id
+abbrev pub has_id : ℕ → List Transfer → Bool
+has_id id = list_any (λ p. p.id == id)
+
+placed_has : (id : ℕ) (p : Transfer) (qs : List Transfer) → ((p.id == id) || has_id id qs) ≡ true
+    → has_id id (insert_by_end p qs) ≡ true
+placed_has id p [] has = has
+placed_has id p (q ∷ qs) has = either (is_sooner q p) (placed_has id p qs)
+  where
+    apart : (a b c d : Bool) → (a || (b || c)) ≡ true → ((a || c) ≡ true → d ≡ true) → (b || d) ≡ true
+    apart a true c d is more = refl
+    apart true false c d is more = more refl
+    apart false false c d is more = more is
+
+    either : (b : Bool) → (((p.id == id) || has_id id qs) ≡ true → has_id id (insert_by_end p qs) ≡ true)
+        → has_id id (if b then q ∷ insert_by_end p qs else p ∷ q ∷ qs) ≡ true
+    either true more = apart (p.id == id) (q.id == id) (has_id id qs) (has_id id (insert_by_end p qs)) has more
+    either false more = has
+
+in_order_has : (id : ℕ) (ps : List Transfer) → has_id id ps ≡ true → has_id id (in_order_of_end ps) ≡ true
+in_order_has id [] has = has
+in_order_has id (p ∷ ps) has =
+    placed_has id p (in_order_of_end ps) (by (p.id == id) (has_id id ps) has (in_order_has id ps))
+  where
+    by : (a b : Bool) → (a || b) ≡ true → (b ≡ true → has_id id (in_order_of_end ps) ≡ true)
+        → (a || has_id id (in_order_of_end ps)) ≡ true
+    by true b is more = refl
+    by false b is more = more is
+
+-- each entry that passes a test has its id among those that pass
+passing_has : (test : Entry → Bool) (es : List Entry)
+    → AllByRecursion (λ y. test y ≡ true → has_id y.transfer.id (map (λ e. e.transfer) (filter test es)) ≡ true) es
+passing_has test [] = tt
+passing_has test (e ∷ es) = by (test e) refl (passing_has test es)
+  where
+    by : (b : Bool) → test e ≡ b
+        → AllByRecursion (λ y. test y ≡ true → has_id y.transfer.id (map (λ x. x.transfer) (filter test es)) ≡ true) es
+        → AllByRecursion
+        (λ y. test y ≡ true
+        → has_id y.transfer.id (map (λ x. x.transfer) (if b then e ∷ filter test es else filter test es)) ≡ true)
+        (e ∷ es)
+    by true is more = (
+      λ passes. or_left (e.transfer.id == e.transfer.id) _ (eq-eqb e.transfer.id e.transfer.id refl),
+      AllByRecursion-weaker
+          (λ y. test y ≡ true → has_id y.transfer.id (map (λ x. x.transfer) (filter test es)) ≡ true)
+          (λ y. test y ≡ true
+          → ((e.transfer.id == y.transfer.id) || has_id y.transfer.id (map (λ x. x.transfer) (filter test es))) ≡ true)
+          (λ y has passes. or_right (e.transfer.id == y.transfer.id) _ (has passes)) es more,
+    )
+    by false is more = (λ passes. absurd (false≢true (sym is ∙ passes)), more)
+
+-- what holds of each entry that passes holds of the transfers of those that pass
+passing_each : (test : Entry → Bool) (P : Transfer → Type 0) (es : List Entry)
+    → AllByRecursion (λ e. test e ≡ true → P e.transfer) es
+    → AllByRecursion P (map (λ e. e.transfer) (filter test es))
+passing_each test P [] all = tt
+passing_each test P (e ∷ es) all = by (test e) refl (passing_each test P es all.1)
+  where
+    by : (b : Bool) → test e ≡ b → AllByRecursion P (map (λ x. x.transfer) (filter test es))
+        → AllByRecursion P (map (λ x. x.transfer) (if b then e ∷ filter test es else filter test es))
+    by true passes more = (all.0 passes, more)
+    by false passes more = more
+
+-- ---- what is left
+
+-- an open pending transfer with a timeout that isn't one of these expires after this time
+abbrev pub ExpiresAfter : History → ℕ → List Transfer → Entry → Type 0
+ExpiresAfter h now ps y =
+    holds y.kind ≡ true → (y.transfer.timeout == 0) ≡ false → resolved h y.transfer h.last ≡ false
+    → has_id y.transfer.id ps ≡ false → now < expires_at y.transfer
+
+-- each pending transfer that is left after a pulse expires later
+due_after : (h : History) (now : ℕ) → AllByRecursion (ExpiresAfter h now (due h now)) h.entries
+due_after h now =
+    AllByRecursion-weaker
+    (λ y. is_due h now y ≡ true
+    → has_id y.transfer.id (map (λ e. e.transfer) (filter (is_due h now) h.entries)) ≡ true)
+    (ExpiresAfter h now (due h now))
+    (λ y has holding timed unsettled away.
+    by y has holding timed unsettled away (nat_le (expires_at y.transfer) now) refl)
+    h.entries (passing_has (is_due h now) h.entries)
+  where
+    by : (y : Entry)
+        → (is_due h now y ≡ true
+        → has_id y.transfer.id (map (λ e. e.transfer) (filter (is_due h now) h.entries)) ≡ true)
+        → holds y.kind ≡ true → (y.transfer.timeout == 0) ≡ false → resolved h y.transfer h.last ≡ false
+        → has_id y.transfer.id (due h now) ≡ false
+        → (b : Bool) → nat_le (expires_at y.transfer) now ≡ b → now < expires_at y.transfer
+    by y has holding timed unsettled away true is =
+        let there : has_id y.transfer.id (map (λ e. e.transfer) (filter (is_due h now) h.entries)) ≡ true =
+        has (and_from _ _ (and_from _ _ (and_from _ _ holding (not_from_false _ timed)) is)
+        (not_from_false _ unsettled)) in
+        absurd (false≢true (sym away ∙ in_order_has y.transfer.id _ there))
+    by y has holding timed unsettled away false is = grind (arith, nat_tests)
+
+-- the last expiry of these entries; this value if there is none
+abbrev pub expiry_from : Option Entry → List Entry → Option Entry
+expiry_from last [] = last
+expiry_from last (e ∷ es) = expiry_from (if stores e.kind then last else Some e) es
+
+abbrev pub last_expiry : History → Option Entry
+last_expiry h = expiry_from None h.entries
+
+expiry_from-push : (last : Option Entry) (es : List Entry) (e : Entry)
+    → expiry_from last (es ++ e ∷ []) ≡ (if stores e.kind then expiry_from last es else Some e)
+expiry_from-push last [] e = refl
+expiry_from-push last (x ∷ es) e = expiry_from-push (if stores x.kind then last else Some x) es e
+
+-- the time of the last expiry's transfer is past, and each open one that isn't one of these expires after that time
+pub record IsClear (h : History) (ps : List Transfer) (x : Entry) : Type 0 where
+  pub past : expires_at x.transfer ≤ h.last
+  pub others : AllByRecursion (ExpiresAfter h (expires_at x.transfer) ps) h.entries
+
+-- no open pending transfer but these was left behind by an expiry
+abbrev pub Clear : History → List Transfer → Type 0
+Clear h ps = IfSome (last_expiry h) (IsClear h ps)
+
+-- a transfer that expires at the timestamp t comes after the last expiry; right after it if both have one expiry time
+abbrev pub ComesAfter : Option Entry → Transfer → ℕ → Type 0
+ComesAfter last p t = IfSome last
+    (λ x. IsNoSooner x.transfer p × (expires_at x.transfer ≡ expires_at p → t ≡ x.timestamp + 1))
+
+-- time that passes leaves nothing behind
+pub clear_later : (h g : History) (ps : List Transfer) → IsSound h → g.entries ≡ h.entries → h.last ≤ g.last
+    → Clear h ps → Clear g ps
+clear_later h g ps sound same later clear =
+    subst (λ es. IfSome (expiry_from None es) (IsClear g ps)) (sym same) (by (last_expiry h) clear)
+  where
+    same_resolved : (y : Entry) → resolved g y.transfer g.last ≡ resolved h y.transfer h.last
+    same_resolved y =
+        ap (λ es. resolved (record h { entries = es }) y.transfer g.last) same
+        ∙ resolved_later h y.transfer h.last g.last sound.past later
+
+    by : (o : Option Entry) → IfSome o (IsClear h ps) → IfSome o (IsClear g ps)
+    by None is = tt
+    by (Some x) is = record {
+      past = let before = is.past in omega arith;
+      others = subst (AllByRecursion (ExpiresAfter g (expires_at x.transfer) ps)) (sym same)
+          (AllByRecursion-weaker (ExpiresAfter h (expires_at x.transfer) ps) (ExpiresAfter g (expires_at x.transfer) ps)
+          (λ y after holding timed unsettled. after holding timed (sym (same_resolved y) ∙ unsettled)) h.entries
+          is.others);
+    }
+
+-- an entry that stores a transfer leaves nothing behind: if that one is pending it expires later
+pub clear-stored : (h : History) (e : Entry) → IsSound h → h.last < e.timestamp → stores e.kind ≡ true
+    → e.timestamp ≤ expires_at e.transfer → Clear h [] → Clear (pushed h e) []
+clear-stored h e sound after storing timely clear =
+    subst (λ o. IfSome o (IsClear (pushed h e) []))
+    (sym (expiry_from-push None h.entries e ∙ ap (λ b. if b then last_expiry h else Some e) storing))
+    (by (last_expiry h) clear)
+  where
+    by : (o : Option Entry) → IfSome o (IsClear h []) → IfSome o (IsClear (pushed h e) [])
+    by None is = tt
+    by (Some x) is = record {
+      past = let before = is.past in omega arith;
+      others =
+          AllByRecursion_push (ExpiresAfter (pushed h e) (expires_at x.transfer) []) h.entries e
+          (AllByRecursion-weaker (ExpiresAfter h (expires_at x.transfer) [])
+          (ExpiresAfter (pushed h e) (expires_at x.transfer) [])
+          (λ y after_it holding timed unsettled. after_it holding timed
+          (or_parts _ _ (sym (resolved_then h e y.transfer sound.past after) ∙ unsettled)).0) h.entries is.others)
+          (λ holding timed unsettled away. let before = is.past in omega arith);
+    }
+
+-- ---- a pulse
+
+-- the first of these may expire at the timestamp t
+abbrev pub FirstComesAfter : Option Entry → List Transfer → ℕ → Type 0
+FirstComesAfter last [] t = Unit {0}
+FirstComesAfter last (p ∷ ps) t = ComesAfter last p t
+
+-- within a pulse these transfers are left to expire, from the timestamp t on
+pub record IsPulsing (h : History) (now t : ℕ) (ps : List Transfer) : Type 0 where
+  pub in_order : AreInOrder ps
+  pub ended : AllByRecursion (λ p. expires_at p ≤ now) ps
+  pub first : FirstComesAfter (last_expiry h) ps t
+  pub clear : Clear h ps
+  pub rest : AllByRecursion (ExpiresAfter h now ps) h.entries
+
+-- a pulse begins
+pub pulsing-due : (h : History) (now t : ℕ) → Clear h [] → AllByRecursion (λ p. expires_at p ≤ now) (due h now)
+    → IsPulsing h now t (due h now)
+pulsing-due h now t clear ended = record {
+  in_order = all_in_order (map (λ e. e.transfer) (filter (is_due h now) h.entries));
+  ended = ended;
+  first = by (last_expiry h) clear;
+  clear = less (last_expiry h) clear;
+  rest = due_after h now;
+}
+  where
+    less : (o : Option Entry) → IfSome o (IsClear h []) → IfSome o (IsClear h (due h now))
+    less None is = tt
+    less (Some x) is = record {
+      past = is.past;
+      others = AllByRecursion-weaker (ExpiresAfter h (expires_at x.transfer) [])
+          (ExpiresAfter h (expires_at x.transfer) (due h now))
+          (λ y after holding timed unsettled away. after holding timed unsettled refl) h.entries is.others;
+    }
+
+    later_each : (x : Entry) → IsClear h [] x → AllByRecursion (λ p. expires_at x.transfer < expires_at p) (due h now)
+    later_each x is =
+        All-in_order (λ p. expires_at x.transfer < expires_at p)
+        (map (λ e. e.transfer) (filter (is_due h now) h.entries))
+        (passing_each (is_due h now) (λ p. expires_at x.transfer < expires_at p) h.entries
+        (AllByRecursion-weaker (ExpiresAfter h (expires_at x.transfer) [])
+        (λ y. is_due h now y ≡ true → expires_at x.transfer < expires_at y.transfer)
+        (λ y after passes.
+        let last = and_parts (holds y.kind && not (y.transfer.timeout == 0) && nat_le (expires_at y.transfer) now)
+        (not (resolved h y.transfer h.last)) passes in
+        let up = and_parts (holds y.kind && not (y.transfer.timeout == 0)) (nat_le (expires_at y.transfer) now)
+        last.0 in
+        let timed = and_parts (holds y.kind) (not (y.transfer.timeout == 0)) up.0 in
+        after timed.0 (not-true _ timed.1) (not-true _ last.1) refl) h.entries is.others))
+
+    head : (x : Entry) (ps : List Transfer) → AllByRecursion (λ p. expires_at x.transfer < expires_at p) ps
+        → FirstComesAfter (Some x) ps t
+    head x [] all = tt
+    head x (p ∷ ps) all = (
+      later_pair (expires_at x.transfer) (expires_at p) x.transfer.timestamp p.timestamp all.0,
+      λ same. let later = all.0 in omega arith,
+    )
+
+    by : (o : Option Entry) → IfSome o (IsClear h []) → FirstComesAfter o (due h now) t
+    by None is = none_first (due h now)
+      where
+        none_first : (ps : List Transfer) → FirstComesAfter None ps t
+        none_first [] = tt
+        none_first (p ∷ ps) = tt
+    by (Some x) is = head x (due h now) (later_each x is)
+
+-- and goes on: the first one expires
+pub pulsing-next : (h : History) (now t : ℕ) (p : Transfer) (ps : List Transfer) → IsSound h → h.last < t
+    → expires_at p ≤ t → IsPulsing h now t (p ∷ ps) → IsPulsing (pushed h (expiry p t)) now (t + 1) ps
+pulsing-next h now t p ps sound after up pulsing = record {
+  in_order = pulsing.in_order.1;
+  ended = pulsing.ended.1;
+  first = subst (λ o. FirstComesAfter o ps (t + 1)) (sym last_is) (next ps pulsing.in_order.0);
+  clear = subst (λ o. IfSome o (IsClear (pushed h (expiry p t)) ps)) (sym last_is) (record {
+    past = up;
+    others = AllByRecursion-weaker (ExpiresAfter (pushed h (expiry p t)) now ps)
+        (ExpiresAfter (pushed h (expiry p t)) (expires_at p) ps)
+        (λ y later holding timed unsettled away.
+        let end = later holding timed unsettled away in
+        let within = pulsing.ended.0 in omega arith) (h.entries ++ expiry p t ∷ []) rest;
+  });
+  rest = rest;
+}
+  where
+    last_is : last_expiry (pushed h (expiry p t)) ≡ Some (expiry p t)
+    last_is = expiry_from-push None h.entries (expiry p t)
+
+    next : (qs : List Transfer) → AllByRecursion (IsNoSooner p) qs → FirstComesAfter (Some (expiry p t)) qs (t + 1)
+    next [] all = tt
+    next (q ∷ qs) all = (all.0, λ same. refl)
+
+    rest : AllByRecursion (ExpiresAfter (pushed h (expiry p t)) now ps) (h.entries ++ expiry p t ∷ [])
+    rest =
+        AllByRecursion_push (ExpiresAfter (pushed h (expiry p t)) now ps) h.entries (expiry p t)
+        (AllByRecursion-weaker (ExpiresAfter h now (p ∷ ps)) (ExpiresAfter (pushed h (expiry p t)) now ps)
+        (λ y later holding timed unsettled away.
+        let parts = or_parts _ _ (sym (resolved_then h (expiry p t) y.transfer sound.past after) ∙ unsettled) in
+        later holding timed parts.0 (or_from _ _ parts.1 away)) h.entries pulsing.rest)
+        (λ holding. absurd (false≢true holding))
