@@ -288,6 +288,31 @@ JSON_ROWS = [
         '{"kind":"line_fault","line":1,"name":"not_json"}\n',
         2,
     ),
+    (
+        "no gap that is skipped, as JSON",
+        ["--json", "--chained", "--skip-gaps"],
+        "",
+        '{"kind":"subscriber","subscriber":1,"applied":0,"last":"0","ended":false,"closed":false}\n'
+        '{"kind":"followed","gaps_skipped":0}\n',
+        0,
+    ),
+    (
+        "three gaps that are skipped, as JSON",
+        ["--json", "--chained", "--skip-gaps"],
+        f"{chained(10, SECOND)}\n{end(10)}\n{chained(5, FIRST)}\n",
+        '{"kind":"subscriber","subscriber":1,"applied":0,"last":"0","ended":false,"closed":false}\n'
+        '{"kind":"followed","gaps_skipped":3}\n',
+        0,
+    ),
+    (
+        "a gap that is skipped before a bad line, as JSON",
+        ["--json", "--chained", "--skip-gaps"],
+        f"{chained(10, SECOND)}\nx\n",
+        '{"kind":"subscriber","subscriber":1,"applied":0,"last":"0","ended":false,"closed":false}\n'
+        '{"kind":"line_fault","line":2,"name":"not_json"}\n'
+        '{"kind":"followed","gaps_skipped":1}\n',
+        2,
+    ),
 ]
 USAGE = [["--skip-gaps"], ["--every", "0"], ["--every", "x"], ["--binding", ""], ["--binding", "some"], ["--binding", "all x=1"], ["a", "b"]]
 

@@ -1,4 +1,5 @@
 pub mod EntryLemmas
+pub mod EntryWidths
 mod Examples
 pub mod FoldLemmas
 pub mod GapLemmas
@@ -7,6 +8,8 @@ pub mod OnceLemmas
 pub mod PlainLemmas
 pub mod QueueLemmas
 pub mod ReceivedLemmas
+pub mod SaveableLemmas
 pub mod SavedLemmas
 pub mod StepLemmas
 pub mod StopLemmas
+pub mod WidthLemmas

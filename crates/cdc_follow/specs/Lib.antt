@@ -9,3 +9,4 @@ pub mod Saved
 pub mod SavedParts
 pub mod Stops
 pub mod Streams
+pub mod Widths

@@ -3,6 +3,8 @@
 ghost use Rattle.cdc_follow.specs.Laws.{ChainedFollowersGoOn, ChainedFollowersKeepAPrefix};
 ghost use Rattle.cdc_follow.specs.Laws.{FollowedQueuesKeepAPrefix, FollowingFolds, GoingOnIsOnce};
 ghost use Rattle.cdc_follow.specs.Laws.{PlainFollowersAreSubscribers, ReceivedOnceIsApplied};
+ghost use Rattle.cdc_follow.specs.Widths.{FollowedBytesCanBeSaved, FollowersCanBeSaved, NewFollowersCanBeSaved};
+ghost use Rattle.cdc_follow.specs.Widths.{ReadEntriesFit};
 
 /// Does nothing. Following the entries of a stream is a fold of those before the gap at which it stops, or of all, so
 /// that the other laws hold of what a follower keeps then.
@@ -45,4 +47,25 @@ pub fn followed_queues_keep_a_prefix()
 /// these: as many as they are, up to the last one's timestamp, with their book.
 pub fn received_once_is_applied()
     ensures { ReceivedOnceIsApplied }
+{}
+
+/// Does nothing. The numbers of an event that is read from a line have the widths of their fields.
+pub fn read_entries_fit()
+    ensures { ReadEntriesFit }
+{}
+
+/// Does nothing. A follower whose book can be saved and read back is such a one after entries with numbers of these
+/// widths.
+pub fn followers_can_be_saved()
+    ensures { FollowersCanBeSaved }
+{}
+
+/// Does nothing. A follower that begins is such a one, if the text of its binding is one line.
+pub fn new_followers_can_be_saved()
+    ensures { NewFollowersCanBeSaved }
+{}
+
+/// Does nothing. A follower that can be saved can be saved wherever it stops in a stream, whatever the bytes are.
+pub fn followed_bytes_can_be_saved()
+    ensures { FollowedBytesCanBeSaved }
 {}

@@ -1,7 +1,7 @@
 -- Saving a book now and then, and what the command prints.
 use Rattle.std.specs.Prelude.{◌≡◌, ◌≢◌, ◌⊎◌, ◌&&◌, ◌||◌, nat_le, nat_lt, ℕ, ◌≤◌, Bool, true, false, List, [], ◌∷◌}
 use Rattle.std.specs.Prelude.{◌++◌, take}
-use Rattle.std.specs.Prelude.{Option, Some, IfSome, Result, Ok, Err, IfOk}
+use Rattle.std.specs.Prelude.{Option, Some, None, IfSome, Result, Ok, Err, IfOk, if◌then◌else◌}
 use Rattle.std.specs.List.{flat_map}
 use Rattle.std.specs.Io.KnownBytes.{Appends}
 use Rattle.cdc_commands.specs.declared.endings.Ending.{Ending}
@@ -53,6 +53,10 @@ IsNoBook chained binding text =
 abbrev pub IsRefused : Bool → List ℕ → List ℕ → StoreError → Type 0
 IsRefused chained binding text error =
     (error ≡ OutOfMemory) ⊎ ((error ≡ BadRecord) × IsNoBook chained binding text)
+
+-- how many gaps were skipped, if they are to be
+abbrev pub skipped_by : Rules → ℕ → Option ℕ
+skipped_by rules gaps = if rules.skips_gaps then Some gaps else None
 
 -- what following makes of the first so many entries of the bytes
 abbrev pub kept_after : Arguments → Rules → FollowState → List ℕ → ℕ → FollowState

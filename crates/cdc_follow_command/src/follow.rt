@@ -6,6 +6,7 @@ ghost use Rattle.cdc_follow.specs.Saved.{book_text};
 ghost use Rattle.cdc_follow.specs.Stops.{bytes_followed};
 ghost use Rattle.cdc_follow_command.specs.Saving.{IfStopped, IsPrintedLast, PrintsEnd, PrintsFailure};
 ghost use Rattle.cdc_follow_command.specs.Saving.{PrintsAllSaves, PrintsFollowing, PrintsSaves};
+ghost use Rattle.cdc_follow_command.specs.Saving.{skipped_by as skipped_under};
 
 use crate::endings::{FollowEnding, fault_of};
 use crate::forms::FollowForm;
@@ -95,29 +96,40 @@ pub fn follow_command<F: Form + FollowForm, B: LineReader, W: Write, K: BookStor
         ≡ Some (book_text saver.old.chained saver.old.binding.items follower.new))) }
     ensures printed { PrintsFollowing (PrintsSaves F.prints_saved (is_some saver.old.store) binding.now rules
         follower.old (B.remaining reader.old) (W.contents writer.old))
-        F.prints_end F.prints_fault (W.contents writer.new) follower.new result }
+        (F.prints_end (skipped_under rules gaps.new)) F.prints_fault (W.contents writer.new) follower.new result }
 {
     match follow_stream(
         form, alloc, reader, writer, saver, binding, rules, follower, gaps,
     ) {
-        Ok(stop) => print_end(form, alloc, writer, follower, stop),
+        Ok(stop) => {
+            let skipped = skipped_by(rules, *gaps);
+            print_end(form, alloc, writer, skipped, follower, stop)
+        }
         Err(fault) => fail(form, writer, fault),
     }
 }
 
-/// Prints the book and why following stopped.
+/// How many gaps were skipped, if they are to be.
+fn skipped_by(rules: Rules, gaps: u64) -> Option<u64>
+    ensures { result ≡ skipped_under rules gaps }
+{
+    if rules.skips_gaps { Some(gaps) } else { None }
+}
+
+/// Prints the book, why following stopped, and in some forms how many gaps were skipped.
 fn print_end<F: Form + FollowForm, W: Write>(
     form: &F,
     alloc: Global,
     writer: &mut W,
+    skipped: Option<u64>,
     follower: &Follower,
     stop: Stop,
 ) -> FollowEnding
     ensures stops { IfStopped result (λ it. it ≡ stop) }
-    ensures printed { PrintsEnd F.prints_end F.prints_fault
+    ensures printed { PrintsEnd (F.prints_end skipped) F.prints_fault
         (W.contents writer.old) (W.contents writer.new) follower.now result }
 {
-    match form.end(alloc, follower, stop) {
+    match form.end(alloc, skipped, follower, stop) {
         Ok(text) => print_last(writer, text.as_slice(), FollowEnding::Stopped(stop)),
         Err(_) => fail(form, writer, ProgramFault::OutOfMemory),
     }

@@ -1,6 +1,6 @@
 //! The forms in which `follow` prints what it reports.
 
-ghost use Rattle.std.specs.Prelude.{◌≡◌, ◌++◌, ℕ, List, IfOk, OnOk};
+ghost use Rattle.std.specs.Prelude.{◌≡◌, ◌++◌, ℕ, List, Option, IfOk, OnOk};
 ghost use Rattle.cdc_follow.specs.Following.{FollowState};
 ghost use Rattle.cdc_follow.specs.declared.streams.Stop.{Stop as Stops};
 ghost use Rattle.cdc_follow_command.specs.Texts.{end_text, saved_line, stop_line};
@@ -17,16 +17,24 @@ pub trait FollowForm {
     /// What is printed of a save at which the last event seen has this timestamp.
     ghost prints_saved: { ℕ → List ℕ };
 
-    /// What is printed at the end, of a follower and of why following stopped.
-    ghost prints_end: { FollowState → Stops → List ℕ };
+    /// What is printed at the end: of how many gaps were skipped, if they are to be, of a follower, and of why
+    /// following stopped.
+    ghost prints_end: { Option ℕ → FollowState → Stops → List ℕ };
 
     /// The line of a save at which the last event seen has this timestamp, in nanoseconds.
     fn saved(&self, alloc: Global, timestamp: u64) -> Result<Vec<u8>, AllocError>
         ensures { IfOk result (λ text. text.items ≡ prints_saved timestamp) };
 
-    /// The lines of a follower at the end, and of why following stopped.
-    fn end(&self, alloc: Global, follower: &Follower, stop: Stop) -> Result<Vec<u8>, AllocError>
-        ensures { IfOk result (λ text. text.items ≡ prints_end follower.now stop) };
+    /// The lines of a follower at the end, and of why following stopped. `skipped`: how many gaps were skipped; `None`
+    /// if gaps aren't to be skipped.
+    fn end(
+        &self,
+        alloc: Global,
+        skipped: Option<u64>,
+        follower: &Follower,
+        stop: Stop,
+    ) -> Result<Vec<u8>, AllocError>
+        ensures { IfOk result (λ text. text.items ≡ prints_end skipped follower.now stop) };
 }
 
 impl FollowForm for Text {
@@ -34,7 +42,8 @@ impl FollowForm for Text {
 
     ghost prints_saved = { saved_line };
 
-    ghost prints_end = { end_text };
+    // (standard error reports how many gaps were skipped)
+    ghost prints_end = { λ _. end_text };
 
     fn saved(&self, alloc: Global, timestamp: u64) -> Result<Vec<u8>, AllocError> {
         let mut text = Vec::new(alloc);
@@ -43,7 +52,13 @@ impl FollowForm for Text {
         Ok(text)
     }
 
-    fn end(&self, alloc: Global, follower: &Follower, stop: Stop) -> Result<Vec<u8>, AllocError> {
+    fn end(
+        &self,
+        alloc: Global,
+        _skipped: Option<u64>,
+        follower: &Follower,
+        stop: Stop,
+    ) -> Result<Vec<u8>, AllocError> {
         let mut text = Vec::new(alloc);
         push_subscriber(&mut text, follower.subscriber())?;
         push_stop(&mut text, follower.seen(), stop)?;

@@ -2,7 +2,7 @@
 
 use crate::forms::FollowForm;
 use cdc_follow::{Follower, Stop};
-use cdc_json::{Json, Lines, push_saved, push_stop, push_subscriber};
+use cdc_json::{Json, Lines, push_saved, push_skipped, push_stop, push_subscriber};
 use std::alloc::{AllocError, Global};
 
 impl FollowForm for Json {
@@ -18,10 +18,17 @@ impl FollowForm for Json {
         Ok(lines.into_text())
     }
 
-    fn end(&self, alloc: Global, follower: &Follower, stop: Stop) -> Result<Vec<u8>, AllocError> {
+    fn end(
+        &self,
+        alloc: Global,
+        skipped: Option<u64>,
+        follower: &Follower,
+        stop: Stop,
+    ) -> Result<Vec<u8>, AllocError> {
         let mut lines = Lines::new(alloc);
         push_subscriber(alloc, &mut lines, 1, follower.subscriber())?;
         push_stop(alloc, &mut lines, follower.seen(), stop)?;
+        push_skipped(alloc, &mut lines, skipped)?;
         Ok(lines.into_text())
     }
 }

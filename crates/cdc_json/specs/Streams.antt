@@ -1,5 +1,5 @@
 -- The JSON values of what is printed of a stream that is followed.
-use Rattle.std.specs.Prelude.{ℕ, List, [], ◌++◌, codes, unwrap_or}
+use Rattle.std.specs.Prelude.{ℕ, List, [], ◌++◌, Option, Some, None, codes, unwrap_or}
 use Rattle.serde_json.specs.Data.{Data, string, no_members, member}
 use Rattle.cdc_message.specs.Values.{narrow, wide}
 use Rattle.cdc_follow.specs.Following.{FollowState}
@@ -40,6 +40,16 @@ stop_lines seen AtEnd = []
 stop_lines seen (Gap line entry) = json_line (gap_value seen line entry)
 stop_lines seen (BadLine line error) = json_line (bad_line_value line error)
 
--- what is printed at the end: the subscriber with its book, and why following stopped
-abbrev pub end_lines : FollowState → Stop → List ℕ
-end_lines state stop = json_lines (subscriber_values 1 state.kept) ++ stop_lines state.seen stop
+-- how many gaps were skipped
+abbrev pub followed_value : ℕ → Data
+followed_value skipped = line_of (codes "followed") (member (codes "gaps_skipped") (narrow skipped) no_members)
+
+-- the line of this count; none if gaps aren't to be skipped
+abbrev pub skipped_lines : Option ℕ → List ℕ
+skipped_lines None = []
+skipped_lines (Some skipped) = json_line (followed_value skipped)
+
+-- what is printed at the end: the subscriber with its book, why following stopped, and how many gaps were skipped
+abbrev pub end_lines : Option ℕ → FollowState → Stop → List ℕ
+end_lines skipped state stop =
+    (json_lines (subscriber_values 1 state.kept) ++ stop_lines state.seen stop) ++ skipped_lines skipped

@@ -18,5 +18,5 @@ pub use audits::{push_accepted, push_audit_stop};
 pub use batches::push_batch;
 pub use lines::Lines;
 pub use objects::Json;
-pub use streams::{push_saved, push_stop};
+pub use streams::{push_saved, push_skipped, push_stop};
 pub use subscribers::push_subscriber;

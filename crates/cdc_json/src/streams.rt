@@ -2,7 +2,7 @@
 
 ghost use Rattle.std.specs.Prelude.{◌≡◌, ◌++◌, OnOk};
 ghost use Rattle.cdc_json.specs.Lines.{json_line};
-ghost use Rattle.cdc_json.specs.Streams.{bad_line_value, gap_value, saved_lines, stop_lines};
+ghost use Rattle.cdc_json.specs.Streams.{bad_line_value, gap_value, saved_lines, skipped_lines, stop_lines};
 
 use crate::lines::{Field, Lines, Member};
 use cdc_follow::{Entry, LineError, Stop};
@@ -31,6 +31,27 @@ pub fn push_stop(alloc: Global, lines: &mut Lines, seen: u64, stop: Stop) -> Res
         Stop::AtEnd => Ok(()),
         Stop::Gap(line, entry) => push_gap(alloc, lines, seen, line, entry),
         Stop::BadLine(line, error) => push_bad_line(alloc, lines, line, error),
+    }
+}
+
+/// Adds the line of how many gaps were skipped; none if gaps aren't to be skipped.
+pub fn push_skipped(
+    alloc: Global,
+    lines: &mut Lines,
+    skipped: Option<u64>,
+) -> Result<(), AllocError>
+    ensures { OnOk result (lines.new.text.items ≡ lines.old.text.items ++ skipped_lines skipped) }
+{
+    match skipped {
+        None => Ok(()),
+        Some(skipped) => lines.push(
+            alloc,
+            "followed",
+            &[Member {
+                name: "gaps_skipped",
+                value: Field::Number(skipped),
+            }],
+        ),
     }
 }
 
