@@ -1,0 +1,93 @@
+//! The JSON lines of deliveries.
+
+ghost use Rattle.std.specs.Prelude.{◌≡◌, ◌++◌, ◌∷◌, [], IfOk, OnOk, List, string_bytes};
+ghost use Rattle.cdc_queues.specs.Lines.{ended};
+ghost use Rattle.cdc_deliveries.specs.DeliveryLines.{delivery_line, delivery_text, flag_text as flag_named};
+
+use crate::arrivals::Arrival;
+use crate::feeds::{FeedIndex, Placed};
+use cdc_log::EventLog;
+use cdc_match::Binding;
+use cdc_message::Message;
+use cdc_queues::push_headers;
+use cdc_types::Event;
+use itoa::{Buffer, Integer};
+use std::alloc::{AllocError, Global};
+
+/// The JSON lines of the deliveries to a subscriber with this binding, one for each arrival. The log has the events of
+/// the ledger, all of its history. An error means out of memory.
+pub fn delivery_lines(
+    alloc: Global,
+    log: &EventLog,
+    binding: &Binding,
+    arrivals: &[Arrival],
+) -> Result<Vec<u8>, AllocError>
+    ensures { IfOk result (λ text. text.items ≡ delivery_text binding.now log.now.events arrivals.now) }
+{
+    let index = FeedIndex::new(alloc, log, binding)?;
+    let mut text = String::new(alloc);
+    for place in 0..arrivals.len() {
+        let arrival = arrivals[place];
+        if let Some(placed) = index.find(arrival.item) {
+            push_delivery(alloc, &mut text, place as u64 + 1, arrival, placed)?;
+        }
+    }
+    Ok(text.into_bytes())
+}
+
+/// Adds the line of the delivery of this number.
+fn push_delivery(
+    alloc: Global,
+    text: &mut String,
+    number: u64,
+    arrival: Arrival,
+    placed: Placed,
+) -> Result<(), AllocError>
+    ensures { OnOk result (string_bytes text.new
+        ≡ string_bytes text.old ++ ended (delivery_line number arrival placed)) }
+{
+    push_field(text, "{\"kind\":\"delivery\",\"delivery\":", number)?;
+    push_field(text, ",\"position\":", arrival.position)?;
+    text.push_str(",\"redelivered\":")?;
+    text.push_str(flag_text(arrival.redelivered))?;
+    push_field(text, ",\"previous\":\"", placed.previous)?;
+    match placed.event {
+        Some(event) => push_content(alloc, text, &event),
+        None => {
+            text.push_str("\",\"end\":true}\n")?;
+            Ok(())
+        }
+    }
+}
+
+/// Adds the rest of the line of an event's delivery, after its predecessor.
+fn push_content(alloc: Global, text: &mut String, event: &Event) -> Result<(), AllocError> {
+    let message = Message::of(alloc, event)?;
+    text.push_str("\",\"headers\":")?;
+    push_headers(text, message.headers())?;
+    push_field(text, ",\"timestamp\":", message.properties().timestamp)?;
+    text.push_str(",\"body\":")?;
+    text.push_str(message.body())?;
+    text.push_str("}\n")?;
+    Ok(())
+}
+
+fn flag_text(flag: bool) -> &'static str
+    ensures { result.now ≡ flag_named flag }
+{
+    if flag { "true" } else { "false" }
+}
+
+/// Adds what comes before a number, and the number in decimal digits.
+pub(crate) fn push_field<I: Integer>(
+    text: &mut String,
+    before: &str,
+    number: I,
+) -> Result<(), AllocError>
+    ensures { OnOk result (string_bytes text.new
+        ≡ string_bytes text.old ++ (before.now ++ I.text number)) }
+{
+    text.push_str(before)?;
+    text.push_str(Buffer::new().format(number))?;
+    Ok(())
+}
