@@ -1,0 +1,4 @@
+pub mod Walks
+pub mod IndexLemmas
+pub mod LineTexts
+pub mod ExpectedTexts

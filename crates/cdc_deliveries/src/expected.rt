@@ -1,9 +1,13 @@
 //! The JSON lines of what must come of deliveries.
 
-ghost use Rattle.std.specs.Prelude.{◌≡◌, ◌++◌, ◌∷◌, [], IfOk, OnOk, List, string_bytes};
+ghost use Rattle.std.specs.Prelude.{◌≡◌, ◌++◌, IfOk, OnOk, map, string_bytes};
+ghost use Rattle.std.specs.List.{join_with_byte};
 ghost use Rattle.cdc_queues.specs.Lines.{ended};
 ghost use Rattle.cdc_subscriber.specs.Book.{entry_of};
-ghost use Rattle.cdc_deliveries.specs.Expected.{entry_text, expected_line, expected_text, result_text as result_named};
+ghost use Rattle.cdc_subscriber.specs.Answers.{answer_to};
+ghost use Rattle.cdc_subscriber.specs.Reception.{Reception, kept_of, next as next_reception};
+ghost use Rattle.cdc_deliveries.specs.Expected.{changed, entry_text, expected_line, expected_text, item_of};
+ghost use Rattle.cdc_deliveries.specs.Expected.{result_text as result_named};
 
 use crate::arrivals::Arrival;
 use crate::feeds::{FeedIndex, Placed};
@@ -11,7 +15,7 @@ use crate::lines::push_field;
 use cdc_log::EventLog;
 use cdc_match::Binding;
 use cdc_subscriber::{Subscriber, Taking};
-use cdc_types::EventAccount;
+use cdc_types::{Event, EventAccount};
 use std::alloc::{AllocError, Global};
 
 /// The JSON lines of what must come of the deliveries to a subscriber with this binding: for each arrival what a
@@ -38,7 +42,11 @@ pub fn expected_lines(
 }
 
 /// Lets a subscriber take an item.
-fn take(subscriber: &mut Subscriber, placed: Placed) -> Result<Taking, AllocError> {
+fn take(subscriber: &mut Subscriber, placed: Placed) -> Result<Taking, AllocError>
+    ensures answer { IfOk result (λ answer. answer ≡ answer_to subscriber.old (item_of placed.event)) }
+    ensures stands { (reception : Reception) → subscriber.old ≡ kept_of reception
+        → OnOk result (subscriber.new ≡ kept_of (next_reception reception (item_of placed.event))) }
+{
     match placed.event {
         Some(event) => subscriber.take_event(&event).map_err(|_| AllocError),
         None => Ok(subscriber.take_end()),
@@ -62,13 +70,24 @@ fn push_expected(
     push_field(text, "\",\"applied\":", subscriber.applied_count())?;
     push_field(text, ",\"last\":\"", subscriber.last())?;
     text.push_str("\",\"accounts\":[")?;
-    if let (Taking::Applied, Some(event)) = (answer, placed.event) {
-        push_account(text, &event.debit_account)?;
-        text.push_str(",")?;
-        push_account(text, &event.credit_account)?;
-    }
+    push_changed(text, answer, placed.event)?;
     text.push_str("]}\n")?;
     Ok(())
+}
+
+/// Adds the objects of the accounts that an answer to an item changes.
+fn push_changed(text: &mut String, answer: Taking, event: Option<Event>) -> Result<(), AllocError>
+    ensures { OnOk result (string_bytes text.new
+        ≡ string_bytes text.old ++ join_with_byte 44 (map entry_text (changed answer event))) }
+{
+    match (answer, event) {
+        (Taking::Applied, Some(event)) => {
+            push_account(text, &event.debit_account)?;
+            text.push_str(",")?;
+            push_account(text, &event.credit_account)
+        }
+        _ => Ok(()),
+    }
 }
 
 fn result_text(answer: Taking) -> &'static str

@@ -1,10 +1,10 @@
 //! The items of a feed, found by name.
 
-ghost use Rattle.std.specs.Prelude.{◌≡◌, IfOk, List};
+ghost use Rattle.std.specs.Prelude.{◌≡◌, ◌∷◌, IfOk, List, OnOk};
 ghost use Rattle.cdc_types.specs.declared.events.Event.{Event as SomeEvent};
 ghost use Rattle.cdc_match.specs.Queue.{feed};
 ghost use Rattle.cdc_deliveries.specs.Feeds.{placed};
-ghost use Rattle.cdc_deliveries.specs.Indexes.{IsIndexOf};
+ghost use Rattle.cdc_deliveries.specs.Indexes.{Indexes, IsIndexOf};
 
 use cdc_log::EventLog;
 use cdc_match::Binding;
@@ -53,18 +53,34 @@ impl FeedIndex {
     }
 
     /// Adds an event, if the binding takes it.
-    fn add(&mut self, binding: &Binding, event: &Event) -> Result<(), AllocError> {
-        if !binding.matches(&headers_of(event)) {
+    fn add(&mut self, binding: &Binding, event: &Event) -> Result<(), AllocError>
+        ensures { OnOk result ((later : List SomeEvent) → (fed : List SomeEvent)
+            → Indexes self.old (feed (event.now ∷ later) binding.now) fed
+            → Indexes self.new (feed later binding.now) fed) }
+    {
+        if binding.matches(&headers_of(event)) {
+            self.push(event)
+        } else {
+            Ok(())
+        }
+    }
+
+    /// Adds the next event of the feed.
+    fn push(&mut self, event: &Event) -> Result<(), AllocError>
+        ensures { OnOk result ((later : List SomeEvent) → (fed : List SomeEvent)
+            → Indexes self.old (event.now ∷ later) fed → Indexes self.new later fed) }
+    {
+        let timestamp = event.timestamp;
+        if self.events.contains_key(&timestamp) {
+            self.last = timestamp;
             return Ok(());
         }
-        if !self.events.contains_key(&event.timestamp) {
-            let placed = Placed {
-                previous: self.last,
-                event: Some(*event),
-            };
-            self.events.insert(event.timestamp, placed)?;
-        }
-        self.last = event.timestamp;
+        let placed = Placed {
+            previous: self.last,
+            event: Some(*event),
+        };
+        self.events.insert(timestamp, placed)?;
+        self.last = timestamp;
         Ok(())
     }
 

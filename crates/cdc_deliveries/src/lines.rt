@@ -1,8 +1,10 @@
 //! The JSON lines of deliveries.
 
-ghost use Rattle.std.specs.Prelude.{◌≡◌, ◌++◌, ◌∷◌, [], IfOk, OnOk, List, string_bytes};
+ghost use Rattle.std.specs.Prelude.{◌≡◌, ◌++◌, IfOk, OnOk, Some, string_bytes};
+ghost use Rattle.std.specs.List.{join_with_byte};
 ghost use Rattle.cdc_queues.specs.Lines.{ended};
-ghost use Rattle.cdc_deliveries.specs.DeliveryLines.{delivery_line, delivery_text, flag_text as flag_named};
+ghost use Rattle.cdc_deliveries.specs.DeliveryLines.{content_members, delivery_line, delivery_text};
+ghost use Rattle.cdc_deliveries.specs.DeliveryLines.{flag_text as flag_named};
 
 use crate::arrivals::Arrival;
 use crate::feeds::{FeedIndex, Placed};
@@ -51,24 +53,36 @@ fn push_delivery(
     text.push_str(",\"redelivered\":")?;
     text.push_str(flag_text(arrival.redelivered))?;
     push_field(text, ",\"previous\":\"", placed.previous)?;
-    match placed.event {
-        Some(event) => push_content(alloc, text, &event),
+    text.push_str("\",")?;
+    push_content(alloc, text, placed.event)?;
+    text.push_str("}\n")?;
+    Ok(())
+}
+
+/// Adds the members that an event's message has, or that of the end mark.
+fn push_content(alloc: Global, text: &mut String, event: Option<Event>) -> Result<(), AllocError>
+    ensures { OnOk result (string_bytes text.new
+        ≡ string_bytes text.old ++ join_with_byte 44 (content_members event)) }
+{
+    match event {
+        Some(event) => push_message(alloc, text, &event),
         None => {
-            text.push_str("\",\"end\":true}\n")?;
+            text.push_str("\"end\":true")?;
             Ok(())
         }
     }
 }
 
-/// Adds the rest of the line of an event's delivery, after its predecessor.
-fn push_content(alloc: Global, text: &mut String, event: &Event) -> Result<(), AllocError> {
+fn push_message(alloc: Global, text: &mut String, event: &Event) -> Result<(), AllocError>
+    ensures { OnOk result (string_bytes text.new
+        ≡ string_bytes text.old ++ join_with_byte 44 (content_members (Some event.now))) }
+{
     let message = Message::of(alloc, event)?;
-    text.push_str("\",\"headers\":")?;
+    text.push_str("\"headers\":")?;
     push_headers(text, message.headers())?;
     push_field(text, ",\"timestamp\":", message.properties().timestamp)?;
     text.push_str(",\"body\":")?;
     text.push_str(message.body())?;
-    text.push_str("}\n")?;
     Ok(())
 }
 
