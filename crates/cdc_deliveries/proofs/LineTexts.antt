@@ -162,15 +162,13 @@ pub line_added : (old new line left whole : List ℕ) → new ≡ old ++ line �
 line_added old new line left whole adds before = rw (adds) (append_assoc old line left) ∙ before
 
 -- the line of an arrival
-pub one_delivery : (fed : List Event) (arrived : List Arrival) (place : ℕ) (arrival : Arrival) (found : Option Placed)
-    (old new whole : List ℕ) → slice_get arrived place ≡ Some arrival → found ≡ placed fed arrival.item
-    → new ≡ old ++ line_of (delivery_line (place + 1) arrival) found
+pub one_delivery : (fed : List Event) (arrived : List Arrival) (place : ℕ) (arrival : Arrival) (old new whole : List ℕ)
+    → slice_get arrived place ≡ Some arrival
+    → new ≡ old ++ line_of (delivery_line (place + 1) arrival) (placed fed arrival.item)
     → old ++ deliveries_from (place + 1) fed (drop place arrived) ≡ whole
     → new ++ deliveries_from (place + 1 + 1) fed (drop (place + 1) arrived) ≡ whole
-one_delivery fed arrived place arrival found old new whole is finds adds before =
-    let line : List ℕ = line_of (delivery_line (place + 1) arrival) found in
-    let left : List ℕ = deliveries_from (place + 1 + 1) fed (drop (place + 1) arrived) in
-    line_added old new line left whole adds
-    (ap (λ (it : Option Placed). old ++ (line_of (delivery_line (place + 1) arrival) it ++ left)) finds
-    ∙ ap (λ (ys : List Arrival). old ++ deliveries_from (place + 1) fed ys) (sym (drop_found arrived place arrival is))
+one_delivery fed arrived place arrival old new whole is adds before =
+    line_added old new (line_of (delivery_line (place + 1) arrival) (placed fed arrival.item))
+    (deliveries_from (place + 1 + 1) fed (drop (place + 1) arrived)) whole adds
+    (ap (λ (ys : List Arrival). old ++ deliveries_from (place + 1) fed ys) (sym (drop_found arrived place arrival is))
     ∙ before)

@@ -1,13 +1,17 @@
 //! The JSON lines of what must come of deliveries.
 
-ghost use Rattle.std.specs.Prelude.{◌≡◌, ◌++◌, IfOk, OnOk, map, string_bytes};
+ghost use Rattle.std.specs.Prelude.{◌≡◌, ◌++◌, IfOk, List, OnOk, map, string_bytes};
 ghost use Rattle.std.specs.List.{join_with_byte};
+ghost use Rattle.cdc_types.specs.declared.events.Event.{Event as SomeEvent};
 ghost use Rattle.cdc_queues.specs.Lines.{ended};
 ghost use Rattle.cdc_subscriber.specs.Book.{entry_of};
 ghost use Rattle.cdc_subscriber.specs.Answers.{answer_to};
 ghost use Rattle.cdc_subscriber.specs.Reception.{Reception, kept_of, next as next_reception};
 ghost use Rattle.cdc_deliveries.specs.Expected.{changed, entry_text, expected_line, expected_text, item_of};
-ghost use Rattle.cdc_deliveries.specs.Expected.{result_text as result_named};
+ghost use Rattle.cdc_deliveries.specs.Expected.{answer_line, next_placed, result_text as result_named};
+ghost use Rattle.cdc_deliveries.specs.DeliveryLines.{line_of};
+ghost use Rattle.cdc_deliveries.specs.Feeds.{placed};
+ghost use Rattle.cdc_deliveries.specs.Indexes.{IsIndexOf};
 
 use crate::arrivals::Arrival;
 use crate::feeds::{FeedIndex, Placed};
@@ -32,13 +36,40 @@ pub fn expected_lines(
     let index = FeedIndex::new(alloc, log, binding)?;
     let mut text = String::new(alloc);
     let mut subscriber = Subscriber::new(alloc);
-    for place in 0..arrivals.len() {
-        if let Some(placed) = index.find(arrivals[place].item) {
-            let answer = take(&mut subscriber, placed)?;
-            push_expected(&mut text, place as u64 + 1, answer, &subscriber, placed)?;
-        }
+    for (place, arrival) in arrivals.iter().enumerate() {
+        push_arrival(
+            &mut text,
+            &mut subscriber,
+            &index,
+            place as u64 + 1,
+            arrival,
+        )?;
     }
     Ok(text.into_bytes())
+}
+
+/// Lets a subscriber take the item of the arrival of this number, if the feed has it, and adds the line of what comes of
+/// it.
+fn push_arrival(
+    text: &mut String,
+    subscriber: &mut Subscriber,
+    index: &FeedIndex,
+    number: u64,
+    arrival: &Arrival,
+) -> Result<(), AllocError>
+    ensures stands { (reception : Reception) → subscriber.old ≡ kept_of reception → (fed : List SomeEvent)
+        → IsIndexOf index.now fed
+        → OnOk result (subscriber.new ≡ kept_of (next_placed reception (placed fed arrival.now.item))) }
+    ensures line { (reception : Reception) → subscriber.old ≡ kept_of reception → (fed : List SomeEvent)
+        → IsIndexOf index.now fed
+        → OnOk result (string_bytes text.new
+        ≡ string_bytes text.old ++ line_of (answer_line number reception) (placed fed arrival.now.item)) }
+{
+    let Some(placed) = index.find(arrival.item) else {
+        return Ok(());
+    };
+    let answer = take(subscriber, placed)?;
+    push_expected(text, number, answer, subscriber, placed)
 }
 
 /// Lets a subscriber take an item.

@@ -1,10 +1,13 @@
 //! The JSON lines of deliveries.
 
-ghost use Rattle.std.specs.Prelude.{◌≡◌, ◌++◌, IfOk, OnOk, Some, string_bytes};
+ghost use Rattle.std.specs.Prelude.{◌≡◌, ◌++◌, IfOk, List, OnOk, Some, string_bytes};
 ghost use Rattle.std.specs.List.{join_with_byte};
+ghost use Rattle.cdc_types.specs.declared.events.Event.{Event as SomeEvent};
 ghost use Rattle.cdc_queues.specs.Lines.{ended};
 ghost use Rattle.cdc_deliveries.specs.DeliveryLines.{content_members, delivery_line, delivery_text};
-ghost use Rattle.cdc_deliveries.specs.DeliveryLines.{flag_text as flag_named};
+ghost use Rattle.cdc_deliveries.specs.DeliveryLines.{flag_text as flag_named, line_of};
+ghost use Rattle.cdc_deliveries.specs.Feeds.{placed};
+ghost use Rattle.cdc_deliveries.specs.Indexes.{IsIndexOf};
 
 use crate::arrivals::Arrival;
 use crate::feeds::{FeedIndex, Placed};
@@ -28,13 +31,27 @@ pub fn delivery_lines(
 {
     let index = FeedIndex::new(alloc, log, binding)?;
     let mut text = String::new(alloc);
-    for place in 0..arrivals.len() {
-        let arrival = arrivals[place];
-        if let Some(placed) = index.find(arrival.item) {
-            push_delivery(alloc, &mut text, place as u64 + 1, arrival, placed)?;
-        }
+    for (place, arrival) in arrivals.iter().enumerate() {
+        push_arrival(alloc, &mut text, &index, place as u64 + 1, arrival)?;
     }
     Ok(text.into_bytes())
+}
+
+/// Adds the line of an arrival of this number, if the feed has its item.
+fn push_arrival(
+    alloc: Global,
+    text: &mut String,
+    index: &FeedIndex,
+    number: u64,
+    arrival: &Arrival,
+) -> Result<(), AllocError>
+    ensures { OnOk result ((fed : List SomeEvent) → IsIndexOf index.now fed → string_bytes text.new
+        ≡ string_bytes text.old ++ line_of (delivery_line number arrival.now) (placed fed arrival.now.item)) }
+{
+    match index.find(arrival.item) {
+        Some(placed) => push_delivery(alloc, text, number, *arrival, placed),
+        None => Ok(()),
+    }
 }
 
 /// Adds the line of the delivery of this number.

@@ -12,8 +12,8 @@ returns-then-matches c =
     c.matches.ensures c.if-matches.true in
     index_fed c.args.self.now c.push.new.self c.args.binding.now c.args.event.now c.push.result takes c.push.ensures
 
-pub returns : goal.returns
-returns c =
+pub returns-else-matches : goal.returns-else-matches
+returns-else-matches c =
     let passes : takes_event c.args.binding.now c.args.event.now ≡ false =
     takes_by c.args.binding.now c.args.event.now c.headers_of.result c.matches.result false c.headers_of.ensures
     c.matches.ensures c.if-matches.false in
