@@ -20,12 +20,12 @@ pub struct Recorder {
 }
 
 impl Recorder {
-    ghost use Rattle.std.specs.Prelude.{◌≡◌, ◌∷◌, ◌++◌, [], List, IfSome};
+    ghost use Rattle.std.specs.Prelude.{◌≡◌, ◌∷◌, ◌++◌, [], List, IfSome, IsSomeAnd};
     ghost use Rattle.cdc_deliveries.specs.declared.steps.DeliveryStep.{DeliveryStep as Recorded};
 
     /// A recorder that has seen nothing.
     pub fn new(alloc: Global) -> Recorder
-        ensures { IfSome result.steps (λ steps. steps.items ≡ []) }
+        ensures { IsSomeAnd result.steps (λ steps. steps.items ≡ []) }
     {
         Recorder {
             steps: Some(Vec::new(alloc)),
