@@ -7,6 +7,11 @@ ghost use Rattle.cdc_script.specs.declared.step_files.Act.{Act};
 ghost use Rattle.cdc_script.specs.Scripts.{max_bytes, script_of};
 ghost use Rattle.cdc_script.specs.StepFiles.{acts_of};
 ghost use Rattle.cdc_types.specs.Windows.{IsWindow};
+ghost use Rattle.cdc_ledger.specs.Events.{events};
+ghost use Rattle.cdc_commands.specs.QueuePrinted as spec;
+ghost use Rattle.cdc_commands.specs.SimulationReports.{IsReportOf};
+ghost use Rattle.cdc_commands.specs.Simulations.{Stage};
+ghost use Rattle.cdc_deliveries.specs.Recorded.{delivery_steps};
 ghost use Rattle.cdc_commands.specs.Outcomes.{IsSimulationFault, MayFailScript, Writes};
 ghost use Rattle.cdc_deliveries.specs.Deliver.{PrintsDeliveries, SawAsked, asked_text};
 ghost use Rattle.cdc_deliveries.specs.Arrivals.{arrivals};
@@ -20,7 +25,8 @@ use crate::recorder::Recorder;
 use crate::steps::DeliveryStep;
 use cdc_commands::queues::binding_at;
 use cdc_commands::{
-    Ended, Ending, Form, Notes, Observer, Output, ProgramFault, Tally, play_script, print_output,
+    Ended, Ending, Form, Notes, Observer, Output, ProgramFault, Simulated, Tally, play_script,
+    print_output,
 };
 use cdc_log::EventLog;
 use cdc_match::Binding;
@@ -145,7 +151,7 @@ fn steps_deliveries<F: Form, O: Observer>(
     ensures fault { IfErr result IsSimulationFault }
 {
     let notes = Notes::of(alloc, &script);
-    let Some(binding) = binding_at(script.bindings.as_slice(), asked.subscriber) else {
+    let Some(binding) = subscriber_binding(alloc, &script, asked.subscriber)? else {
         return Ok(Output {
             text: Vec::new(alloc),
             ending: Ending::BadWords,
@@ -153,20 +159,52 @@ fn steps_deliveries<F: Form, O: Observer>(
             notes: Notes::NONE,
         });
     };
-    let binding = binding.try_copy(alloc)?;
     observers.begin(alloc, &script, steps);
-    let simulated = play_script(alloc, script, window, steps.acts.as_slice(), observers)?;
-    let Some(recorded) = &observers.first.steps else {
-        return Err(ProgramFault::OutOfMemory);
-    };
-    let log = simulated.world.ledger().log();
-    let text = asked_lines(alloc, log, &binding, recorded.as_slice(), asked)?;
+    let acts = steps.acts.as_slice();
+    let simulated = play_script(alloc, script, window, acts, observers)?;
+    let text = simulated_lines(alloc, &simulated, &observers.first, &binding, asked)?;
     Ok(Output {
         text,
         ending: Ending::of_refusal(simulated.played.refusal),
         tally: Tally::of(simulated.answers.as_slice()),
         notes,
     })
+}
+
+/// The binding of the subscriber of this number, from 1, or `None` if the script has none. An error means out of memory.
+fn subscriber_binding(
+    alloc: Global,
+    script: &Script,
+    number: usize,
+) -> Result<Option<Binding>, AllocError>
+    ensures { IfOk result (λ found. found ≡ spec.binding_at script.now.bindings number) }
+{
+    match binding_at(script.bindings.as_slice(), number) {
+        Some(binding) => Ok(Some(binding.try_copy(alloc)?)),
+        None => Ok(None),
+    }
+}
+
+/// The lines that are asked for, of a simulation whose steps were recorded. The subscriber has this binding. Fails if
+/// memory runs out, or ran out while the steps were recorded.
+fn simulated_lines(
+    alloc: Global,
+    simulated: &Simulated,
+    recorder: &Recorder,
+    binding: &Binding,
+    asked: Asked,
+) -> Result<Vec<u8>, ProgramFault>
+    ensures text { (end : Stage) → IsReportOf end simulated.now
+        → IfSome recorder.now.steps (λ steps. steps.items ≡ delivery_steps end.seen)
+        → IfOk result (λ text. text.items ≡ asked_text asked.expects binding.now (events end.world.history)
+        (arrivals asked.subscriber (delivery_steps end.seen))) }
+    ensures fault { IfErr result IsSimulationFault }
+{
+    let Some(steps) = &recorder.steps else {
+        return Err(ProgramFault::OutOfMemory);
+    };
+    let log = simulated.world.ledger().log();
+    Ok(asked_lines(alloc, log, binding, steps.as_slice(), asked)?)
 }
 
 /// The lines that are asked for, of what arrives by these steps at the subscriber, which has this binding.
