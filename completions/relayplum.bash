@@ -19,13 +19,13 @@ _relayplum() {
         words='books messages simulate run follow audit help'
     elif [ "${COMP_WORDS[COMP_CWORD - 1]}" = --window ]; then
         words='1 2 8 64'
-    elif [ "${COMP_WORDS[COMP_CWORD - 1]}" = --queue ]; then
+    elif [ "${COMP_WORDS[COMP_CWORD - 1]}" = --queue ] || [ "${COMP_WORDS[COMP_CWORD - 1]}" = --deliveries ]; then
         words='1 2 3 4 5 6 7 8'
     elif [[ $word == -* ]]; then
         case ${COMP_WORDS[first]} in
             books) words='--explain --json --check -h --help' ;;
             messages) words='--queue --json --check -h --help' ;;
-            simulate) words='--random --to-end --steps --faults --window --explain --trace --diagram --json --check -h --help' ;;
+            simulate) words='--random --to-end --steps --faults --deliveries --expect --window --explain --trace --diagram --json --check -h --help' ;;
             run)
                 words='--window --prefetch --lose-confirm --lose-publish --restart-after --repeat --close --start-after --progress --explain --trace --json -h --help'
                 ;;

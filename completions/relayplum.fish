@@ -15,6 +15,8 @@ complete -c relayplum -n '__fish_seen_subcommand_from books messages simulate' -
 complete -c relayplum -n '__fish_seen_subcommand_from messages' -l queue -x -a '1 2 3 4 5 6 7 8' -d 'Print only the queue of this subscriber'
 complete -c relayplum -n '__fish_seen_subcommand_from simulate' -l trace -d 'Print on standard error what each step did'
 complete -c relayplum -n '__fish_seen_subcommand_from run' -l trace -d 'Print on standard error what was lost or sent again, and what each subscriber received'
+complete -c relayplum -n '__fish_seen_subcommand_from simulate' -l deliveries -x -a '1 2 3 4 5 6 7 8' -d 'Print what is delivered to this subscriber'
+complete -c relayplum -n '__fish_seen_subcommand_from simulate' -l expect -d 'Print in the place of each delivery what must come of it'
 complete -c relayplum -n '__fish_seen_subcommand_from simulate' -l diagram -d 'Draw the steps for Mermaid, on standard error or, as --diagram=FILE, in a file'
 complete -c relayplum -n '__fish_seen_subcommand_from simulate' -l random -x -d 'Take random steps, and print them on standard error'
 complete -c relayplum -n '__fish_seen_subcommand_from simulate' -l steps -x -d 'Number of random steps at most'

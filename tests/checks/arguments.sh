@@ -170,6 +170,12 @@ done
 usage_error "'--trace'" books one.script --trace
 usage_error "'--diagram" messages one.script --diagram=out
 usage_error "'--check" simulate one.script three.steps --check=yes
+for number in 0 9 1x '' -1; do
+    usage_error "--deliveries $number: the number of a subscriber, from 1 to 8" simulate one.script three.steps "--deliveries=$number"
+done
+usage_error "'--deliveries" simulate one.script three.steps --deliveries
+usage_error "'--deliveries" simulate one.script three.steps --check --deliveries 1
+usage_error "--deliveries" simulate one.script three.steps --expect
 usage_error "'--check'" run one.script --check
 usage_error "'--progress" run one.script --progress
 usage_error "'--progress" run one.script --progress a --progress b
@@ -603,7 +609,10 @@ run simulate "$top/examples/two-phase.script" "$top/examples/faults.steps"
 shown=$(sed -n '/^steps 92 of 92$/,/^```$/p' "$top/docs/REFERENCE.md")
 same 'the example of faults' "${shown%\`\`\`}" "$(sed -n '/^steps /,$p' output)
 "
-counts 'the example of faults' 2 0
+same 'the example of faults: status' 0 "$status"
+same 'the example of faults: standard error' 'relayplum: subscriber 1 applied 7 of 12 deliveries
+relayplum: items not accepted: 2, batches refused: 0; --explain prints why
+' "$err"
 faulty=$(sed '/^steps /,$d' output)
 run books "$top/examples/two-phase.script"
 same 'the example of faults: its batches' "$(sed '/^subscriber /,$d' output)" "$faulty"
@@ -950,16 +959,19 @@ run simulate --trace "$top/examples/two-phase.script" "$top/tests/checks/argumen
 same 'a trace: status' 0 "$status"
 same 'a trace: standard output' "$plain" "$out"
 same 'a trace' "$(cat "$top/tests/checks/arguments/duplicates.trace")
+relayplum: subscriber 1 applied 1 of 2 deliveries
 " "$err"
 run simulate --diagram "$top/examples/two-phase.script" "$top/tests/checks/arguments/duplicates.steps"
 same 'a diagram: status' 0 "$status"
 same 'a diagram: standard output' "$plain" "$out"
 same 'a diagram' "$(cat "$top/tests/checks/arguments/duplicates.diagram")
+relayplum: subscriber 1 applied 1 of 2 deliveries
 " "$err"
 run simulate --diagram=drawn "$top/examples/two-phase.script" "$top/tests/checks/arguments/duplicates.steps"
 same 'a diagram in a file' "$(cat "$top/tests/checks/arguments/duplicates.diagram")" "$(cat drawn)"
 same 'a diagram in a file: standard output' "$plain" "$out"
-ends_well 'a diagram in a file'
+same 'a diagram in a file: standard error' 'relayplum: subscriber 1 applied 1 of 2 deliveries
+' "$err"
 run simulate --diagram=no-folder/drawn "$top/examples/two-phase.script" "$top/tests/checks/arguments/duplicates.steps"
 same 'a diagram that cannot be written: status' 0 "$status"
 same 'a diagram that cannot be written: standard output' "$plain" "$out"
@@ -977,6 +989,34 @@ same 'all reports at once: status' 0 "$status"
 same 'all reports at once: what was explained' 2 "$(grep -c 'two-phase.script:.*: 2[68] pending_transfer' errors)"
 same 'all reports at once: subscriber 1' 'applied 2000 applied 2001 repeat repeat repeat applied 2002 applied 3000 repeat repeat applied 3001 applied 3002 applied 2000000000 heard the end mark' \
     "$(sed -n 's/^take 1: //p' errors | sed 's/, transfer .*//; s/^repeat of .*/repeat/' | tr '\n' ' ' | sed 's/ $//')"
+# The deliveries to one subscriber, in the place of the report. Standard error is as without the flag.
+run simulate --trace --deliveries 1 "$top/examples/two-phase.script" "$top/tests/checks/arguments/duplicates.steps"
+same 'deliveries with a trace: status' 0 "$status"
+same 'deliveries with a trace: standard output' 'delivery 1 1 false 0
+delivery 2 1 true 0' "$(sed -E 's/^.*"(delivery)":([0-9]+),"position":([0-9]+),"redelivered":([a-z]+),"previous":"([0-9]+)".*/\1 \2 \3 \4 \5/' output)"
+same 'deliveries with a trace: standard error' "$(cat "$top/tests/checks/arguments/duplicates.trace")
+relayplum: subscriber 1 applied 1 of 2 deliveries
+" "$err"
+run simulate --deliveries 2 one.script three.steps
+same 'deliveries of no subscriber: status' 2 "$status"
+same 'deliveries of no subscriber: standard output' '' "$out"
+same 'deliveries of no subscriber: standard error' 'relayplum: --deliveries 2: the script has no such subscriber
+' "$err"
+run simulate --deliveries 2 --random 1 one.script
+same 'deliveries of no subscriber in random steps: status and standard error' \
+    '2 relayplum: --deliveries 2: the script has no such subscriber
+' "$status $err"
+for seed in {1..20}; do
+    run simulate "$top/examples/two-phase.script" --random "$seed" --deliveries 1
+    same "deliveries of the seed $seed: status" 0 "$status"
+    cp errors random.steps
+    made=$out
+    run simulate "$top/examples/two-phase.script" random.steps --deliveries 1
+    same "deliveries of the seed $seed, played again" "$made" "$out"
+    cp random.steps input
+    run simulate "$top/examples/two-phase.script" - --deliveries 1 --json
+    same "deliveries of the seed $seed, from standard input" "$made" "$out"
+done
 printf 'start\nstart\n' >twice.steps
 run simulate --trace one.script twice.steps
 same 'a trace up to a refused step' 'start: session 1 begins after 0

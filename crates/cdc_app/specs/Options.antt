@@ -22,8 +22,8 @@ pub record IsDefaultPlan (plan : RunPlan) : Type 0 where
 abbrev pub IsRun : List ℕ → Options → Type 0
 IsRun name (Books file explain form) = ⊥
 IsRun name (Messages file queue form) = ⊥
-IsRun name (Simulate file steps window diagnostics form) = ⊥
-IsRun name (Random file window chances diagnostics form) = ⊥
+IsRun name (Simulate file steps window deliveries diagnostics form) = ⊥
+IsRun name (Random file window deliveries chances diagnostics form) = ⊥
 IsRun name (Run file plan progress diagnostics form) =
     (file.now ≡ name) × (IsDefaultPlan plan × ((progress ≡ None)
     × ((diagnostics ≡ record { explain = false; trace = false }) × (form ≡ Text))))
@@ -36,8 +36,8 @@ IsRun name (Explain text) = ⊥
 abbrev pub IsWithinLimits : Options → Type 0
 IsWithinLimits (Books file explain form) = Unit {0}
 IsWithinLimits (Messages file queue form) = Unit {0}
-IsWithinLimits (Simulate file steps window diagnostics form) = IsWindow window
-IsWithinLimits (Random file window chances diagnostics form) = IsWindow window
+IsWithinLimits (Simulate file steps window deliveries diagnostics form) = IsWindow window
+IsWithinLimits (Random file window deliveries chances diagnostics form) = IsWindow window
 IsWithinLimits (Run file plan progress diagnostics form) = IsPlan plan
 IsWithinLimits (Check file steps has_diagram form) = Unit {0}
 IsWithinLimits (Follow file plan form) = Unit {0}

@@ -4,6 +4,7 @@ ghost use Rattle.std.specs.Prelude.{◌≡◌};
 ghost use Rattle.cdc_app.specs.Options.{options_fault_number, options_fault_name};
 
 use crate::follow_options::FollowPlan;
+use cdc_deliveries::Asked;
 use cdc_random_steps::Chances;
 use cdc_run_command::RunPlan;
 use std::alloc::AllocError;
@@ -32,6 +33,8 @@ pub enum Options<'a> {
         file: &'a str,
         steps: &'a str,
         window: usize,
+        /// The subscriber whose deliveries are printed instead, if one is named.
+        deliveries: Option<Asked>,
         diagnostics: Diagnostics<'a>,
         form: Form,
     },
@@ -39,6 +42,7 @@ pub enum Options<'a> {
     Random {
         file: &'a str,
         window: usize,
+        deliveries: Option<Asked>,
         chances: Chances,
         diagnostics: Diagnostics<'a>,
         form: Form,

@@ -8,6 +8,7 @@ mod advice;
 mod audit;
 mod audit_options;
 mod command_line;
+mod delivery_options;
 mod diagnostics;
 mod follow;
 mod follow_advice;
@@ -23,35 +24,32 @@ mod run_options;
 mod run_places;
 mod run_traces;
 mod run_turns;
+mod simulation;
 mod slips;
 mod sources;
 mod watched;
 
-use advice::{advise, advise_on_run, advise_on_script, advise_on_steps, shown_name};
+use advice::{advise, advise_on_run, advise_on_script, advise_on_steps};
 use audit::run_audit;
 use cdc_commands::books::{BooksEnded, books};
 use cdc_commands::check::{check, check_files};
 use cdc_commands::messages::messages;
 use cdc_commands::queues::queue;
-use cdc_commands::simulate::simulate;
 use cdc_commands::{
     Ended, Ending, ParsedBatches, ProgramFault, Tally, Text, print_fault, print_text,
 };
-use cdc_diagnostics::Observation;
 use cdc_json::Json;
 use cdc_progress::{FileStore, MemoryStore, ProgressStore};
 use cdc_run_command::{Ran, RunEnded, RunPlan, run_command};
-use diagnostics::{
-    EXPLAIN, asked, can_draw, explain_books, explain_run, hint, is_reported, note,
-    report_simulation,
-};
+use diagnostics::{EXPLAIN, explain_books, explain_run, hint, note};
 use follow::run_follow;
 use kept::Kept;
-use options::{Diagnostics, Form, Options, OptionsFault, RunDiagnostics, options};
+use options::{Form, Options, OptionsFault, RunDiagnostics, options};
 use random::run_random;
 use run_faults::{copy_faults, report_missed};
 use run_traces::trace_run;
 use run_turns::Turns;
+use simulation::{Wanted, run_simulation};
 use sources::Source;
 use std::alloc::AllocError;
 use std::io::IsTerminal;
@@ -118,10 +116,18 @@ fn run_arguments<T: Threads + Wait + Sync>(rt: &HostRuntime, threads: &T, args: 
                 file,
                 steps,
                 window,
+                deliveries,
                 diagnostics,
                 form,
             },
-        ) => run_simulation(rt, file, steps, window, diagnostics, form),
+        ) => {
+            let wanted = Wanted {
+                window,
+                deliveries,
+                form,
+            };
+            run_simulation(rt, file, steps, wanted, diagnostics)
+        }
         Ok(
             Options::Run {
                 file,
@@ -135,11 +141,19 @@ fn run_arguments<T: Threads + Wait + Sync>(rt: &HostRuntime, threads: &T, args: 
             Options::Random {
                 file,
                 window,
+                deliveries,
                 chances,
                 diagnostics,
                 form,
             },
-        ) => run_random(rt, file, window, chances, diagnostics, form),
+        ) => {
+            let wanted = Wanted {
+                window,
+                deliveries,
+                form,
+            };
+            run_random(rt, file, wanted, chances, diagnostics)
+        }
         Ok(
             Options::Check {
                 file,
@@ -244,90 +258,6 @@ fn run_queue(rt: &HostRuntime, file: &str, number: usize, form: Form) -> Ending 
     }
     advise_on_script(rt, seen, ending);
     ending
-}
-
-/// Runs `simulate` over the script and the step file of these names, and reports on standard error what is asked for,
-/// why a step was refused, or why the command failed.
-fn run_simulation(
-    rt: &HostRuntime,
-    file: &str,
-    steps: &str,
-    window: usize,
-    diagnostics: Diagnostics<'_>,
-    form: Form,
-) -> Ending
-    requires { IsWindow window }
-{
-    if !can_draw(rt, diagnostics, &[file, steps]) {
-        return Ending::BadWords;
-    }
-    let mut script = Kept::new(rt.alloc(), Source::of_script(rt, file));
-    let mut step_file = Kept::new(rt.alloc(), Source::of_script(rt, steps));
-    let mut observation = Observation::new(rt.alloc(), shown_name(file), asked(diagnostics));
-    let Ended {
-        ending,
-        tally,
-        notes,
-    } = print_simulation(
-        rt,
-        &mut script,
-        &mut step_file,
-        window,
-        form,
-        &mut observation,
-    );
-    let mut reported = false;
-    if is_reported(ending, diagnostics) {
-        if let Some(observed) = observation.finish(rt.alloc()) {
-            reported = report_simulation(rt, shown_name(steps), &observed, diagnostics);
-        }
-    }
-    let seen = script.seen(file);
-    if !reported {
-        advise_on_steps(rt, seen, step_file.seen(steps), ending);
-    }
-    if let Ending::Done | Ending::Refused(_) = ending {
-        if !diagnostics.explain {
-            hint(rt, tally, EXPLAIN);
-        }
-        note(rt, file, notes, true);
-    }
-    ending
-}
-
-/// Runs `simulate` over a script and a step file, with an observer.
-fn print_simulation(
-    rt: &HostRuntime,
-    script: &mut Kept<Source>,
-    step_file: &mut Kept<Source>,
-    window: usize,
-    form: Form,
-    observation: &mut Observation<'_>,
-) -> Ended
-    requires { IsWindow window }
-{
-    let alloc = rt.alloc();
-    let mut writer = io::writer(rt);
-    match form {
-        Form::Text => simulate(
-            &Text,
-            alloc,
-            script,
-            step_file,
-            window,
-            &mut writer,
-            observation,
-        ),
-        Form::Json => simulate(
-            &Json,
-            alloc,
-            script,
-            step_file,
-            window,
-            &mut writer,
-            observation,
-        ),
-    }
 }
 
 /// Runs the script of this name on threads, with its progress in the file of that name or in memory, and reports on

@@ -6,6 +6,7 @@ ghost use Rattle.cdc_app.specs.Options.{IsRun, IsWithinLimits};
 
 use crate::audit_options::audit_arguments;
 pub use crate::command_line::{Diagnostics, Form, Options, OptionsFault, RunDiagnostics};
+use crate::delivery_options::{asked_deliveries, deliveries_option, expect_flag};
 use crate::follow_options::{follow_arguments, follow_plan};
 use crate::help;
 use crate::random_options::{
@@ -151,6 +152,8 @@ fn simulate_arguments<'a>(alloc: Global) -> Result<Command<'a>, AllocError> {
         .arg(to_end_flag(alloc)?)?
         .arg(steps_option(alloc)?)?
         .arg(faults_option(alloc)?)?
+        .arg(deliveries_option(alloc)?)?
+        .arg(expect_flag(alloc)?)?
         .arg(window_option(alloc))?
         .arg(explain_flag(alloc))?
         .arg(trace_flag(alloc))?
@@ -274,7 +277,7 @@ fn asked_of<'a>(
         }),
         ("messages", _) => Ok(Options::Messages {
             file,
-            queue: asked_queue(alloc, arguments)?,
+            queue: read_subscriber(alloc, arguments, "queue")?,
             form,
         }),
         ("run", _) => Ok(Options::Run {
@@ -331,6 +334,7 @@ fn simulation<'a>(
         file,
         steps,
         window,
+        deliveries: asked_deliveries(alloc, arguments)?,
         diagnostics: asked_diagnostics(arguments),
         form: asked_form(arguments),
     })
@@ -348,35 +352,25 @@ fn random_simulation<'a>(
     Ok(Options::Random {
         file,
         window,
+        deliveries: asked_deliveries(alloc, arguments)?,
         chances: asked_chances(alloc, arguments)?,
         diagnostics: asked_diagnostics(arguments),
         form: asked_form(arguments),
     })
 }
 
-/// The number of a subscriber that the arguments give, if they give one. A usage error if no script can have it.
-fn asked_queue(alloc: Global, arguments: &ArgMatches<'_>) -> Result<Option<usize>, OptionsFault> {
-    let Some(word) = arguments.get_str("queue") else {
+/// The number of a subscriber that a flag gives, if it is given. A usage error if no script can have it.
+pub fn read_subscriber(
+    alloc: Global,
+    arguments: &ArgMatches<'_>,
+    flag: &str,
+) -> Result<Option<usize>, OptionsFault> {
+    let Some(word) = arguments.get_str(flag) else {
         return Ok(None);
     };
-    match read_subscriber(word) {
-        Some(number) => Ok(Some(number)),
-        None => Err(bad_value(
-            alloc,
-            "queue",
-            word,
-            "the number of a subscriber, from 1 to 8",
-        )?),
-    }
-}
-
-/// The number of a subscriber, from 1. None if no script can have it.
-fn read_subscriber(word: &str) -> Option<usize> {
-    let number = decimal_up_to(word.as_bytes(), Limits::SUBSCRIBERS as u128)?;
-    if number == 0 {
-        None
-    } else {
-        Some(number as usize)
+    match decimal_up_to(word.as_bytes(), Limits::SUBSCRIBERS as u128) {
+        Some(number) if number != 0 => Ok(Some(number as usize)),
+        _ => Err(bad_value(alloc, flag, word, "the number of a subscriber, from 1 to 8")?),
     }
 }
 

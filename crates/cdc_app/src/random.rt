@@ -7,9 +7,13 @@ use crate::advice::{advise_on_script, shown_name};
 use crate::diagnostics::{asked, can_draw, draw, is_reported};
 use crate::kept::{Kept, Seen};
 use crate::options::{Diagnostics, Form, STANDARD_ERROR};
+use crate::simulation::{Wanted, report_counts, report_no_subscriber};
 use crate::sources::Source;
 use cdc_commands::simulate::simulation_of_steps;
-use cdc_commands::{Ended, Ending, ProgramFault, Tally, Text, print_fault, print_output};
+use cdc_commands::{
+    Ended, Ending, Form as PrintForm, Output, ProgramFault, Tally, Text, print_fault, print_output,
+};
+use cdc_deliveries::{Both, Recorder, deliveries_of_steps};
 use cdc_diagnostics::{Observation, Observed, RefusedStep, notes_text};
 use cdc_json::Json;
 use cdc_random_steps::{Chances, RandomSteps, random_steps};
@@ -21,13 +25,13 @@ use std::io;
 pub fn run_random(
     rt: &HostRuntime,
     file: &str,
-    window: usize,
+    wanted: Wanted,
     chances: Chances,
     diagnostics: Diagnostics<'_>,
-    form: Form,
 ) -> Ending
-    requires { IsWindow window }
+    requires { IsWindow wanted.window }
 {
+    let Wanted { window, form, .. } = wanted;
     if !can_draw(rt, diagnostics, &[file]) {
         return Ending::BadWords;
     }
@@ -41,12 +45,19 @@ pub fn run_random(
     let Ok(RandomSteps { text, steps }) = random_steps(rt.alloc(), &script, window, chances) else {
         return abort(rt, seen, ProgramFault::OutOfMemory, form);
     };
-    let mut observation = Observation::new(rt.alloc(), shown_name(file), asked(diagnostics));
+    let mut observers = Both {
+        first: Recorder::new(rt.alloc()),
+        second: Observation::new(rt.alloc(), shown_name(file), asked(diagnostics)),
+    };
     let Ended {
         ending,
         tally,
         notes,
-    } = simulate(rt, &script, window, &steps, form, &mut observation);
+    } = simulate(rt, &script, &steps, wanted, &mut observers);
+    let Both {
+        first: recorder,
+        second: observation,
+    } = observers;
     match ending {
         Ending::Done | Ending::Refused(_) => {
             print_steps(rt, window, chances, text.as_str());
@@ -60,6 +71,7 @@ pub fn run_random(
                 let name = refusal.name();
                 let _ = eprintln!(rt; "# relayplum: a step was refused: {name}");
             }
+            report_counts(rt, &recorder, "# ");
             if !diagnostics.explain {
                 hint(rt, tally);
             }
@@ -67,6 +79,7 @@ pub fn run_random(
                 comment(rt, text.as_str());
             }
         }
+        Ending::BadWords => report_no_subscriber(rt, wanted),
         _ => advise_on_script(rt, seen, ending),
     }
     ending
@@ -83,28 +96,45 @@ fn abort(rt: &HostRuntime, script: Seen<'_>, fault: ProgramFault, form: Form) ->
     ending
 }
 
-/// Runs `simulate` over a script and these steps, with an observer.
+/// Runs `simulate` over a script and these steps, with observers.
 fn simulate(
     rt: &HostRuntime,
     script: &[u8],
-    window: usize,
     steps: &StepFile,
-    form: Form,
-    observation: &mut Observation<'_>,
+    wanted: Wanted,
+    observers: &mut Both<Recorder, Observation<'_>>,
 ) -> Ended
-    requires { IsWindow window }
+    requires { IsWindow wanted.window }
 {
-    let alloc = rt.alloc();
     let mut writer = io::writer(rt);
-    match form {
+    match wanted.form {
         Form::Text => {
-            let output = simulation_of_steps(&Text, alloc, script, steps, window, observation);
+            let output = simulated(rt, &Text, script, steps, wanted, observers);
             print_output(&Text, &mut writer, output)
         }
         Form::Json => {
-            let output = simulation_of_steps(&Json, alloc, script, steps, window, observation);
+            let output = simulated(rt, &Json, script, steps, wanted, observers);
             print_output(&Json, &mut writer, output)
         }
+    }
+}
+
+/// What is printed of a simulation in this form.
+fn simulated<F: PrintForm>(
+    rt: &HostRuntime,
+    form: &F,
+    script: &[u8],
+    steps: &StepFile,
+    wanted: Wanted,
+    observers: &mut Both<Recorder, Observation<'_>>,
+) -> Result<Output, ProgramFault>
+    requires { IsWindow wanted.window }
+{
+    let alloc = rt.alloc();
+    let window = wanted.window;
+    match wanted.deliveries {
+        None => simulation_of_steps(form, alloc, script, steps, window, observers),
+        Some(asked) => deliveries_of_steps(form, alloc, script, steps, window, asked, observers),
     }
 }
 

@@ -34,6 +34,6 @@ pub use notes::{Count, Notes, PastBatches};
 pub use observers::Observer;
 pub use output::{Ended, Output, print_fault, print_output, print_text};
 pub use report::{print_subscriber, push_batch};
-pub use simulations::Simulated;
+pub use simulations::{Simulated, play_script};
 pub use tally::Tally;
 pub use text::Text;

@@ -63,7 +63,7 @@ fn print_queue(alloc: Global, script: &Script, number: usize) -> Result<Output, 
 }
 
 /// The binding of the subscriber of this number, from 1. `None` if there is none.
-fn binding_at(bindings: &[Binding], number: usize) -> Option<&Binding>
+pub fn binding_at(bindings: &[Binding], number: usize) -> Option<&Binding>
     ensures { option_copied result ≡ spec.binding_at bindings.now number }
 {
     bindings.get(number.checked_sub(1)?)

@@ -7,5 +7,5 @@ mod lines;
 pub mod predecessors;
 
 pub use laws::line_laws;
-pub use lines::queue_lines;
+pub use lines::{push_headers, queue_lines};
 pub use predecessors::{Predecessor, Predecessors};

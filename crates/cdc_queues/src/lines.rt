@@ -71,7 +71,7 @@ fn push_message(
 }
 
 /// Adds the object of a message's routing headers.
-fn push_headers(text: &mut String, headers: Headers) -> Result<(), AllocError>
+pub fn push_headers(text: &mut String, headers: Headers) -> Result<(), AllocError>
     ensures { OnOk result (string_bytes text.new
         ≡ string_bytes text.old ++ headers_text headers) }
 {

@@ -1,0 +1,158 @@
+//! The command `simulate` with a step file.
+
+ghost use Rattle.cdc_types.specs.Windows.{IsWindow};
+
+use crate::advice::{advise_on_steps, shown_name};
+use crate::diagnostics::{EXPLAIN, asked, can_draw, hint, is_reported, note, report_simulation};
+use crate::kept::Kept;
+use crate::options::{Diagnostics, Form};
+use crate::sources::Source;
+use cdc_commands::simulate::simulate;
+use cdc_commands::{Ended, Ending, Text};
+use cdc_deliveries::{Asked, Both, Count, Recorder, count_of, deliver};
+use cdc_diagnostics::Observation;
+use cdc_json::Json;
+use cdc_types::Limits;
+use std::io;
+
+/// What is simulated, and what is printed of it.
+#[derive(Clone, Copy)]
+pub struct Wanted {
+    /// The number of events that a session waits for at a time.
+    pub window: usize,
+    /// The subscriber whose deliveries are printed in the place of the report, if one is named.
+    pub deliveries: Option<Asked>,
+    pub form: Form,
+}
+
+/// Runs `simulate` over the script and the step file of these names, and reports on standard error what is asked for,
+/// why a step was refused, or why the command failed.
+pub fn run_simulation(
+    rt: &HostRuntime,
+    file: &str,
+    steps: &str,
+    wanted: Wanted,
+    diagnostics: Diagnostics<'_>,
+) -> Ending
+    requires { IsWindow wanted.window }
+{
+    if !can_draw(rt, diagnostics, &[file, steps]) {
+        return Ending::BadWords;
+    }
+    let mut script = Kept::new(rt.alloc(), Source::of_script(rt, file));
+    let mut step_file = Kept::new(rt.alloc(), Source::of_script(rt, steps));
+    let mut observers = Both {
+        first: Recorder::new(rt.alloc()),
+        second: Observation::new(rt.alloc(), shown_name(file), asked(diagnostics)),
+    };
+    let Ended {
+        ending,
+        tally,
+        notes,
+    } = print_simulation(rt, &mut script, &mut step_file, wanted, &mut observers);
+    let Both {
+        first: recorder,
+        second: observation,
+    } = observers;
+    let mut reported = false;
+    if is_reported(ending, diagnostics) {
+        if let Some(observed) = observation.finish(rt.alloc()) {
+            reported = report_simulation(rt, shown_name(steps), &observed, diagnostics);
+        }
+    }
+    let seen = script.seen(file);
+    if !reported {
+        advise_on_steps(rt, seen, step_file.seen(steps), ending);
+    }
+    match ending {
+        Ending::Done | Ending::Refused(_) => {
+            report_counts(rt, &recorder, "");
+            if !diagnostics.explain {
+                hint(rt, tally, EXPLAIN);
+            }
+            note(rt, file, notes, true);
+        }
+        Ending::BadWords => report_no_subscriber(rt, wanted),
+        _ => {}
+    }
+    ending
+}
+
+/// Runs `simulate` over a script and a step file, with observers.
+fn print_simulation(
+    rt: &HostRuntime,
+    script: &mut Kept<Source>,
+    steps: &mut Kept<Source>,
+    wanted: Wanted,
+    observers: &mut Both<Recorder, Observation<'_>>,
+) -> Ended
+    requires { IsWindow wanted.window }
+{
+    let alloc = rt.alloc();
+    let mut writer = io::writer(rt);
+    let Wanted {
+        window,
+        deliveries,
+        form,
+    } = wanted;
+    match (form, deliveries) {
+        (Form::Text, None) => {
+            simulate(&Text, alloc, script, steps, window, &mut writer, observers)
+        }
+        (Form::Json, None) => {
+            simulate(&Json, alloc, script, steps, window, &mut writer, observers)
+        }
+        (Form::Text, Some(asked)) => {
+            deliver(
+                &Text,
+                alloc,
+                script,
+                steps,
+                window,
+                asked,
+                &mut writer,
+                observers,
+            )
+        }
+        (Form::Json, Some(asked)) => {
+            deliver(
+                &Json,
+                alloc,
+                script,
+                steps,
+                window,
+                asked,
+                &mut writer,
+                observers,
+            )
+        }
+    }
+}
+
+/// Reports that the script doesn't have the subscriber whose deliveries are asked for.
+pub fn report_no_subscriber(rt: &HostRuntime, wanted: Wanted) {
+    if let Some(Asked { subscriber, .. }) = wanted.deliveries {
+        let _ = eprintln!(rt;
+            "relayplum: --deliveries {subscriber}: the script has no such subscriber"
+        );
+    }
+}
+
+/// Reports how many of the deliveries that came to a subscriber up to its close it applied, for each subscriber that
+/// didn't apply all of them. The end mark doesn't count. Each line begins with `before`.
+pub fn report_counts(rt: &HostRuntime, recorder: &Recorder, before: &str) {
+    let Some(steps) = &recorder.steps else {
+        return;
+    };
+    for subscriber in 1..Limits::SUBSCRIBERS + 1 {
+        let Count {
+            applied,
+            deliveries,
+        } = count_of(steps.as_slice(), subscriber as u64);
+        if applied < deliveries {
+            let _ = eprintln!(rt;
+                "{before}relayplum: subscriber {subscriber} applied {applied} of {deliveries} deliveries"
+            );
+        }
+    }
+}

@@ -1,0 +1,20 @@
+use Rattle.std.proofs.Common.{◌≡◌, ◌∷◌, List, false, true, subst}
+use Rattle.cdc_types.specs.declared.events.Event.{Event}
+use Rattle.cdc_match.specs.Queue.{takes_event}
+use Rattle.cdc_queues.proofs.StepLemmas.{takes_by}
+use Rattle.cdc_deliveries.proofs.IndexLemmas.{index_fed, index_passed}
+use Rattle.cdc_deliveries.proofs.feeds.FeedIndex.add.Goals as goal
+
+pub returns-then-matches : goal.returns-then-matches
+returns-then-matches c =
+    let takes : takes_event c.args.binding.now c.args.event.now ≡ true =
+    takes_by c.args.binding.now c.args.event.now c.headers_of.result c.matches.result true c.headers_of.ensures
+    c.matches.ensures c.if-matches.true in
+    index_fed c.args.self.now c.push.new.self c.args.binding.now c.args.event.now c.push.result takes c.push.ensures
+
+pub returns-else-matches : goal.returns-else-matches
+returns-else-matches c =
+    let passes : takes_event c.args.binding.now c.args.event.now ≡ false =
+    takes_by c.args.binding.now c.args.event.now c.headers_of.result c.matches.result false c.headers_of.ensures
+    c.matches.ensures c.if-matches.false in
+    index_passed c.args.self.now c.args.binding.now c.args.event.now passes

@@ -1,0 +1,12 @@
+use Rattle.std.proofs.Common.{◌≡◌, ◌+◌, ◌++◌, drop}
+use Rattle.std.specs.Prelude.{string_bytes}
+use Rattle.cdc_match.specs.Queue.{feed}
+use Rattle.cdc_deliveries.specs.DeliveryLines.{deliveries_from, delivery_text}
+use Rattle.cdc_deliveries.proofs.lines.delivery_lines.Given as goal
+
+-- the text so far, and the lines of the arrivals that are left, make the whole text
+abbrev pub invariant-loop-place : goal.invariant-loop-place
+invariant-loop-place l =
+    string_bytes l.text
+    ++ deliveries_from (l.place + 1) (feed l.log.events l.binding) (drop l.place l.arrivals)
+    ≡ delivery_text l.binding l.log.events l.arrivals

@@ -1,0 +1,21 @@
+//! The deliveries of a simulation to one subscriber, as JSON lines, and what must come of each of them.
+#![tactic(auto)]
+
+pub mod arrivals;
+pub mod counts;
+mod expected;
+pub mod feeds;
+mod lines;
+pub mod pairs;
+pub mod recorder;
+pub mod simulate;
+pub mod steps;
+
+pub use arrivals::{Arrival, arrivals_of};
+pub use counts::{Count, count_of};
+pub use expected::expected_lines;
+pub use lines::delivery_lines;
+pub use pairs::Both;
+pub use recorder::Recorder;
+pub use simulate::{Asked, deliver, deliveries_of, deliveries_of_steps};
+pub use steps::DeliveryStep;
