@@ -70,7 +70,7 @@ delivery_pieces_of number position flag previous (Some event) =
 delivery_pieces_of number position flag previous None =
     delivery_pieces number position flag previous (member_text (codes "end") (codes "true")) []
 
--- the pieces of what a message says of its event
+-- the pieces of what a message has of its event
 pub content_pieces : (headers seconds body : List ℕ)
     → codes "\"headers\":" ++ (headers ++ ((codes ",\"timestamp\":" ++ seconds) ++ (codes ",\"body\":" ++ body)))
     ≡ join_with_byte 44 (

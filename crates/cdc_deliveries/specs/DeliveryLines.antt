@@ -13,7 +13,7 @@ use Rattle.cdc_deliveries.specs.Feeds.{placed}
 abbrev pub flag_text : Bool → List ℕ
 flag_text flag = if flag then codes "true" else codes "false"
 
--- what a message says of its event, or that there is no further event
+-- what a message has of its event, or that no further event comes
 abbrev pub content_members : Option Event → List (List ℕ)
 content_members (Some event) =
     member_text (codes "headers") (headers_text (headers_of_event event)) ∷
