@@ -151,7 +151,8 @@ fn steps_deliveries<F: Form, O: Observer>(
     ensures fault { IfErr result IsSimulationFault }
 {
     let notes = Notes::of(alloc, &script);
-    let Some(binding) = subscriber_binding(alloc, &script, asked.subscriber)? else {
+    let found = subscriber_binding(alloc, &script, asked.subscriber)?;
+    let Some(binding) = found else {
         return Ok(Output {
             text: Vec::new(alloc),
             ending: Ending::BadWords,

@@ -1,7 +1,8 @@
-use Rattle.std.proofs.Common.{List, [], Ok, Some, ap, refl, sym}
+use Rattle.std.proofs.Common.{rules, ◌≡◌, List, [], None, Ok, Some, ap, refl, sym}
 use Rattle.cdc_script.specs.declared.step_files.Act.{Act}
 use Rattle.cdc_commands.specs.declared.output.Output.{Output}
 use Rattle.cdc_commands.specs.Observed.{SawPlan}
+use Rattle.cdc_commands.specs.QueuePrinted.{binding_at}
 use Rattle.cdc_commands.specs.Simulated.{SimulationInput}
 use Rattle.cdc_commands.specs.Simulations.{Plan}
 use Rattle.cdc_deliveries.specs.Deliver.{Delivers}
@@ -16,6 +17,9 @@ returns-clause-output g c = λ bytes stated.
     record { window = c.args.window; script = Some bytes; steps = Some (Ok c.args.steps.now.acts.items) } in
     let simulated = c.in_ok-simulated.simulated in
     let come = c.in_ok-simulated.ensures.seen c.begin.ensures in
+    let found = c.in_ok-found.ensures in
+    let is = c.in-Some.is in
+    let binds : binding_at c.args.script.bindings c.args.asked.subscriber ≡ Some c.in-Some.binding = cc in
     asked_after (Delivers c.args.asked) g.F.Form.prints_fault c.args.asked.subscriber (λ (o : Output). o.text.items) input
     simulated.played.refusal c.of_refusal.result _ c.of_refusal.ensures (
       plan,
@@ -27,7 +31,7 @@ returns-clause-output g c = λ bytes stated.
         },
         record {
           binding = c.in-Some.binding;
-          binds = sym c.in-Some.ensures;
+          binds = binds;
           end = come.0.end;
           plays = come.0.plays;
           prints = c.in_ok-text.ensures.text come.0.end come.0.report come.1.0;
@@ -57,3 +61,21 @@ returns-clause-seen g c = λ bytes stated.
         record { end = come.0.end; plays = come.0.plays; seen = come.1.1 },
       ),
     )
+
+pub returns-in_default-clause-output : goal.returns-in_default-clause-output
+returns-in_default-clause-output g c = λ bytes stated.
+    let plan : Plan =
+    record { script = c.args.script; window = c.args.window; acts = c.args.steps.now.acts.items } in
+    let found = c.in_ok-found.ensures in
+    let is = c.in_default.is in
+    let none : binding_at c.args.script.bindings c.args.asked.subscriber ≡ None = cc in
+    (plan, (record { window_is = refl; script_stated = stated; steps_stated = refl }, (none, search rules)))
+
+pub returns-in_default-clause-seen : goal.returns-in_default-clause-seen
+returns-in_default-clause-seen g c = λ bytes stated.
+    let plan : Plan =
+    record { script = c.args.script; window = c.args.window; acts = c.args.steps.now.acts.items } in
+    let found = c.in_ok-found.ensures in
+    let is = c.in_default.is in
+    let none : binding_at c.args.script.bindings c.args.asked.subscriber ≡ None = cc in
+    (plan, (record { window_is = refl; script_stated = stated; steps_stated = refl }, (none, refl)))
