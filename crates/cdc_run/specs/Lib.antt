@@ -11,7 +11,6 @@ pub mod Outcomes
 pub mod Parted
 pub mod Passing
 pub mod Plans
-pub mod Ran
 pub mod Reports
 pub mod Scripted
 pub mod SettledLinks

@@ -47,7 +47,7 @@ pub(crate) fn report_of_run<
     requires plan { IsPlan plan }
     requires script { IsRunnable script }
     ensures comes { IfOk result (λ ran. MayComeTo
-        (setting_of plan (S.held store) (S.is_honest store) (S.risks store)) script ran.report) }
+        (setting_of plan (S.held store) (S.is_honest store)) script ran.report) }
     ensures owners { IfOk result (λ ran. ran.owners.items ≡ owners_of script.batches) }
     ensures lines { IfOk result (λ ran. ran.lines ≡ script.lines) }
     ensures replies { IfOk result (λ ran. IsOrderOf ran.owners.items (replies_of ran.report)) }

@@ -1,7 +1,6 @@
-use Rattle.std.proofs.Common.{◌≡◌, ◌∙◌, ℕ, List, Some, refl, ap, arith, length, subst, sym}
+use Rattle.std.proofs.Common.{◌≡◌, ◌∙◌, ℕ, List, Some, ap, arith, length, subst, sym}
 use Rattle.std.specs.Prelude.{slice_get}
 use Rattle.std.proofs.lemmas.List.{length-map}
-use Rattle.cdc_run.specs.Ran.{RanFrom}
 use Rattle.cdc_run.specs.Reports.{HasRun, replies_of}
 use Rattle.cdc_script.specs.declared.scripts.ClientBatch.{ClientBatch}
 use Rattle.cdc_types.specs.declared.batches.Batch.{Batch}
@@ -55,28 +54,6 @@ returns-in-Ok-clause-comes g c =
           ∙ ap (λ (all : List ClientBatch). shares_from 1 (client_count all) (entries_of all))
           c.into_vec-batches.ensures)
           c.in-Ok.ensures.report;
-      ran = record {
-        config = record {
-          system = 1;
-          bindings = c.into_vec-bindings.result;
-          clients = c.in_ok-clients.field-0.clients;
-          window = c.args.plan.window;
-          prefetch = c.args.plan.prefetch;
-          start = c.args.plan.start;
-        };
-        is_config = record {
-          bindings = c.into_vec-bindings.ensures;
-          clients = c.in_ok-clients.ensures.clients ∙ ap client_count c.into_vec-batches.ensures;
-          window = refl;
-          prefetch = refl;
-          start = refl;
-        };
-        ran = subst (λ (scripts : List (List Batch)). RanFrom _ c.args.plan.faults _ _ _ scripts report)
-            (c.in_ok-clients.ensures.scripts
-            ∙ ap (λ (all : List ClientBatch). shares_from 1 (client_count all) (entries_of all))
-            c.into_vec-batches.ensures)
-            c.in-Ok.ensures.ran;
-      };
       counts = counted_same _ report.counts _ _ c.into_vec-bindings.ensures c.in-Ok.ensures.counts;
       subscribers = λ honest zero.
           let come = c.in-Ok.ensures.subscribers honest zero in (
