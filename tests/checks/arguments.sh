@@ -765,8 +765,6 @@ run books "$top/examples/marketplace.script"
 same 'the example of a marketplace: what was posted' '194 194' \
     "$(sed '/^subscriber 2/,$d' output | awk '/^account/ { debits += $4; credits += $6 } END { print debits, credits }')"
 counts 'the example of a marketplace: its books' 2 0
-shown=$(sed -n '/^batch 1: 0 0 0 0 0 0$/,/^```$/p' "$top/docs/GUIDE.md")
-same 'the example of a marketplace: its books' "$out" "${shown%\`\`\`}"
 
 # The example of refusals: a transfer that is there already, with other fields too, no such account, a limit.
 its_refusals='batch 1: 0 0

@@ -97,7 +97,8 @@ def rendered(printed):
             current = said["subscriber"]
         if said["kind"] == "message":
             check_queues(said, last)
-        text += text_of(said, current) + "\n"
+        # (deliveries are objects in text too)
+        text += (line if said["kind"] in ("delivery", "expect") else text_of(said, current)) + "\n"
     return text.encode()
 
 
@@ -106,7 +107,7 @@ def complaint(program, name, parts, folder):
     arguments = rows.read(name, "args").decode().splitlines() or ["run", "-"]
     given = rows.read(name, "script") if "script" in parts and "-" in arguments else b""
     paths = rows.paths_of(name, parts, folder)
-    arguments = [paths.get(it, it) for it in [*arguments, "--json"]]
+    arguments = [paths.get(it, it) for it in [*(it for it in arguments if it != "--json"), "--json"]]
     try:
         ran = subprocess.run([program, *arguments], input=given, capture_output=True, timeout=rows.SECONDS, cwd=folder)
     except subprocess.TimeoutExpired:

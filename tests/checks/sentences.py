@@ -265,10 +265,14 @@ class Sentences:
             self.same(f"{name} is locked", (1, "fault: store\n", f"{skipped}book: store: {why}"), found)
 
     def traces(self):
-        for script, steps in (("two.script", LAST_TWO), ("expires.script", CLOSED)):
+        # (the first one takes two events twice each)
+        for script, steps, last in (
+            ("two.script", LAST_TWO, ["relayplum: subscriber 1 applied 2 of 4 deliveries"]),
+            ("expires.script", CLOSED, []),
+        ):
             self.write("traced.steps", "".join(f"{step}\n" for step, _ in steps))
             status, _, errors = self.run(["simulate", script, "traced.steps", "--trace", "--window", "2"])
-            wanted = [f"{step}: {it}" for step, it in steps]
+            wanted = [*(f"{step}: {it}" for step, it in steps), *last]
             self.same(f"a trace over {script}", (0, wanted), (status, errors.splitlines()))
 
     def watched(self):
