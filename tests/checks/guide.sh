@@ -3,7 +3,7 @@
 # of a page is run, in their order, in one folder that begins with the program and the examples, and what it prints on standard
 # output is compared with the block of output after it. A block without one prints nothing. Whatever it writes is in the folder
 # play/.
-# Of README what it shows of the marketplace is compared, and its theorems have to stand in docs/PROOFS.md, word for word.
+# Of README what it shows of the marketplace is run and compared, and its theorems have to stand in docs/PROOFS.md, word for word.
 # Takes the program's path, crates/cdc_app/out/cdc_app where none is given. Prints each block that fails.
 set -uo pipefail
 top=$(cd "$(dirname "${BASH_SOURCE[0]}")/../.." && pwd)
@@ -82,13 +82,13 @@ for name in GUIDE REFERENCE AUDIT EXACTLY-ONCE TESTING-A-CONSUMER; do
     run_page
 done
 
-# README: the end of a trace, a line of the book, the theorem.
+# README: what two consumers make of the deliveries, the line that counts them, the theorems.
 clone README
-shown=$(sed -n '/^send 1: position 1,/,/^```$/p' "$top/README.md" | sed '$d')
-./relayplum simulate examples/marketplace.script examples/marketplace.steps --trace >books 2>trace
-[ "$shown" == "$(tail -n 6 trace)" ] || wrong 'README: the end of the trace'
-line=$(sed -n 's/.*`\(account 1 [0-9 ]*\)`.*/\1/p' "$top/README.md")
-grep -qx "$line" books || wrong 'README: a line of the book'
+sed -n '/^market=/,/^```$/p' "$top/README.md" | sed '$d' >shown.sh
+shown=$(sed -n '/^"delivery":2/,/^```$/p' "$top/README.md" | sed '$d')
+[ "$shown" != '' ] && [ "$shown" == "$(bash shown.sh 2>said)" ] || wrong 'README: the second delivery'
+line=$(sed -n 's/.*`\(subscriber 1 applied [0-9 of]*deliveries\)`.*/\1/p' "$top/README.md")
+grep -qx "relayplum: $line" said || wrong 'README: how many deliveries were applied'
 theorems=$(awk -v RS= '/^> / { gsub(/(^|\n)> /, " "); print substr($0, 2) }' "$top/README.md")
 [ "$(wc -l <<<"$theorems")" == 2 ] || wrong "README: not two theorems"
 while IFS= read -r theorem; do
