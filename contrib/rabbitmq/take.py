@@ -78,7 +78,7 @@ class Consumer:
         while True:
             before = self.saved
             try:
-                return self.read_once()
+                status = self.read_once()
             except Gap:
                 if not self.may_read_again():
                     return self.end_at_gap()
@@ -89,6 +89,10 @@ class Consumer:
                     raise Stop(f'failed after {failures} tries: {client.shown(error)}') from error
                 say(f'{client.shown(error)}; again in {client.wait_after(failures):.1f} s')
                 time.sleep(client.wait_after(failures))
+            else:
+                # (here, since a connection that can't be closed is lost, and the queue is then read again)
+                print(*self.printed, sep='', end='', flush=True)
+                return status
 
     def read_once(self):
         """Reads the queue on a new connection, which ends with the reading: what isn't acknowledged goes back. If the book has the
@@ -159,7 +163,6 @@ class Consumer:
             channel.basic_ack(max(self.unsaved), multiple=True)
         elif self.unsaved and status == 0:
             raise Gap
-        print(*self.printed, sep='', end='', flush=True)
         return status
 
     def may_read_again(self):
