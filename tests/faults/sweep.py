@@ -23,6 +23,7 @@ With --as-built the part of cdc_calls is left out where that isn't built, and a 
 in its crate, and `relayplum` doesn't.
 It needs a C compiler, `cc`. The last line is 'faults: N runs, M failed'; the status is 0 where none failed.
 """
+import itertools
 import os
 import re
 import shutil
@@ -144,16 +145,17 @@ class Case:
         self.whole_errors = self.errors_with_reports()
 
     def errors_with_reports(self):
-        """What standard error may have once all is printed: the reports and the notes, each whole or not at all. Where
-        nothing is asked for, it may be anything."""
+        """What standard error may have once all is printed: the reports, how many deliveries were applied, and the notes, each
+        whole or not at all. Where nothing is asked for, it may be anything."""
         if not REPORTING & set(self.arguments):
             return None
         plain = Run([it for it in self.arguments if it not in REPORTING], self.stdin).errors
         notes = b"".join(line for line in plain.splitlines(True) if b": note: " in line)
-        reports = self.good.errors[: len(self.good.errors) - len(notes)]
-        if self.good.errors != reports + notes or not reports:
-            failures.append(f"failed: {self.name}: without a refusal standard error isn't the reports and then the notes")
-        return {reports + notes, reports, notes, b""}
+        applied = self.applied = b"".join(line for line in plain.splitlines(True) if line.endswith(b" deliveries\n"))
+        reports = self.good.errors[: len(self.good.errors) - len(applied + notes)]
+        if self.good.errors != reports + applied + notes or not reports:
+            failures.append(f"failed: {self.name}: without a refusal standard error isn't reports, deliveries and notes")
+        return {b"".join(it) for it in itertools.product((reports, b""), (applied, b""), (notes, b""))}
 
     def run(self, plan):
         return Run(self.arguments, self.stdin, FAULT=plan)
@@ -194,7 +196,8 @@ class Case:
             return run.errors.startswith(self.made)
         if step is None:
             return run.errors in self.whole_errors
-        return b"out_of_memory" in run.errors and not any(it and it in run.errors for it in self.whole_errors)
+        # (how many deliveries were applied may be the same without the step)
+        return b"out_of_memory" in run.errors and not any(it in run.errors for it in self.whole_errors - {b"", self.applied})
 
     def allocations(self, pool):
         """Each allocation is refused in turn."""
