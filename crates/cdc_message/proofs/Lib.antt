@@ -1,6 +1,7 @@
 pub mod Back
 pub mod Bytes
 pub mod DecimalTexts
+pub mod Ends
 pub mod Examples
 pub mod Law
 pub mod LineLaws
@@ -11,5 +12,6 @@ pub mod ReplayLaws
 pub mod RisesLaws
 pub mod Same
 pub mod Sent
+pub mod ShortNumbers
 pub mod Texts
 pub mod Utf8

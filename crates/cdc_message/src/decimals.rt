@@ -1,7 +1,7 @@
 //! Decimal numbers in text: those of bindings, scripts and arguments, and those in a body's strings. A body's bare
 //! numbers are read as JSON, and progress records have a reader of their own.
 
-ghost use Rattle.std.specs.Prelude.{◌≡◌, true};
+ghost use Rattle.std.specs.Prelude.{◌≡◌, ◌≤◌, IfSome, decimal, length, take, true};
 ghost use Rattle.std.specs.Char.{is_ascii_digit};
 ghost use Rattle.std.specs.List.{list_all};
 ghost use Rattle.std.specs.Str.Parse.{digits_value};
@@ -65,4 +65,24 @@ pub(crate) fn leading_number(text: &[u8]) -> u128 {
                 .wrapping_mul(10)
                 .wrapping_add(u128::from(digit.wrapping_sub(b'0')))
         })
+}
+
+/// The number that the digits at the front of a text represent, and how many they are. `None` if there is no digit, if
+/// there are more than 19, or if the first of several is a zero.
+pub(crate) fn short_number(text: &[u8]) -> Option<(u64, usize)>
+    ensures { IfSome result (λ found. (found.1 ≤ length text.now) × (decimal found.0 ≡ take found.1 text.now)) }
+{
+    let mut number = 0;
+    let mut count = 0;
+    while count < text.len() && text[count].is_ascii_digit() {
+        if count == 19 {
+            return None;
+        }
+        number = number * 10 + u64::from(text[count] - b'0');
+        count += 1;
+    }
+    if count == 0 || (count > 1 && text[0] == b'0') {
+        return None;
+    }
+    Some((number, count))
 }

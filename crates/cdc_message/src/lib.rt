@@ -14,6 +14,7 @@ mod laws;
 mod message;
 mod own_bodies;
 mod packets;
+mod words;
 
 pub use decimals::{decimal_up_to, is_decimal};
 pub use decoding::{decode, event_of};

@@ -1,13 +1,14 @@
 //! A fast reader of bodies exactly as `encode` writes them: it works byte by byte, without a JSON value.
 
-ghost use Rattle.std.specs.Prelude.{◌≡◌, ◌<◌, ◌^◌, ◌++◌, codes, decimal, Ok, IfSome, OnSome};
+ghost use Rattle.std.specs.Prelude.{◌≡◌, ◌<◌, ◌^◌, ◌∷◌, ◌++◌, codes, decimal, Ok, IfSome, OnSome};
 ghost use Rattle.cdc_message.specs.Bodies.{account_text, body, in_quotes, transfer_text};
 ghost use Rattle.cdc_message.specs.Kinds.{kind_text as text_of};
 ghost use Rattle.cdc_message.specs.Reading.{read};
 ghost use Rattle.cdc_message.specs.Widths.{AccountFits, EventFits, TransferFits};
 
-use crate::decimals::leading_number;
+use crate::decimals::{leading_number, short_number};
 use crate::kinds::{kind_named, kind_text};
+use crate::words::same;
 use cdc_types::{Event, EventAccount, EventKind, EventTransfer};
 use itoa::Buffer;
 
@@ -22,8 +23,37 @@ impl Cursor<'_> {
     fn literal(&mut self, text: &[u8]) -> Option<()>
         ensures { OnSome result (self.old.rest.now ≡ text.now ++ self.new.rest.now) }
     {
-        self.rest = self.rest.strip_prefix(text)?;
+        let (front, rest) = self.rest.split_at_checked(text.len())?;
+        if !same(front, text) {
+            return None;
+        }
+        self.rest = rest;
         Some(())
+    }
+
+    // Skips this byte. `None` if another one comes next.
+    fn byte(&mut self, byte: u8) -> Option<()>
+        ensures { OnSome result (self.old.rest.now ≡ byte ∷ self.new.rest.now) }
+    {
+        let (first, rest) = self.rest.split_first()?;
+        if *first != byte {
+            return None;
+        }
+        self.rest = rest;
+        Some(())
+    }
+
+    // Reads a number without leading zeros. Most have at most 19 digits; the text of a longer one is compared with it.
+    fn number(&mut self) -> Option<u128>
+        ensures { IfSome result (λ n. self.old.rest.now ≡ decimal n ++ self.new.rest.now) }
+    {
+        if let Some((number, count)) = short_number(self.rest) {
+            self.rest = &self.rest[count..];
+            return Some(u128::from(number));
+        }
+        let number = leading_number(self.rest);
+        self.literal(Buffer::new().format(number).as_bytes())?;
+        Some(number)
     }
 
     // Reads a number of 128 bits in quotes.
@@ -31,10 +61,9 @@ impl Cursor<'_> {
         ensures fits { IfSome result (λ n. n < 2 ^ 128) }
         ensures text { IfSome result (λ n. self.old.rest.now ≡ in_quotes (decimal n) ++ self.new.rest.now) }
     {
-        self.literal(b"\"")?;
-        let number = leading_number(self.rest);
-        self.literal(Buffer::new().format(number).as_bytes())?;
-        self.literal(b"\"")?;
+        self.byte(b'"')?;
+        let number = self.number()?;
+        self.byte(b'"')?;
         Some(number)
     }
 
@@ -43,10 +72,9 @@ impl Cursor<'_> {
         ensures fits { IfSome result (λ n. n < 2 ^ 64) }
         ensures text { IfSome result (λ n. self.old.rest.now ≡ in_quotes (decimal n) ++ self.new.rest.now) }
     {
-        self.literal(b"\"")?;
-        let number = u64::try_from(leading_number(self.rest)).ok()?;
-        self.literal(Buffer::new().format(number).as_bytes())?;
-        self.literal(b"\"")?;
+        self.byte(b'"')?;
+        let number = u64::try_from(self.number()?).ok()?;
+        self.byte(b'"')?;
         Some(number)
     }
 
@@ -55,9 +83,7 @@ impl Cursor<'_> {
         ensures fits { IfSome result (λ n. n < 2 ^ 32) }
         ensures text { IfSome result (λ n. self.old.rest.now ≡ decimal n ++ self.new.rest.now) }
     {
-        let number = u32::try_from(leading_number(self.rest)).ok()?;
-        self.literal(Buffer::new().format(number).as_bytes())?;
-        Some(number)
+        u32::try_from(self.number()?).ok()
     }
 
     // Reads a number of 16 bits.
@@ -65,9 +91,7 @@ impl Cursor<'_> {
         ensures fits { IfSome result (λ n. n < 2 ^ 16) }
         ensures text { IfSome result (λ n. self.old.rest.now ≡ decimal n ++ self.new.rest.now) }
     {
-        let number = u16::try_from(leading_number(self.rest)).ok()?;
-        self.literal(Buffer::new().format(number).as_bytes())?;
-        Some(number)
+        u16::try_from(self.number()?).ok()
     }
 
     // Reads an account with its members in the order of `encode`.
