@@ -42,9 +42,9 @@ pub more : (text : List ℕ) (count number d : ℕ) → Reads text count number 
     → d ≡ get_or text count 0 → is_ascii_digit d ≡ true → Reads text (count + 1) (number * 10 + (d - 48))
 more text count number d reads few within is digit =
     let both : (list_all is_ascii_digit (take count text) && list_all is_ascii_digit (get_or text count 0 ∷ [])) ≡ true =
-        rw reads.digits (rw (sym is) (rw digit refl)) in
+    rw reads.digits (rw (sym is) (rw digit refl)) in
     let sum : digits_value 10 (take count text) * 10 + digit_value (get_or text count 0) ≡ number * 10 + (d - 48) =
-        rw (sym reads.value) (rw (sym is) (ap (λ v. number * 10 + v) (digit_is d digit))) in
+    rw (sym reads.value) (rw (sym is) (ap (λ v. number * 10 + v) (digit_is d digit))) in
     record {
       few = omega (arith, few);
       within = omega (arith, within);
@@ -60,7 +60,7 @@ more text count number d reads few within is digit =
 pub fits : (text : List ℕ) (count number : ℕ) → Reads text count number → number < 2 ^ 64
 fits text count number reads =
     let short : number < 10 ^ 19 = rw reads.value
-        (digits_value_short own_digits (take count text) 19 reads.digits (grind (arith, rules))) in
+    (digits_value_short own_digits (take count text) 19 reads.digits (grind (arith, rules))) in
     omega (arith, short)
 
 -- the digits that were read are what the number is printed as

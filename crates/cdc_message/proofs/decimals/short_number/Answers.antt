@@ -11,13 +11,13 @@ loop-count-init c = begun c.args.text.now
 pub overflow_mul-number : goal.overflow_mul-number
 overflow_mul-number c =
     let small = below c.args.text.now c.loop-count.count c.loop-count.number c.loop-count.invariant
-        (omega (arith, c.loop-count.invariant.few, c.if-count-eq19.false)) in
+    (omega (arith, c.loop-count.invariant.few, c.if-count-eq19.false)) in
     omega (arith, small)
 
 pub overflow_add-number : goal.overflow_add-number
 overflow_add-number c =
     let small = below c.args.text.now c.loop-count.count c.loop-count.number c.loop-count.invariant
-        (omega (arith, c.loop-count.invariant.few, c.if-count-eq19.false)) in
+    (omega (arith, c.loop-count.invariant.few, c.if-count-eq19.false)) in
     omega (arith, small, c.from.type_inv)
 
 pub loop-count-preserved : goal.loop-count-preserved
@@ -30,10 +30,11 @@ loop-count-preserved c = rw c.from.ensures
 pub returns : goal.returns
 returns c =
     let plain : get_or c.args.text.now 0 0 ≡ 48 → c.loop-count.count ≡ 1 =
-        elim c.if-count-gt1.branch [
-          then-count-gt1 w ↦ λ first. grind (arith, nat_tests, w.value-is)
-        | else-count-gt1 w ↦ λ _. omega (arith, w.if-count-gt1.false, c.if-count-eq0.false)
-        ] in
-    ( c.loop-count.invariant.within
-    , printed c.args.text.now c.loop-count.count c.loop-count.number c.loop-count.invariant
-      (omega (arith, c.if-count-eq0.false)) plain )
+    elim c.if-count-gt1.branch [
+      | then-count-gt1 w ↦ λ first. grind (arith, nat_tests, w.value-is)
+      | else-count-gt1 w ↦ λ _. omega (arith, w.if-count-gt1.false, c.if-count-eq0.false)
+    ] in (
+      c.loop-count.invariant.within,
+      printed c.args.text.now c.loop-count.count c.loop-count.number c.loop-count.invariant
+          (omega (arith, c.if-count-eq0.false)) plain,
+    )
