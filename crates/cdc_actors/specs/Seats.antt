@@ -70,14 +70,15 @@ connector_seat c = record {
 abbrev pub at_start : ℕ → Origin
 at_start start = record { after = start; start = start }
 
--- the broker's: its inbox, over which links it confirms and delivers, the bindings of its queues, and its plan of
--- injected faults
+-- the broker's: its inbox, over which links it confirms and delivers, the bindings of its queues, its plan of injected
+-- faults, and how many copies of a queue may be without an acknowledgement
 pub record BrokerSeat : Type 0 where
   pub inbox : LinkId ToBroker
   pub confirms : LinkId ToConnector
   pub subscribers : List (LinkId ToSubscriber)
   pub bindings : List Arguments
   pub plan : BrokerPlan
+  pub prefetch : ℕ
 
 abbrev pub broker_seat : BrokerCore → BrokerSeat
 broker_seat d = record {
@@ -86,6 +87,7 @@ broker_seat d = record {
   subscribers = map (λ c. c.link.link) d.consumers;
   bindings = map (λ q. q.binding) d.broker.queues;
   plan = d.plan;
+  prefetch = d.prefetch;
 }
 
 -- a subscriber's: its number, its inbox, over which link it acknowledges, and after how many events it is to close

@@ -3,10 +3,13 @@
 pub mod SoFar
 use Rattle.std.specs.Prelude.{◌≡◌, ℕ, ◌<◌, ◌&&◌, nat_le, nat_lt, Bool, true, false, Option, Some, None, List, [], ◌∷◌, ◌++◌, fold, length, map, if◌then◌else◌}
 use Rattle.std.specs.List.{filter_map}
+use Rattle.cdc_actors.specs.declared.subscriber.arrivals.Arrival.{Arrival}
 use Rattle.cdc_actors.specs.declared.subscriber.parts.SubscriberParts.{SubscriberParts}
 use Rattle.cdc_laws.specs.Receiving.{HasTaken}
 use Rattle.cdc_links.specs.Links.{Incoming, Outgoing, of_sender, with_received, with_sent}
 use Rattle.cdc_message.specs.declared.items.Delivery.{Delivery}
+use Rattle.cdc_message.specs.declared.items.Item.{Item}
+use Rattle.cdc_message.specs.declared.items.Item.TheVariants.{EndMark, Event}
 use Rattle.cdc_subscriber.specs.Reception.{Reception, applied_of, has_ended, kept_of, next, nothing}
 use Rattle.cdc_subscriber.specs.SubscriberState.{SubscriberState}
 use Rattle.cdc_traffic.specs.Following.{FollowsToSubscriber}
@@ -16,7 +19,7 @@ use Rattle.cdc_traffic.specs.declared.messages.ToSubscriber.{ToSubscriber}
 use Rattle.cdc_traffic.specs.declared.messages.ToSubscriber.TheVariants.{Delivery as Carries, Stop}
 
 -- a subscriber over its links: its number, what it has received and what it has acknowledged, what it keeps, after
--- how many events it is to close, and whether the broker's last message has come
+-- how many events it is to close, whether the broker's last message has come, and what it was delivered until it closed
 pub record SubscriberCore : Type 0 where
   pub number : ℕ
   pub inbox : Incoming ToSubscriber (Unit {0})
@@ -24,6 +27,7 @@ pub record SubscriberCore : Type 0 where
   pub subscriber : SubscriberState
   pub close_after : Option ℕ
   pub finished : Bool
+  pub arrivals : List Arrival
 
 -- ---- what its subscriber receives
 
@@ -49,6 +53,35 @@ received_after close_after reception d = closed_if (is_due close_after (next rec
 abbrev pub received_by : Option ℕ → List Delivery → Reception
 received_by close_after taken = fold (received_after close_after) nothing taken
 
+-- ---- what it was delivered until it closed
+
+-- the event of a delivery, by its timestamp; the end mark has none
+abbrev pub event_named : Item → Option ℕ
+event_named (Event e) = Some e.timestamp
+event_named EndMark = None
+
+-- a delivery by name: its position, and its event
+abbrev pub arrival_of : Delivery → Arrival
+arrival_of d = record { position = d.position; event = event_named d.item }
+
+-- one more delivery, if the subscriber wasn't closed before it
+abbrev pub arrival_if : Bool → Delivery → List Arrival
+arrival_if closed d = if closed then [] else arrival_of d ∷ []
+
+abbrev pub with_arrival : Bool → Delivery → List Arrival → List Arrival
+with_arrival closed d arrivals = arrivals ++ arrival_if closed d
+
+-- what a subscriber with this reception is delivered until it closes, by these deliveries, one after another: each that
+-- comes while it isn't closed, so the one after which it closes is the last
+abbrev pub arrivals_from : Option ℕ → Reception → List Delivery → List Arrival
+arrivals_from close_after reception [] = []
+arrivals_from close_after reception (d ∷ rest) =
+    arrival_if reception.closed d ++ arrivals_from close_after (received_after close_after reception d) rest
+
+-- the same of a new subscriber
+abbrev pub arrivals_by : Option ℕ → List Delivery → List Arrival
+arrivals_by close_after taken = arrivals_from close_after nothing taken
+
 -- ---- what is received and sent
 
 -- the delivery that a message brings
@@ -70,7 +103,7 @@ ack_of number d = Acknowledges (record { subscriber = number; position = d.posit
 
 -- a subscriber actor has received deliveries from the broker, and then, if it has finished, the last message. It has
 -- acknowledged each delivery, in their order and nothing else. Its subscriber is in the state that these deliveries
--- lead to
+-- lead to, and its arrivals are those of these deliveries that came before it closed
 pub record IsSubscriberActor (c : SubscriberCore) : Type 0 where
   pub first : 0 < c.number
   pub own : c.acks.number ≡ c.number
@@ -80,6 +113,7 @@ pub record IsSubscriberActor (c : SubscriberCore) : Type 0 where
   pub acknowledged : map (λ m. m.0) c.acks.sent ≡ map (ack_of c.number) (taken_by c.inbox)
   pub keeps : c.subscriber ≡ kept_of (received_by c.close_after (taken_by c.inbox))
   pub receives : HasTaken (received_by c.close_after (taken_by c.inbox)) (taken_by c.inbox)
+  pub arrives : c.arrivals ≡ arrivals_by c.close_after (taken_by c.inbox)
 
 -- nothing was received yet
 abbrev pub first_subscriber : ℕ → Incoming ToSubscriber (Unit {0}) → Outgoing ToBroker (Unit {0}) → Option ℕ
@@ -91,11 +125,16 @@ first_subscriber number inbox acks close_after = record {
   subscriber = kept_of nothing;
   close_after = close_after;
   finished = false;
+  arrivals = [];
 }
 
--- what it holds besides, once it is taken apart
-abbrev pub parts_of : SubscriberCore → SubscriberParts
-parts_of c = record { number = c.number; inbox = c.inbox; acks = c.acks; subscriber = c.subscriber }
+-- what it holds, once it is taken apart
+pub record ArePartsOf (c : SubscriberCore) (parts : SubscriberParts) : Type 0 where
+  pub number_is : parts.number ≡ c.number
+  pub inbox_is : parts.inbox ≡ c.inbox
+  pub acks_are : parts.acks ≡ c.acks
+  pub subscriber_is : parts.subscriber ≡ c.subscriber
+  pub arrivals_are : parts.arrivals.items ≡ c.arrivals
 
 -- ---- a turn
 
@@ -111,6 +150,7 @@ with_message (Carries d) c = record c {
   inbox = with_received c.inbox (0, (Carries d, tt));
   acks = with_sent c.acks (ack_of c.number d, tt);
   subscriber = kept_of (received_by c.close_after (taken_by c.inbox ++ d ∷ []));
+  arrivals = arrivals_by c.close_after (taken_by c.inbox ++ d ∷ []);
 }
 with_message Stop c = record c { inbox = with_received c.inbox (0, (Stop, tt)); finished = true }
 

@@ -30,5 +30,5 @@ pub use places::Place;
 pub use so_far::so_far_laws;
 pub use stops::Stop;
 pub use stories::{Carried, Fate, Repeat, Repeats, Sending, Span, Story};
-pub use subscriber::{SubscriberEnd, SubscriberParts, subscriber_actor_laws};
+pub use subscriber::{Arrival, SubscriberEnd, SubscriberParts, subscriber_actor_laws};
 pub use turns::Turn;

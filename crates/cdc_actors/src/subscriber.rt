@@ -4,10 +4,12 @@ ghost use Rattle.std.specs.Prelude.{◌≡◌, ◌<◌, []};
 ghost use Rattle.cdc_actors.specs.Ends.{new_end};
 ghost use Rattle.cdc_actors.specs.Subscriber.{AskedClose, DeliveriesAreReceived, UnaskedStayOpen, first_subscriber};
 
+mod arrivals;
 mod cores;
 mod parts;
 
 use crate::ends::End;
+pub use arrivals::Arrival;
 use cdc_links::{LinkIn, LinkOut};
 use cdc_traffic::{ToBroker, ToSubscriber};
 pub use cores::SubscriberCore;
@@ -15,7 +17,8 @@ pub use parts::SubscriberParts;
 use std::alloc::Global;
 
 /// A subscriber actor of a run. Its work is the subscriber over its links: its number, what it has received and
-/// acknowledged, what it keeps, after how many events it is to close, and whether it has finished.
+/// acknowledged, what it keeps, after how many events it is to close, whether it has finished, and what it was
+/// delivered until it closed.
 ///
 /// A turn receives one message from the broker. A delivery is taken and then acknowledged, also by a subscriber that
 /// is closed. A subscriber that has applied as many events as it was asked to closes in between. At the broker's last

@@ -315,7 +315,14 @@ module _ (d : BrokerCore) (is : IsBrokerCore d) (goes : d.finished ≡ false) (n
 
   pub cut_stopping : (fault : RunFault) → fault ≡ PeerGone → IsCutOff d fault (record d { consumers = new })
   cut_stopping fault gone = record {
-    links = record { inbox = refl; confirms = refl; consumers = stopping.links; bindings = refl; plan = refl };
+    links = record {
+      inbox = refl;
+      confirms = refl;
+      consumers = stopping.links;
+      bindings = refl;
+      plan = refl;
+      prefetch = refl;
+    };
     plan = refl;
     finished = refl;
     inbox = refl;
@@ -452,16 +459,23 @@ module _ (d : BrokerCore) (is : IsBrokerCore d) (packet : Packet) where
       → HasSameLinks came (record (coming_if lost takes packet (with_counted packet came)) { confirms = d.confirms })
       × KeepsRest came (coming_if lost takes packet (with_counted packet came))
   unconfirmed_same true takes = (
-    record { inbox = refl; confirms = refl; consumers = refl; bindings = refl; plan = refl },
+    record { inbox = refl; confirms = refl; consumers = refl; bindings = refl; plan = refl; prefetch = refl },
     record { plan = refl; finished = refl; inbox = refl },
   )
   unconfirmed_same false true =
       let with_it = coming_same false true packet came in (
-        record { inbox = refl; confirms = refl; consumers = refl; bindings = with_it.bindings; plan = refl },
+        record {
+          inbox = refl;
+          confirms = refl;
+          consumers = refl;
+          bindings = with_it.bindings;
+          plan = refl;
+          prefetch = refl;
+        },
         record { plan = refl; finished = refl; inbox = refl },
       )
   unconfirmed_same false false = (
-    record { inbox = refl; confirms = refl; consumers = refl; bindings = refl; plan = refl },
+    record { inbox = refl; confirms = refl; consumers = refl; bindings = refl; plan = refl; prefetch = refl },
     record { plan = refl; finished = refl; inbox = refl },
   )
 
@@ -469,7 +483,14 @@ module _ (d : BrokerCore) (is : IsBrokerCore d) (packet : Packet) where
   cut_packet PeerGone new (inl (full, after)) =
       subst (IsCutOff came PeerGone) (sym after)
       (record {
-        links = record { inbox = refl; confirms = refl; consumers = refl; bindings = refl; plan = refl };
+        links = record {
+          inbox = refl;
+          confirms = refl;
+          consumers = refl;
+          bindings = refl;
+          plan = refl;
+          prefetch = refl;
+        };
         plan = refl;
         finished = refl;
         inbox = refl;
@@ -490,7 +511,14 @@ module _ (d : BrokerCore) (is : IsBrokerCore d) (packet : Packet) where
   cut_packet OutOfMemory new after =
       subst (IsCutOff came OutOfMemory) (sym after)
       (record {
-        links = record { inbox = refl; confirms = refl; consumers = refl; bindings = refl; plan = refl };
+        links = record {
+          inbox = refl;
+          confirms = refl;
+          consumers = refl;
+          bindings = refl;
+          plan = refl;
+          prefetch = refl;
+        };
         plan = refl;
         finished = refl;
         inbox = refl;
@@ -516,7 +544,7 @@ cut_ack d is j ack fault new gone first same =
     ap packets_in (of_sender-snoc_other 0 entry d.inbox.received (λ e. absurd (omega (arith, e, first)))) in
     subst (IsCutOff (with_entry d entry) fault) (sym same)
     (record {
-      links = record { inbox = refl; confirms = refl; consumers = refl; bindings = refl; plan = refl };
+      links = record { inbox = refl; confirms = refl; consumers = refl; bindings = refl; plan = refl; prefetch = refl };
       plan = refl;
       finished = refl;
       inbox = refl;
@@ -585,6 +613,7 @@ failed_message old new fault inbox message takes kind cut =
       consumers = refl;
       bindings = refl;
       plan = refl;
+      prefetch = refl;
     }) refl refl (inr (message, takes)) kind cut
 
 -- a message was received, and handling it failed

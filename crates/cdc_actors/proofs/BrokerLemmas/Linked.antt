@@ -28,7 +28,7 @@ abbrev binding_in : QueueState → Arguments
 binding_in q = q.binding
 
 pub same_links : (d : BrokerCore) → HasSameLinks d d
-same_links d = record { inbox = refl; confirms = refl; consumers = refl; bindings = refl; plan = refl }
+same_links d = record { inbox = refl; confirms = refl; consumers = refl; bindings = refl; plan = refl; prefetch = refl }
 
 pub then_same : (a b c : BrokerCore) → HasSameLinks a b → HasSameLinks b c → HasSameLinks a c
 then_same a b c first next = record {
@@ -37,6 +37,7 @@ then_same a b c first next = record {
   consumers = next.consumers ∙ first.consumers;
   bindings = next.bindings ∙ first.bindings;
   plan = next.plan ∙ first.plan;
+  prefetch = next.prefetch ∙ first.prefetch;
 }
 
 -- a lane that changes
@@ -51,6 +52,7 @@ lane_same d place c lane found linked bound = record {
   bindings = map-set_same binding_in d.broker.queues (place + 1 - 1) lane.queue (empty_queue nobody)
       (bound ∙ ap binding_in (unwrap_or-slice_get d.broker.queues (place + 1 - 1) (empty_queue nobody)));
   plan = refl;
+  prefetch = refl;
 }
 
 -- a delivery goes over the same link
@@ -99,10 +101,31 @@ packet_bound b (Publish session tag item) = queued_bound item b.queues
 
 pub coming_same : (lost takes : Bool) (packet : Packet) (d : BrokerCore)
     → HasSameLinks d (coming_if lost takes packet (with_counted packet d))
-coming_same true takes packet d = record { inbox = refl; confirms = refl; consumers = refl; bindings = refl; plan = refl }
+coming_same true takes packet d = record {
+  inbox = refl;
+  confirms = refl;
+  consumers = refl;
+  bindings = refl;
+  plan = refl;
+  prefetch = refl;
+}
 coming_same false true packet d =
-    record { inbox = refl; confirms = refl; consumers = refl; bindings = packet_bound d.broker packet; plan = refl }
-coming_same false false packet d = record { inbox = refl; confirms = refl; consumers = refl; bindings = refl; plan = refl }
+    record {
+      inbox = refl;
+      confirms = refl;
+      consumers = refl;
+      bindings = packet_bound d.broker packet;
+      plan = refl;
+      prefetch = refl;
+    }
+coming_same false false packet d = record {
+  inbox = refl;
+  confirms = refl;
+  consumers = refl;
+  bindings = refl;
+  plan = refl;
+  prefetch = refl;
+}
 
 acked_same : (d : BrokerCore) (place position : ℕ) (found : Option Consumer) → slice_get d.consumers place ≡ found
     → HasSameLinks d (acked_if place position found d)
@@ -119,14 +142,28 @@ received_same d j message name = go message
     came m = record d { inbox = with_received d.inbox (j, (m, name)) }
 
     received : (m : ToBroker) → HasSameLinks d (record d { inbox = with_received d.inbox (j, (m, name)) })
-    received m = record { inbox = refl; confirms = refl; consumers = refl; bindings = refl; plan = refl }
+    received m = record {
+      inbox = refl;
+      confirms = refl;
+      consumers = refl;
+      bindings = refl;
+      plan = refl;
+      prefetch = refl;
+    }
 
     go : (m : ToBroker) → HasSameLinks d (reception (j, (m, name)) d)
     go (to_broker.Packet packet) =
         let mid : BrokerCore = record d { inbox = with_received d.inbox (j, (to_broker.Packet packet, name)) } in
         then_same d mid (reception (j, (to_broker.Packet packet, name)) d) (received (to_broker.Packet packet))
         (coming_same (is_lost mid.plan mid.publishes packet) (takes_packet mid.broker packet) packet mid)
-    go to_broker.Finish = record { inbox = refl; confirms = refl; consumers = refl; bindings = refl; plan = refl }
+    go to_broker.Finish = record {
+      inbox = refl;
+      confirms = refl;
+      consumers = refl;
+      bindings = refl;
+      plan = refl;
+      prefetch = refl;
+    }
     go (to_broker.Ack ack) =
         let mid : BrokerCore = record d { inbox = with_received d.inbox (j, (to_broker.Ack ack, name)) } in
         then_same d mid (reception (j, (to_broker.Ack ack, name)) d) (received (to_broker.Ack ack))
@@ -138,7 +175,14 @@ stops_linked (c ∷ consumers) = ap (λ (ls : List (LinkId ToSubscriber)). link_
 
 stopped_same : (over : Bool) (d : BrokerCore) → HasSameLinks d (stopped_if over d)
 stopped_same true d =
-    record { inbox = refl; confirms = refl; consumers = stops_linked d.consumers; bindings = refl; plan = refl }
+    record {
+      inbox = refl;
+      confirms = refl;
+      consumers = stops_linked d.consumers;
+      bindings = refl;
+      plan = refl;
+      prefetch = refl;
+    }
 stopped_same false d = same_links d
 
 -- so a turn does
@@ -158,6 +202,7 @@ links_seat old new same = λ i. record {
   subscribers = same.consumers i;
   bindings = same.bindings i;
   plan = same.plan i;
+  prefetch = same.prefetch i;
 }
 
 pub turned_same : (old new : BrokerCore) → HasTurned old new → broker_seat new ≡ broker_seat old

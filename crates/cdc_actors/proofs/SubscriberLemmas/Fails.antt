@@ -3,12 +3,14 @@ use Rattle.std.proofs.Common.{◌≡◌, ℕ, false, List, [], ◌∷◌, ◌++�
 use Rattle.std.specs.Prelude.{◌⊎◌}
 use Rattle.std.proofs.lemmas.List.Elements.{filter_map-append}
 use Rattle.std.proofs.lemmas.List.Sums.{fold-append}
-use Rattle.cdc_actors.specs.Subscriber.{SubscriberCore, IsSubscriberActor, delivery_of, received_after, received_by, taken_by}
+use Rattle.cdc_actors.specs.Subscriber.{SubscriberCore, IsSubscriberActor, ack_of, arrivals_by, delivery_of, received_after, received_by, taken_by, with_arrival, with_message}
 use Rattle.cdc_actors.specs.Subscriber.SoFar.{ComesSoFar, HasFailed, IsSubscriberSoFar, SubscribersComeSoFar, with_unacknowledged, with_untaken}
 use Rattle.cdc_actors.specs.declared.faults.RunFault.{RunFault}
+use Rattle.cdc_actors.specs.declared.subscriber.arrivals.Arrival.{Arrival}
 use Rattle.cdc_actors.specs.declared.faults.RunFault.TheVariants.{PeerGone, OutOfMemory, Store, SessionsExhausted, NotOneSystem, StartNotAllowed}
+use Rattle.cdc_actors.proofs.SubscriberLemmas.Arriving.{noted_more}
 use Rattle.cdc_actors.proofs.SubscriberLemmas.Taking.{came_more, of_broker_more}
-use Rattle.cdc_links.specs.Links.{Incoming, Outgoing, with_received}
+use Rattle.cdc_links.specs.Links.{Incoming, Outgoing, with_received, with_sent}
 use Rattle.cdc_message.specs.declared.items.Delivery.{Delivery}
 use Rattle.cdc_subscriber.specs.Reception.{Reception, kept_of, nothing}
 use Rattle.cdc_subscriber.specs.SubscriberState.{SubscriberState}
@@ -40,11 +42,11 @@ module _ (c : SubscriberCore) (is : IsSubscriberActor c) (goes_on : c.finished �
       ((0, (Carries d, tt)) ∷ [])
 
   -- one more delivery was received, whether its subscriber has taken it or not
-  with_one_more : (subscriber : SubscriberState)
+  with_one_more : (subscriber : SubscriberState) (arrivals : List Arrival)
       → (subscriber ≡ kept_of (received_by c.close_after (taken_by c.inbox)))
       ⊎ (subscriber ≡ kept_of (received_by c.close_after (taken_by brought)))
-      → IsSubscriberSoFar (record c { inbox = brought; subscriber = subscriber })
-  with_one_more subscriber keeps = record {
+      → IsSubscriberSoFar (record c { inbox = brought; subscriber = subscriber; arrivals = arrivals })
+  with_one_more subscriber arrivals keeps = record {
     acknowledged = taken_by c.inbox;
     rest = d ∷ [];
     own = is.own;
@@ -58,11 +60,12 @@ module _ (c : SubscriberCore) (is : IsSubscriberActor c) (goes_on : c.finished �
   }
 
   untaken_so_far : IsSubscriberSoFar (with_untaken d c)
-  untaken_so_far = with_one_more c.subscriber (inl is.keeps)
+  untaken_so_far = with_one_more c.subscriber c.arrivals (inl is.keeps)
 
   unacknowledged_so_far : IsSubscriberSoFar (with_unacknowledged d c)
   unacknowledged_so_far =
       with_one_more (kept_of (received_by c.close_after (taken_by c.inbox ++ d ∷ [])))
+      (arrivals_by c.close_after (taken_by c.inbox ++ d ∷ []))
       (inr (ap (λ (l : List Delivery). kept_of (received_by c.close_after l)) (sym more)))
 
 comes_so_far : (old : SubscriberCore) (fault : RunFault) (new : SubscriberCore) → IsSubscriberActor old → old.finished
@@ -87,23 +90,50 @@ failed_so_far old fault new is failed = comes_so_far old fault new is failed.wor
 pub subscribers_come_so_far : SubscribersComeSoFar
 subscribers_come_so_far = record { between = subscriber_so_far; failed = failed_so_far }
 
--- the work inside a subscriber actor, once it has taken a delivery and couldn't acknowledge it
-pub unacknowledged_so : (inside now : SubscriberCore) → inside ≡ now → (inbox : Incoming ToSubscriber (Unit {0}))
-    (subscriber : SubscriberState) (acks : Outgoing ToBroker (Unit {0})) (d : Delivery)
-    → inbox ≡ with_received now.inbox (0, (Carries d, tt))
-    → now.subscriber ≡ kept_of (received_by now.close_after (taken_by now.inbox))
-    → ((reception : Reception) → inside.subscriber ≡ kept_of reception
+-- the work inside a subscriber actor, once its subscriber has taken a delivery
+module _ (inside now : SubscriberCore) (same : inside ≡ now) (inbox : Incoming ToSubscriber (Unit {0}))
+    (subscriber : SubscriberState) (arrivals : List Arrival) (d : Delivery)
+    (received : inbox ≡ with_received now.inbox (0, (Carries d, tt)))
+    (keeps : now.subscriber ≡ kept_of (received_by now.close_after (taken_by now.inbox)))
+    (arrives : now.arrivals ≡ arrivals_by now.close_after (taken_by now.inbox))
+    (took : (reception : Reception) → inside.subscriber ≡ kept_of reception
     → subscriber ≡ kept_of (received_after inside.close_after reception d))
-    → acks ≡ inside.acks
-    → record inside { inbox = inbox; acks = acks; subscriber = subscriber } ≡ with_unacknowledged d now
-unacknowledged_so inside now same inbox subscriber acks d received keeps took unsent =
-    let reception : Reception = received_by now.close_after (taken_by now.inbox) in
-    let receives : subscriber ≡ kept_of (received_by now.close_after (taken_by now.inbox ++ d ∷ [])) =
-    took reception (ap (λ (c : SubscriberCore). c.subscriber) same ∙ keeps)
-    ∙ ap (λ (c : SubscriberCore). kept_of (received_after c.close_after reception d)) same
-    ∙ ap kept_of (sym (fold-append (received_after now.close_after) nothing (taken_by now.inbox) (d ∷ []))) in
-    (λ i. record inside { inbox = received i; acks = unsent i; subscriber = receives i })
-    ∙ ap (λ (c : SubscriberCore). record c {
-      inbox = with_received now.inbox (0, (Carries d, tt));
-      subscriber = kept_of (received_by now.close_after (taken_by now.inbox ++ d ∷ []));
-    }) same
+    (noted : arrivals ≡ with_arrival inside.subscriber.closed d inside.arrivals) where
+  receives : subscriber ≡ kept_of (received_by now.close_after (taken_by now.inbox ++ d ∷ []))
+  receives =
+      let reception : Reception = received_by now.close_after (taken_by now.inbox) in
+      took reception (ap (λ (c : SubscriberCore). c.subscriber) same ∙ keeps)
+      ∙ ap (λ (c : SubscriberCore). kept_of (received_after c.close_after reception d)) same
+      ∙ ap kept_of (sym (fold-append (received_after now.close_after) nothing (taken_by now.inbox) (d ∷ [])))
+
+  notes : arrivals ≡ arrivals_by now.close_after (taken_by now.inbox ++ d ∷ [])
+  notes =
+      noted
+      ∙ ap (λ (c : SubscriberCore). with_arrival c.subscriber.closed d c.arrivals) same
+      ∙ noted_more now d keeps arrives
+
+  -- it couldn't acknowledge it
+  pub unacknowledged_so : (acks : Outgoing ToBroker (Unit {0})) → acks ≡ inside.acks
+      → record inside { inbox = inbox; acks = acks; subscriber = subscriber; arrivals = arrivals }
+      ≡ with_unacknowledged d now
+  unacknowledged_so acks unsent =
+      (λ i. record inside { inbox = received i; acks = unsent i; subscriber = receives i; arrivals = notes i })
+      ∙ ap (λ (c : SubscriberCore). record c {
+        inbox = with_received now.inbox (0, (Carries d, tt));
+        subscriber = kept_of (received_by now.close_after (taken_by now.inbox ++ d ∷ []));
+        arrivals = arrivals_by now.close_after (taken_by now.inbox ++ d ∷ []);
+      }) same
+
+  -- it has acknowledged it
+  pub acknowledged_so : (acks : Outgoing ToBroker (Unit {0}))
+      → acks ≡ with_sent inside.acks (ack_of inside.number d, tt)
+      → record inside { inbox = inbox; acks = acks; subscriber = subscriber; arrivals = arrivals }
+      ≡ with_message (Carries d) now
+  acknowledged_so acks sent =
+      (λ i. record inside { inbox = received i; acks = sent i; subscriber = receives i; arrivals = notes i })
+      ∙ ap (λ (c : SubscriberCore). record c {
+        inbox = with_received now.inbox (0, (Carries d, tt));
+        acks = with_sent c.acks (ack_of c.number d, tt);
+        subscriber = kept_of (received_by now.close_after (taken_by now.inbox ++ d ∷ []));
+        arrivals = arrivals_by now.close_after (taken_by now.inbox ++ d ∷ []);
+      }) same

@@ -4,7 +4,7 @@ use Rattle.std.specs.Prelude.{◌||◌}
 use Rattle.std.specs.List.{list_any}
 use Rattle.std.proofs.lemmas.List.{map-append}
 use Rattle.std.proofs.lemmas.List.Elements.{filter_map-append}
-use Rattle.cdc_actors.specs.Subscriber.{HasReceived, SubscriberCore, IsSubscriberActor, ack_of, delivery_of, received_by, stop_if, taken_by, with_message}
+use Rattle.cdc_actors.specs.Subscriber.{HasReceived, SubscriberCore, IsSubscriberActor, ack_of, arrivals_by, delivery_of, received_by, stop_if, taken_by, with_message}
 use Rattle.cdc_actors.proofs.SubscriberLemmas.Closing.{deliveries_are_received}
 use Rattle.cdc_links.specs.Links.{Incoming, of_sender, with_received}
 use Rattle.cdc_links.proofs.Entries.{of_sender-snoc_own}
@@ -89,6 +89,7 @@ module _ (c : SubscriberCore) (is : IsSubscriberActor c) where
               ∙ ap (map (ack_of c.number)) (sym more);
           keeps = ap (λ (l : List Delivery). kept_of (received_by c.close_after l)) (sym more);
           receives = deliveries_are_received c.close_after (taken_by next.inbox);
+          arrives = ap (λ (l : List Delivery). arrivals_by c.close_after l) (sym more);
         }
 
     -- and once it was sent the last message
@@ -109,6 +110,7 @@ module _ (c : SubscriberCore) (is : IsSubscriberActor c) where
           acknowledged = is.acknowledged ∙ ap (map (ack_of c.number)) (sym same);
           keeps = is.keeps ∙ ap (λ (l : List Delivery). kept_of (received_by c.close_after l)) (sym same);
           receives = deliveries_are_received c.close_after (taken_by next.inbox);
+          arrives = is.arrives ∙ ap (λ (l : List Delivery). arrivals_by c.close_after l) (sym same);
         }
 
     received_is : (message : ToSubscriber) → IsSubscriberActor (with_message message c)

@@ -202,13 +202,14 @@ pub record HasTurned (old new : BrokerCore) : Type 0 where
   pub due : IsDue entry.1.0 old
   pub after : new ≡ turned entry old
 
--- it works over the same links, by the same plan, and its broker has the same bindings
+-- it works over the same links, by the same plan and prefetch, and its broker has the same bindings
 pub record HasSameLinks (old new : BrokerCore) : Type 0 where
   pub inbox : new.inbox.link ≡ old.inbox.link
   pub confirms : new.confirms.link ≡ old.confirms.link
   pub consumers : map (λ c. c.link.link) new.consumers ≡ map (λ c. c.link.link) old.consumers
   pub bindings : map (λ q. q.binding) new.broker.queues ≡ map (λ q. q.binding) old.broker.queues
   pub plan : new.plan ≡ old.plan
+  pub prefetch : new.prefetch ≡ old.prefetch
 
 -- ---- what is left of the actor
 

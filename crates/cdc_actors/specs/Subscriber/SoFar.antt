@@ -1,6 +1,6 @@
 -- How far a subscriber actor has come, whether it has met a fault or not.
 use Rattle.std.specs.Prelude.{◌≡◌, ◌⊎◌, ◌≤◌, false, List, [], ◌∷◌, ◌++◌, length, map}
-use Rattle.cdc_actors.specs.Subscriber.{SubscriberCore, IsBrought, IsSubscriberActor, ack_of, received_by, stop_if, taken_by}
+use Rattle.cdc_actors.specs.Subscriber.{SubscriberCore, IsBrought, IsSubscriberActor, ack_of, arrivals_by, received_by, stop_if, taken_by}
 use Rattle.cdc_actors.specs.declared.faults.RunFault.{RunFault}
 use Rattle.cdc_actors.specs.declared.faults.RunFault.TheVariants.{PeerGone, OutOfMemory, Store, SessionsExhausted, NotOneSystem, StartNotAllowed}
 use Rattle.cdc_links.specs.Links.{of_sender, with_received}
@@ -19,6 +19,7 @@ abbrev pub with_unacknowledged : Delivery → SubscriberCore → SubscriberCore
 with_unacknowledged d c = record c {
   inbox = with_received c.inbox (0, (Carries d, tt));
   subscriber = kept_of (received_by c.close_after (taken_by c.inbox ++ d ∷ []));
+  arrivals = arrivals_by c.close_after (taken_by c.inbox ++ d ∷ []);
 }
 
 -- how far such a turn has come, by its fault. If the broker is gone, either no message came and nothing has changed,

@@ -2,7 +2,7 @@
 
 ghost use Rattle.std.specs.Prelude.{◌≡◌, IfErr, IfOk, false, length, min};
 ghost use Rattle.cdc_actors.specs.Faults.{IsTurnFault};
-ghost use Rattle.cdc_actors.specs.Subscriber.{HasReceived, IsBrought, IsSubscriberActor, received_after, is_due, first_subscriber};
+ghost use Rattle.cdc_actors.specs.Subscriber.{HasReceived, IsBrought, IsSubscriberActor, received_after, is_due, first_subscriber, with_arrival};
 ghost use Rattle.cdc_actors.specs.Subscriber.SoFar.{HasFailed};
 ghost use Rattle.cdc_actors.specs.declared.faults.RunFault.TheVariants.{OutOfMemory, PeerGone};
 ghost use Rattle.cdc_links.specs.Links.{with_sent};
@@ -15,6 +15,7 @@ use crate::faults::RunFault;
 use crate::peers::{Nothing, receive_from, send_to};
 use crate::places::Place;
 use crate::stories::Repeats;
+use crate::subscriber::arrivals::Arrival;
 use crate::subscriber::parts::SubscriberParts;
 use cdc_links::{LinkIn, LinkOut};
 use cdc_message::Delivery;
@@ -26,7 +27,7 @@ use std::mem;
 use std::sync::Wait;
 
 /// A subscriber, its number, its endpoints, after how many events it is to close, whether the broker's last message
-/// has come, and the duplicates that came to it, which no contract mentions.
+/// has come, what it was delivered until it closed, and the duplicates that came to it, which no contract mentions.
 pub struct SubscriberCore {
     number: u64,
     inbox: LinkIn<ToSubscriber>,
@@ -34,6 +35,7 @@ pub struct SubscriberCore {
     subscriber: Subscriber,
     close_after: Option<u64>,
     finished: bool,
+    arrivals: Vec<Arrival>,
     repeats: Repeats,
 }
 
@@ -47,6 +49,7 @@ impl Drop for SubscriberCore {
             subscriber: _,
             close_after: _,
             finished: _,
+            arrivals: _,
             repeats: _,
         } = self;
     }
@@ -64,6 +67,7 @@ impl Model for SubscriberCore {
       subscriber = c.subscriber;
       close_after = c.close_after;
       finished = c.finished;
+      arrivals = c.arrivals.items;
     } };
 }
 
@@ -93,9 +97,11 @@ fn must_close(close_after: Option<u64>, applied: u64) -> bool
     }
 }
 
-// Takes a delivery, and closes the subscriber if it is due then. Fails only if it is out of memory.
+// Takes a delivery, and closes the subscriber if it is due then. The delivery is noted if the subscriber wasn't closed
+// before it. Fails only if it is out of memory.
 fn take(
     subscriber: &mut Subscriber,
+    arrivals: &mut Vec<Arrival>,
     repeats: &mut Repeats,
     alloc: Global,
     delivery: &Delivery,
@@ -103,11 +109,19 @@ fn take(
 ) -> Result<(), RunFault>
     ensures reception { (reception : Reception) → subscriber.old ≡ kept_of reception
         → IfOk result (λ _. subscriber.new ≡ kept_of (received_after close_after reception delivery.now)) }
-    ensures refused { IfErr result (λ fault. (fault ≡ OutOfMemory) × (subscriber.new ≡ subscriber.old)) }
+    ensures arrivals { IfOk result (λ _.
+        arrivals.new.items ≡ with_arrival subscriber.old.closed delivery.now arrivals.old.items) }
+    ensures refused { IfErr result (λ fault. (fault ≡ OutOfMemory) × (subscriber.new ≡ subscriber.old)
+        × (arrivals.new.items ≡ arrivals.old.items)) }
 {
+    arrivals.reserve(1)?;
+    let was_closed = subscriber.closed();
     let Ok(taking) = subscriber.take(alloc, delivery) else {
         return Err(RunFault::OutOfMemory);
     };
+    if !was_closed {
+        arrivals.push_reserved(Arrival::of(delivery));
+    }
     repeats.note(alloc, taking, delivery);
     if must_close(close_after, subscriber.applied_count()) {
         subscriber.close();
@@ -132,6 +146,7 @@ impl SubscriberCore {
             subscriber: Subscriber::new(alloc),
             close_after,
             finished: false,
+            arrivals: Vec::new(alloc),
             repeats: Repeats::new(alloc),
         }
     }
@@ -148,6 +163,7 @@ impl SubscriberCore {
             ToSubscriber::Delivery(delivery) => {
                 take(
                     &mut self.subscriber,
+                    &mut self.arrivals,
                     &mut self.repeats,
                     alloc,
                     &delivery,
@@ -172,7 +188,7 @@ impl Work for SubscriberCore {
     ghost use Rattle.std.specs.Prelude.{◌≡◌};
     ghost use Rattle.cdc_actors.specs.Faults.{IsTurnFault};
     ghost use Rattle.cdc_actors.specs.Seats.{SubscriberSeat, subscriber_seat};
-    ghost use Rattle.cdc_actors.specs.Subscriber.{IsSubscriberActor, parts_of};
+    ghost use Rattle.cdc_actors.specs.Subscriber.{ArePartsOf, IsSubscriberActor};
     ghost use Rattle.cdc_actors.specs.declared.places.Place.TheVariants.{Subscriber};
 
     type Parts = SubscriberParts;
@@ -189,7 +205,7 @@ impl Work for SubscriberCore {
 
     ghost fails_as = { λ _ fault. IsTurnFault fault };
 
-    ghost leaves = { λ c parts. parts ≡ parts_of c };
+    ghost leaves = { ArePartsOf };
 
     fn place(&self) -> Place {
         Place::Subscriber(self.number)
@@ -211,6 +227,7 @@ impl Work for SubscriberCore {
             subscriber,
             close_after: _,
             finished: _,
+            arrivals,
             repeats: _,
         } = self;
         SubscriberParts {
@@ -218,6 +235,7 @@ impl Work for SubscriberCore {
             inbox,
             acks,
             subscriber,
+            arrivals,
         }
     }
 }

@@ -1,5 +1,6 @@
 //! What a subscriber actor holds, for the code that puts the actors of a run together.
 
+use crate::subscriber::arrivals::Arrival;
 use cdc_links::{LinkIn, LinkOut};
 use cdc_subscriber::Subscriber;
 use cdc_traffic::{ToBroker, ToSubscriber};
@@ -12,4 +13,6 @@ pub struct SubscriberParts {
     pub inbox: LinkIn<ToSubscriber>,
     pub acks: LinkOut<ToBroker>,
     pub subscriber: Subscriber,
+    /// What it was delivered until it closed, in order.
+    pub arrivals: Vec<Arrival>,
 }
