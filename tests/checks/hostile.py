@@ -58,7 +58,7 @@ UNOPENED = "read_fault: it can't be opened: name a file that can be read, or one
 NO_FILE = "read_fault: it is no regular file: name another one"
 UNWRITTEN = (
     "write_fault: the record can't be written: the file and its folder have to be writable, no other run may have the file, and "
-    "what stands at its name with .new behind it has to be what a save left"
+    "a file at its name with .new appended has to be what a save left"
 )
 OTHER = "bad_record: it holds something else than a progress record: name another file"
 EMPTY = "bad_record: it is empty, and no progress record: name another file, or remove it to start from scratch"
@@ -216,7 +216,7 @@ def unreachable(hostile):
     hostile.refused("a pipe", folder, "saved", NO_FILE)
     hostile.refused("a device", hostile.folder(), "/dev/null", NO_FILE)
     hostile.refused("a name that is too long", hostile.folder(), 300 * "x", UNOPENED)
-    hostile.refused("a name that is too long with .new behind it", hostile.folder(), 252 * "x", UNWRITTEN)
+    hostile.refused("a name that is too long with .new appended", hostile.folder(), 252 * "x", UNWRITTEN)
     # (the first byte of a process's memory is never there)
     hostile.refused("a file of which no byte can be read", hostile.folder(), "/proc/self/mem", UNREAD)
 

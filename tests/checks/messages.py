@@ -183,7 +183,7 @@ class Messages:
             ([accepted, unknown, refused], 3, 1),
         ]:
             text, steps = f"subscriber all\n{opened}" + "".join(batches), "batch\n" * (len(batches) + 1)
-            counts = f"items not accepted: {items}, batches refused: {whole}"
+            counts = f"requests not accepted: {items}, batches refused: {whole}"
             wanted = f"relayplum: {counts}; --explain prints why\n" if items or whole else ""
             for form in FORMS:
                 for arguments in (["books", "script"], ["run", "script"], *[["simulate", "script", "steps"]][whole:]):

@@ -80,7 +80,7 @@ FILES["wrong.stream"] = lines_of(body(10, 5, 5), body(20, 5, 11))
 
 BOOK = (
     "write_fault: the book can't be written: the file and its folder have to be writable and to have room, nobody else may "
-    "change the file, and what stands at its name with .new behind it has to be what a save left\n"
+    "change the file, and a file at its name with .new appended has to be what a save left\n"
 )
 NO_BOOK = (
     "bad_record: it holds no book, or one that was saved with another --binding, or with --chained where that isn't given now, "
@@ -141,8 +141,8 @@ def rows():
     gap = "the message before this one in its queue has the timestamp 15, and the last one that came has 10"
     yield ["follow", "--chained", "gap.stream"], 1, f"gap.stream:2: gap: {gap}: messages between them are missing\n"
     yield ["audit", "wrong.stream"], 1, (
-        "wrong.stream:2: balances: no ledger publishes this event after those before it: one of them was lost, doubled, moved or "
-        "changed, or this one was\n"
+        "wrong.stream:2: balances: no ledger publishes this event after those before it: one of them was lost, duplicated, "
+        "moved or changed, or this one was\n"
     )
     follow = ["follow", "--chained", "gap.stream", "--skip-gaps", "--book"]
     yield [*follow, "."], 1, f".: store: {NO_FILE}"
