@@ -38,7 +38,7 @@ from build.program import Program
 
 MEASURED = rooms.TOP / 'docs/MEASURED.md'
 TITLE = '## Speed and memory'
-HEAD = '| Script | Command | Instructions | of each event | Memory, MB | Least, s | Median, s | Processors, s |'
+HEAD = '| Script | Command | Instructions | of each event | Memory, MB | Least, s | Median, s | CPU time, s |'
 # What may be more than in the last table before it is named.
 MORE = 1.02
 

@@ -48,7 +48,7 @@ ends_well() {
 # A run that ends well in which so many items weren't accepted and so many batches were refused, as standard error reports.
 counts() {
     same "$1: status" 0 "$status"
-    same "$1: standard error" "relayplum: items not accepted: $2, batches refused: $3; --explain prints why
+    same "$1: standard error" "relayplum: requests not accepted: $2, batches refused: $3; --explain prints why
 " "$err"
 }
 
@@ -267,7 +267,7 @@ same 'a run of no file: standard output' 'fault: read_fault
 has 'a run of no file: standard error' 'no-such.script: read_fault: No such file' "$err"
 printf '%stransfer id=1\n' "$one_transfer" >refused.script
 run run refused.script
-same 'a run that refuses: standard error' 'relayplum: items not accepted: 1, batches refused: 0; --explain prints why
+same 'a run that refuses: standard error' 'relayplum: requests not accepted: 1, batches refused: 0; --explain prints why
 refused.script:7: note: a transfer with no amount, or 0, moves 0 (1 in this script)
 ' "$err"
 run run --explain refused.script
@@ -291,7 +291,7 @@ same 'a run of a fifth client: standard error' "fifth.script:2:8: bad_client: \`
 missed() {
     run run "$top/examples/two-phase.script" "${@:2}"
     same "a fault that never came, '${*:2}': status" 0 "$status"
-    same "a fault that never came, '${*:2}'" "relayplum: $1" "$(grep -v 'items not accepted' errors)"
+    same "a fault that never came, '${*:2}'" "relayplum: $1" "$(grep -v 'requests not accepted' errors)"
 }
 missed '--lose-publish 999: only 8 publishes reached the broker' --lose-publish 999
 missed '--lose-confirm 9: only 8 publishes reached the broker' --lose-confirm 9
@@ -324,7 +324,7 @@ traced_run() {
 }subscriber 1: $2
 subscriber 2: 3 deliveries, 2 applied, each once; 0 redelivered, applied no second time; $one_end
 subscriber 3: 2 deliveries, 1 applied, each once; 0 redelivered, applied no second time; $one_end" \
-        "$(grep -v 'items not accepted' errors)"
+        "$(grep -v 'requests not accepted' errors)"
 }
 one_end='the other one is an end mark, or came after a close'
 first='event 2000, transfer 10 pending, 100 from 1 to 2'
@@ -611,7 +611,7 @@ same 'the example of faults' "${shown%\`\`\`}" "$(sed -n '/^steps /,$p' output)
 "
 same 'the example of faults: status' 0 "$status"
 same 'the example of faults: standard error' 'relayplum: subscriber 1 applied 7 of 12 deliveries
-relayplum: items not accepted: 2, batches refused: 0; --explain prints why
+relayplum: requests not accepted: 2, batches refused: 0; --explain prints why
 ' "$err"
 faulty=$(sed '/^steps /,$d' output)
 run books "$top/examples/two-phase.script"
@@ -847,7 +847,7 @@ its_notes='results.script:38: note: a post with no amount, or 0, takes 0; the wh
 results.script:35: note: a transfer with no amount, or 0, moves 0 (7 in this script)
 '
 run books results.script
-same 'each result: standard error' "relayplum: items not accepted: 49, batches refused: 0; --explain prints why
+same 'each result: standard error' "relayplum: requests not accepted: 49, batches refused: 0; --explain prints why
 $its_notes" "$err"
 plain=$out
 run books --explain results.script
@@ -942,7 +942,7 @@ done
 run books --json --explain results.script
 has 'objects, explained' 'results.script:24: batch 3 account 1 (id 20): 1 reserved_flag: ' "$err"
 run books --json results.script
-has 'objects, with items that are not accepted' 'relayplum: items not accepted: 49, batches refused: 0; --explain prints why' "$err"
+has 'objects, with items that are not accepted' 'relayplum: requests not accepted: 49, batches refused: 0; --explain prints why' "$err"
 if [ -w /dev/full ]; then
     "$program" books --json one.script >/dev/full 2>errors
     same 'objects to a full disk: status' 1 $?

@@ -25,7 +25,6 @@ sys.path += [os.path.join(os.path.dirname(os.path.realpath(__file__)), "..", it)
 import commands
 import ending
 import model
-import rooms
 import soak
 from commands import check, run
 
@@ -751,14 +750,7 @@ def random_streams(count):
 
 
 def main(arguments):
-    parser = rooms.parser_of_first(__doc__)
-    parser.add_argument("--streams", type=int, default=STREAMS, metavar="N", help="random streams; default: %(default)s")
-    options = rooms.options_of(parser, arguments)
-    commands.begin(options.program, "audit")
-    with rooms.room("audit-") as folder:
-        by_hand(folder)
-        random_streams(options.streams)
-    return commands.ended()
+    return commands.main(arguments, __doc__, "audit", [by_hand], random_streams, STREAMS)
 
 
 if __name__ == "__main__":

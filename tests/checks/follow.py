@@ -27,7 +27,6 @@ sys.path += [os.path.join(os.path.dirname(os.path.realpath(__file__)), "..", it)
 import commands
 import ending
 import needs
-import rooms
 import sweep
 from commands import check, run
 
@@ -548,17 +547,7 @@ def memory(folder):
 
 
 def main(arguments):
-    parser = rooms.parser_of_first(__doc__)
-    parser.add_argument("--streams", type=int, default=STREAMS, metavar="N", help="random streams; default: %(default)s")
-    options = rooms.options_of(parser, arguments)
-    commands.begin(options.program, "follow")
-    with rooms.room("follow-") as folder:
-        for part in (by_hand, books, killed, memory):
-            room = os.path.join(folder, part.__name__)
-            os.mkdir(room)
-            part(room)
-        random_streams(options.streams)
-    return commands.ended()
+    return commands.main(arguments, __doc__, "follow", [by_hand, books, killed, memory], random_streams, STREAMS)
 
 
 if __name__ == "__main__":

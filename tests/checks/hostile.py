@@ -30,12 +30,11 @@ import time
 
 sys.dont_write_bytecode = True
 sys.path.insert(0, os.path.join(os.path.dirname(os.path.realpath(__file__)), "..", "common"))
+import checked
 import ending
 import holding
-import rooms
 import scripts
 
-SECONDS = 300  # that a run may take: a last guard against one that hangs
 NOBODY = 65534
 SCRIPT = b"""subscriber all
 accounts 1000
@@ -58,7 +57,7 @@ UNOPENED = "read_fault: it can't be opened: name a file that can be read, or one
 NO_FILE = "read_fault: it is no regular file: name another one"
 UNWRITTEN = (
     "write_fault: the record can't be written: the file and its folder have to be writable, no other run may have the file, and "
-    "what stands at its name with .new behind it has to be what a save left"
+    "a file at its name with .new appended has to be what a save left"
 )
 OTHER = "bad_record: it holds something else than a progress record: name another file"
 EMPTY = "bad_record: it is empty, and no progress record: name another file, or remove it to start from scratch"
@@ -94,24 +93,16 @@ def as_nobody(processes=None, megabytes=None, written=None):
         resource.setrlimit(resource.RLIMIT_FSIZE, (written, written))
 
 
-class Hostile:
+class Hostile(checked.Checks):
     """The cases, and how they ended."""
 
     def __init__(self, program, room):
         # (nobody has to reach the program)
-        self.room, self.program = room, f"{room}/program"
+        super().__init__(f"{room}/program", room)
         os.chmod(room, 0o755)
         shutil.copyfile(program, self.program)
         os.chmod(self.program, 0o755)
         self.folders = 0
-        self.passed, self.failed = 0, 0
-
-    def check(self, what, wanted, found):
-        if wanted == found:
-            self.passed += 1
-            return
-        self.failed += 1
-        print(f"failed: {what}\n  wanted: {repr(wanted)[:600]}\n  found:  {repr(found)[:600]}", flush=True)
 
     # -- folders
 
@@ -149,29 +140,29 @@ class Hostile:
     def end(self, run):
         """How a run ended: its status, and what it printed; and what it said on standard error."""
         try:
-            out, errors = run.communicate(timeout=SECONDS)
+            out, errors = run.communicate(timeout=checked.SECONDS)
         except subprocess.TimeoutExpired:
             run.kill()
             run.communicate()
-            return ("none", f"it hasn't ended after {SECONDS} seconds"), b""
+            return ("none", f"it hasn't ended after {checked.SECONDS} seconds"), b""
         return (run.returncode, out), errors
 
     def refused(self, what, folder, saved, why, script="script", **limits):
         """A run is refused by its store, and the folder is as it was."""
         before = contents(folder)
         self.is_refused(what, self.end(self.start(folder, saved, script, **limits)), saved, why)
-        self.check(f"{what}: what is left", before, contents(folder))
+        self.same(f"{what}: what is left", before, contents(folder))
 
     def is_refused(self, what, ended, saved, why):
         """A run has ended since its store refused the file."""
-        self.check(what, ((1, STORE), f"{saved}: store: {why}\n"), (ended[0], ended[1].decode(errors="replace")))
+        self.same(what, ((1, STORE), f"{saved}: store: {why}\n"), (ended[0], ended[1].decode(errors="replace")))
 
     def done(self, what, folder, saved, printed, changed):
         """A run comes to its end, and changes these files alone, or takes them away."""
         wanted = {**contents(folder), **changed}
         ended, _ = self.end(self.start(folder, saved))
-        self.check(what, (0, printed), ended)
-        self.check(f"{what}: what is left", {name: it for name, it in wanted.items() if it}, contents(folder))
+        self.same(what, (0, printed), ended)
+        self.same(f"{what}: what is left", {name: it for name, it in wanted.items() if it}, contents(folder))
 
 
 def contents(folder):
@@ -216,7 +207,7 @@ def unreachable(hostile):
     hostile.refused("a pipe", folder, "saved", NO_FILE)
     hostile.refused("a device", hostile.folder(), "/dev/null", NO_FILE)
     hostile.refused("a name that is too long", hostile.folder(), 300 * "x", UNOPENED)
-    hostile.refused("a name that is too long with .new behind it", hostile.folder(), 252 * "x", UNWRITTEN)
+    hostile.refused("a name that is too long with .new appended", hostile.folder(), 252 * "x", UNWRITTEN)
     # (the first byte of a process's memory is never there)
     hostile.refused("a file of which no byte can be read", hostile.folder(), "/proc/self/mem", UNREAD)
 
@@ -268,8 +259,8 @@ def no_record(hostile):
     folder = hostile.folder()
     hostile.write(folder, "saved", record(GREATEST, 0))
     before = contents(folder)
-    hostile.check("the greatest session", ((1, EXHAUSTED), USED_UP), hostile.end(hostile.start(folder, "saved")))
-    hostile.check("the greatest session: what is left", before, contents(folder))
+    hostile.same("the greatest session", ((1, EXHAUSTED), USED_UP), hostile.end(hostile.start(folder, "saved")))
+    hostile.same("the greatest session: what is left", before, contents(folder))
 
 
 def in_the_way(hostile):
@@ -334,9 +325,9 @@ def wants_memory(hostile, what, begins=True, **limits):
     ended, errors = hostile.end(hostile.start(folder, "saved", **limits))
     right = ended == (0, PRINTED) or ended == (1, NO_MEMORY) and b"out_of_memory" in errors
     unbegun = not begins and ended[0] not in (0, 1, "none") and ended[1] == b""
-    hostile.check(what, True, right or unbegun or (ended, errors))
+    hostile.same(what, True, right or unbegun or (ended, errors))
     held = contents(folder).get("saved")
-    hostile.check(f"{what}: the record", True, not held or bool(RECORD.fullmatch(held[1])))
+    hostile.same(f"{what}: the record", True, not held or bool(RECORD.fullmatch(held[1])))
 
 
 def few_threads(hostile):
@@ -371,16 +362,16 @@ def a_run_while_another_is_on(hostile):
     hostile.make(folder, "hold", os.mkfifo)
     first = hostile.start(folder, "saved", "long", env=holding.environment(library, at=2))
     held = holding.wait_until_held(first, f"{folder}/hold")
-    hostile.check(f"{what}: it is on, with a record saved", True, held is not None and os.path.exists(f"{folder}/saved"))
+    hostile.same(f"{what}: it is on, with a record saved", True, held is not None and os.path.exists(f"{folder}/saved"))
     second = hostile.end(hostile.start(folder, "saved", "long"))
     hostile.is_refused(f"{what}: it is refused", second, "saved", UNREAD)
     if held is not None:
         os.close(held)
     ended, errors = hostile.end(first)
-    hostile.check(f"{what}: the first one goes on", 0, ended[0] and (ended, errors))
+    hostile.same(f"{what}: the first one goes on", 0, ended[0] and (ended, errors))
     left = contents(folder)
-    hostile.check(f"{what}: the record", True, "saved" in left and bool(RECORD.fullmatch(left["saved"][1])) or left)
-    hostile.check(f"{what}: the new name", False, "saved.new" in left)
+    hostile.same(f"{what}: the record", True, "saved" in left and bool(RECORD.fullmatch(left["saved"][1])) or left)
+    hostile.same(f"{what}: the new name", False, "saved.new" in left)
 
 
 def a_file_that_something_else_writes(hostile):
@@ -395,13 +386,13 @@ def a_file_that_something_else_writes(hostile):
             hostile.make(folder, "hold", os.mkfifo)
             run = hostile.start(folder, "saved", env=holding.environment(library, call=call))
             held = holding.wait_until_held(run, f"{folder}/hold")
-            hostile.check(f"{what}: it is held", (True, call == "rename"), (held is not None, os.path.exists(f"{folder}/saved")))
+            hostile.same(f"{what}: it is held", (True, call == "rename"), (held is not None, os.path.exists(f"{folder}/saved")))
             hostile.write(folder, "saved", text)
             before = contents(folder)
             if held is not None:
                 os.close(held)
             hostile.is_refused(what, hostile.end(run), "saved", UNWRITTEN)
-            hostile.check(f"{what}: what is left", before, contents(folder))
+            hostile.same(f"{what}: what is left", before, contents(folder))
 
 
 def two_runs(hostile):
@@ -413,16 +404,16 @@ def two_runs(hostile):
         runs = [hostile.start(folder, "saved", "long") for _ in range(2)]
         ends = [hostile.end(it) for it in runs]
         others = [(ended, b"saved: store: " in errors) for ended, errors in ends if ended[0] != 0]
-        hostile.check(f"{what}: those that don't come to their end", [((1, STORE), True)] * len(others), others)
-        hostile.check(f"{what}: what is left", True, is_whole(folder))
+        hostile.same(f"{what}: those that don't come to their end", [((1, STORE), True)] * len(others), others)
+        hostile.same(f"{what}: what is left", True, is_whole(folder))
         goes_on(hostile, what, folder)
 
 
 def goes_on(hostile, what, folder):
     """The next run comes to its end, and leaves the record alone."""
     ended, errors = hostile.end(hostile.start(folder, "saved", "long"))
-    hostile.check(f"{what}: a run that goes on", 0, ended[0] and (ended, errors))
-    hostile.check(f"{what}: no other file is left", False, "saved.new" in contents(folder))
+    hostile.same(f"{what}: a run that goes on", 0, ended[0] and (ended, errors))
+    hostile.same(f"{what}: no other file is left", False, "saved.new" in contents(folder))
 
 
 def is_whole(folder, saved=True):
@@ -437,7 +428,7 @@ def ended_runs(hostile, seed=1):
     rng, folder = random.Random(seed), long_folder(hostile)
     begun = time.monotonic()
     wanted = hostile.end(hostile.start(folder, "saved", "long"))[0]
-    hostile.check("a long run", 0, wanted[0])
+    hostile.same("a long run", 0, wanted[0])
     took = time.monotonic() - begun
     for how in ("SIGTERM", "a closed standard output"):
         folder = long_folder(hostile)
@@ -453,8 +444,8 @@ def ended_runs(hostile, seed=1):
             ended, errors = hostile.end(run)
             # (a run that has printed before it was ended has come to its end)
             right = {"SIGTERM": (-signal.SIGTERM, 0), "a closed standard output": (1, -signal.SIGPIPE, 0)}[how]
-            hostile.check(f"{how}: the status", True, ended[0] in right or (ended, errors))
-            hostile.check(f"{how}: what is left", True, is_whole(folder))
+            hostile.same(f"{how}: the status", True, ended[0] in right or (ended, errors))
+            hostile.same(f"{how}: what is left", True, is_whole(folder))
         goes_on(hostile, how, folder)
 
 
@@ -475,13 +466,7 @@ PARTS = (
 
 
 def main(arguments):
-    program = rooms.options_of(rooms.parser_of_first(__doc__), arguments).program
-    with rooms.room("hostile-") as room:
-        hostile = Hostile(program, room)
-        for part in PARTS:
-            part(hostile)
-    print(f"hostile: {hostile.passed} passed, {hostile.failed} failed")
-    return 1 if hostile.failed else 0
+    return checked.main(arguments, __doc__, Hostile, PARTS)
 
 
 if __name__ == "__main__":

@@ -12,17 +12,15 @@ The last line is `messages: N passed, M failed`; the status is 1 if one failed.
 """
 import json
 import os
-import subprocess
 import sys
 
 sys.dont_write_bytecode = True
 sys.path.insert(0, os.path.join(os.path.dirname(os.path.realpath(__file__)), "..", "common"))
+import checked
 import ending
 import json_text
 import model
-import rooms
 
-SECONDS = 300  # that a run may take: a last guard against one that hangs
 LEDGERS, ROUNDS = (700, 701, 702), 30
 BINDINGS = (
     "all",
@@ -94,27 +92,15 @@ def body(event):
     return {"body": json.loads(model.body(event))}
 
 
-class Messages:
+class Messages(checked.Checks):
     """The runs, and how they ended."""
-
-    def __init__(self, program, room):
-        self.program, self.room = program, room
-        self.passed, self.failed = 0, 0
-
-    def same(self, what, wanted, found):
-        if wanted == found:
-            self.passed += 1
-            return
-        self.failed += 1
-        print(f"failed: {what}\n  wanted: {rooms.shortened(repr(wanted))}\n  found:  {rooms.shortened(repr(found))}", flush=True)
 
     def run(self, arguments, script, steps=None):
         """A run over a script: its status, what it printed, and standard error."""
         for name, text in (("script", script), ("steps", steps)):
             with open(f"{self.room}/{name}", "w", encoding="ascii") as file:
                 file.write(text or "")
-        done = subprocess.run([self.program, *arguments], cwd=self.room, capture_output=True, timeout=SECONDS)
-        return done.returncode, done.stdout, done.stderr.decode(errors="replace")
+        return super().run(arguments)
 
     def as_text(self, printed):
         """The text that printed objects stand for; if they are none, what is wrong with them."""
@@ -183,7 +169,7 @@ class Messages:
             ([accepted, unknown, refused], 3, 1),
         ]:
             text, steps = f"subscriber all\n{opened}" + "".join(batches), "batch\n" * (len(batches) + 1)
-            counts = f"items not accepted: {items}, batches refused: {whole}"
+            counts = f"requests not accepted: {items}, batches refused: {whole}"
             wanted = f"relayplum: {counts}; --explain prints why\n" if items or whole else ""
             for form in FORMS:
                 for arguments in (["books", "script"], ["run", "script"], *[["simulate", "script", "steps"]][whole:]):
@@ -197,13 +183,7 @@ class Messages:
 
 
 def main(arguments):
-    program = rooms.options_of(rooms.parser_of_first(__doc__), arguments).program
-    with rooms.room("messages-") as room:
-        messages = Messages(program, room)
-        messages.long()
-        messages.tally()
-    print(f"messages: {messages.passed} passed, {messages.failed} failed")
-    return 1 if messages.failed else 0
+    return checked.main(arguments, __doc__, Messages, [Messages.long, Messages.tally])
 
 
 if __name__ == "__main__":

@@ -26,12 +26,11 @@ import sys
 
 sys.dont_write_bytecode = True
 sys.path.insert(0, os.path.join(os.path.dirname(os.path.realpath(__file__)), "..", "common"))
+import checked
 import ending
 import holding
-import rooms
 import traces
 
-SECONDS = 300  # that a run may take: a last guard against one that hangs
 TRANSFERS = 70  # more than any window or prefetch
 WINDOWS, DEFAULT_WINDOW = (1, 2, 3, 8, 64), 1
 PREFETCHES, DEFAULT_PREFETCH = (1, 2, 3, 8, 64), 8
@@ -81,22 +80,14 @@ def faults_in(steps):
     return found
 
 
-class Plans:
+class Plans(checked.Checks):
     """The runs, and how they ended."""
 
     def __init__(self, program, room):
-        self.program, self.room = program, room
-        self.passed, self.failed = 0, 0
+        super().__init__(program, room)
         with open(f"{room}/script", "w", encoding="ascii") as file:
             file.write(script_of(TRANSFERS))
         os.mkfifo(f"{room}/hold")
-
-    def check(self, what, wanted, found):
-        if wanted == found:
-            self.passed += 1
-            return
-        self.failed += 1
-        print(f"failed: {what}\n  wanted: {rooms.shortened(repr(wanted))}\n  found:  {rooms.shortened(repr(found))}", flush=True)
 
     def start(self, plan, env=None):
         arguments = [self.program, "run", "script", "--trace", *plan]
@@ -107,13 +98,13 @@ class Plans:
         """Checks what a run printed and that its trace agrees with that and with the plan; returns the trace."""
         what = " ".join(plan) or "no plan"
         try:
-            out, errors = run.communicate(timeout=SECONDS)
+            out, errors = run.communicate(timeout=checked.SECONDS)
         except subprocess.TimeoutExpired:
             run.kill()
             out, errors = run.communicate()
         out, errors = out.decode(), errors.decode(errors="replace")
-        self.check(what, (0, printed_of(TRANSFERS)), (run.returncode, out))
-        self.check(f"{what}: the trace", [], traces.complaints(plan, out, errors))
+        self.same(what, (0, printed_of(TRANSFERS)), (run.returncode, out))
+        self.same(f"{what}: the trace", [], traces.complaints(plan, out, errors))
         return errors
 
     def trace(self, plan):
@@ -126,11 +117,11 @@ class Plans:
         for after in {1, window - 1, window} - {0}:
             arguments = [*plan, "--restart-after", str(after)]
             sent = [int(it) for it in SENT_AGAIN.findall(self.trace(arguments))]
-            self.check(f"{' '.join(arguments)}: sent again", list(range(FIRST, FIRST + after)), sent)
+            self.same(f"{' '.join(arguments)}: sent again", list(range(FIRST, FIRST + after)), sent)
         arguments = [*plan, "--restart-after", str(window + 1)]
         sent = [int(it) for it in SENT_AGAIN.findall(self.trace(arguments))]
-        self.check(f"{' '.join(arguments)}: the last one is sent again", [FIRST + window], sent[-1:])
-        self.check(f"{' '.join(arguments)}: no more than a window is", True, len(sent) <= window or sent)
+        self.same(f"{' '.join(arguments)}: the last one is sent again", [FIRST + window], sent[-1:])
+        self.same(f"{' '.join(arguments)}: no more than a window is", True, len(sent) <= window or sent)
 
     def windows(self):
         self.window([], DEFAULT_WINDOW)
@@ -149,7 +140,7 @@ class Plans:
         if held is not None:
             os.close(held)
         trace = self.end(plan, run)
-        self.check(f"{' '.join(plan)}: it was held until all others waited", True, rested)
+        self.same(f"{' '.join(plan)}: it was held until all others waited", True, rested)
         return trace
 
     def prefetch(self, plan, prefetch, library):
@@ -158,7 +149,7 @@ class Plans:
             arguments = [*plan, "--repeat", f"{subscriber}:{prefetch}"]
             again = AGAIN.findall(self.held(subscriber, arguments, library))
             wanted = [(str(subscriber), str(position)) for position in range(2, prefetch + 1)]
-            self.check(f"{' '.join(arguments)}: redelivered", wanted, again)
+            self.same(f"{' '.join(arguments)}: redelivered", wanted, again)
 
     def prefetches(self):
         library = holding.library_in(self.room, "plans", "prefetches")
@@ -178,7 +169,7 @@ class Plans:
             for more in ([], ["--prefetch", "2"], ["--prefetch", "64", "--window", "64"]):
                 places = {(queue, position) for queue, position in AGAIN.findall(self.trace([*more, *plan]))}
                 wanted = {tuple(it.split(":")) for it in plan[1::2]}
-                self.check(f"{' '.join([*more, *plan])}: redelivered", set(), wanted - places)
+                self.same(f"{' '.join([*more, *plan])}: redelivered", set(), wanted - places)
 
     # -- random steps
 
@@ -187,24 +178,18 @@ class Plans:
         found = set()
         for seed in range(1, SEEDS + 1):
             arguments = ["simulate", "script", "--random", str(seed), "--steps", "400", "--faults", str(faults)]
-            ran = subprocess.run([self.program, *arguments], cwd=self.room, capture_output=True, timeout=SECONDS)
-            self.check(f"{' '.join(arguments)}: the status", 0, ran.returncode)
-            found |= faults_in(it for it in ran.stderr.decode().splitlines() if not it.startswith("#"))
+            status, _, errors = self.run(arguments)
+            self.same(f"{' '.join(arguments)}: the status", 0, status)
+            found |= faults_in(it for it in errors.splitlines() if not it.startswith("#"))
         return found
 
     def random(self):
-        self.check("no random fault", set(), self.random_faults(0))
-        self.check("each random fault", FAULTS, self.random_faults(40))
+        self.same("no random fault", set(), self.random_faults(0))
+        self.same("each random fault", FAULTS, self.random_faults(40))
 
 
 def main(arguments):
-    program = rooms.options_of(rooms.parser_of_first(__doc__), arguments).program
-    with rooms.room("plans-") as room:
-        plans = Plans(program, room)
-        for part in (plans.windows, plans.prefetches, plans.rewinds, plans.random):
-            part()
-    print(f"plans: {plans.passed} passed, {plans.failed} failed")
-    return 1 if plans.failed else 0
+    return checked.main(arguments, __doc__, Plans, [Plans.windows, Plans.prefetches, Plans.rewinds, Plans.random])
 
 
 if __name__ == "__main__":

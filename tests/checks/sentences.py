@@ -22,10 +22,9 @@ import time
 
 sys.dont_write_bytecode = True
 sys.path.insert(0, os.path.join(os.path.dirname(os.path.realpath(__file__)), "..", "common"))
+import checked
 import ending
-import rooms
 
-SECONDS = 300  # that a run may take: a last guard against one that hangs
 MORE = "\nFor more information, try '--help'.\n"
 OPENED = "accounts 1000\naccount id=1 ledger=700 code=10\naccount id=2 ledger=700 code=10\n"
 TRANSFER = "transfer id={} debit_account_id=1 credit_account_id=2 amount={} ledger=700 code=1{}\n".format
@@ -80,7 +79,7 @@ FILES["wrong.stream"] = lines_of(body(10, 5, 5), body(20, 5, 11))
 
 BOOK = (
     "write_fault: the book can't be written: the file and its folder have to be writable and to have room, nobody else may "
-    "change the file, and what stands at its name with .new behind it has to be what a save left\n"
+    "change the file, and a file at its name with .new appended has to be what a save left\n"
 )
 NO_BOOK = (
     "bad_record: it holds no book, or one that was saved with another --binding, or with --chained where that isn't given now, "
@@ -141,8 +140,8 @@ def rows():
     gap = "the message before this one in its queue has the timestamp 15, and the last one that came has 10"
     yield ["follow", "--chained", "gap.stream"], 1, f"gap.stream:2: gap: {gap}: messages between them are missing\n"
     yield ["audit", "wrong.stream"], 1, (
-        "wrong.stream:2: balances: no ledger publishes this event after those before it: one of them was lost, doubled, moved or "
-        "changed, or this one was\n"
+        "wrong.stream:2: balances: no ledger publishes this event after those before it: one of them was lost, duplicated, "
+        "moved or changed, or this one was\n"
     )
     follow = ["follow", "--chained", "gap.stream", "--skip-gaps", "--book"]
     yield [*follow, "."], 1, f".: store: {NO_FILE}"
@@ -217,12 +216,11 @@ CLOSED = [
 ]
 
 
-class Sentences:
+class Sentences(checked.Checks):
     """The runs, and how they ended."""
 
     def __init__(self, program, room):
-        self.program, self.room = program, room
-        self.passed, self.failed = 0, 0
+        super().__init__(program, room)
         for name, text in FILES.items():
             self.write(name, text)
         os.mkdir(f"{room}/folder")
@@ -231,16 +229,9 @@ class Sentences:
         with open(f"{self.room}/{name}", "w", encoding="ascii") as file:
             file.write(text)
 
-    def same(self, what, wanted, found):
-        if wanted == found:
-            self.passed += 1
-            return
-        self.failed += 1
-        print(f"failed: {what}\n  wanted: {wanted!r}\n  found:  {found!r}", flush=True)
-
     def run(self, arguments):
-        done = subprocess.run([self.program, *arguments], cwd=self.room, input=b"", capture_output=True, timeout=SECONDS)
-        return done.returncode, done.stdout.decode(), done.stderr.decode(errors="replace")
+        status, printed, errors = super().run(arguments)
+        return status, printed.decode(), errors
 
     def rows(self):
         for arguments, status, wanted in rows():
@@ -281,7 +272,7 @@ class Sentences:
         how = {"stdin": subprocess.PIPE, "stdout": subprocess.PIPE, "stderr": terminal}
         with subprocess.Popen([self.program, "follow"], cwd=self.room, **how) as run:
             os.close(terminal)
-            until, lines, errors = time.monotonic() + SECONDS, 0, b""
+            until, lines, errors = time.monotonic() + checked.SECONDS, 0, b""
             while b"\n" not in errors and time.monotonic() < until:
                 run.stdin.write(b"\n")
                 run.stdin.flush()
@@ -294,7 +285,7 @@ class Sentences:
         found = re.match(rb"standard input: (\d+) lines read, (\d+) a second\r\n", errors)
         read, rate = map(int, found.groups()) if found else (0, 0)
         # (so many lines in one second, or in several)
-        is_right = found is not None and 0 < read <= lines and rate in (read // it for it in range(1, SECONDS))
+        is_right = found is not None and 0 < read <= lines and rate in (read // it for it in range(1, checked.SECONDS))
         self.same("follow on a terminal", True, is_right or errors)
 
     # -- which fault
@@ -335,20 +326,15 @@ class Sentences:
 
 
 def main(arguments):
-    program = rooms.options_of(rooms.parser_of_first(__doc__), arguments).program
-    with rooms.room("sentences-") as room:
-        sentences = Sentences(program, room)
-        for part in (
-            sentences.rows,
-            sentences.held_book,
-            sentences.traces,
-            sentences.watched,
-            sentences.read_faults,
-            sentences.bad_script_first,
-        ):
-            part()
-    print(f"sentences: {sentences.passed} passed, {sentences.failed} failed")
-    return 1 if sentences.failed else 0
+    parts = [
+        Sentences.rows,
+        Sentences.held_book,
+        Sentences.traces,
+        Sentences.watched,
+        Sentences.read_faults,
+        Sentences.bad_script_first,
+    ]
+    return checked.main(arguments, __doc__, Sentences, parts)
 
 
 if __name__ == "__main__":

@@ -1,5 +1,8 @@
 """What the checks of one command share: runs of it, and the count of what passed."""
+import os
 import subprocess
+
+import rooms
 
 SECONDS = 300  # that a run may take: a last guard against one that hangs
 MOST_SHOWN = 10
@@ -35,3 +38,19 @@ def ended():
         print(it)
     print(f"{command}: {passed} passed, {len(failures)} failed")
     return 1 if failures else 0
+
+
+def main(arguments, text, of_command, parts, random_streams, streams):
+    """Checks a command over the program that the arguments name; `text` is the script's help. Each part has a folder of its own;
+    then come the random streams, so many if the arguments give no number. Returns the status."""
+    parser = rooms.parser_of_first(text)
+    parser.add_argument("--streams", type=int, default=streams, metavar="N", help="random streams; default: %(default)s")
+    options = rooms.options_of(parser, arguments)
+    begin(options.program, of_command)
+    with rooms.room(f"{of_command}-") as folder:
+        for part in parts:
+            room = os.path.join(folder, part.__name__)
+            os.mkdir(room)
+            part(room)
+        random_streams(options.streams)
+    return ended()

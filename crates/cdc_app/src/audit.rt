@@ -72,7 +72,7 @@ fn advise_on_audit(rt: &HostRuntime, file: &str, ending: AuditEnding) {
             let rule = why.name();
             eprintln!(rt;
                 "{place}:{line}: {rule}: no ledger publishes this event after those before it: one of them was lost, \
-                 doubled, moved or changed, or this one was"
+                 duplicated, moved or changed, or this one was"
             )
         }
         AuditEnding::Stopped(AuditStop::BadLine(line, error)) => {

@@ -12,7 +12,7 @@ pub fn deliveries_option<'a>(alloc: Global) -> Result<Arg<'a>, AllocError> {
         .value_name("I")
         .action(ArgAction::Set)
         .help(
-            "Print instead what is delivered to subscriber I up to its close, as JSON lines [1-8]",
+            "Print what subscriber I receives up to its close, as JSON lines, instead of the report [1-8]",
         )
         .conflicts_with("check")
 }
@@ -21,7 +21,7 @@ pub fn expect_flag<'a>(alloc: Global) -> Result<Arg<'a>, AllocError> {
     Arg::new(alloc, "expect")
         .long("expect")
         .action(ArgAction::SetTrue)
-        .help("Print in the place of each delivery what must come of it")
+        .help("Print the expected result of each delivery instead of the delivery")
         .requires_arg("deliveries")
 }
 

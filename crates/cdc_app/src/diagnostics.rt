@@ -61,7 +61,7 @@ pub fn hint(rt: &HostRuntime, tally: Tally, why: &str) {
         return;
     }
     let _ = eprintln!(rt;
-        "relayplum: items not accepted: {items}, batches refused: {batches}{why}"
+        "relayplum: requests not accepted: {items}, batches refused: {batches}{why}"
     );
 }
 

@@ -116,7 +116,7 @@ fn trouble(rt: &HostRuntime, book: &str, error: StoreError) -> &'static str {
         StoreError::ReadFault => unread(rt, book),
         StoreError::WriteFault => {
             "the book can't be written: the file and its folder have to be writable and to have room, nobody else may \
-             change the file, and what stands at its name with .new behind it has to be what a save left"
+             change the file, and a file at its name with .new appended has to be what a save left"
         }
         StoreError::BadRecord => {
             "it holds no book, or one that was saved with another --binding, or with --chained where that isn't given \

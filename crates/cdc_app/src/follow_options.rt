@@ -59,7 +59,7 @@ fn gaps_flag<'a>(alloc: Global) -> Arg<'a> {
     Arg::new(alloc, "skip-gaps")
         .long("skip-gaps")
         .action(ArgAction::SetTrue)
-        .help("With --chained: skip an event that comes too early, and go on")
+        .help("Skip an event that comes too early, and go on; needs --chained")
 }
 
 fn binding_option<'a>(alloc: Global) -> Arg<'a> {
@@ -76,7 +76,7 @@ fn book_option<'a>(alloc: Global) -> Arg<'a> {
         .long("book")
         .value_name("BOOK")
         .action(ArgAction::Set)
-        .help("File in which the book is saved, and from which following resumes [default: memory]")
+        .help("Save the book in this file, and resume from it [default: memory]")
 }
 
 fn every_option<'a>(alloc: Global) -> Arg<'a> {
@@ -84,7 +84,7 @@ fn every_option<'a>(alloc: Global) -> Arg<'a> {
         .long("every")
         .value_name("N")
         .action(ArgAction::Set)
-        .help("Number of lines after which the book is saved, at the latest [default: 1000]")
+        .help("Save the book after N lines at the latest [1-18446744073709551615; default: 1000]")
 }
 
 /// The plan that the arguments ask for, or a usage error.

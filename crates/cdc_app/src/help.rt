@@ -2,7 +2,7 @@
 
 pub const BOOKS: &str = "\
 FILE is a script, and - is standard input. Its batches go to a ledger in the order of the file. The output is
-the results of each batch, a number for each item, and then for each subscriber how far it is and its book: for each
+the results of each batch, a number for each request, and then for each subscriber how far it is and its book: for each
 account its pending debits, posted debits, pending credits and posted credits.
 
 A script is a text of lines:
@@ -48,8 +48,9 @@ each line: batch, close_ledger, start, start at N, crash, poll, publish, arrive 
 break I, take I, ack I K or close I. I is a subscriber and its queue, K counts the packets, the confirms or a
 subscriber's acknowledgements ever sent, from 1, and N is a timestamp in nanoseconds.
 
-The steps are taken in order, up to the first that is refused. The output is the results of the batches that were
-taken, how many steps were done, what the session has saved, and for each subscriber how far it is and its book.
+The steps are taken in order, up to the first that is refused. Random steps are printed as a step file. The output is
+the results of the batches that were taken, how many steps were done, what the session has saved, and for each
+subscriber how far it is and its book.
 
 Examples:
   relayplum simulate examples/two-phase.script examples/two-phase.steps
@@ -63,8 +64,8 @@ Exit status:
 
 pub const RUN: &str = "\
 FILE is a script, and - is standard input. It is run on threads: the ledger, each client, the connector, the broker and
-each subscriber have one each. What goes wrong on the way is counted over the whole run, from 1. The output is what
-the command books prints, for that run.
+each subscriber have one each. The N of a fault is counted over the whole run, from 1. The output is what the command
+books prints, for that run.
 
 Examples:
   relayplum run examples/first-transfer.script --lose-confirm 1
@@ -83,7 +84,7 @@ object with the member end, which is true. Empty lines and lines that begin with
 
 Each event that is later than the last one is applied to the book, and any other one is a duplicate. With --chained,
 each line has a member previous, the timestamp of the message before it in its queue (0 before the first), and an event
-is applied only if nothing of the queue can lie between it and the last one; where something can, there is a gap, and
+is applied only if nothing of the queue can lie between it and the last one. If something can, there is a gap, and
 following stops. So no event is lost or applied twice, whatever the broker does.
 
 With --book, the book is saved after every N lines, each time that no whole line is waiting, and at the end. After each
@@ -111,8 +112,8 @@ lines are those that the command follow reads.
 Each event shows the balances of its two accounts after it, so it has to follow from the events before it: its timestamp
 is later, its transfer is new, a post, void or expiry names a pending transfer that came before and hasn't ended, and
 each of the eight balances is the one before with this event's amount. The first event that doesn't follow is refused,
-with the rule that it breaks and the numbers. So a lost, doubled, swapped or changed event is found; docs/AUDIT.md
-describes what can't be.
+with the rule that it breaks and the numbers. So a lost, duplicated, swapped or changed event is found;
+docs/AUDIT.md lists what can't be.
 
 Another ledger of this kind may have more flags. With --foreign they are ignored, and a transfer that is stored with
 such a flag may have any timestamp.

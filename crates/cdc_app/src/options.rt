@@ -41,8 +41,8 @@ A script is a text of lines:
 A subscriber's binding is all or any, and up to ten pairs of a header and its value, as in
   subscriber any event_type=two_phase_posted ledger=700
 
-A script is run on threads: the ledger, each client, the connector, the broker and each subscriber have one each. What
-goes wrong on the way is counted over the whole run, from 1.
+A script is run on threads: the ledger, each client, the connector, the broker and each subscriber have one each. The
+N of a fault is counted over the whole run, from 1.
 
 STEPS is a file with one step of a simulation in each line: batch, close_ledger, start, start at N, crash, poll,
 publish, arrive K, answer K, save, send I, rewind I, break I, take I, ack I K or close I. I is a subscriber and its
@@ -143,7 +143,7 @@ fn simulate_arguments<'a>(alloc: Global) -> Result<Command<'a>, AllocError> {
         .help("The file of the steps; - is standard input");
     Command::new(alloc, "simulate")
         .about(
-            "Take a script's batches and a session's packets step by step, and print the world that the steps lead to",
+            "Take a script's batches and a session's packets step by step, and print the state that the steps lead to",
         )
         .after_help(help::SIMULATE)
         .arg(script_argument(alloc))?
@@ -175,14 +175,14 @@ pub fn window_option<'a>(alloc: Global) -> Arg<'a> {
         .long("window")
         .value_name("N")
         .action(ArgAction::Set)
-        .help("Number of events that a session waits for at a time [1-64; default: 1]")
+        .help("Set the number of events that a session waits for at a time [1-64; default: 1]")
 }
 
 pub fn explain_flag<'a>(alloc: Global) -> Arg<'a> {
     Arg::new(alloc, "explain")
         .long("explain")
         .action(ArgAction::SetTrue)
-        .help("Print on standard error why each item was not accepted")
+        .help("Print on standard error why each request or batch was not accepted")
 }
 
 fn queue_option<'a>(alloc: Global) -> Arg<'a> {

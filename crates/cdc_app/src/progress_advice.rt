@@ -14,7 +14,7 @@ pub fn trouble(rt: &HostRuntime, saved: &str, error: StoreError) -> &'static str
         StoreError::ReadFault => unread(rt, saved),
         StoreError::WriteFault => {
             "the record can't be written: the file and its folder have to be writable, no other run may have the file, \
-             and what stands at its name with .new behind it has to be what a save left"
+             and a file at its name with .new appended has to be what a save left"
         }
         StoreError::BadRecord => no_record(rt, saved),
         StoreError::OutOfMemory => "no memory was left",

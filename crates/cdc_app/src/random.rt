@@ -179,7 +179,7 @@ fn hint(rt: &HostRuntime, tally: Tally) {
     let Tally { items, batches } = tally;
     if items != 0 || batches != 0 {
         let _ = eprintln!(rt;
-            "# relayplum: items not accepted: {items}, batches refused: {batches}; --explain prints why"
+            "# relayplum: requests not accepted: {items}, batches refused: {batches}; --explain prints why"
         );
     }
 }

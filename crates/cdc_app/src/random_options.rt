@@ -21,7 +21,9 @@ pub fn random_option<'a>(alloc: Global) -> Result<Arg<'a>, AllocError> {
         .long("random")
         .value_name("SEED")
         .action(ArgAction::Set)
-        .help("Take random steps from this seed, and print them as a step file on standard error")
+        .help(
+            "Take random steps from this seed, and print them on standard error [0-18446744073709551615]",
+        )
         .conflicts_with("STEPS")?
         .conflicts_with("check")
 }
@@ -31,7 +33,7 @@ pub fn steps_option<'a>(alloc: Global) -> Result<Arg<'a>, AllocError> {
         .long("steps")
         .value_name("N")
         .action(ArgAction::Set)
-        .help("Number of random steps at most [0-20000; default: 200]")
+        .help("Take at most N random steps [0-20000; default: 200]")
         .conflicts_with("STEPS")?
         .requires_arg("random")
 }
@@ -41,7 +43,7 @@ pub fn faults_option<'a>(alloc: Global) -> Result<Arg<'a>, AllocError> {
         .long("faults")
         .value_name("N")
         .action(ArgAction::Set)
-        .help("Number of faults to inject [0-20000; default: 10]")
+        .help("Inject N faults among them [0-20000; default: 10]")
         .conflicts_with("STEPS")?
         .requires_arg("random")
 }

@@ -85,7 +85,9 @@ fn prefetch_option<'a>(alloc: Global) -> Arg<'a> {
         .long("prefetch")
         .value_name("N")
         .action(ArgAction::Set)
-        .help("Number of deliveries that a queue may have unacknowledged [1-64; default: 8]")
+        .help(
+            "Set the number of deliveries that a queue may have unacknowledged [1-64; default: 8]",
+        )
 }
 
 /// An option with a count, which may be given several times.
@@ -116,9 +118,7 @@ fn start_option<'a>(alloc: Global) -> Arg<'a> {
         .long("start-after")
         .value_name("N")
         .action(ArgAction::Set)
-        .help(
-            "Start the first session after this timestamp, in nanoseconds, and report only later events",
-        )
+        .help("Leave out the events up to this timestamp, in nanoseconds [0-9223372036854775807]")
 }
 
 fn progress_option<'a>(alloc: Global) -> Arg<'a> {
@@ -126,9 +126,7 @@ fn progress_option<'a>(alloc: Global) -> Arg<'a> {
         .long("progress")
         .value_name("SAVED")
         .action(ArgAction::Set)
-        .help(
-            "File in which the connector saves its progress, and from which it resumes [default: memory]",
-        )
+        .help("Save the connector's progress in this file, and resume from it [default: memory]")
 }
 
 /// The plan of a run without any option: a window of one event, a prefetch of 8, no fault and no start.
