@@ -16,6 +16,7 @@ use Rattle.cdc_message.specs.declared.packets.Packet.{Packet}
 use Rattle.cdc_progress.specs.Records.{Saved}
 use Rattle.cdc_progress.specs.Stores.{Risks}
 use Rattle.cdc_run.specs.Counts.{IsCountOf, MayCount}
+use Rattle.cdc_run.specs.Ran.{RanFrom}
 use Rattle.cdc_run.specs.Made.{AreMade, fresh_inbox, made_broker, made_clients, made_subscribers, plan_of}
 use Rattle.cdc_run.specs.Reports.{AreSubscribed, HasRun, IsReportOf}
 use Rattle.cdc_actors.specs.Seats.{BrokerSeat, ConnectorSeat, SubscriberSeat, at_start, broker_seat, connector_seat, origin_if}
@@ -88,6 +89,16 @@ bindings_of_empty : (bindings : List Binding)
 bindings_of_empty [] = refl
 bindings_of_empty (binding ∷ bindings) = ap (λ (l : List Binding). binding ∷ l) (bindings_of_empty bindings)
 
+-- actors without the type of their store
+abbrev without_store : {S : Type 0} → Ends S → Ends (Unit {0})
+without_store ends = record {
+  ledger = ends.ledger;
+  clients = ends.clients;
+  connector = ends.connector;
+  broker = ends.broker;
+  subscribers = ends.subscribers;
+}
+
 module _ {S : Type 0} (config : Config) (faults : Faults) (held : Option Saved) (honest : Bool) (risks : Risks)
     (ends : Ends S) (made : AreMade config faults held honest risks ends) where
   -- no client has finished before the first turn
@@ -99,6 +110,47 @@ module _ {S : Type 0} (config : Config) (faults : Faults) (held : Option Saved) 
 
   module _ (new : Ends S) (scripts : List (List Batch)) (are : AreLeft (places_of ends) scripts (places_of new))
       (report : Report) (reported : IsReportOf new report) where
+    -- so it is of a run that was made so
+    pub ran_from : RanFrom config faults held honest risks scripts report
+    ran_from = record {
+      made = without_store ends;
+      are_made = record {
+        wiring = made.wiring;
+        clients_count = made.clients_count;
+        subscribers_count = made.subscribers_count;
+        closes = made.closes;
+        closes_count = made.closes_count;
+        closes_are = made.closes_are;
+        ledger = made.ledger;
+        clients = made.clients;
+        connector = made.connector;
+        broker = made.broker;
+        subscribers = made.subscribers;
+      };
+      left = without_store new;
+      are_left = are;
+      reported = record {
+        finished = record {
+          ledger = reported.finished.ledger;
+          clients_count = reported.finished.clients_count;
+          clients = reported.finished.clients;
+          connector = reported.finished.connector;
+          connector_system = reported.finished.connector_system;
+          broker = reported.finished.broker;
+          broker_system = reported.finished.broker_system;
+          subscribers_count = reported.finished.subscribers_count;
+          subscribers = reported.finished.subscribers;
+        };
+        order = reported.order;
+        replies = reported.replies;
+        deliveries = reported.deliveries;
+        received = reported.received;
+        books = reported.books;
+        counts = reported.counts;
+        subscribers = reported.subscribers;
+      };
+    }
+
     -- so the report is that of these scripts
     pub has_run : length scripts ≡ config.clients → HasRun scripts report
     has_run many = record {

@@ -1,8 +1,9 @@
 -- What the subscribers of a run leave behind.
-use Rattle.std.proofs.Common.{◌≡◌, List, [], ◌∷◌, ◌++◌, sym, ap, ◌∙◌}
+use Rattle.std.proofs.Common.{◌≡◌, List, [], ◌∷◌, ◌++◌, sym, ap, ◌∙◌, map}
 use Rattle.std.proofs.lemmas.List.{map-append}
 use Rattle.cdc_actors.specs.Ends.{ActorState}
-use Rattle.cdc_actors.specs.Subscriber.{SubscriberCore, parts_of}
+use Rattle.std.proofs.lemmas.Simd.{map-map}
+use Rattle.cdc_actors.specs.Subscriber.{ArePartsOf, SubscriberCore}
 use Rattle.cdc_actors.specs.declared.subscriber.parts.SubscriberParts.{SubscriberParts}
 use Rattle.cdc_run.specs.Parted.{AreLeftOf, works_of}
 use Rattle.cdc_run.specs.SubscriberMail.{HasAllOf, IsLeftBy, IsMoreLeft}
@@ -20,19 +21,22 @@ all_push before parts old new has more = record {
       ∙ sym (map-append (λ (p : SubscriberParts). p.inbox) before (parts ∷ []));
   subscribers_are = more.subscribers_are ∙ ap (λ l. l ++ parts.subscriber ∷ []) has.subscribers_are
       ∙ sym (map-append (λ (p : SubscriberParts). p.subscriber) before (parts ∷ []));
+  arrivals = more.arrivals ∙ ap (λ l. l ++ parts.arrivals ∷ []) has.arrivals
+      ∙ sym (map-append (λ (p : SubscriberParts). p.arrivals) before (parts ∷ []));
 }
 
 -- what was left is theirs
 pub mail_of : (subscribers : List (ActorState SubscriberCore)) (parts : List SubscriberParts) (mail : SubscriberMail)
-    → AreLeftOf (λ c p. p ≡ parts_of c) (works_of subscribers) parts → HasAllOf parts mail → IsLeftBy subscribers mail
+    → AreLeftOf ArePartsOf (works_of subscribers) parts → HasAllOf parts mail → IsLeftBy subscribers mail
 mail_of subscribers parts mail left has =
-    let Leaves : SubscriberCore → SubscriberParts → Type 0 = λ c p. p ≡ parts_of c in
     let works : List SubscriberCore = works_of subscribers in
     record {
-      acks = has.acks ∙ left_of Leaves (λ p. p.acks) (λ c. c.acks)
-          (λ c p are. ap (λ (q : SubscriberParts). q.acks) are) works parts left;
-      inboxes = has.inboxes ∙ left_of Leaves (λ p. p.inbox) (λ c. c.inbox)
-          (λ c p are. ap (λ (q : SubscriberParts). q.inbox) are) works parts left;
-      subscribers_are = has.subscribers_are ∙ left_of Leaves (λ p. p.subscriber) (λ c. c.subscriber)
-          (λ c p are. ap (λ (q : SubscriberParts). q.subscriber) are) works parts left;
+      acks = has.acks ∙ left_of ArePartsOf (λ p. p.acks) (λ c. c.acks) (λ c p are. are.acks_are) works parts left;
+      inboxes = has.inboxes
+          ∙ left_of ArePartsOf (λ p. p.inbox) (λ c. c.inbox) (λ c p are. are.inbox_is) works parts left;
+      subscribers_are = has.subscribers_are ∙ left_of ArePartsOf (λ p. p.subscriber) (λ c. c.subscriber)
+          (λ c p are. are.subscriber_is) works parts left;
+      arrivals = ap (map (λ v. v.items)) has.arrivals
+          ∙ map-map (λ v. v.items) (λ (p : SubscriberParts). p.arrivals) parts
+          ∙ left_of ArePartsOf (λ p. p.arrivals.items) (λ c. c.arrivals) (λ c p are. are.arrivals_are) works parts left;
     }

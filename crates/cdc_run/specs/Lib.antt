@@ -11,6 +11,7 @@ pub mod Outcomes
 pub mod Parted
 pub mod Passing
 pub mod Plans
+pub mod Ran
 pub mod Reports
 pub mod Scripted
 pub mod SettledLinks

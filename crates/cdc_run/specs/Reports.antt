@@ -1,7 +1,9 @@
 -- What is reported of a run once all its actors have finished.
 use Rattle.std.specs.Prelude.{◌≡◌, ℕ, Option, Some, List, [], ◌∷◌, length, map, true}
+use Rattle.std.specs.List.{AllZip}
 use Rattle.cdc_actors.specs.Ledger.{order_of, is_over}
 use Rattle.cdc_actors.specs.declared.faults.RunFault.{RunFault}
+use Rattle.cdc_actors.specs.declared.subscriber.arrivals.Arrival.{Arrival}
 use Rattle.cdc_actors.specs.Orders.{clients_in}
 use Rattle.cdc_laws.specs.Faithful.{kept_from}
 use Rattle.cdc_ledger.specs.History.{History}
@@ -10,7 +12,8 @@ use Rattle.cdc_subscriber.specs.Reception.{Reception}
 use Rattle.cdc_subscriber.specs.SubscriberState.{SubscriberState}
 use Rattle.cdc_traffic.specs.declared.requests.Reply.{Reply}
 use Rattle.cdc_types.specs.declared.batches.Batch.{Batch}
-use Rattle.cdc_run.specs.SettledLinks.{IsRefused}
+use Rattle.cdc_run.specs.Parted.{works_of}
+use Rattle.cdc_run.specs.SettledLinks.{IsAccounted, IsRefused}
 use Rattle.cdc_run.specs.Books.{AreBooks}
 use Rattle.cdc_run.specs.ClientMail.{AreClientsOf}
 use Rattle.cdc_run.specs.Counts.{IsCountOf}
@@ -26,6 +29,10 @@ use Rattle.cdc_run.specs.declared.reports.Report.{Report}
 -- the replies to each client, in its order
 abbrev pub replies_of : Report → List (List Reply)
 replies_of report = map (λ v. v.items) report.replies.items
+
+-- what each subscriber was delivered until it closed
+abbrev pub deliveries_of : Report → List (List Arrival)
+deliveries_of report = map (λ v. v.items) report.deliveries.items
 
 -- against this ledger a subscriber has come to what it may rely on after this start. What it keeps is given by what
 -- it has applied: its book is that of exactly these events
@@ -58,14 +65,18 @@ pub record AreFinished {S : Type 0} (ends : Ends S) : Type 0 where
   pub subscribers : AreSubscribersOf ends.ledger.system 1 ends.subscribers.items
 
 -- what actors that have finished come to. All batches, in the order in which the ledger's actor has received them, give
--- the ledger and the replies, and that is the order in the report. The counts are those of all packets that the connector
--- has sent. If the connector's store is honest, and the run began at this start, each subscriber has come to what it may
--- rely on after it
+-- the ledger and the replies, and that is the order in the report. What each subscriber was delivered until it closed
+-- is what its actor has noted of what it received, and that is what the broker sent to it. The counts are those of all
+-- packets that the connector has sent. If the connector's store is honest, and the run began at this start, each
+-- subscriber has come to what it may rely on after it
 pub record IsReportOf {S : Type 0} (ends : Ends S) (report : Report) : Type 0 where
   pub finished : AreFinished ends
   pub order : report.order.items ≡ clients_in (order_of ends.ledger.work.inbox.received)
   pub replies : replies_of report ≡ map (λ c. c.work.replies) ends.clients.items
   pub books : AreBooks (order_of ends.ledger.work.inbox.received) report.ledger (replies_of report)
+  pub deliveries : deliveries_of report ≡ map (λ s. s.work.arrivals) ends.subscribers.items
+  pub received : AllZip IsAccounted (map (λ s. s.inbox) (works_of ends.subscribers.items))
+      (map (λ c. c.link) ends.broker.work.consumers)
   pub counts : IsCountOf ends.broker.work.plan (broker_seat ends.broker.work).bindings
       (packets_in ends.connector.work.packets.sent) report.counts
   pub subscribers : (start : ℕ) → (connector_seat ends.connector.work).origin ≡ Some (at_start start)

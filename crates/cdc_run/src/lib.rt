@@ -30,7 +30,7 @@ mod wires;
 mod wiring;
 
 pub use actors::Actor;
-pub use cdc_actors::{Met, Place};
+pub use cdc_actors::{Arrival, Met, Place};
 pub use configs::Config;
 pub use counts::Counts;
 pub use determined::determined_laws;

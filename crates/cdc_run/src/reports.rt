@@ -8,7 +8,7 @@ use crate::books::settle_books;
 use crate::counts::Counts;
 use crate::ends::Ends;
 use crate::streams::settle_streams;
-use cdc_actors::RunFault;
+use cdc_actors::{Arrival, RunFault};
 use cdc_ledger::Ledger;
 use cdc_progress::ProgressStore;
 use cdc_subscriber::Subscriber;
@@ -26,6 +26,8 @@ pub struct Report {
     pub replies: Vec<Vec<Reply>>,
     /// In the order of their numbers.
     pub subscribers: Vec<Subscriber>,
+    /// What each subscriber was delivered until it closed, in order.
+    pub deliveries: Vec<Vec<Arrival>>,
     /// How far the run came in what its plan of faults counts.
     pub counts: Counts,
 }
@@ -55,7 +57,7 @@ pub fn settle<S: ProgressStore + Drop>(alloc: Global, ends: Ends<S>) -> Result<R
         return Err(RunFault::NotOneSystem);
     };
     let books = settle_books(alloc, ledger, parts.polls, clients)?;
-    let subscribers = settle_streams(
+    let streams = settle_streams(
         alloc,
         system,
         parts.inbox,
@@ -68,7 +70,8 @@ pub fn settle<S: ProgressStore + Drop>(alloc: Global, ends: Ends<S>) -> Result<R
         ledger: books.ledger,
         order: books.order,
         replies: books.replies,
-        subscribers,
+        subscribers: streams.subscribers,
+        deliveries: streams.deliveries,
         counts,
     })
 }

@@ -8,6 +8,7 @@ ghost use Rattle.cdc_run.specs.Configs.{Fits};
 ghost use Rattle.cdc_run.specs.Counts.{MayCount};
 ghost use Rattle.cdc_run.specs.Made.{AreCloses, plan_of};
 ghost use Rattle.cdc_run.specs.Meeting.{IsRunFailure};
+ghost use Rattle.cdc_run.specs.Ran.{RanFrom};
 ghost use Rattle.cdc_run.specs.Reports.{AreSubscribed, HasRun};
 ghost use Rattle.cdc_run.specs.Tasks.{Leaves, Placed, left_at, places_of, tasks_at};
 ghost use Rattle.cdc_run.specs.Worked.{HaveStopped};
@@ -145,6 +146,8 @@ pub fn run<S: ProgressStore + Send + Drop, R: Threads + Wait + Sync, G: Gate + S
     requires fits { Fits config }
     requires scripts { vec_len scripts ≡ config.clients }
     ensures report { IfOk result (HasRun (map (λ s. s.items) scripts.items)) }
+    ensures ran { IfOk result (RanFrom config faults (S.held store) (S.is_honest store) (S.risks store)
+        (map (λ s. s.items) scripts.items)) }
     ensures counts { IfOk result (λ report. MayCount (plan_of faults) config.bindings.items report.counts) }
     ensures failure { IfErr result (IsRunFailure config.system (S.is_honest store) (S.risks store)
         config.clients (length config.bindings.items)) }

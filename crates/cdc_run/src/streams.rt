@@ -1,10 +1,11 @@
 //! The connector, the broker and the subscribers of a run, put together once they have finished.
 
 ghost use Rattle.std.specs.Prelude.{◌≡◌, IfErr, IfOk, map};
+ghost use Rattle.std.specs.List.{AllZip};
 ghost use Rattle.cdc_actors.specs.Broker.{IsBrokerActor};
 ghost use Rattle.cdc_actors.specs.Connector.{ConnectorCore, origin_of};
 ghost use Rattle.cdc_actors.specs.Ledger.{LedgerCore};
-ghost use Rattle.cdc_run.specs.SettledLinks.{IsRefused};
+ghost use Rattle.cdc_run.specs.SettledLinks.{IsAccounted, IsRefused};
 ghost use Rattle.cdc_run.specs.Parted.{works_of};
 ghost use Rattle.cdc_run.specs.Streams.{AllCome, AreJoined, AreLeftBy, ArePacketsTo};
 ghost use Rattle.cdc_run.specs.SubscriberMail.{AreSubscribersOf, HasFinishedWith};
@@ -12,11 +13,19 @@ ghost use Rattle.cdc_run.specs.SubscriberMail.{AreSubscribersOf, HasFinishedWith
 use crate::settled_links::{settle_each, settle_link, settle_pair};
 use crate::settling::passing_laws;
 use crate::subscribers::part_subscribers;
-use cdc_actors::{BrokerEnd, Consumer, RunFault, SubscriberEnd};
+use cdc_actors::{Arrival, BrokerEnd, Consumer, RunFault, SubscriberEnd};
 use cdc_links::{LinkIn, LinkOut};
 use cdc_subscriber::Subscriber;
 use cdc_traffic::{ToBroker, ToConnector, ToSubscriber};
 use std::alloc::{AllocError, Global};
+
+/// What the subscribers of a run come to, by place.
+#[derive(Drop)]
+pub(crate) struct Streams {
+    pub(crate) subscribers: Vec<Subscriber>,
+    /// What each was delivered until it closed.
+    pub(crate) deliveries: Vec<Vec<Arrival>>,
+}
 
 // The broker's endpoints of the links to its subscribers, by place.
 fn links_of(
@@ -49,15 +58,19 @@ pub(crate) fn settle_streams(
     packets: LinkOut<ToBroker>,
     broker: BrokerEnd,
     subscribers: Vec<SubscriberEnd>,
-) -> Result<Vec<Subscriber>, RunFault>
+) -> Result<Streams, RunFault>
     requires { broker.system ≡ system → AreSubscribersOf system 1 subscribers.items
         → AreJoined (record { inbox = inbox; replies = replies; packets = packets })
         broker.work subscribers.items }
     ensures come { IfOk result (λ _. (d : LedgerCore) (c : ConnectorCore)
         → AreLeftBy d c (record { inbox = inbox; replies = replies; packets = packets })
         → AllCome d (origin_of c).start broker.work 0 (works_of subscribers.items)) }
-    ensures keeps { IfOk result (λ kept.
-        kept.items ≡ map (λ s. s.subscriber) (works_of subscribers.items)) }
+    ensures keeps { IfOk result (λ streams.
+        streams.subscribers.items ≡ map (λ s. s.subscriber) (works_of subscribers.items)) }
+    ensures deliveries { IfOk result (λ streams. map (λ v. v.items) streams.deliveries.items
+        ≡ map (λ s. s.arrivals) (works_of subscribers.items)) }
+    ensures received { IfOk result (λ _. AllZip IsAccounted
+        (map (λ s. s.inbox) (works_of subscribers.items)) (map (λ c. c.link) broker.work.consumers)) }
     ensures packets { IfOk result (λ _. packets.number ≡ 0 → ArePacketsTo broker.work.inbox packets.sent) }
     ensures core { IfOk result (λ _. IsBrokerActor broker.work) }
     ensures finished { IfOk result (λ _. HasFinishedWith system broker subscribers.items) }
@@ -78,5 +91,8 @@ pub(crate) fn settle_streams(
     settle_pair(alloc, inbox, replies, parts.confirms)?;
     settle_link(alloc, parts.inbox, packets, mail.acks)?;
     settle_each(alloc, mail.inboxes, links)?;
-    Ok(mail.subscribers)
+    Ok(Streams {
+        subscribers: mail.subscribers,
+        deliveries: mail.arrivals,
+    })
 }

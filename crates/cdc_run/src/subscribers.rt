@@ -5,7 +5,7 @@ ghost use Rattle.cdc_run.specs.SettledLinks.{IsRefused};
 ghost use Rattle.cdc_run.specs.SubscriberMail.{AreSubscribersOf, HasAllOf, IsLeftBy, IsMoreLeft};
 
 use crate::parting::part_actors;
-use cdc_actors::{RunFault, SubscriberEnd, SubscriberParts};
+use cdc_actors::{Arrival, RunFault, SubscriberEnd, SubscriberParts};
 use cdc_links::{LinkIn, LinkOut};
 use cdc_subscriber::Subscriber;
 use cdc_traffic::{ToBroker, ToSubscriber};
@@ -17,6 +17,7 @@ pub(crate) struct SubscriberMail {
     pub(crate) acks: Vec<LinkOut<ToBroker>>,
     pub(crate) inboxes: Vec<LinkIn<ToSubscriber>>,
     pub(crate) subscribers: Vec<Subscriber>,
+    pub(crate) arrivals: Vec<Vec<Arrival>>,
 }
 
 impl SubscriberMail {
@@ -27,6 +28,7 @@ impl SubscriberMail {
             acks: Vec::new(alloc),
             inboxes: Vec::new(alloc),
             subscribers: Vec::new(alloc),
+            arrivals: Vec::new(alloc),
         }
     }
 
@@ -37,15 +39,18 @@ impl SubscriberMail {
         self.acks.reserve(1)?;
         self.inboxes.reserve(1)?;
         self.subscribers.reserve(1)?;
+        self.arrivals.reserve(1)?;
         let SubscriberParts {
             number: _,
             inbox,
             acks,
             subscriber,
+            arrivals,
         } = parts;
         self.acks.push_reserved(acks);
         self.inboxes.push_reserved(inbox);
         self.subscribers.push_reserved(subscriber);
+        self.arrivals.push_reserved(arrivals);
         Ok(())
     }
 

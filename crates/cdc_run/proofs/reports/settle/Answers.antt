@@ -1,6 +1,7 @@
 use Rattle.std.proofs.Common.{◌≡◌, ◌∙◌, ℕ, true, false, List, refl, sym, ap, arith, subst, map, inr, rules}
 use Rattle.std.specs.Prelude.{is_none}
 use Rattle.std.proofs.lemmas.Bool.{and_parts, false≢true}
+use Rattle.std.proofs.lemmas.Simd.{map-map}
 use Rattle.cdc_actors.specs.Subscriber.{SubscriberCore}
 use Rattle.cdc_ledger.specs.History.{History}
 use Rattle.cdc_links.specs.Links.{Outgoing}
@@ -57,7 +58,7 @@ returns-clause-report g c =
     let parts = c.in-Some.parts in
     let is = c.in-Some.ensures.parts in
     let books = c.in_ok-books.ensures in
-    let streams = c.in_ok-subscribers.ensures in
+    let streams = c.in_ok-streams.ensures in
     let same : ends.connector.system ≡ ends.ledger.system = first_of (cc, search rules) in
     let named : c.system-system.result ≡ ends.ledger.system = c.system-system.ensures in
     let m : Middle = record {
@@ -90,6 +91,9 @@ returns-clause-report g c =
           (and_parts (is_none ends.connector.fault) ends.connector.work.finished over).1 streams.core
           (and_parts (is_none ends.broker.fault) ends.broker.work.finished broker.over).1 came
           c.in_ok-counts.ensures;
+      deliveries = streams.deliveries
+          ∙ map-map (λ (s : SubscriberCore). s.arrivals) (λ (s : ActorState SubscriberCore). s.work) subscribers;
+      received = streams.received;
       subscribers = λ start seat.
           let come : AllCome ends.ledger.work start ends.broker.work 0 (works_of subscribers) =
           subst (λ (n : ℕ). AllCome ends.ledger.work n ends.broker.work 0 (works_of subscribers))
@@ -97,7 +101,7 @@ returns-clause-report g c =
           (streams.come ends.ledger.work ends.connector.work (left_by ends m between books.core over start seat)) in
           subst (λ (h : History). AreSubscribed h start (broker_seat ends.broker.work).bindings
           (map (λ (s : ActorState SubscriberCore). s.work.close_after) subscribers)
-          c.in_ok-subscribers.subscribers.items) (sym books.ledger)
+          c.in_ok-streams.streams.subscribers.items) (sym books.ledger)
           (subst (λ (kept : List SubscriberState).
           AreSubscribed ends.ledger.work.ledger start (broker_seat ends.broker.work).bindings
           (map (λ (s : ActorState SubscriberCore). s.work.close_after) subscribers) kept) (sym streams.keeps)
@@ -136,13 +140,13 @@ returns-in_err-books-clause-refused g c =
     (books_of ends) c.in_err-books.ensures.refused)
 
 -- the broker actor and the subscribers aren't
-pub returns-in_err-subscribers-clause-refused : goal.returns-in_err-subscribers-clause-refused
-returns-in_err-subscribers-clause-refused g c =
+pub returns-in_err-streams-clause-refused : goal.returns-in_err-streams-clause-refused
+returns-in_err-streams-clause-refused g c =
     let ends = c.args.ends in
     let named : c.system-system.result ≡ ends.ledger.system = c.system-system.ensures in
-    passed_on (AreFinished ends) c.from_residual-in_err-subscribers.result c.in_err-subscribers.field-0.0
-    c.from_residual-in_err-subscribers.ensures.1
+    passed_on (AreFinished ends) c.from_residual-in_err-streams.result c.in_err-streams.field-0.0
+    c.from_residual-in_err-streams.ensures.1
     (asked_more (BrokerHasFinishedWith c.system-system.result ends.broker ends.subscribers.items) (AreFinished ends)
-    c.in_err-subscribers.field-0.0
+    c.in_err-streams.field-0.0
     (λ fit. subst (λ (n : ℕ). BrokerHasFinishedWith n ends.broker ends.subscribers.items) (sym named)
-    (streams_of ends fit)) c.in_err-subscribers.ensures.refused)
+    (streams_of ends fit)) c.in_err-streams.ensures.refused)

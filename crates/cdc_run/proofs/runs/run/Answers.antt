@@ -10,7 +10,7 @@ use Rattle.cdc_run.specs.declared.failures.Failure.{Failure}
 use Rattle.cdc_run.proofs.Counting.{has_failed, unsettled}
 use Rattle.cdc_run.proofs.Finished.{all_finished}
 use Rattle.cdc_run.proofs.Leaving.{are_left, in_places}
-use Rattle.cdc_run.proofs.Ran.{has_counted, has_run, have_subscribed, no_client_done}
+use Rattle.cdc_run.proofs.Ran.{has_counted, has_run, have_subscribed, no_client_done, ran_from}
 use Rattle.cdc_run.proofs.Seated.{all_seated}
 use Rattle.cdc_run.proofs.runs.run.Goals as goal
 
@@ -46,6 +46,16 @@ returns-in-Ok-settle-clause-report g c =
     length-map c.args.scripts.items (λ s. s.items) ∙ sym c.args.scripts.ok.0 ∙ c.requires.scripts in
     has_run _ _ _ _ _ c.in-Ok.ends c.in-Ok.ensures.made c.in_ok-finished.finished scripts are c.in-Ok-settle.report
     c.in-Ok-settle.ensures.report many
+
+-- it is of a run that was made as it was to be
+pub returns-in-Ok-settle-clause-ran : goal.returns-in-Ok-settle-clause-ran
+returns-in-Ok-settle-clause-ran g c =
+    let scripts : List (List Batch) = map (λ s. s.items) c.args.scripts.items in
+    let are = are_left g.row.S.Denot (places_of c.in-Ok.ends) scripts c.in_ok-tasks.tasks.items
+    c.in_ok-left.left.items (places_of c.in_ok-finished.finished) c.in_ok-left.ensures.left c.in_ok-tasks.ensures
+    c.in_ok-finished.ensures in
+    ran_from _ _ _ _ _ c.in-Ok.ends c.in-Ok.ensures.made c.in_ok-finished.finished scripts are c.in-Ok-settle.report
+    c.in-Ok-settle.ensures.report
 
 -- and what it counts that of packets
 pub returns-in-Ok-settle-clause-counts : goal.returns-in-Ok-settle-clause-counts

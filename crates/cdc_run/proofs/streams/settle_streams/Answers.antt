@@ -70,6 +70,16 @@ returns-clause-come c d work are =
     let same : k ≡ 0 + k = omega arith in
     subst (λ (n : ℕ). slice_get b.consumers n ≡ Some x) same found)
 
+-- what the subscribers received
+pub returns-clause-received : goal.returns-clause-received
+returns-clause-received c =
+    let b : BrokerCore = c.args.broker.work in
+    let subscribers : List (ActorState SubscriberCore) = c.args.subscribers.items in
+    let is = c.in-Some.ensures.parts in
+    same_zip IsAccounted c.in_ok-mail.mail.inboxes.items (map (λ (s : SubscriberCore). s.inbox) (works_of subscribers))
+    c.in_ok-links.links.items (map (λ (x : Consumer). x.link) b.consumers) c.in_ok-mail.ensures.mail.inboxes
+    (c.in_ok-links.ensures ∙ ap (map (λ (x : Consumer). x.link)) is.consumers_are) c.in_ok-settle_each.ensures
+
 -- what is left in the link to the broker
 pub returns-clause-packets : goal.returns-clause-packets
 returns-clause-packets c own =
