@@ -38,7 +38,8 @@ one_expected fed arrived place arrival old new kept after is stands adds before 
       reception = next_placed reception (placed fed arrival.item);
       keeps = stands reception before.keeps;
       made = line_added old new (line_of (answer_line (place + 1) reception) (placed fed arrival.item))
-          (expected_from (place + 1 + 1) (next_placed reception (placed fed arrival.item)) fed (drop (place + 1) arrived))
+          (expected_from (place + 1 + 1) (next_placed reception (placed fed arrival.item)) fed
+          (drop (place + 1) arrived))
           (expected_from 1 nothing fed arrived) (adds reception before.keeps)
           (ap (λ (ys : List Arrival). old ++ expected_from (place + 1) reception fed ys)
           (sym (drop_found arrived place arrival is))

@@ -65,7 +65,8 @@ pub delivery_pieces_of : (number position flag previous : List ℕ) (event : Opt
     member_text (codes "previous") (in_quotes previous) ∷
     content_members event))
 delivery_pieces_of number position flag previous (Some event) =
-    delivery_pieces number position flag previous (member_text (codes "headers") (headers_text (headers_of_event event)))
+    delivery_pieces number position flag previous
+    (member_text (codes "headers") (headers_text (headers_of_event event)))
     (narrow_member (codes "timestamp") (seconds_of event) ∷ member_text (codes "body") (body event) ∷ [])
 delivery_pieces_of number position flag previous None =
     delivery_pieces number position flag previous (member_text (codes "end") (codes "true")) []

@@ -30,5 +30,6 @@ returns c =
     let fed = feed c.args.log.now.events c.args.binding.now in
     let past : length c.args.arrivals.now ≤ c.loop-place.place = omega arith in
     ap (λ (v : Vec ℕ Global). v.items) c.into_bytes.ensures.value
-    ∙ all_expected fed c.args.arrivals.now c.loop-place.place (string_bytes c.loop-place.text) c.loop-place.subscriber past
+    ∙ all_expected fed c.args.arrivals.now c.loop-place.place (string_bytes c.loop-place.text)
+    c.loop-place.subscriber past
     c.loop-place.invariant

@@ -22,4 +22,5 @@ loop-place-preserved c =
 pub returns : goal.returns
 returns c =
     let past : length c.args.log.now.events ≤ c.loop-place.place = omega arith in
-    all_indexed c.loop-place.index c.args.binding.now c.args.log.now.events c.loop-place.place past c.loop-place.invariant
+    all_indexed c.loop-place.index c.args.binding.now c.args.log.now.events c.loop-place.place past
+    c.loop-place.invariant
