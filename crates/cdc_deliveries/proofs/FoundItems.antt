@@ -1,9 +1,9 @@
 -- Whatever a subscriber took is found by its name in the feed of its binding.
-use Rattle.std.proofs.Common.{◌≡◌, ◌∙◌, ℕ, ◌<◌, ◌==◌, Bool, true, false, Option, Some, None, List, [], ◌∷◌, ◌++◌, map, refl, sym, ap, subst, inl, inr, arith}
-use Rattle.std.specs.Prelude.{All, Contains, filter, if◌then◌else◌, nat_lt}
+use Rattle.std.proofs.Common.{◌≡◌, ◌∙◌, ℕ, ◌<◌, ◌==◌, Bool, true, false, Some, None, List, [], ◌∷◌, map, refl, ap, subst, inl, inr, arith}
+use Rattle.std.specs.Prelude.{Contains, filter, if◌then◌else◌, nat_lt}
 use Rattle.std.proofs.lemmas.Bool.{cases_Bool, eq-eqb, eqb-true}
 use Rattle.std.proofs.lemmas.List.Elements.{All-contains, All-contains_itself, All-filter, Contains-append_cases, Contains-append_left, Contains-append_right, filter_passes}
-use Rattle.cdc_laws.specs.Deliveries.{deliveries, items_in}
+use Rattle.cdc_laws.specs.Deliveries.{deliveries}
 use Rattle.cdc_laws.specs.Line.{end_mark_if, line_after}
 use Rattle.cdc_laws.proofs.Deliveries.{items_in-deliveries}
 use Rattle.cdc_laws.proofs.ListElements.{Contains-cons_cases, each_has, none_there}
@@ -11,7 +11,6 @@ use Rattle.cdc_laws.proofs.Replays.{Contains-map, Contains-unmap}
 use Rattle.cdc_laws.proofs.Rising.{RiseFrom-filter, all_later, events_rise}
 use Rattle.cdc_ledger.specs.Events.{events}
 use Rattle.cdc_log.specs.Log.{RiseFrom, events_after}
-use Rattle.cdc_match.specs.Arguments.{Arguments}
 use Rattle.cdc_match.specs.Queue.{feed, takes_event, takes_item}
 use Rattle.cdc_message.specs.declared.items.Delivery.{Delivery}
 use Rattle.cdc_message.specs.declared.items.Item.{Item}

@@ -1,5 +1,5 @@
 -- An index of a feed, one event after another.
-use Rattle.std.proofs.Common.{◌≡◌, ℕ, ◌+◌, ◌<◌, ◌≤◌, Bool, true, false, List, [], ◌∷◌, ◌==◌, Option, Some, None, is_some, cond, length, drop, nat_eq, refl, sym, ap, ◌∙◌, subst, Ok, Err}
+use Rattle.std.proofs.Common.{◌≡◌, ℕ, ◌+◌, ◌≤◌, Bool, true, false, List, [], ◌∷◌, ◌==◌, Option, Some, None, is_some, cond, length, drop, nat_eq, refl, sym, ap, ◌∙◌, subst, Ok, Err}
 use Rattle.std.proofs.lemmas.Bool.{eqb-true}
 use Rattle.std.proofs.lemmas.List.{drop_all}
 use Rattle.std.specs.List.{slice_get}

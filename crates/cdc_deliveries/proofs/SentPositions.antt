@@ -1,11 +1,11 @@
 -- The queue of a subscriber sends positions from 1 on and leaves none out.
-use Rattle.std.proofs.Common.{◌≡◌, ◌∙◌, ℕ, ◌+◌, ◌-◌, ◌<◌, ◌≤◌, ◌==◌, max, Bool, true, false, Option, Some, None, List, [], ◌∷◌, ◌++◌, refl, sym, ap, subst, inl, inr, arith}
+use Rattle.std.proofs.Common.{◌≡◌, ◌∙◌, ℕ, ◌+◌, ◌<◌, ◌≤◌, ◌==◌, max, Bool, false, Option, Some, None, List, [], ◌∷◌, ◌++◌, refl, sym, ap, subst, inl, inr, arith}
 use Rattle.std.specs.Prelude.{Contains, if◌then◌else◌}
 use Rattle.std.specs.List.{cons_option}
 use Rattle.std.proofs.lemmas.Bool.{cases_lt, eq-eqb}
 use Rattle.std.proofs.lemmas.List.{append-nil}
 use Rattle.std.proofs.lemmas.List.Elements.{Contains-append_left, Contains-append_right, Contains-push, Contains-push_cases, filter_map-append}
-use Rattle.cdc_broker.specs.Cursors.{Cursor, after_ack, rewound}
+use Rattle.cdc_broker.specs.Cursors.{Cursor}
 use Rattle.cdc_laws.proofs.ListElements.{none_there}
 use Rattle.cdc_match.specs.Arguments.{Arguments}
 use Rattle.cdc_message.specs.declared.items.Delivery.{Delivery}
@@ -21,7 +21,7 @@ use Rattle.cdc_commands.specs.Seen.{Seen}
 use Rattle.cdc_commands.specs.Simulations.{PlaysActs, Stage, step_for}
 use Rattle.cdc_deliveries.specs.declared.steps.DeliveryStep.{DeliveryStep}
 use Rattle.cdc_deliveries.specs.declared.steps.DeliveryStep.TheVariants as delivery
-use Rattle.cdc_deliveries.specs.Arrivals.{Arriving, subscriber_of, with_step, with_taken}
+use Rattle.cdc_deliveries.specs.Arrivals.{Arriving, subscriber_of, with_taken}
 use Rattle.cdc_deliveries.specs.Recorded.{delivery_step, delivery_steps}
 use Rattle.cdc_deliveries.specs.Taken.{positions_sent, sent_to}
 use Rattle.cdc_deliveries.proofs.SubscriptionSteps.{Changes, IsQuiet, MovesCursor, quiet_arriving, with_recorded}

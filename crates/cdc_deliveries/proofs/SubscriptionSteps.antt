@@ -22,7 +22,6 @@ use Rattle.cdc_types.specs.declared.batches.Batch.{Batch}
 use Rattle.cdc_types.specs.declared.batches.BatchResults.{BatchResults}
 use Rattle.cdc_types.specs.declared.steps.Step.{Step}
 use Rattle.cdc_types.specs.declared.steps.Step.TheVariants.{Submit, CloseLedger, Start, StartAt, Crash, Poll, Publish, Arrive, Answer, Save, Send, Rewind, Break, Take, Ack, Close}
-use Rattle.cdc_world.specs.declared.moved.Moved.{Moved}
 use Rattle.cdc_world.specs.declared.steps.Did.{Did}
 use Rattle.cdc_world.specs.declared.steps.Did.TheVariants.{Counted, Done, Took}
 use Rattle.cdc_world.specs.Moved.{delivery_sent, delivery_taken, first_taken, item_name, last_sent, moved}

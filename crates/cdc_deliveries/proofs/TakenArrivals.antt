@@ -1,6 +1,6 @@
 -- What arrives at a subscriber in a simulation is what the world's subscriber took.
-use Rattle.std.proofs.Common.{◌≡◌, ◌∙◌, ℕ, ◌-◌, Bool, false, Option, Some, List, [], ◌∷◌, ◌++◌, fold, map, refl, sym, ap, subst}
-use Rattle.std.specs.Prelude.{Contains, slice_get}
+use Rattle.std.proofs.Common.{◌≡◌, ◌∙◌, ℕ, ◌-◌, Bool, Option, Some, List, [], ◌∷◌, fold, map, refl, sym, ap, subst}
+use Rattle.std.specs.Prelude.{Contains}
 use Rattle.std.specs.List.{AllByRecursion, AllZip}
 use Rattle.std.proofs.lemmas.List.Elements.{Contains-append_left}
 use Rattle.std.proofs.lemmas.Option.{slice_get-map}
@@ -14,8 +14,7 @@ use Rattle.cdc_message.specs.declared.items.Delivery.{Delivery}
 use Rattle.cdc_subscriber.specs.Reception.{Reception, next as next_reception, nothing}
 use Rattle.cdc_types.specs.declared.events.Event.{Event}
 use Rattle.cdc_world.specs.declared.steps.StepError.{StepError}
-use Rattle.cdc_world.specs.Moved.{item_name}
-use Rattle.cdc_world.specs.Worlds.{Subscription, new_subscription, numbered}
+use Rattle.cdc_world.specs.Worlds.{new_subscription, numbered}
 use Rattle.cdc_world.proofs.NumberedElements.{numbered_from, numbered_parts}
 use Rattle.cdc_commands.specs.QueuePrinted.{binding_at}
 use Rattle.cdc_commands.specs.Simulations.{Plan, PlaysActs, Stage, at_start}
@@ -25,7 +24,7 @@ use Rattle.cdc_deliveries.specs.Arrivals.{arrivals, nothing_sent}
 use Rattle.cdc_deliveries.specs.Expected.{next_placed}
 use Rattle.cdc_deliveries.specs.Feeds.{placed}
 use Rattle.cdc_deliveries.specs.Recorded.{delivery_steps}
-use Rattle.cdc_deliveries.specs.Taken.{ArrivesAsTaken, IsArrivalOf, received}
+use Rattle.cdc_deliveries.specs.Taken.{ArrivesAsTaken, IsArrivalOf}
 use Rattle.cdc_deliveries.proofs.FoundItems.{IsFound, taken_is_found}
 use Rattle.cdc_deliveries.proofs.SentPositions.{in_turn_new, plays_in_turn}
 use Rattle.cdc_deliveries.proofs.TakenDeliveries.{Follows, IsNamed}

@@ -1,5 +1,5 @@
 -- What has arrived at a subscriber, beside what its subscription took, step after step.
-use Rattle.std.proofs.Common.{◌≡◌, ◌⊎◌, ◌∙◌, ℕ, ◌+◌, ◌==◌, Bool, true, false, Option, Some, None, List, [], ◌∷◌, ◌++◌, fold, length, refl, sym, ap, subst, inl, inr, arith}
+use Rattle.std.proofs.Common.{◌≡◌, ◌⊎◌, ◌∙◌, ℕ, Bool, true, false, Option, Some, None, List, [], ◌∷◌, ◌++◌, fold, length, refl, sym, ap, subst, inl, inr, arith}
 use Rattle.std.specs.Prelude.{◌||◌, if◌then◌else◌, nat_le, unwrap_or}
 use Rattle.std.specs.List.{AllZip}
 use Rattle.std.proofs.lemmas.Bool.{eq-eqb}
@@ -10,14 +10,14 @@ use Rattle.cdc_message.specs.declared.items.Delivery.{Delivery}
 use Rattle.cdc_message.specs.declared.items.Item.{Item}
 use Rattle.cdc_message.specs.declared.items.Item.TheVariants as item
 use Rattle.cdc_subscriber.specs.declared.subscriber.Taking.{Taking}
-use Rattle.cdc_subscriber.specs.declared.subscriber.Taking.TheVariants.{Applied, Repeat, Ended, AfterClose}
+use Rattle.cdc_subscriber.specs.declared.subscriber.Taking.TheVariants.{Applied, Repeat, AfterClose}
 use Rattle.cdc_subscriber.specs.Answers.{answer_to, received_answer}
 use Rattle.cdc_subscriber.specs.Reception.{Reception, has_ended, kept_of, next as next_reception, nothing}
 use Rattle.cdc_types.specs.declared.steps.Step.{Step}
 use Rattle.cdc_types.specs.declared.steps.Step.TheVariants.{Close}
 use Rattle.cdc_world.specs.declared.moved.ItemName.{ItemName}
 use Rattle.cdc_world.specs.Moved.{item_name}
-use Rattle.cdc_world.specs.Next.{with_break, with_close, with_delivery, with_taking}
+use Rattle.cdc_world.specs.Next.{with_break, with_delivery, with_taking}
 use Rattle.cdc_world.specs.Worlds.{Subscription}
 use Rattle.cdc_deliveries.specs.declared.arrivals.Arrival.{Arrival}
 use Rattle.cdc_deliveries.specs.declared.steps.DeliveryStep.{DeliveryStep}
