@@ -94,7 +94,8 @@ arrives_as_taken i binding plan refusal end binds plays =
     (Contains-append_left taken opened.later.late d there)))) in
     let arrived : AllZip (IsArrivalOf fed) (arrivals i (delivery_steps end.seen)) taken =
     are_arrivals fed (arrivals i (delivery_steps end.seen)) taken
-    (subst (λ (others : List Arrival). AllZip IsNamed others taken) (sym opened.arrived) opened.follows.arrived) found in
+    (subst (λ (others : List Arrival). AllZip IsNamed others taken) (sym opened.arrived) opened.follows.arrived)
+    found in
     record {
       last = opened.last;
       taken = arrived;

@@ -165,7 +165,8 @@ plays_closed i batches before (a ∷ acts) refusal end s (inl refused) found shu
 plays_closed i batches before (a ∷ acts) refusal end s (inr on) found shut =
     let between = on.0 in
     let does = act_changes i (step_for batches before.batches a) s before between found on.1.0 in
-    let stays = stays_closed i does.step (delivery_step does.one) (arriving_by i before.seen) s does.next shut does.changes in
+    let stays = stays_closed i does.step (delivery_step does.one) (arriving_by i before.seen) s does.next shut
+    does.changes in
     let rest = plays_closed i batches between acts refusal end does.next on.1.1 does.here stays.0 in
     record {
       now = rest.now;
@@ -265,7 +266,9 @@ plays_open i binding batches before (a ∷ acts) refusal end s (inl refused) fou
 plays_open i binding batches before (a ∷ acts) refusal end s (inr on) found is_open bound follows =
     let between : Stage = on.0 in
     let does = act_changes i (step_for batches before.batches a) s before between found on.1.0 in
-    elim (goes_on i does.step (delivery_step does.one) (arriving_by i before.seen) s does.next is_open follows does.changes) [
+    let goes = goes_on i does.step (delivery_step does.one) (arriving_by i before.seen) s does.next is_open follows
+    does.changes in
+    elim goes [
       | inl closes ↦
           let rest = plays_closed i batches between acts refusal end does.next on.1.1 does.here closes.1 in
           let closing : step_for batches before.batches a ≡ Some (Close i, does.batches) =
