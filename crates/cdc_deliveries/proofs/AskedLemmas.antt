@@ -1,5 +1,5 @@
 -- What is printed for a subscriber that is asked for.
-use Rattle.std.proofs.Common.{◌≡◌, ◌∙◌, ℕ, List, Some, None, Ok, Err, sym, subst}
+use Rattle.std.proofs.Common.{◌≡◌, ℕ, List, Some, None, Ok, Err, sym, subst}
 use Rattle.std.specs.Prelude.{Option, Result, IfOk, IfSome, option_map}
 use Rattle.cdc_script.specs.Scripts.{script_of}
 use Rattle.cdc_script.specs.StepFiles.{acts_of}
@@ -29,8 +29,8 @@ module _ (ReportsOf : Plan → Option StepError → List ℕ → Type 0) (Report
       → IfOk made (λ output. PrintsAsked ReportsOf ReportsFault number
       (record { window = window; script = bytes; steps = steps }) output.ending (text_of output))
   asked_of_script window text script bytes steps (Ok output) is same prints =
-      made_of_script (ReportsAsked ReportsOf number output.ending) ReportsFault (λ (o : Output). validated o.ending) text_of
-      window text script bytes steps (Ok output) is same prints
+      made_of_script (ReportsAsked ReportsOf number output.ending) ReportsFault (λ (o : Output). validated o.ending)
+      text_of window text script bytes steps (Ok output) is same prints
   asked_of_script window text script bytes steps (Err why) is same prints = tt
 
   -- the same of the text of steps
@@ -42,8 +42,8 @@ module _ (ReportsOf : Plan → Option StepError → List ℕ → Type 0) (Report
       → IfOk made (λ output. PrintsAsked ReportsOf ReportsFault number
       (record { window = window; script = script; steps = option_map acts_of bytes }) output.ending (text_of output))
   asked_of_steps window script text steps bytes (Ok output) is same prints =
-      made_of_steps (ReportsAsked ReportsOf number output.ending) ReportsFault (λ (o : Output). validated o.ending) text_of
-      window script text steps bytes (Ok output) is same prints
+      made_of_steps (ReportsAsked ReportsOf number output.ending) ReportsFault (λ (o : Output). validated o.ending)
+      text_of window script text steps bytes (Ok output) is same prints
   asked_of_steps window script text steps bytes (Err why) is same prints = tt
 
   -- what is printed for the acts of a text without a fault is printed for the text
@@ -54,8 +54,8 @@ module _ (ReportsOf : Plan → Option StepError → List ℕ → Type 0) (Report
       → IfOk made (λ output. PrintsAsked ReportsOf ReportsFault number
       (record { window = window; script = script; steps = Some (acts_of steps) }) output.ending (text_of output))
   asked_of_acts window script steps acts (Ok output) stated prints =
-      made_of_acts (ReportsAsked ReportsOf number output.ending) ReportsFault (λ (o : Output). validated o.ending) text_of
-      window script steps acts (Ok output) stated prints
+      made_of_acts (ReportsAsked ReportsOf number output.ending) ReportsFault (λ (o : Output). validated o.ending)
+      text_of window script steps acts (Ok output) stated prints
   asked_of_acts window script steps acts (Err why) stated prints = tt
 
   -- what is printed of a simulation with this ending is printed by the command

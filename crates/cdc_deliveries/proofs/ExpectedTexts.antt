@@ -1,6 +1,5 @@
 -- The lines of what is expected, one after another.
-use Rattle.std.proofs.Common.{◌≡◌, ℕ, ◌+◌, ◌≤◌, List, [], ◌∷◌, ◌++◌, Some, None, drop, length, refl, sym, ap, ◌∙◌, append-nil}
-use Rattle.std.specs.Prelude.{Option}
+use Rattle.std.proofs.Common.{◌≡◌, ℕ, ◌+◌, ◌≤◌, List, ◌++◌, Some, drop, length, sym, ap, ◌∙◌, append-nil}
 use Rattle.std.specs.List.{slice_get}
 use Rattle.std.proofs.lemmas.List.{drop_all}
 use Rattle.cdc_types.specs.declared.events.Event.{Event}
@@ -38,7 +37,8 @@ one_expected fed arrived place arrival old new kept after is stands adds before 
       reception = next_placed reception (placed fed arrival.item);
       keeps = stands reception before.keeps;
       made = line_added old new (line_of (answer_line (place + 1) reception) (placed fed arrival.item))
-          (expected_from (place + 1 + 1) (next_placed reception (placed fed arrival.item)) fed (drop (place + 1) arrived))
+          (expected_from (place + 1 + 1) (next_placed reception (placed fed arrival.item)) fed
+          (drop (place + 1) arrived))
           (expected_from 1 nothing fed arrived) (adds reception before.keeps)
           (ap (λ (ys : List Arrival). old ++ expected_from (place + 1) reception fed ys)
           (sym (drop_found arrived place arrival is))

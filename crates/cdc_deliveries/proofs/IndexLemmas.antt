@@ -1,5 +1,5 @@
 -- An index of a feed, one event after another.
-use Rattle.std.proofs.Common.{◌≡◌, ℕ, ◌+◌, ◌<◌, ◌≤◌, Bool, true, false, List, [], ◌∷◌, ◌==◌, Option, Some, None, is_some, cond, length, drop, nat_eq, refl, sym, ap, ◌∙◌, subst, Ok, Err}
+use Rattle.std.proofs.Common.{◌≡◌, ℕ, ◌+◌, ◌≤◌, Bool, true, false, List, [], ◌∷◌, ◌==◌, Option, Some, None, is_some, cond, length, drop, nat_eq, refl, sym, ap, ◌∙◌, subst, Ok, Err}
 use Rattle.std.proofs.lemmas.Bool.{eqb-true}
 use Rattle.std.proofs.lemmas.List.{drop_all}
 use Rattle.std.specs.List.{slice_get}
@@ -52,7 +52,8 @@ event_added index next event later fed none updates last is =
       finds = λ t. ap (λ (k : ℕ). option_or (get nat_eq next.events t) (placed_after k t later)) last
           ∙ ap (λ (got : Option Placed). option_or got (placed_after event.timestamp t later)) (updates.0 t)
           ∙ added (event.timestamp == t) (get nat_eq index.events t) (placed_after event.timestamp t later) place
-          (λ same. subst (λ (k : ℕ). is_some (get nat_eq index.events k) ≡ false) (eqb-true event.timestamp t same) none)
+          (λ same.
+          subst (λ (k : ℕ). is_some (get nat_eq index.events k) ≡ false) (eqb-true event.timestamp t same) none)
           ∙ is.finds t;
       last = ap (λ (k : ℕ). last_timestamp_from k later) last ∙ is.last;
     }
@@ -66,7 +67,8 @@ pub all_indexed : (index : FeedIndex) (binding : Arguments) (events : List Event
     → Indexes index (feed (drop place events) binding) (feed events binding) → IsIndexOf index (feed events binding)
 all_indexed index binding events place past is =
     let done : Indexes index [] (feed events binding) =
-    subst (λ (left : List Event). Indexes index (feed left binding) (feed events binding)) (drop_all place events past) is in
+    subst (λ (left : List Event). Indexes index (feed left binding) (feed events binding))
+    (drop_all place events past) is in
     record {
       finds = λ t. sym (option_or-none (get nat_eq index.events t)) ∙ done.finds t;
       last = done.last;
@@ -75,7 +77,8 @@ all_indexed index binding events place past is =
 -- one event more
 pub one_indexed : (index next : FeedIndex) (binding : Arguments) (events : List Event) (place : ℕ) (event : Event)
     → slice_get events place ≡ Some event
-    → ((later fed : List Event) → Indexes index (feed (event ∷ later) binding) fed → Indexes next (feed later binding) fed)
+    → ((later fed : List Event) → Indexes index (feed (event ∷ later) binding) fed
+    → Indexes next (feed later binding) fed)
     → Indexes index (feed (drop place events) binding) (feed events binding)
     → Indexes next (feed (drop (place + 1) events) binding) (feed events binding)
 one_indexed index next binding events place event found adds is =
@@ -91,11 +94,13 @@ pub index_fed : {E : Type 0} (index next : FeedIndex) (binding : Arguments) (eve
     → Indexes next (feed later binding) fed)
 index_fed index next binding event (Ok done) takes adds = λ later fed is.
     adds (feed later binding) fed
-    (subst (λ (taken : Bool). Indexes index (cond taken (event ∷ feed later binding) (feed later binding)) fed) takes is)
+    (subst (λ (taken : Bool). Indexes index (cond taken (event ∷ feed later binding) (feed later binding)) fed)
+    takes is)
 index_fed index next binding event (Err why) takes adds = tt
 
 -- any other is none of it
 pub index_passed : (index : FeedIndex) (binding : Arguments) (event : Event) → takes_event binding event ≡ false
-    → (later fed : List Event) → Indexes index (feed (event ∷ later) binding) fed → Indexes index (feed later binding) fed
+    → (later fed : List Event) → Indexes index (feed (event ∷ later) binding) fed
+    → Indexes index (feed later binding) fed
 index_passed index binding event passes later fed is =
     subst (λ (taken : Bool). Indexes index (cond taken (event ∷ feed later binding) (feed later binding)) fed) passes is

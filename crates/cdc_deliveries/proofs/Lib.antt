@@ -4,3 +4,9 @@ pub mod LineTexts
 pub mod ExpectedTexts
 pub mod AskedLemmas
 pub mod RecordingLemmas
+pub mod SubscriptionSteps
+pub mod TakenDeliveries
+pub mod TakenPlays
+pub mod SentPositions
+pub mod FoundItems
+pub mod TakenArrivals

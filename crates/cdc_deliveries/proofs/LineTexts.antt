@@ -1,5 +1,5 @@
 -- The texts of lines, put together piece by piece.
-use Rattle.std.proofs.Common.{◌≡◌, ℕ, ◌+◌, List, [], ◌∷◌, ◌++◌, Some, None, codes, drop, flat_map, map, refl, sym, ap, ◌∙◌, append_assoc, append-nil}
+use Rattle.std.proofs.Common.{◌≡◌, ℕ, ◌+◌, List, [], ◌∷◌, ◌++◌, Some, None, codes, drop, refl, sym, ap, ◌∙◌, append_assoc, append-nil}
 use Rattle.std.specs.Prelude.{Option}
 use Rattle.std.specs.List.{join_with_byte, slice_get}
 use Rattle.cdc_types.specs.declared.events.Event.{Event}
@@ -8,7 +8,6 @@ use Rattle.cdc_message.specs.Headers.{headers_of_event}
 use Rattle.cdc_message.proofs.Members.{members_then, object_text-append}
 use Rattle.cdc_queues.specs.Lines.{ended, headers_text, seconds_of}
 use Rattle.cdc_deliveries.specs.declared.arrivals.Arrival.{Arrival}
-use Rattle.cdc_deliveries.specs.declared.feeds.Placed.{Placed}
 use Rattle.cdc_deliveries.specs.DeliveryLines.{content_members, deliveries_from, delivery_line, line_of}
 use Rattle.cdc_deliveries.specs.Feeds.{placed}
 use Rattle.cdc_deliveries.proofs.Walks.{drop_found}
@@ -65,7 +64,8 @@ pub delivery_pieces_of : (number position flag previous : List ℕ) (event : Opt
     member_text (codes "previous") (in_quotes previous) ∷
     content_members event))
 delivery_pieces_of number position flag previous (Some event) =
-    delivery_pieces number position flag previous (member_text (codes "headers") (headers_text (headers_of_event event)))
+    delivery_pieces number position flag previous
+    (member_text (codes "headers") (headers_text (headers_of_event event)))
     (narrow_member (codes "timestamp") (seconds_of event) ∷ member_text (codes "body") (body event) ∷ [])
 delivery_pieces_of number position flag previous None =
     delivery_pieces number position flag previous (member_text (codes "end") (codes "true")) []

@@ -17,13 +17,15 @@ use Rattle.cdc_deliveries.specs.Arrivals.{arrivals}
 use Rattle.cdc_deliveries.specs.Recorded.{delivery_steps}
 use Rattle.cdc_deliveries.specs.DeliveryLines.{delivery_text}
 use Rattle.cdc_deliveries.specs.Expected.{expected_text}
+use Rattle.cdc_deliveries.specs.Taken.{ArrivesAsTaken}
 
 -- the lines of deliveries, or of what must come of them
 abbrev pub asked_text : Bool → Arguments → List Event → List Arrival → List ℕ
 asked_text expects binding events arrived =
     if expects then expected_text binding events arrived else delivery_text binding events arrived
 
--- a simulation of this plan delivers this: to the subscriber that is asked for, up to the stage that the acts lead to
+-- a simulation of this plan delivers this: to the subscriber that is asked for, up to the stage that the acts lead to,
+-- just what the world's subscriber took up to its close
 pub record Delivers (asked : Asked) (plan : Plan) (refusal : Option StepError) (printed : List ℕ) : Type 0 where
   pub binding : Arguments
   pub binds : binding_at plan.script.bindings asked.subscriber ≡ Some binding
@@ -31,6 +33,7 @@ pub record Delivers (asked : Asked) (plan : Plan) (refusal : Option StepError) (
   pub plays : PlaysActs plan.script.batches (at_start plan.script.bindings plan.window) plan.acts refusal end
   pub prints : printed ≡ asked_text asked.expects binding (events end.world.history)
       (arrivals asked.subscriber (delivery_steps end.seen))
+  pub arrives : ArrivesAsTaken asked.subscriber binding plan refusal end
 
 -- the script has no subscriber of this number, and nothing is printed
 abbrev pub HasNone : ℕ → Plan → Option StepError → List ℕ → Type 0
@@ -61,4 +64,5 @@ PrintsDeliveries ReportsFault asked = PrintsAsked (Delivers asked) ReportsFault 
 -- an observer has seen just the steps that were taken, if the script has such a subscriber
 abbrev pub SawAsked : (List Seen → Type 0) → ℕ → SimulationInput → Ending → Type 0
 SawAsked HasSeen number input ending =
-    PrintsAsked (λ plan refusal printed. SawPlan HasSeen plan refusal) (λ fault printed. Unit {0}) number input ending []
+    PrintsAsked (λ plan refusal printed. SawPlan HasSeen plan refusal) (λ fault printed. Unit {0}) number input ending
+    []

@@ -1,5 +1,5 @@
 -- The items of a feed by name, each with the timestamp of the event before it.
-use Rattle.std.specs.Prelude.{◌≡◌, ℕ, ◌==◌, List, [], ◌∷◌, if◌then◌else◌, nat_eq, Option, Some, None}
+use Rattle.std.specs.Prelude.{ℕ, ◌==◌, List, [], ◌∷◌, if◌then◌else◌, Option, Some, None}
 use Rattle.cdc_types.specs.declared.events.Event.{Event as SomeEvent}
 use Rattle.cdc_types.specs.Timestamps.{last_timestamp}
 use Rattle.cdc_world.specs.declared.moved.ItemName.{ItemName}

@@ -6,3 +6,4 @@ pub mod Expected
 pub mod Feeds
 pub mod Indexes
 pub mod Recorded
+pub mod Taken

@@ -48,8 +48,8 @@ pub fn expected_lines(
     Ok(text.into_bytes())
 }
 
-/// Lets a subscriber take the item of the arrival of this number, if the feed has it, and adds the line of what comes of
-/// it.
+/// Lets a subscriber take the item of the arrival of this number, if the feed has it, and adds the line of what comes
+/// of it.
 fn push_arrival(
     text: &mut String,
     subscriber: &mut Subscriber,

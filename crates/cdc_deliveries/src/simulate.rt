@@ -1,6 +1,7 @@
 //! `simulate --deliveries`: plays a simulation, and prints the deliveries to one subscriber.
 
-ghost use Rattle.std.specs.Prelude.{◌≡◌, ◌+◌, ℕ, List, [], Option, Result, Err, IfErr, IfOk, IfSome, Ok, Some, option_map};
+ghost use Rattle.std.specs.Prelude.{◌≡◌, ◌+◌, ℕ, List, [], Option, Some, IfSome, option_map};
+ghost use Rattle.std.specs.Prelude.{Result, Ok, Err, IfErr, IfOk};
 ghost use Rattle.cdc_script.specs.Reading.{ConsumesAtMost};
 ghost use Rattle.cdc_script.specs.declared.faults.ScriptFault.{ScriptFault};
 ghost use Rattle.cdc_script.specs.declared.step_files.Act.{Act};
@@ -72,8 +73,8 @@ pub fn deliveries_of<F: Form, O: Observer>(
     }
 }
 
-/// What `simulate --deliveries` prints for the bytes of a script and for these steps, and how it ends. It is the same as
-/// for a step file that has these steps, so only the script can be bad. Fails if memory runs out.
+/// What `simulate --deliveries` prints for the bytes of a script and for these steps, and how it ends. It is the same
+/// as for a step file that has these steps, so only the script can be bad. Fails if memory runs out.
 pub fn deliveries_of_steps<F: Form, O: Observer>(
     form: &F,
     alloc: Global,
@@ -172,7 +173,8 @@ fn steps_deliveries<F: Form, O: Observer>(
     })
 }
 
-/// The binding of the subscriber of this number, from 1, or `None` if the script has none. An error means out of memory.
+/// The binding of the subscriber of this number, from 1, or `None` if the script has none. An error means out of
+/// memory.
 fn subscriber_binding(
     alloc: Global,
     script: &Script,
@@ -228,7 +230,8 @@ fn asked_lines(
 }
 
 /// Reads a script and then a step file, and prints what `deliveries_of` makes of their bytes. The observers see the
-/// steps that are done. A command that fails prints why, and nothing else; nothing is written after a write that failed.
+/// steps that are done. A command that fails prints why, and nothing else; nothing is written after a write that
+/// failed.
 pub fn deliver<F: Form, R: Read, Q: Read, W: Write, O: Observer>(
     form: &F,
     alloc: Global,
@@ -300,8 +303,8 @@ fn read_deliveries<F: Form, R: Read, Q: Read, O: Observer>(
     }
 }
 
-/// What `simulate --deliveries` prints for the bytes of a script if its step file can't be read. The script is validated
-/// first.
+/// What `simulate --deliveries` prints for the bytes of a script if its step file can't be read. The script is
+/// validated first.
 fn unread_steps<F: Form>(
     form: &F,
     alloc: Global,

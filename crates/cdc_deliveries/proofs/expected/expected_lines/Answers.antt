@@ -1,4 +1,4 @@
-use Rattle.std.proofs.Common.{◌∙◌, ◌≤◌, ℕ, ap, arith, length, refl, sym}
+use Rattle.std.proofs.Common.{◌∙◌, ◌≤◌, ℕ, ap, arith, length, refl}
 use Rattle.std.specs.Prelude.{string_bytes}
 use Rattle.std.proofs.lemmas.Option.{slice_get-get_or}
 use Rattle.std.specs.declared.alloc.Global.{Global}
@@ -30,5 +30,6 @@ returns c =
     let fed = feed c.args.log.now.events c.args.binding.now in
     let past : length c.args.arrivals.now ≤ c.loop-place.place = omega arith in
     ap (λ (v : Vec ℕ Global). v.items) c.into_bytes.ensures.value
-    ∙ all_expected fed c.args.arrivals.now c.loop-place.place (string_bytes c.loop-place.text) c.loop-place.subscriber past
+    ∙ all_expected fed c.args.arrivals.now c.loop-place.place (string_bytes c.loop-place.text)
+    c.loop-place.subscriber past
     c.loop-place.invariant

@@ -6,7 +6,8 @@ use Rattle.cdc_deliveries.proofs.expected.push_account.Goals as goal
 pub returns : goal.returns
 returns c =
     let account = c.args.account.now in
-    pieces (string_bytes c.args.text.now) (string_bytes c.push_field.new.text) _ (codes "{\"id\":\"" ++ decimal account.id) _
+    pieces (string_bytes c.args.text.now) (string_bytes c.push_field.new.text) _
+    (codes "{\"id\":\"" ++ decimal account.id) _
     c.in_ok-push_field.ensures
     (pieces _ (string_bytes c.push_field-2.new.text) _
     (codes "\",\"debits_pending\":\"" ++ decimal account.debits_pending) _ c.in_ok-push_field-2.ensures

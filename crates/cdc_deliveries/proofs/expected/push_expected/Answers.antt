@@ -19,7 +19,8 @@ returns c =
     let last : string_bytes c.push_field-3.new.text
     ≡ string_bytes c.push_field-2.new.text ++ (codes ",\"last\":\"" ++ decimal c.args.subscriber.now.last) =
     rw (c.last.ensures) at c.in_ok-push_field-3.ensures in
-    pieces old (string_bytes c.push_field.new.text) _ (codes "{\"kind\":\"expect\",\"delivery\":" ++ decimal c.args.number) _
+    pieces old (string_bytes c.push_field.new.text) _
+    (codes "{\"kind\":\"expect\",\"delivery\":" ++ decimal c.args.number) _
     c.in_ok-push_field.ensures
     (pieces _ (string_bytes c.push_str.new.self) _ (codes ",\"result\":\"") _ c.in_ok-push_str.ensures.bytes
     (pieces _ (string_bytes c.push_str-2.new.self) _ (result_text c.args.answer) _ result
@@ -29,4 +30,5 @@ returns c =
     (pieces _ (string_bytes c.push_changed.new.text) _ entries (codes "]}\n") c.in_ok-push_changed.ensures
     c.in_ok-push_str-4.ensures.bytes))))))
     ∙ ap (λ (line : List ℕ). old ++ line)
-    (expected_pieces (decimal c.args.number) (result_text c.args.answer) (decimal kept.applied) (decimal kept.last) entries)
+    (expected_pieces (decimal c.args.number) (result_text c.args.answer) (decimal kept.applied) (decimal kept.last)
+    entries)

@@ -7,6 +7,7 @@ use Rattle.cdc_commands.specs.Simulated.{SimulationInput}
 use Rattle.cdc_commands.specs.Simulations.{Plan}
 use Rattle.cdc_deliveries.specs.Deliver.{Delivers}
 use Rattle.cdc_deliveries.proofs.AskedLemmas.{asked_after}
+use Rattle.cdc_deliveries.proofs.TakenArrivals.{arrives_as_taken}
 use Rattle.cdc_deliveries.proofs.simulate.steps_deliveries.Goals as goal
 
 pub returns-clause-output : goal.returns-clause-output
@@ -20,8 +21,8 @@ returns-clause-output g c = λ bytes stated.
     let found = c.in_ok-found.ensures in
     let is = c.in-Some.is in
     let binds : binding_at c.args.script.bindings c.args.asked.subscriber ≡ Some c.in-Some.binding = cc in
-    asked_after (Delivers c.args.asked) g.F.Form.prints_fault c.args.asked.subscriber (λ (o : Output). o.text.items) input
-    simulated.played.refusal c.of_refusal.result _ c.of_refusal.ensures (
+    asked_after (Delivers c.args.asked) g.F.Form.prints_fault c.args.asked.subscriber (λ (o : Output). o.text.items)
+    input simulated.played.refusal c.of_refusal.result _ c.of_refusal.ensures (
       plan,
       (
         record {
@@ -35,6 +36,8 @@ returns-clause-output g c = λ bytes stated.
           end = come.0.end;
           plays = come.0.plays;
           prints = c.in_ok-text.ensures.text come.0.end come.0.report come.1.0;
+          arrives = arrives_as_taken c.args.asked.subscriber c.in-Some.binding plan simulated.played.refusal come.0.end
+              binds come.0.plays;
         },
       ),
     )

@@ -1,5 +1,4 @@
-use Rattle.std.proofs.Common.{◌≡◌, ◌∷◌, List, false, true, subst}
-use Rattle.cdc_types.specs.declared.events.Event.{Event}
+use Rattle.std.proofs.Common.{◌≡◌, false, true}
 use Rattle.cdc_match.specs.Queue.{takes_event}
 use Rattle.cdc_queues.proofs.StepLemmas.{takes_by}
 use Rattle.cdc_deliveries.proofs.IndexLemmas.{index_fed, index_passed}

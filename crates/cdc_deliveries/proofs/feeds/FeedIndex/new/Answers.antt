@@ -1,7 +1,4 @@
-use Rattle.std.proofs.Common.{◌≤◌, arith, length, sym, subst}
-use Rattle.cdc_match.specs.Queue.{feed}
-use Rattle.cdc_deliveries.specs.declared.feeds.FeedIndex.{FeedIndex}
-use Rattle.cdc_deliveries.specs.Indexes.{Indexes}
+use Rattle.std.proofs.Common.{◌≤◌, arith, length, sym}
 use Rattle.cdc_queues.proofs.LineTexts.{no_event}
 use Rattle.cdc_deliveries.proofs.IndexLemmas.{all_indexed, one_indexed}
 use Rattle.cdc_deliveries.proofs.feeds.FeedIndex.new.Goals as goal
@@ -22,4 +19,5 @@ loop-place-preserved c =
 pub returns : goal.returns
 returns c =
     let past : length c.args.log.now.events ≤ c.loop-place.place = omega arith in
-    all_indexed c.loop-place.index c.args.binding.now c.args.log.now.events c.loop-place.place past c.loop-place.invariant
+    all_indexed c.loop-place.index c.args.binding.now c.args.log.now.events c.loop-place.place past
+    c.loop-place.invariant
