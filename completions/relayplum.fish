@@ -20,7 +20,7 @@ complete -c relayplum -n '__fish_seen_subcommand_from simulate' -l expect -d 'Pr
 complete -c relayplum -n '__fish_seen_subcommand_from simulate' -l diagram -d 'Draw the steps as a sequence diagram for Mermaid, on standard error or, as --diagram=FILE, in a file'
 complete -c relayplum -n '__fish_seen_subcommand_from simulate' -l random -x -d 'Take random steps from this seed, and print them on standard error'
 complete -c relayplum -n '__fish_seen_subcommand_from simulate' -l steps -x -d 'Take at most N random steps'
-complete -c relayplum -n '__fish_seen_subcommand_from simulate' -l faults -x -d 'Inject N faults among them'
+complete -c relayplum -n '__fish_seen_subcommand_from simulate' -l faults -x -d 'Inject N faults among the steps'
 complete -c relayplum -n '__fish_seen_subcommand_from simulate' -l to-end -d 'Go on until every subscriber has received the end mark'
 complete -c relayplum -n '__fish_seen_subcommand_from simulate run' -l window -x -a '1 2 8 64' -d 'Set the number of events that a session waits for at a time'
 complete -c relayplum -n '__fish_seen_subcommand_from run' -l prefetch -x -d 'Set the number of deliveries that a queue may have unacknowledged'

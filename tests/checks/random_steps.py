@@ -33,19 +33,19 @@ WAYS = {
     "without faults": ["--faults", "0"],
     "without faults, to the end": ["--faults", "0", "--to-end"],
 }
-# A ninth of the faults that are drawn are of each kind, and of the closes three quarters are rewinds instead. What can't come is
-# drawn again, and a packet or a confirm can only be left out while one is on its way, which is seldom. Of what is asked for each
-# kind has at least this share.
+# A ninth of the faults that are drawn are of each kind, and of the closes three quarters are rewinds instead, or all to the end.
+# What can't come is drawn again, and a packet or a confirm can only be left out while one is on its way, which is seldom. Of what
+# is asked for each kind has at least this share; rewinds more than come of the closes alone, which is at most 0.16.
 SHARES = {
-    "crash": 0.05,
-    "packet left out": 0.005,
-    "confirm left out": 0.005,
-    "arrive": 0.05,
-    "answer": 0.05,
-    "rewind": 0.1,
-    "break": 0.05,
-    "ack": 0.03,
-    "close": 0.01,
+    "crash": 0.1,
+    "packet left out": 0.01,
+    "confirm left out": 0.015,
+    "arrive": 0.1,
+    "answer": 0.08,
+    "rewind": 0.2,
+    "break": 0.1,
+    "ack": 0.05,
+    "close": 0.02,
 }
 MOST_OF_THEM = 0.7
 

@@ -43,7 +43,7 @@ pub fn faults_option<'a>(alloc: Global) -> Result<Arg<'a>, AllocError> {
         .long("faults")
         .value_name("N")
         .action(ArgAction::Set)
-        .help("Inject N faults among them [0-20000; default: 10]")
+        .help("Inject N faults among the steps [0-20000; default: 10]")
         .conflicts_with("STEPS")?
         .requires_arg("random")
 }
