@@ -27,7 +27,8 @@ _relayplum() {
             messages) words='--queue --json --check -h --help' ;;
             simulate) words='--random --to-end --steps --faults --deliveries --expect --window --explain --trace --diagram --json --check -h --help' ;;
             run)
-                words='--window --prefetch --lose-confirm --lose-publish --restart-after --repeat --close --start-after --progress --explain --trace --json -h --help'
+                words='--window --prefetch --lose-confirm --lose-publish --restart-after --repeat --close --start-after --progress'
+                words+=' --deliveries --expect --explain --trace --json -h --help'
                 ;;
             follow) words='--chained --skip-gaps --binding --book --every --json -h --help' ;;
             audit) words='--book --foreign --json -h --help' ;;

@@ -172,10 +172,13 @@ usage_error "'--diagram" messages one.script --diagram=out
 usage_error "'--check" simulate one.script three.steps --check=yes
 for number in 0 9 1x '' -1; do
     usage_error "--deliveries $number: the number of a subscriber, from 1 to 8" simulate one.script three.steps "--deliveries=$number"
+    usage_error "--deliveries $number: the number of a subscriber, from 1 to 8" run one.script "--deliveries=$number"
 done
 usage_error "'--deliveries" simulate one.script three.steps --deliveries
 usage_error "'--deliveries" simulate one.script three.steps --check --deliveries 1
 usage_error "--deliveries" simulate one.script three.steps --expect
+usage_error "'--deliveries" run one.script --deliveries
+usage_error "--deliveries" run one.script --expect
 usage_error "'--check'" run one.script --check
 usage_error "'--progress" run one.script --progress
 usage_error "'--progress" run one.script --progress a --progress b
@@ -1015,6 +1018,35 @@ for seed in {1..20}; do
     run simulate "$top/examples/two-phase.script" - --deliveries 1 --json
     same "deliveries of the seed $seed, from standard input" "$made" "$out"
 done
+# Those of a run come in one order if no queue rewinds: an event that is published twice has two positions.
+delivered_lines() { sed -E 's/^.*"position":([0-9]+),"redelivered":([a-z]+),"previous":"([0-9]+)",("end")?.*/\1 \2 \3 \4/' output; }
+run run one.script --lose-confirm 1 --deliveries 1
+same 'deliveries of a run: status' 0 "$status"
+same 'deliveries of a run: standard output' '1 false 0 
+2 false 0 
+3 false 2000 "end"' "$(delivered_lines)"
+same 'deliveries of a run: standard error' 'relayplum: subscriber 1 applied 1 of 2 deliveries
+' "$err"
+made=$out
+run run one.script --lose-confirm 1 --deliveries 1 --json
+same 'deliveries of a run, with --json' "$made" "$out"
+run run one.script --lose-confirm 1 --deliveries 1 --expect
+same 'what must come of deliveries of a run' 'applied 1 2000
+duplicate 1 2000
+end 1 2000' "$(sed -E 's/^.*"result":"([a-z]+)","applied":([0-9]+),"last":"([0-9]+)".*/\1 \2 \3/' output)"
+run run one.script --lose-confirm 1 --close 1:1 --deliveries 1
+same 'deliveries of a run up to the close' '1 false 0 ' "$(delivered_lines)"
+same 'deliveries of a run up to the close: standard error' '' "$err"
+run run one.script --deliveries 2 --progress never.progress
+same 'deliveries of no subscriber in a run: status and standard error' \
+    '2 relayplum: --deliveries 2: the script has no such subscriber
+' "$status $err"
+same 'deliveries of no subscriber in a run: standard output' '' "$out"
+same 'deliveries of no subscriber in a run: nothing was run' '' "$(ls never.progress 2>/dev/null)"
+run run tab.script
+made="$status $out $err"
+run run tab.script --deliveries 1
+same 'deliveries of a run of a bad script' "$made" "$status $out $err"
 printf 'start\nstart\n' >twice.steps
 run simulate --trace one.script twice.steps
 same 'a trace up to a refused step' 'start: session 1 begins after 0

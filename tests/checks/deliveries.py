@@ -1,5 +1,5 @@
 #!/usr/bin/env python3
-"""Deliveries, what must come of them, and random steps to the end, beside the model.
+"""Deliveries of simulations and of runs, what must come of them, and random steps to the end, beside the model.
 
   tests/checks/deliveries.py [PROGRAM] [--cases N] [--case K]    PROGRAM: crates/cdc_app/out/cdc_app; N cases, 300 by default
 
@@ -10,10 +10,18 @@ prints, and standard error names each subscriber that was delivered more events 
 the book that `books` prints of it, unless the ledger refused a batch as a whole. What is delivered is a stream that `follow` takes:
 it comes to the book that the simulation prints, `--chained` too, unless the connector started after a timestamp.
 
+Each case also has a plan of a run over a script of one client. What comes when isn't fixed in a run, so two runs have different
+deliveries. Those of one have to be lines of the model, at positions that the plan's prefetch and rewinds allow. A position
+always brings the same item. With a window of one event that is the item that the model's broker has there. Otherwise the
+events that come first are those of the queue, in order. The model's subscriber takes these deliveries, closes with the last one
+if the plan asks for it, and comes to the book that a run of this plan prints; so does `follow`. The results of `--expect`, of
+another run, apply just the events of that book.
+
 The last line is `deliveries: N passed, M failed`; the status is 1 if one failed.
 """
 import collections
 import concurrent.futures
+import json
 import os
 import pathlib
 import random
@@ -35,7 +43,10 @@ COUNTED = re.compile(r"relayplum: subscriber (\d+) applied (\d+) of (\d+) delive
 COVERED = (
     "applied", "duplicate", "end", "redelivered", "a duplicate of an end mark", "closed", "not ended", "nothing is delivered",
     "no such subscriber", "the end", "a refused step", "no event", "a filtered queue", "a later start", "close", "break", "rewind", "crash",
+    "a run", "a run's duplicate", "a run's rewind", "a run's item published twice", "a run's close", "a run's duplicate of an end mark",
+    "a run of no such subscriber",
 )
+PREFETCH = 8  # of a run, by default
 
 
 class Case:
@@ -65,7 +76,7 @@ class Trial:
     """What is wrong with what the program makes of a case, and what came up in it."""
 
     def __init__(self, program, number, room):
-        self.program, self.case = program, Case(number)
+        self.program, self.number, self.case = program, number, Case(number)
         self.room = pathlib.Path(room) / str(number)
         self.wrong, self.seen = [], collections.Counter()
 
@@ -103,6 +114,7 @@ class Trial:
             self.ended(report.world, printed)
         if self.case.subscriber <= self.case.subscribers:
             self.followed(report.world)
+        RunTrial(self, self.number).tried()
         return self.wrong, self.seen
 
     def ended(self, world, printed):
@@ -154,6 +166,187 @@ class Trial:
         self.seen["redelivered"] += any(it.redelivered for it in seat.deliveries)
         is_second_end = (it.item is model.END_MARK and it.answer != "ended" for it in seat.deliveries)
         self.seen["a duplicate of an end mark"] += any(is_second_end)
+
+
+class Run:
+    """A script of one client, a plan of a run, and a subscriber."""
+
+    def __init__(self, number):
+        rng = random.Random(f"deliveries of a run {number}")
+        for _ in range(3):
+            maker = soak.ScriptMaker(rng)
+            maker.clients = 1
+            self.data = "".join(f"{line}\n" for line in maker.script()).encode()
+            self.script = model.read_script(self.data)
+            self.events = model.run_batches(self.script)[0].events
+            if self.events:
+                break
+        self.subscribers = len(self.script.bindings)
+        self.subscriber = rng.randint(1, self.subscribers)
+        self.prefetch = rng.choice([None, 1, 2, 2, 3, 64])
+        self.window = rng.choice([1, 1, 1, 2, 8, 64])
+        fed = [it for it in self.events if self.script.bindings[self.subscriber - 1].matches(it)]
+        self.rewinds = {rng.randint(1, len(fed) + 2) for _ in range(rng.choice([0, 1, 2, 5]))}
+        self.plan = ["--window", str(self.window)]
+        self.plan += [] if self.prefetch is None else ["--prefetch", str(self.prefetch)]
+        for option in ("--lose-confirm", "--lose-publish", "--restart-after"):
+            for _ in range(rng.choice([0, 0, 1, 2])):
+                self.plan += [option, str(rng.randint(1, len(self.events) + 2))]
+        for position in sorted(self.rewinds):
+            self.plan += ["--repeat", f"{self.subscriber}:{position}"]
+        if rng.random() < 0.3:
+            self.plan += ["--close", f"{self.subscriber}:{rng.randint(1, len(fed) + 1)}"]
+
+
+class RunTrial:
+    """What is wrong with the deliveries of a run, and what came up in it."""
+
+    def __init__(self, trial, number):
+        self.trial, self.case = trial, Run(number)
+        self.seen = trial.seen
+        self.plan = model.plan_of(self.case.plan)
+        self.fed = [it for it in self.case.events if self.binding.matches(it)]
+
+    @property
+    def binding(self):
+        return self.case.script.bindings[self.case.subscriber - 1]
+
+    def wrong(self, what):
+        self.trial.wrong.append(f"run {' '.join(self.case.plan)}, subscriber {self.case.subscriber}: {what}")
+
+    def run(self, *arguments):
+        return self.trial.run("run", "run.script", *self.case.plan, *arguments)
+
+    def tried(self):
+        (self.trial.room / "run.script").write_bytes(self.case.data)
+        report = model.run(self.case.data, self.plan)
+        self.trial.same(f"run {' '.join(self.case.plan)}", (report.status, report.text), self.run()[:2])
+        self.seen["a run"] += 1
+        asked = ["--deliveries", str(self.case.subscriber)]
+        status, printed, said = self.run(*asked)
+        self.trial.same(f"run {' '.join(self.case.plan)} --deliveries, the status", 0, status)
+        deliveries = self.deliveries_in(printed)
+        if deliveries is not None:
+            self.positions(deliveries)
+            self.items(deliveries)
+            self.applied(deliveries, printed, said, report.text)
+        self.expected(*self.run(*asked, "--expect")[:2])
+        self.none()
+
+    def deliveries_in(self, printed):
+        """The deliveries that these lines state: positions, whether they are redelivered, and items. None if a line isn't the
+        model's."""
+        items = {self.content(model.delivery_line(self.fed, 1, 1, False, it)): it for it in [*self.fed, model.END_MARK]}
+        found = []
+        for count, line in enumerate(printed.splitlines(keepends=True), 1):
+            members = json.loads(line)
+            item = items.get(self.content(line))
+            position, redelivered = members.get("position"), members.get("redelivered")
+            if item is None or line != model.delivery_line(self.fed, count, position, redelivered, item):
+                self.wrong(f"line {count} is no delivery of its queue: {line}")
+                return None
+            found.append((position, redelivered, item))
+        return found
+
+    @staticmethod
+    def content(line):
+        """What a line has of its item alone."""
+        members = json.loads(line)
+        return json.dumps({key: it for key, it in members.items() if key not in ("delivery", "position", "redelivered")})
+
+    def positions(self, deliveries):
+        """The positions rise by 1, except after the first delivery of one at which the queue rewinds."""
+        furthest, before, prefetch = 0, 0, self.case.prefetch or PREFETCH
+        rewound, again = set(), collections.Counter(position for position, _, _ in deliveries)
+        for count, (position, redelivered, _) in enumerate(deliveries, 1):
+            may_rewind = before == furthest and before in self.case.rewinds and before not in rewound
+            least = max(1, before - prefetch + 1) if may_rewind else before + 1
+            if not least <= position <= before + 1 or redelivered != (position <= furthest):
+                self.wrong(f"delivery {count} at position {position}, redelivered {redelivered}, after {before} of {furthest}")
+            rewound |= {before} if may_rewind else set()
+            self.seen["a run's rewind"] += position <= before
+            furthest, before = max(furthest, position), position
+        kept = self.case.rewinds & set(range(1, furthest + 1)) if prefetch > 1 and not self.plan.close else set()
+        for position in kept:
+            if again[position] < 2:
+                self.wrong(f"position {position} comes only once")
+
+    def items(self, deliveries):
+        """Each position brings the item that the queue has there."""
+        queue = {}
+        for position, _, item in deliveries:
+            if queue.setdefault(position, item) is not item:
+                self.wrong(f"position {position} brings two items")
+        found = [queue[it] for it in sorted(queue)]
+        distinct = list(dict.fromkeys(found))
+        self.seen["a run's item published twice"] += len(found) > len(distinct)
+        if self.case.window == 1:
+            taken, _ = model.published(self.case.events, self.plan, None)
+            wanted = [it for it in taken if it is model.END_MARK or self.binding.matches(it)]
+        else:
+            wanted, found = [*self.fed, model.END_MARK], distinct
+        if found != wanted[: len(found)] or not self.plan.close and found != wanted:
+            self.wrong(f"its queue has other items: {[getattr(it, 'timestamp', 'end') for it in found]}")
+
+    def applied(self, deliveries, printed, said, report):
+        """A subscriber that takes these deliveries comes to the book of the report, and so does a follower."""
+        number, subscriber = self.case.subscriber, model.Subscriber()
+        close_after = self.plan.close_after(number)
+        for position, _, item in deliveries:
+            answer = subscriber.take(item)
+            if answer == "after close":
+                self.wrong(f"position {position} comes after the close")
+            self.seen["a run's duplicate"] += answer == "repeat"
+            self.seen["a run's duplicate of an end mark"] += item is model.END_MARK and answer != "ended"
+            if close_after is not None and len(subscriber.applied) >= close_after:
+                subscriber.closed = True
+        self.seen["a run's close"] += subscriber.closed
+        found = model.subscriber_lines(number, subscriber).splitlines()
+        self.trial.same(f"run {' '.join(self.case.plan)} --deliveries {number}, the book", books_of(number, report), found)
+        followed = model.subscriber_lines(1, subscriber).replace(" closed yes\n", " closed no\n")
+        for arguments in (["follow"], ["follow", "--chained"]):
+            found = self.trial.run(*arguments, stream=printed.encode())[:2]
+            self.trial.same(f"run {' '.join(self.case.plan)} --deliveries {number} | {' '.join(arguments)}", (0, followed), found)
+        events = sum(item is not model.END_MARK for _, _, item in deliveries)
+        counts = [(number, len(subscriber.applied), events)] if len(subscriber.applied) < events else []
+        found = [it for it in (tuple(map(int, it)) for it in COUNTED.findall(said)) if it[0] == number]
+        self.trial.same(f"run {' '.join(self.case.plan)} --deliveries {number}, standard error", counts, found)
+
+    def expected(self, status, printed):
+        """What must come of the deliveries of another run: these apply just the events of the queue, up to the close."""
+        close_after = self.plan.close_after(self.case.subscriber)
+        applied, has_ended, text = [], False, ""
+        wanted = self.fed if close_after is None else self.fed[:close_after]
+        for count, line in enumerate(printed.splitlines(keepends=True), 1):
+            result = json.loads(line).get("result")
+            answer = {"applied": "applied", "end": "ended"}.get(result, "repeat")
+            if answer == "applied":
+                applied = self.fed[: len(applied) + 1]
+            has_ended |= answer == "ended"
+            text += model.expected_line(count, answer, applied)
+        self.trial.same(f"run {' '.join(self.case.plan)} --expect", (0, text), (status, printed))
+        if applied != wanted or has_ended == (close_after is not None and close_after <= len(self.fed)):
+            self.wrong(f"--expect applies {len(applied)} of {len(wanted)}, ended {has_ended}")
+
+    def none(self):
+        """A subscriber that the script doesn't have: a usage error, and nothing is run."""
+        number = self.case.subscribers + 1
+        if number > model.MOST_SUBSCRIBERS:
+            return
+        self.seen["a run of no such subscriber"] += 1
+        status, printed, said = self.run("--progress", "run.saved", "--deliveries", str(number))
+        wanted = (2, "", f"relayplum: --deliveries {number}: the script has no such subscriber\n", False)
+        found = (status, printed, said, (self.trial.room / "run.saved").exists())
+        self.trial.same(f"run {' '.join(self.case.plan)} --deliveries {number}", wanted, found)
+
+
+def books_of(number, text):
+    """The lines of the subscriber of this number."""
+    lines, is_its = [], False
+    for line in books_in(text):
+        is_its = line.startswith(f"subscriber {number} ") or is_its and line.startswith("account ")
+        lines += [line] if is_its else []
+    return lines
 
 
 def books_in(text):

@@ -1414,47 +1414,52 @@ def short(members):
 
 def delivery_lines(world, number):
     """What is delivered to a subscriber up to its close: a line for each delivery, in the order of its takes."""
-    binding, text = world.broker.bindings[number - 1], ''
-    for count, delivery in enumerate(world.seats[number - 1].deliveries, start=1):
-        item, is_end = delivery.item, delivery.item is END_MARK
-        earlier = [it.timestamp for it in world.ledger.events if binding.matches(it)]
-        if not is_end:
-            earlier = [timestamp for timestamp in earlier if timestamp < item.timestamp]
-        members = {
-            'kind': 'delivery',
-            'delivery': count,
-            'position': delivery.position,
-            'redelivered': delivery.redelivered,
-            'previous': str(max(earlier, default=0)),
-        }
-        if is_end:
-            members['end'] = True
-        else:
-            members['headers'] = headers(item)
-            members['timestamp'] = item.timestamp // SECOND
-            members['body'] = json.loads(body(item))
-        text += short(members)
-    return text
+    fed = [it for it in world.ledger.events if world.broker.bindings[number - 1].matches(it)]
+    deliveries = enumerate(world.seats[number - 1].deliveries, start=1)
+    return ''.join(delivery_line(fed, count, it.position, it.redelivered, it.item) for count, it in deliveries)
+
+
+def delivery_line(fed, count, position, redelivered, item):
+    """The line of the delivery of this number, to a subscriber whose queue takes these events of the ledger."""
+    is_end = item is END_MARK
+    earlier = [it.timestamp for it in fed if is_end or it.timestamp < item.timestamp]
+    members = {
+        'kind': 'delivery',
+        'delivery': count,
+        'position': position,
+        'redelivered': redelivered,
+        'previous': str(max(earlier, default=0)),
+    }
+    if is_end:
+        members['end'] = True
+    else:
+        members['headers'] = headers(item)
+        members['timestamp'] = item.timestamp // SECOND
+        members['body'] = json.loads(body(item))
+    return short(members)
 
 
 def expected_lines(world, number):
     """What must come of each of these deliveries."""
-    seat, text = world.seats[number - 1], ''
-    for count, delivery in enumerate(seat.deliveries, start=1):
-        applied, accounts = seat.subscriber.applied[:delivery.applied], []
-        if delivery.answer == 'applied':
-            event = delivery.item
-            accounts = [(event.debit_account, event.debit_balances), (event.credit_account, event.credit_balances)]
-        members = {
-            'kind': 'expect',
-            'delivery': count,
-            'result': RESULTS_OF_ANSWERS[delivery.answer],
-            'applied': len(applied),
-            'last': str(applied[-1].timestamp if applied else 0),
-            'accounts': [{'id': str(it.request.id), **sums_of(balances)} for it, balances in accounts],
-        }
-        text += short(members)
-    return text
+    seat = world.seats[number - 1]
+    deliveries = enumerate(seat.deliveries, start=1)
+    return ''.join(expected_line(count, it.answer, seat.subscriber.applied[:it.applied]) for count, it in deliveries)
+
+
+def expected_line(count, answer, applied):
+    """The line of what must come of the delivery of this number: the answer to it, and all events applied after it."""
+    accounts = []
+    if answer == 'applied':
+        event = applied[-1]
+        accounts = [(event.debit_account, event.debit_balances), (event.credit_account, event.credit_balances)]
+    return short({
+        'kind': 'expect',
+        'delivery': count,
+        'result': RESULTS_OF_ANSWERS[answer],
+        'applied': len(applied),
+        'last': str(applied[-1].timestamp if applied else 0),
+        'accounts': [{'id': str(it.request.id), **sums_of(balances)} for it, balances in accounts],
+    })
 
 
 def sums_of(balances):

@@ -17,16 +17,16 @@ pub record IsDefaultPlan (plan : RunPlan) : Type 0 where
   pub faults : HasNoFaults plan.faults
   pub start : plan.start ≡ None
 
--- the command `run` over the file of this name, by the default plan, with its progress in memory, printed as text,
--- and without further diagnostics
+-- the command `run` over the file of this name, by the default plan, with its progress in memory, its report printed as
+-- text, and without further diagnostics
 abbrev pub IsRun : List ℕ → Options → Type 0
 IsRun name (Books file explain form) = ⊥
 IsRun name (Messages file queue form) = ⊥
 IsRun name (Simulate file steps window deliveries diagnostics form) = ⊥
 IsRun name (Random file window deliveries chances diagnostics form) = ⊥
-IsRun name (Run file plan progress diagnostics form) =
-    (file.now ≡ name) × (IsDefaultPlan plan × ((progress ≡ None)
-    × ((diagnostics ≡ record { explain = false; trace = false }) × (form ≡ Text))))
+IsRun name (Run file plan progress deliveries diagnostics form) =
+    (file.now ≡ name) × (IsDefaultPlan plan × ((progress ≡ None) × ((deliveries ≡ None)
+    × ((diagnostics ≡ record { explain = false; trace = false }) × (form ≡ Text)))))
 IsRun name (Check file steps has_diagram form) = ⊥
 IsRun name (Follow file plan form) = ⊥
 IsRun name (Audit file shows_book foreign form) = ⊥
@@ -38,7 +38,7 @@ IsWithinLimits (Books file explain form) = Unit {0}
 IsWithinLimits (Messages file queue form) = Unit {0}
 IsWithinLimits (Simulate file steps window deliveries diagnostics form) = IsWindow window
 IsWithinLimits (Random file window deliveries chances diagnostics form) = IsWindow window
-IsWithinLimits (Run file plan progress diagnostics form) = IsPlan plan
+IsWithinLimits (Run file plan progress deliveries diagnostics form) = IsPlan plan
 IsWithinLimits (Check file steps has_diagram form) = Unit {0}
 IsWithinLimits (Follow file plan form) = Unit {0}
 IsWithinLimits (Audit file shows_book foreign form) = Unit {0}

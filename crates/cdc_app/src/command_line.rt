@@ -54,6 +54,8 @@ pub enum Options<'a> {
         file: &'a str,
         plan: RunPlan,
         progress: Option<&'a str>,
+        /// The subscriber whose deliveries are printed instead, if one is named.
+        deliveries: Option<Asked>,
         diagnostics: RunDiagnostics,
         form: Form,
     },

@@ -1,4 +1,4 @@
-//! The arguments of `simulate` that ask for the deliveries to one subscriber.
+//! The arguments of `simulate` and `run` that ask for the deliveries to one subscriber.
 
 use crate::command_line::OptionsFault;
 use crate::options::{bad_value, read_subscriber};
@@ -6,7 +6,7 @@ use cdc_deliveries::Asked;
 use clap::{Arg, ArgAction, ArgMatches};
 use std::alloc::{AllocError, Global};
 
-pub fn deliveries_option<'a>(alloc: Global) -> Result<Arg<'a>, AllocError> {
+pub fn deliveries_option<'a>(alloc: Global) -> Arg<'a> {
     Arg::new(alloc, "deliveries")
         .long("deliveries")
         .value_name("I")
@@ -14,7 +14,6 @@ pub fn deliveries_option<'a>(alloc: Global) -> Result<Arg<'a>, AllocError> {
         .help(
             "Print what subscriber I receives up to its close, as JSON lines, instead of the report [1-8]",
         )
-        .conflicts_with("check")
 }
 
 pub fn expect_flag<'a>(alloc: Global) -> Result<Arg<'a>, AllocError> {

@@ -2,7 +2,6 @@
 #![tactic(auto)]
 
 ghost use Rattle.cdc_types.specs.Windows.{IsWindow};
-ghost use Rattle.cdc_run_command.specs.Plans.{IsPlan};
 
 mod advice;
 mod audit;
@@ -19,6 +18,7 @@ mod options;
 mod progress_advice;
 mod random;
 mod random_options;
+mod run;
 mod run_faults;
 mod run_options;
 mod run_places;
@@ -29,7 +29,7 @@ mod slips;
 mod sources;
 mod watched;
 
-use advice::{advise, advise_on_run, advise_on_script, advise_on_steps};
+use advice::{advise, advise_on_script, advise_on_steps};
 use audit::run_audit;
 use cdc_commands::books::{BooksEnded, books};
 use cdc_commands::check::{check, check_files};
@@ -39,16 +39,12 @@ use cdc_commands::{
     Ended, Ending, ParsedBatches, ProgramFault, Tally, Text, print_fault, print_text,
 };
 use cdc_json::Json;
-use cdc_progress::{FileStore, MemoryStore, ProgressStore};
-use cdc_run_command::{Ran, RunEnded, RunPlan, run_command};
-use diagnostics::{EXPLAIN, explain_books, explain_run, hint, note};
+use diagnostics::{EXPLAIN, explain_books, hint, note};
 use follow::run_follow;
 use kept::Kept;
-use options::{Form, Options, OptionsFault, RunDiagnostics, options};
+use options::{Form, Options, OptionsFault, options};
 use random::run_random;
-use run_faults::{copy_faults, report_missed};
-use run_traces::trace_run;
-use run_turns::Turns;
+use run::{WantedRun, run_on_threads};
 use simulation::{Wanted, run_simulation};
 use sources::Source;
 use std::alloc::AllocError;
@@ -133,10 +129,20 @@ fn run_arguments<T: Threads + Wait + Sync>(rt: &HostRuntime, threads: &T, args: 
                 file,
                 plan,
                 progress,
+                deliveries,
                 diagnostics,
                 form,
             },
-        ) => run_on_threads(rt, threads, file, plan, progress, diagnostics, form),
+        ) => {
+            let wanted = WantedRun {
+                plan,
+                progress,
+                deliveries,
+                diagnostics,
+                form,
+            };
+            run_on_threads(rt, threads, file, wanted)
+        }
         Ok(
             Options::Random {
                 file,
@@ -258,102 +264,6 @@ fn run_queue(rt: &HostRuntime, file: &str, number: usize, form: Form) -> Ending 
     }
     advise_on_script(rt, seen, ending);
     ending
-}
-
-/// Runs the script of this name on threads, with its progress in the file of that name or in memory, and reports on
-/// standard error why the command failed, or what wasn't accepted and which faults never came.
-fn run_on_threads<T: Threads + Wait + Sync>(
-    rt: &HostRuntime,
-    threads: &T,
-    file: &str,
-    plan: RunPlan,
-    progress: Option<&str>,
-    diagnostics: RunDiagnostics,
-    form: Form,
-) -> Ending
-    requires { IsPlan plan }
-{
-    let Ok(faults) = copy_faults(rt.alloc(), &plan.faults) else {
-        return abort(rt, ProgramFault::OutOfMemory, form);
-    };
-    let turns = Turns::new();
-    let mut script = Kept::new(rt.alloc(), Source::of_script(rt, file));
-    let RunEnded {
-        ended: Ended {
-            ending,
-            tally,
-            notes,
-        },
-        ran,
-        stop,
-    } = match progress {
-        None => {
-            let store = MemoryStore::new();
-            print_run(rt, threads, &mut script, plan, store, &turns, form)
-        }
-        Some(path) => {
-            let store = FileStore::at(rt, path);
-            print_run(rt, threads, &mut script, plan, store, &turns, form)
-        }
-    };
-    if let (Ending::Done, Some(ran)) = (ending, ran) {
-        let Ran {
-            owners,
-            lines,
-            report,
-        } = ran;
-        if diagnostics.explain {
-            explain_run(rt, file, owners.as_slice(), lines, &report);
-        } else {
-            hint(rt, tally, EXPLAIN);
-        }
-        if diagnostics.trace {
-            trace_run(rt, &turns, &report);
-        }
-        report_missed(rt, &faults, &report);
-    }
-    if let Ending::Done = ending {
-        note(rt, file, notes, notes.has_one_client);
-    }
-    advise_on_run(rt, script.seen(file), progress, stop, ending);
-    ending
-}
-
-fn print_run<T: Threads + Wait + Sync, S: ProgressStore + Send + Drop>(
-    rt: &HostRuntime,
-    threads: &T,
-    script: &mut Kept<Source>,
-    plan: RunPlan,
-    store: S,
-    turns: &Turns,
-    form: Form,
-) -> RunEnded
-    requires { IsPlan plan }
-{
-    let alloc = rt.alloc();
-    let mut writer = io::writer(rt);
-    match form {
-        Form::Text => run_command(
-            &Text,
-            threads,
-            alloc,
-            script,
-            plan,
-            store,
-            turns,
-            &mut writer,
-        ),
-        Form::Json => run_command(
-            &Json,
-            threads,
-            alloc,
-            script,
-            plan,
-            store,
-            turns,
-            &mut writer,
-        ),
-    }
 }
 
 /// Validates the script of this name, and the step file if there is one, and reports on standard error what is wrong.

@@ -83,6 +83,7 @@ pub fn options<'a>(alloc: Global, args: &'a [&'a str]) -> Result<Options<'a>, Op
             file: STANDARD_INPUT,
             plan: default_plan(alloc),
             progress: None,
+            deliveries: None,
             diagnostics: RunDiagnostics {
                 explain: false,
                 trace: false,
@@ -152,7 +153,7 @@ fn simulate_arguments<'a>(alloc: Global) -> Result<Command<'a>, AllocError> {
         .arg(to_end_flag(alloc)?)?
         .arg(steps_option(alloc)?)?
         .arg(faults_option(alloc)?)?
-        .arg(deliveries_option(alloc)?)?
+        .arg(deliveries_option(alloc).conflicts_with("check")?)?
         .arg(expect_flag(alloc)?)?
         .arg(window_option(alloc))?
         .arg(explain_flag(alloc))?
@@ -284,6 +285,7 @@ fn asked_of<'a>(
             file,
             plan: run_plan(alloc, arguments)?,
             progress: arguments.get_str("progress"),
+            deliveries: asked_deliveries(alloc, arguments)?,
             diagnostics: RunDiagnostics {
                 explain: arguments.get_flag("explain"),
                 trace: arguments.get_flag("trace"),

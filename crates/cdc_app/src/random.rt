@@ -79,7 +79,7 @@ pub fn run_random(
                 comment(rt, text.as_str());
             }
         }
-        Ending::BadWords => report_no_subscriber(rt, wanted),
+        Ending::BadWords => report_no_subscriber(rt, wanted.deliveries),
         _ => advise_on_script(rt, seen, ending),
     }
     ending

@@ -5,6 +5,7 @@ ghost use Rattle.cdc_run_command.specs.Plans.{AreCounts, IsPlan, IsPrefetch};
 ghost use Rattle.cdc_app.specs.Options.{IsDefaultPlan};
 
 use crate::command_line::OptionsFault;
+use crate::delivery_options::{deliveries_option, expect_flag};
 use crate::help;
 use crate::options::{
     asked_window, bad_value, explain_flag, json_flag, script_argument, window_option,
@@ -66,6 +67,8 @@ pub fn run_arguments<'a>(alloc: Global) -> Result<Command<'a>, AllocError> {
         ))?
         .arg(start_option(alloc))?
         .arg(progress_option(alloc))?
+        .arg(deliveries_option(alloc))?
+        .arg(expect_flag(alloc)?)?
         .arg(explain_flag(alloc))?
         .arg(trace_flag(alloc))?
         .arg(json_flag(alloc))

@@ -2,6 +2,8 @@
 
 use crate::run_faults::applied_by;
 use crate::run_turns::Turns;
+use crate::simulation::report_count;
+use cdc_deliveries::Count;
 use cdc_diagnostics::{repeat_lines, story_lines, subscriber_line};
 use cdc_run::Report;
 
@@ -39,5 +41,24 @@ fn trace_subscriber(rt: &HostRuntime, turns: &Turns, report: &Report, number: u6
     let repeats = turns.repeats(number);
     if let Ok(text) = subscriber_line(rt.alloc(), number, deliveries, applied, repeats) {
         let _ = eprint!(rt; "{text}");
+    }
+}
+
+/// Reports how many of the deliveries that came to a subscriber up to its close it applied, for each subscriber that
+/// didn't apply all of them. The end mark doesn't count.
+pub fn report_counts(rt: &HostRuntime, report: &Report) {
+    for (place, subscriber) in report.subscribers.iter().enumerate() {
+        let events = match report.deliveries.get(place) {
+            Some(arrivals) => arrivals
+                .iter()
+                .filter(|arrival| arrival.event.is_some())
+                .count(),
+            None => 0,
+        };
+        let count = Count {
+            applied: subscriber.applied_count() as usize,
+            deliveries: events,
+        };
+        report_count(rt, place + 1, count, "");
     }
 }

@@ -72,7 +72,7 @@ pub fn run_simulation(
             }
             note(rt, file, notes, true);
         }
-        Ending::BadWords => report_no_subscriber(rt, wanted),
+        Ending::BadWords => report_no_subscriber(rt, wanted.deliveries),
         _ => {}
     }
     ending
@@ -130,8 +130,8 @@ fn print_simulation(
 }
 
 /// Reports that the script doesn't have the subscriber whose deliveries are asked for.
-pub fn report_no_subscriber(rt: &HostRuntime, wanted: Wanted) {
-    if let Some(Asked { subscriber, .. }) = wanted.deliveries {
+pub fn report_no_subscriber(rt: &HostRuntime, deliveries: Option<Asked>) {
+    if let Some(Asked { subscriber, .. }) = deliveries {
         let _ = eprintln!(rt;
             "relayplum: --deliveries {subscriber}: the script has no such subscriber"
         );
@@ -145,14 +145,21 @@ pub fn report_counts(rt: &HostRuntime, recorder: &Recorder, before: &str) {
         return;
     };
     for subscriber in 1..Limits::SUBSCRIBERS + 1 {
-        let Count {
-            applied,
-            deliveries,
-        } = count_of(steps.as_slice(), subscriber as u64);
-        if applied < deliveries {
-            let _ = eprintln!(rt;
-                "{before}relayplum: subscriber {subscriber} applied {applied} of {deliveries} deliveries"
-            );
-        }
+        let count = count_of(steps.as_slice(), subscriber as u64);
+        report_count(rt, subscriber, count, before);
+    }
+}
+
+/// Reports how many of the deliveries of events to this subscriber it applied, if it didn't apply all of them. The line
+/// begins with `before`.
+pub fn report_count(rt: &HostRuntime, subscriber: usize, count: Count, before: &str) {
+    let Count {
+        applied,
+        deliveries,
+    } = count;
+    if applied < deliveries {
+        let _ = eprintln!(rt;
+            "{before}relayplum: subscriber {subscriber} applied {applied} of {deliveries} deliveries"
+        );
     }
 }

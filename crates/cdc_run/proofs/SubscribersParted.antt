@@ -1,5 +1,5 @@
 -- What the subscribers of a run leave behind.
-use Rattle.std.proofs.Common.{◌≡◌, List, [], ◌∷◌, ◌++◌, sym, ap, ◌∙◌, map}
+use Rattle.std.proofs.Common.{List, [], ◌∷◌, ◌++◌, sym, ap, ◌∙◌, map}
 use Rattle.std.proofs.lemmas.List.{map-append}
 use Rattle.cdc_actors.specs.Ends.{ActorState}
 use Rattle.std.proofs.lemmas.Simd.{map-map}

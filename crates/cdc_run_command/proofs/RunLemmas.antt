@@ -1,15 +1,20 @@
 -- A run of a script, and what is printed of it.
 use Rattle.std.proofs.Common.{◌≡◌, ◌∙◌, ℕ, ◌+◌, ◌≤◌, zero, suc, List, [], ◌∷◌, Some, None, Ok, Err, refl, sym, ap, subst, map, length, arith, inl, inr}
-use Rattle.std.specs.Prelude.{IfOk, IfSome, IsSomeAnd, Option, Result, fold, max, slice_get, slice_index_or}
+use Rattle.std.specs.Prelude.{Bool, IfOk, IfSome, IsSomeAnd, Option, Result, fold, max, slice_get, slice_index_or}
 use Rattle.std.specs.Option.{option_map}
 use Rattle.std.proofs.lemmas.List.{length-map}
 use Rattle.std.proofs.lemmas.Option.{get_or_from_slice_get, slice_get-map}
 use Rattle.cdc_actors.specs.declared.broker.plans.BrokerPlan.{BrokerPlan}
 use Rattle.cdc_ledger.specs.History.{History}
 use Rattle.cdc_match.specs.Arguments.{Arguments}
+use Rattle.cdc_progress.specs.Records.{Saved}
+use Rattle.cdc_progress.specs.Stores.{Risks}
 use Rattle.cdc_run.specs.Counts.{MayCount}
+use Rattle.cdc_run.specs.Ran.{RanFrom}
 use Rattle.cdc_run.specs.Reports.{AreSubscribed}
+use Rattle.cdc_run.specs.declared.configs.Config.{Config}
 use Rattle.cdc_run.specs.declared.counts.Counts.{Counts}
+use Rattle.cdc_run.specs.declared.plans.Faults.{Faults}
 use Rattle.cdc_run.specs.declared.reports.Report.{Report}
 use Rattle.cdc_script.specs.Scripts.{script_of}
 use Rattle.cdc_script.specs.declared.scripts.ClientBatch.{ClientBatch}
@@ -120,6 +125,13 @@ pub counted_same : (plan : BrokerPlan) (counts : Counts) (these those : List Arg
     → MayCount plan these counts → MayCount plan those counts
 counted_same plan counts these those same may =
     subst (λ (bindings : List Arguments). MayCount plan bindings counts) same may
+
+-- and a report of a run with some scripts is one of a run with equal ones
+pub ran_same : (config : Config) (faults : Faults) (held : Option Saved) (honest : Bool) (risks : Risks)
+    (report : Report) (these those : List (List Batch)) → these ≡ those
+    → RanFrom config faults held honest risks these report → RanFrom config faults held honest risks those report
+ran_same config faults held honest risks report these those same ran =
+    subst (λ (scripts : List (List Batch)). RanFrom config faults held honest risks scripts report) same ran
 
 -- ---- what is printed
 

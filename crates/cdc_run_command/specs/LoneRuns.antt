@@ -14,8 +14,8 @@ pub record HasOneClient (script : Script) : Type 0 where
 -- no subscriber is asked to close, no session is given a start, and the store is honest and holds nothing, or the
 -- timestamp 0 and the start 0
 pub record IsPlain (setting : Setting) : Type 0 where
-  pub closes : setting.closes ≡ []
-  pub start : setting.start ≡ None
+  pub closes : setting.plan.faults.close.items ≡ []
+  pub start : setting.plan.start ≡ None
   pub honest : setting.honest ≡ true
   pub held : held_timestamp setting.held ≡ 0
   pub held_from : held_start setting.held ≡ 0

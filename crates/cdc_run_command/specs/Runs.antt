@@ -1,12 +1,14 @@
 -- What a script comes to that is run on threads: each client submits its own batches, whatever the others do.
 use Rattle.std.specs.Prelude.{◌≡◌, ◌==◌, ℕ, ◌+◌, zero, suc, true, Bool, List, [], ◌∷◌, ◌++◌, Option, Some, None, IfSome, Ok, filter, fold, length, map, max}
 use Rattle.cdc_actors.specs.Connector.{first_origin}
-use Rattle.cdc_actors.specs.declared.broker.plans.BrokerPlan.{BrokerPlan}
 use Rattle.cdc_laws.specs.Connectors.{held_start, held_timestamp}
 use Rattle.cdc_progress.specs.Records.{Saved}
+use Rattle.cdc_progress.specs.Stores.{Risks}
 use Rattle.cdc_run.specs.Counts.{MayCount}
 use Rattle.cdc_run.specs.Made.{AreCloses, plan_of}
+use Rattle.cdc_run.specs.Ran.{RanFrom}
 use Rattle.cdc_run.specs.Reports.{AreSubscribed, HasRun, replies_of}
+use Rattle.cdc_run.specs.declared.configs.Config.{Config}
 use Rattle.cdc_run.specs.declared.reports.Report.{Report}
 use Rattle.cdc_script.specs.Scripts.{script_of}
 use Rattle.cdc_script.specs.declared.scripts.ClientBatch.{ClientBatch}
@@ -73,34 +75,43 @@ abbrev pub IsPrintedOf : (List ℕ → Report → List ℕ → Type 0) → Optio
 IsPrintedOf Prints None printed = Unit {0}
 IsPrintedOf Prints (Some ran) printed = Prints ran.owners.items ran.report printed
 
--- what a run is given besides its script: what goes wrong at its broker, when subscribers are to close, the timestamp
--- that its first session is to start after, if there is one, what its store holds, and whether that is honest
+-- what a run is given besides its script: its plan, what its store holds, whether that is honest, and why it may refuse
 pub record Setting : Type 0 where
-  pub plan : BrokerPlan
-  pub closes : List (ℕ × ℕ)
-  pub start : Option ℕ
+  pub plan : RunPlan
   pub held : Option Saved
   pub honest : Bool
+  pub risks : Risks
 
--- what a run of this plan is given over a store that holds this, and is honest or not
-abbrev pub setting_of : RunPlan → Option Saved → Bool → Setting
-setting_of plan held honest = record {
-  plan = plan_of plan.faults;
-  closes = plan.faults.close.items;
-  start = plan.start;
-  held = held;
-  honest = honest;
-}
+-- what a run of this plan is given over a store that holds this, is honest or not, and may refuse for these reasons
+abbrev pub setting_of : RunPlan → Option Saved → Bool → Risks → Setting
+setting_of plan held honest risks = record { plan = plan; held = held; honest = honest; risks = risks }
+
+-- the actors of a run of this script by this plan are made of this: the script's bindings, its clients, and the plan's
+-- window, prefetch and start
+pub record IsConfigOf (plan : RunPlan) (script : Script) (config : Config) : Type 0 where
+  pub bindings : config.bindings.items ≡ script.bindings
+  pub clients : config.clients ≡ client_count script.batches
+  pub window : config.window ≡ plan.window
+  pub prefetch : config.prefetch ≡ plan.prefetch
+  pub start : config.start ≡ plan.start
+
+-- the report is of a run that was made so, by the plan's faults
+pub record RanBy (setting : Setting) (script : Script) (report : Report) : Type 0 where
+  pub config : Config
+  pub is_config : IsConfigOf setting.plan script config
+  pub ran : RanFrom config setting.plan.faults setting.held setting.honest setting.risks (scripts_of script) report
 
 -- a run of this script may come to this report. One order of all batches, each client's in its own order, gives the
--- ledger and the replies. The counts are those of a run with this plan. Over an honest store that holds nothing, or a timestamp that is its start, each subscriber
--- has come to what it may rely on after the start: the one that is held, or else the timestamp that was given, or 0
+-- ledger and the replies. The run was made as it was asked for, and the counts are those of a run with this plan. Over
+-- an honest store that holds nothing, or a timestamp that is its start, each subscriber has come to what it may rely on
+-- after the start: the one that is held, or else the timestamp that was given, or 0
 pub record MayComeTo (setting : Setting) (script : Script) (report : Report) : Type 0 where
   pub run : HasRun (scripts_of script) report
-  pub counts : MayCount setting.plan script.bindings report.counts
+  pub ran : RanBy setting script report
+  pub counts : MayCount (plan_of setting.plan.faults) script.bindings report.counts
   pub subscribers : setting.honest ≡ true → held_timestamp setting.held ≡ held_start setting.held
-      → (closes : List (Option ℕ)) × (AreCloses 1 setting.closes closes
-      × AreSubscribed report.ledger (first_origin setting.start setting.held).start script.bindings closes
+      → (closes : List (Option ℕ)) × (AreCloses 1 setting.plan.faults.close.items closes
+      × AreSubscribed report.ledger (first_origin setting.plan.start setting.held).start script.bindings closes
       report.subscribers.items)
 
 -- a run of this script came to this: the client of each of its batches, its lines, and a report that it may come to

@@ -16,6 +16,6 @@ mod shares;
 pub use failures::RunFailed;
 pub use lone_runs::lone_run_laws;
 pub use plans::RunPlan;
-pub use reports::Ran;
-pub use run::{RunEnded, RunOutput, run_command, run_of};
+pub use reports::{Ran, report_of_run};
+pub use run::{RunEnded, RunOutput, run_command, run_of, tally_of};
 pub use run_forms::RunForm;

@@ -31,12 +31,8 @@ pub struct Ran {
     pub report: Report,
 }
 
-/// What a run of a script comes to, for the forms that print it. Fails if the run met a fault.
-pub(crate) fn report_of_run<
-    T: Threads + Wait + Sync,
-    S: ProgressStore + Send + Drop,
-    G: Gate + Sync,
->(
+/// What a run of a script comes to, for what prints it. Fails if the run met a fault.
+pub fn report_of_run<T: Threads + Wait + Sync, S: ProgressStore + Send + Drop, G: Gate + Sync>(
     rt: &T,
     alloc: Global,
     script: Script,
@@ -47,7 +43,7 @@ pub(crate) fn report_of_run<
     requires plan { IsPlan plan }
     requires script { IsRunnable script }
     ensures comes { IfOk result (λ ran. MayComeTo
-        (setting_of plan (S.held store) (S.is_honest store)) script ran.report) }
+        (setting_of plan (S.held store) (S.is_honest store) (S.risks store)) script ran.report) }
     ensures owners { IfOk result (λ ran. ran.owners.items ≡ owners_of script.batches) }
     ensures lines { IfOk result (λ ran. ran.lines ≡ script.lines) }
     ensures replies { IfOk result (λ ran. IsOrderOf ran.owners.items (replies_of ran.report)) }

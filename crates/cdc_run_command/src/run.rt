@@ -60,11 +60,11 @@ pub fn run_of<F: RunForm, T: Threads + Wait + Sync, S: ProgressStore + Send + Dr
 ) -> Result<RunOutput, RunFailed>
     requires { IsPlan plan }
     ensures output { IfOk result (λ made. RunCommandPrints F.prints_run F.prints_fault
-        (setting_of plan (S.held store) (S.is_honest store)) (Some bytes.now)
+        (setting_of plan (S.held store) (S.is_honest store) (S.risks store)) (Some bytes.now)
         made.output.ending made.output.text.items) }
     ensures ran { IfOk result (λ made. IsPrintedOf F.prints_run made.ran made.output.text.items) }
     ensures report { IfOk result (λ made. HasRunOf
-        (setting_of plan (S.held store) (S.is_honest store)) (Some bytes.now)
+        (setting_of plan (S.held store) (S.is_honest store) (S.risks store)) (Some bytes.now)
         made.output.ending made.ran) }
     ensures failed { IfErr result (MayFail (S.is_honest store) (S.risks store)) }
 {
@@ -91,11 +91,11 @@ fn run_script<F: RunForm, T: Threads + Wait + Sync, S: ProgressStore + Send + Dr
     requires script { IsRunnable script }
     ensures output { (bytes : List ℕ) → script_of bytes ≡ Ok script
         → IfOk result (λ made. RunCommandPrints F.prints_run F.prints_fault
-        (setting_of plan (S.held store) (S.is_honest store)) (Some bytes)
+        (setting_of plan (S.held store) (S.is_honest store) (S.risks store)) (Some bytes)
         made.output.ending made.output.text.items) }
     ensures ran { IfOk result (λ made. IsPrintedOf F.prints_run made.ran made.output.text.items) }
     ensures report { IfOk result (λ made.
-        IsSomeAnd made.ran (IsRunOf (setting_of plan (S.held store) (S.is_honest store)) script)) }
+        IsSomeAnd made.ran (IsRunOf (setting_of plan (S.held store) (S.is_honest store) (S.risks store)) script)) }
     ensures failed { IfErr result (MayFail (S.is_honest store) (S.risks store)) }
 {
     let notes = Notes::of(alloc, &script);
@@ -114,7 +114,7 @@ fn run_script<F: RunForm, T: Threads + Wait + Sync, S: ProgressStore + Send + Dr
 }
 
 /// Counts what wasn't accepted in a run.
-fn tally_of(report: &Report) -> Tally {
+pub fn tally_of(report: &Report) -> Tally {
     let mut tally = Tally::NONE;
     for replies in report.replies.as_slice() {
         for reply in replies.as_slice() {
@@ -147,9 +147,9 @@ pub fn run_command<
 ) -> RunEnded
     requires { IsPlan plan }
     ensures writes { Writes (RunCommandPrints F.prints_run F.prints_fault
-        (setting_of plan (S.held store) (S.is_honest store)) (R.remaining reader.old))
+        (setting_of plan (S.held store) (S.is_honest store) (S.risks store)) (R.remaining reader.old))
         (W.contents writer.old) (W.contents writer.new) result.ended.ending }
-    ensures report { HasRunOf (setting_of plan (S.held store) (S.is_honest store))
+    ensures report { HasRunOf (setting_of plan (S.held store) (S.is_honest store) (S.risks store))
         (R.remaining reader.old) result.ended.ending result.ran }
     ensures stop { IfSome result.stop (λ s. MayStop (S.is_honest store) (S.risks store) s.0 s.1) }
     ensures alone { LoneRunsPrintBooks }
@@ -189,11 +189,11 @@ fn read_run<
 ) -> Result<RunOutput, RunFailed>
     requires { IsPlan plan }
     ensures output { IfOk result (λ made. RunCommandPrints F.prints_run F.prints_fault
-        (setting_of plan (S.held store) (S.is_honest store)) (R.remaining reader.old)
+        (setting_of plan (S.held store) (S.is_honest store) (S.risks store)) (R.remaining reader.old)
         made.output.ending made.output.text.items) }
     ensures ran { IfOk result (λ made. IsPrintedOf F.prints_run made.ran made.output.text.items) }
     ensures report { IfOk result (λ made. HasRunOf
-        (setting_of plan (S.held store) (S.is_honest store)) (R.remaining reader.old)
+        (setting_of plan (S.held store) (S.is_honest store) (S.risks store)) (R.remaining reader.old)
         made.output.ending made.ran) }
     ensures failed { IfErr result (MayFail (S.is_honest store) (S.risks store)) }
     ensures bounded { ConsumesAtMost (max_bytes + 1)

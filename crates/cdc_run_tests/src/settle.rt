@@ -191,7 +191,14 @@ fn are_refused(alloc: Global, ends: Ends<MemoryStore>) -> bool
 fn a_system_that_has_finished_is_settled(rt: HostRuntime) {
     let ends = finished_actors(&rt, rt.alloc(), 1);
     let report = settle(rt.alloc(), ends).expect(&rt, "a report");
-    assert_eq!(rt; (report.replies.len(), report.subscribers.len(), report.deliveries.len()), (1, 1, 1));
+    assert_eq!(rt;
+        (
+            report.replies.len(),
+            report.subscribers.len(),
+            report.deliveries.len()
+        ),
+        (1, 1, 1)
+    );
 }
 
 #[test]

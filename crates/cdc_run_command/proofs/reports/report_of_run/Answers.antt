@@ -1,4 +1,4 @@
-use Rattle.std.proofs.Common.{◌≡◌, ◌∙◌, ℕ, List, Some, ap, arith, length, subst, sym}
+use Rattle.std.proofs.Common.{◌≡◌, ◌∙◌, ℕ, List, Some, refl, ap, arith, length, subst, sym}
 use Rattle.std.specs.Prelude.{slice_get}
 use Rattle.std.proofs.lemmas.List.{length-map}
 use Rattle.cdc_run.specs.Reports.{HasRun, replies_of}
@@ -8,7 +8,7 @@ use Rattle.cdc_run_command.specs.ClientOrders.{IsOrderOf}
 use Rattle.cdc_run_command.specs.Runnable.{IsClient}
 use Rattle.cdc_run_command.specs.Runs.{client_count, entries_of, owners_of, shares_from}
 use Rattle.cdc_run_command.proofs.RunFaults.{may_fail_so}
-use Rattle.cdc_run_command.proofs.RunLemmas.{clients_fit, counted_same, order_of_shares, subscribed_same}
+use Rattle.cdc_run_command.proofs.RunLemmas.{clients_fit, counted_same, order_of_shares, ran_same, subscribed_same}
 use Rattle.cdc_run_command.proofs.ShareLemmas.{length-shares_from}
 use Rattle.cdc_run_command.proofs.reports.report_of_run.Goals as goal
 
@@ -54,6 +54,28 @@ returns-in-Ok-clause-comes g c =
           ∙ ap (λ (all : List ClientBatch). shares_from 1 (client_count all) (entries_of all))
           c.into_vec-batches.ensures)
           c.in-Ok.ensures.report;
+      ran = record {
+        config = record {
+          system = 1;
+          bindings = c.into_vec-bindings.result;
+          clients = c.in_ok-clients.field-0.clients;
+          window = c.args.plan.window;
+          prefetch = c.args.plan.prefetch;
+          start = c.args.plan.start;
+        };
+        is_config = record {
+          bindings = c.into_vec-bindings.ensures;
+          clients = c.in_ok-clients.ensures.clients ∙ ap client_count c.into_vec-batches.ensures;
+          window = refl;
+          prefetch = refl;
+          start = refl;
+        };
+        ran = ran_same _ _ _ _ _ report _ _
+            (c.in_ok-clients.ensures.scripts
+            ∙ ap (λ (all : List ClientBatch). shares_from 1 (client_count all) (entries_of all))
+            c.into_vec-batches.ensures)
+            c.in-Ok.ensures.ran;
+      };
       counts = counted_same _ report.counts _ _ c.into_vec-bindings.ensures c.in-Ok.ensures.counts;
       subscribers = λ honest zero.
           let come = c.in-Ok.ensures.subscribers honest zero in (

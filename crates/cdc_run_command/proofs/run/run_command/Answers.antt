@@ -6,7 +6,7 @@ use Rattle.cdc_run_command.proofs.run.run_command.Goals as goal
 pub returns-in-Ok-clause-writes : goal.returns-in-Ok-clause-writes
 returns-in-Ok-clause-writes g c =
     let setting : Setting = setting_of c.args.plan (g.S.ProgressStore.held c.args.store)
-    (g.S.ProgressStore.is_honest c.args.store) in
+    (g.S.ProgressStore.is_honest c.args.store) (g.S.ProgressStore.risks c.args.store) in
     writes_text
     (RunCommandPrints g.F.RunForm.prints_run g.F.Form.prints_fault setting (g.R.Read.remaining c.args.reader.now)) _ _
     _ _ _ c.print_output.ensures.text c.in-Ok.ensures.output
@@ -14,7 +14,7 @@ returns-in-Ok-clause-writes g c =
 pub returns-in-Err-clause-writes : goal.returns-in-Err-clause-writes
 returns-in-Err-clause-writes g c =
     let setting : Setting = setting_of c.args.plan (g.S.ProgressStore.held c.args.store)
-    (g.S.ProgressStore.is_honest c.args.store) in
+    (g.S.ProgressStore.is_honest c.args.store) (g.S.ProgressStore.risks c.args.store) in
     writes_failure
     (RunCommandPrints g.F.RunForm.prints_run g.F.Form.prints_fault setting (g.R.Read.remaining c.args.reader.now))
     g.F.Form.prints_fault _ _ _ _ c.print_output-in-Err.ensures.fault
@@ -23,13 +23,13 @@ returns-in-Err-clause-writes g c =
 pub returns-in-Ok-clause-report : goal.returns-in-Ok-clause-report
 returns-in-Ok-clause-report g c =
     let setting : Setting = setting_of c.args.plan (g.S.ProgressStore.held c.args.store)
-    (g.S.ProgressStore.is_honest c.args.store) in
+    (g.S.ProgressStore.is_honest c.args.store) (g.S.ProgressStore.risks c.args.store) in
     ran_printed setting (g.R.Read.remaining c.args.reader.now) _ _ _ _ c.in-Ok.field-0.ran
     c.print_output.ensures.text c.in-Ok.ensures.report
 
 pub returns-in-Err-clause-report : goal.returns-in-Err-clause-report
 returns-in-Err-clause-report g c =
     let setting : Setting = setting_of c.args.plan (g.S.ProgressStore.held c.args.store)
-    (g.S.ProgressStore.is_honest c.args.store) in
+    (g.S.ProgressStore.is_honest c.args.store) (g.S.ProgressStore.risks c.args.store) in
     none_ran setting (g.R.Read.remaining c.args.reader.now) _ _ g.F.Form.prints_fault c.in-Err.field-0.fault _
     c.print_output-in-Err.ensures.fault

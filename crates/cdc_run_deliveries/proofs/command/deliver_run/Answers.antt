@@ -1,0 +1,35 @@
+use Rattle.cdc_run_command.specs.Runs.{Setting, setting_of}
+use Rattle.cdc_run_command.proofs.RunLemmas.{none_ran, ran_printed, writes_failure, writes_text}
+use Rattle.cdc_run_deliveries.specs.RunDeliveries.{PrintsRunDeliveries}
+use Rattle.cdc_run_deliveries.proofs.command.deliver_run.Goals as goal
+
+pub returns-in-Ok-clause-writes : goal.returns-in-Ok-clause-writes
+returns-in-Ok-clause-writes g c =
+    let setting : Setting = setting_of c.args.plan (g.S.ProgressStore.held c.args.store)
+    (g.S.ProgressStore.is_honest c.args.store) (g.S.ProgressStore.risks c.args.store) in
+    writes_text
+    (PrintsRunDeliveries g.F.Form.prints_fault c.args.asked setting (g.R.Read.remaining c.args.reader.now)) _ _
+    _ _ _ c.print_output.ensures.text c.in-Ok.ensures.output
+
+pub returns-in-Err-clause-writes : goal.returns-in-Err-clause-writes
+returns-in-Err-clause-writes g c =
+    let setting : Setting = setting_of c.args.plan (g.S.ProgressStore.held c.args.store)
+    (g.S.ProgressStore.is_honest c.args.store) (g.S.ProgressStore.risks c.args.store) in
+    writes_failure
+    (PrintsRunDeliveries g.F.Form.prints_fault c.args.asked setting (g.R.Read.remaining c.args.reader.now))
+    g.F.Form.prints_fault _ _ _ _ c.print_output-in-Err.ensures.fault
+    (λ line stated. (c.in-Err.ensures.failed.kind, stated))
+
+pub returns-in-Ok-clause-report : goal.returns-in-Ok-clause-report
+returns-in-Ok-clause-report g c =
+    let setting : Setting = setting_of c.args.plan (g.S.ProgressStore.held c.args.store)
+    (g.S.ProgressStore.is_honest c.args.store) (g.S.ProgressStore.risks c.args.store) in
+    ran_printed setting (g.R.Read.remaining c.args.reader.now) _ _ _ _ c.in-Ok.field-0.ran
+    c.print_output.ensures.text c.in-Ok.ensures.report
+
+pub returns-in-Err-clause-report : goal.returns-in-Err-clause-report
+returns-in-Err-clause-report g c =
+    let setting : Setting = setting_of c.args.plan (g.S.ProgressStore.held c.args.store)
+    (g.S.ProgressStore.is_honest c.args.store) (g.S.ProgressStore.risks c.args.store) in
+    none_ran setting (g.R.Read.remaining c.args.reader.now) _ _ g.F.Form.prints_fault c.in-Err.field-0.fault _
+    c.print_output-in-Err.ensures.fault
