@@ -49,7 +49,6 @@ BUDGETS = [
     (700, "docs/MEASURED.md"),
     (800, "CHANGELOG.md", "ROADMAP.md"),
     (600, "contrib/rabbitmq/README.md"),
-    (150, "drafts/README.md"),
 ]
 FIRST = "README.md"
 # The documents whose names may be of another day.
