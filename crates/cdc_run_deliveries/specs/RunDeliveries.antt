@@ -42,8 +42,7 @@ abbrev pub StatesScript : (Script → List ℕ → Type 0) → Option (List ℕ)
 StatesScript Prints bytes printed =
     IfSome bytes (λ all. (script : Script) × ((script_of all ≡ Ok script) × Prints script printed))
 
--- a command that runs such a script, whose bytes are known or not, ends so and prints this, if faults are printed so.
--- If there is no such subscriber, nothing is run
+-- a command that runs such a script, whose bytes are known or not, ends so and prints this, if faults are printed so
 abbrev pub PrintsRunDeliveries : (Ending → List ℕ → Type 0) → Asked → Setting → Option (List ℕ) → Ending → List ℕ
     → Type 0
 PrintsRunDeliveries PrintsFault asked setting bytes Done printed =
