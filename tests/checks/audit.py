@@ -9,7 +9,8 @@ Then one event is left out, doubled, swapped with the next one or changed in one
 just what a small model of the rules does, at the same line and by the same rule, which reads JSON by Python's own parser. A
 double, a swap, another balance, and another amount that is moved or held have to be refused; so has what follows an event that is
 left out, if its amount isn't 0 and one of its accounts appears again. What no rule finds is counted by kind and printed. Random
-scripts of pending transfers that expire, many of them at once, do the same with two expiries exchanged.
+scripts of pending transfers that expire, many of them at once, do the same with two expiries exchanged. States that are saved
+are tried by audit_states.py.
 
 The last line is `audit: N passed, M failed`; the status is 1 if one failed.
 """
@@ -564,7 +565,7 @@ def by_hand(folder):
     check("a bad line as JSON", found[:2] == (2, '{"kind":"accepted","events":0,"last":"0"}\n' + line), found)
     found = run([os.path.join(folder, "nowhere")], b"")
     check("a stream that isn't there", found[:2] == (1, "fault: read_fault\n") and "read_fault" in found[2], found)
-    for arguments in (["a", "b"], ["--chained"], ["--every", "1"]):
+    for arguments in (["a", "b"], ["--chained"], ["--skip-gaps"]):
         found = run(arguments, b"")
         check(f"usage: {arguments}", found[0] == 2 and not found[1] and found[2].startswith("error: "), found)
 
@@ -750,7 +751,9 @@ def random_streams(count):
 
 
 def main(arguments):
-    return commands.main(arguments, __doc__, "audit", [by_hand], random_streams, STREAMS)
+    import audit_states  # (which takes its events from here)
+
+    return commands.main(arguments, __doc__, "audit", [by_hand, audit_states.states], random_streams, STREAMS)
 
 
 if __name__ == "__main__":

@@ -29,7 +29,7 @@ IsRun name (Run file plan progress deliveries diagnostics form) =
     × ((diagnostics ≡ record { explain = false; trace = false }) × (form ≡ Text)))))
 IsRun name (Check file steps has_diagram form) = ⊥
 IsRun name (Follow file plan form) = ⊥
-IsRun name (Audit file shows_book foreign form) = ⊥
+IsRun name (Audit file plan form) = ⊥
 IsRun name (Explain text) = ⊥
 
 -- the numbers that are asked for are within their limits
@@ -41,7 +41,7 @@ IsWithinLimits (Random file window deliveries chances diagnostics form) = IsWind
 IsWithinLimits (Run file plan progress deliveries diagnostics form) = IsPlan plan
 IsWithinLimits (Check file steps has_diagram form) = Unit {0}
 IsWithinLimits (Follow file plan form) = Unit {0}
-IsWithinLimits (Audit file shows_book foreign form) = Unit {0}
+IsWithinLimits (Audit file plan form) = Unit {0}
 IsWithinLimits (Explain text) = Unit {0}
 
 -- the place of a fault in the list of them

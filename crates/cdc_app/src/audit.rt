@@ -1,40 +1,48 @@
 //! The command `audit`: a stream in, and whether a ledger can have published it.
 
 use crate::advice::{advise_on_failure, shown_name};
-use crate::follow_advice::advise_on_line;
+use crate::audit_options::AuditPlan;
+use crate::follow_advice::{advise_on_line, unread};
 use crate::options::Form;
 use crate::sources::Source;
 use cdc_audit::{AuditStop, Auditor};
-use cdc_audit_command::{AuditEnding, audit_command};
+use cdc_audit_command::{AuditEnding, StateSaver, audit_command, begin_state, resume};
+use cdc_audit_state::STATE_MARK;
 use cdc_commands::{ProgramFault, Text, print_fault};
+use cdc_follow_command::FileBook;
 use cdc_json::Json;
+use cdc_progress::StoreError;
 use std::io;
 use std::io::BufReader;
 
 /// The bytes of a stream that are read at a time.
 const BUFFER_BYTES: usize = 65_536;
 
-/// Audits the stream in the file of this name, another ledger's if `foreign` is true, with the balances in the end if
-/// `shows_book` is true, and reports on standard error why that stopped before the end.
-pub fn run_audit(
-    rt: &HostRuntime,
-    file: &str,
-    shows_book: bool,
-    foreign: bool,
-    form: Form,
-) -> AuditEnding {
-    let mut writer = io::writer(rt);
+/// Audits the stream in the file of this name, and reports on standard error why that stopped before the end.
+pub fn run_audit(rt: &HostRuntime, file: &str, plan: AuditPlan<'_>, form: Form) -> AuditEnding {
+    let AuditPlan {
+        shows_book,
+        foreign,
+        state,
+        every,
+    } = plan;
+    let (store, mut auditor) = match open_state(rt, state, foreign) {
+        Ok(opened) => opened,
+        Err(error) => return refuse_state(rt, file, state, error, form),
+    };
     let source = Source::of_script(rt, file);
     let Ok(mut reader) = BufReader::with_capacity(rt.alloc(), BUFFER_BYTES, source) else {
-        return out_of_memory(rt, file, form);
+        return refuse_state(rt, file, state, StoreError::OutOfMemory, form);
     };
-    let mut auditor = Auditor::new(rt.alloc(), foreign);
+    let mut saver = StateSaver::new(store, every);
+    let mut writer = io::writer(rt);
     let ending = match form {
         Form::Text => audit_command(
             &Text,
             rt.alloc(),
             &mut reader,
             &mut writer,
+            &mut saver,
             shows_book,
             &mut auditor,
         ),
@@ -43,28 +51,55 @@ pub fn run_audit(
             rt.alloc(),
             &mut reader,
             &mut writer,
+            &mut saver,
             shows_book,
             &mut auditor,
         ),
     };
-    advise_on_audit(rt, file, ending);
+    advise_on_audit(rt, file, state, ending);
     ending
 }
 
-/// Prints that memory ran out before the first line was read.
-fn out_of_memory(rt: &HostRuntime, file: &str, form: Form) -> AuditEnding {
-    let fault = ProgramFault::OutOfMemory;
+/// Opens the state at this path, if there is one, and returns it with the auditor that it holds. A state that isn't
+/// there yet is made at once, so that the file is locked from the start.
+fn open_state<'a>(
+    rt: &'a HostRuntime,
+    state: Option<&str>,
+    foreign: bool,
+) -> Result<(Option<FileBook<'a, HostRuntime>>, Auditor), StoreError> {
+    let Some(path) = state else {
+        return Ok((None, Auditor::new(rt.alloc(), foreign)));
+    };
+    let mut store = FileBook::open(rt, path, STATE_MARK)?;
+    if let Some(text) = store.text() {
+        let auditor = resume(rt.alloc(), text, foreign)?;
+        return Ok((Some(store), auditor));
+    }
+    let auditor = Auditor::new(rt.alloc(), foreign);
+    begin_state(rt.alloc(), &mut store, &auditor)?;
+    Ok((Some(store), auditor))
+}
+
+/// Prints the fault of a state that can't be opened, and reports why on standard error.
+fn refuse_state(
+    rt: &HostRuntime,
+    file: &str,
+    state: Option<&str>,
+    error: StoreError,
+    form: Form,
+) -> AuditEnding {
+    let fault = ProgramFault::from(error);
     let mut writer = io::writer(rt);
     let _ending = match form {
         Form::Text => print_fault(&Text, &mut writer, fault),
         Form::Json => print_fault(&Json, &mut writer, fault),
     };
-    advise_on_failure(rt, shown_name(file), fault);
+    advise_on_state(rt, shown_name(file), state, fault);
     AuditEnding::Failed(fault)
 }
 
-/// Reports why auditing stopped before the end of the stream in the file of this name.
-fn advise_on_audit(rt: &HostRuntime, file: &str, ending: AuditEnding) {
+/// Reports why auditing stopped before the end of the stream in the file of this name, whose state is in that file.
+fn advise_on_audit(rt: &HostRuntime, file: &str, state: Option<&str>, ending: AuditEnding) {
     let place = shown_name(file);
     let _ = match ending {
         AuditEnding::Stopped(AuditStop::AtEnd) => Ok(()),
@@ -79,8 +114,35 @@ fn advise_on_audit(rt: &HostRuntime, file: &str, ending: AuditEnding) {
             advise_on_line(rt, place, line, error)
         }
         AuditEnding::Failed(fault) => {
-            advise_on_failure(rt, place, fault);
+            advise_on_state(rt, place, state, fault);
             Ok(())
         }
     };
+}
+
+/// Reports why the command failed.
+fn advise_on_state(rt: &HostRuntime, place: &str, state: Option<&str>, fault: ProgramFault) {
+    if let (Some(state), ProgramFault::Store(error)) = (state, fault) {
+        let name = error.name();
+        let why = trouble(rt, state, error);
+        let _ = eprintln!(rt; "{state}: store: {name}: {why}");
+        return;
+    }
+    advise_on_failure(rt, place, fault);
+}
+
+/// What is wrong with the file of a state, for which its store has reported this error, and what to do.
+fn trouble(rt: &HostRuntime, state: &str, error: StoreError) -> &'static str {
+    match error {
+        StoreError::ReadFault => unread(rt, state),
+        StoreError::WriteFault => {
+            "the state can't be written: the file and its folder have to be writable and to have room, nobody else may \
+             change the file, and what stands at its name with .new behind it has to be what a save left"
+        }
+        StoreError::BadRecord => {
+            "it holds no state of an audit, or one that was saved with --foreign where that isn't given now, or the \
+             other way round: name its options, or another file"
+        }
+        StoreError::OutOfMemory => "no memory was left",
+    }
 }

@@ -3,6 +3,7 @@
 ghost use Rattle.std.specs.Prelude.{◌≡◌};
 ghost use Rattle.cdc_app.specs.Options.{options_fault_number, options_fault_name};
 
+use crate::audit_options::AuditPlan;
 use crate::follow_options::FollowPlan;
 use cdc_deliveries::Asked;
 use cdc_random_steps::Chances;
@@ -77,10 +78,7 @@ pub enum Options<'a> {
     /// Whether the stream of messages in this file can be what a ledger published; `-` is standard input.
     Audit {
         file: &'a str,
-        /// Whether the last balances are printed.
-        shows_book: bool,
-        /// Whether it is another ledger's, whose flags may have more bits.
-        foreign: bool,
+        plan: AuditPlan<'a>,
         form: Form,
     },
     /// A text on the program itself: help, or its version.

@@ -7,7 +7,7 @@ use crate::options::Form;
 use crate::sources::Source;
 use crate::watched::Watched;
 use cdc_commands::{ProgramFault, Text, print_fault};
-use cdc_follow::Follower;
+use cdc_follow::{BOOK_MARK, Follower};
 use cdc_follow_command::{
     FileBook, FollowEnding, Saver, begin, begin_book, follow_command, resume,
 };
@@ -86,7 +86,7 @@ fn open_book<'a>(
     let Some(path) = book else {
         return Ok((None, begin(rt.alloc())));
     };
-    let mut store = FileBook::open(rt, path)?;
+    let mut store = FileBook::open(rt, path, BOOK_MARK)?;
     if let Some(text) = store.text() {
         let follower = resume(rt.alloc(), text, chained, binding)?;
         return Ok((Some(store), follower));

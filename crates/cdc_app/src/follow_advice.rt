@@ -127,7 +127,7 @@ fn trouble(rt: &HostRuntime, book: &str, error: StoreError) -> &'static str {
 }
 
 /// What is wrong with a file that can't be read.
-fn unread(rt: &HostRuntime, book: &str) -> &'static str {
+pub fn unread(rt: &HostRuntime, book: &str) -> &'static str {
     // (it isn't opened, since opening a pipe waits for a writer)
     match fs::metadata(rt, book) {
         Ok(data) if data.is_file() => {

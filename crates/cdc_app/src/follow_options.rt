@@ -146,8 +146,8 @@ fn joined(alloc: Global, parts: &[&str]) -> Result<Vec<u8>, AllocError> {
     Ok(text)
 }
 
-/// After how many lines a book is saved.
-fn asked_every(alloc: Global, arguments: &ArgMatches<'_>) -> Result<u64, OptionsFault> {
+/// After how many lines a book or a state is saved.
+pub fn asked_every(alloc: Global, arguments: &ArgMatches<'_>) -> Result<u64, OptionsFault> {
     let Some(word) = arguments.get_str("every") else {
         return Ok(DEFAULT_EVERY);
     };

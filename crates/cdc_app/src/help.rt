@@ -118,15 +118,20 @@ docs/AUDIT.md lists what can't be.
 Another ledger of this kind may have more flags. With --foreign they are ignored, and a transfer that is stored with
 such a flag may have any timestamp.
 
-The output is how many events are accepted and the last one's timestamp; with --book also the balances that they show
-last, as the command books prints them; and at the end the line of the event that is refused, if one is.
+With --state, what was audited is saved after every N lines, each time that no whole line is waiting, and at the end.
+After each save a line with saved and the timestamp of the last accepted event is printed. If auditing is stopped at any
+time and started again with that file, it goes on there: the stream has to begin with the event after that one.
+
+The output is these lines; then how many events are accepted and the last one's timestamp; with --book also the balances
+that they show last, as the command books prints them; and at the end the line of the event that is refused, if one is.
 
 Examples:
   relayplum messages examples/two-phase.script | relayplum audit
   relayplum audit archive.jsonl --book
+  relayplum audit today.jsonl --state audit.state
 
 Exit status:
   0  all events are accepted
-  1  an event is refused; or a read, a write or memory failed: the last line of standard output names the fault, unless
-     a write failed
+  1  an event is refused; or a read, a write, memory or the store of the state failed: the last line of standard output
+     names the fault, unless a write failed
   2  the arguments or a line of the stream are bad: standard error reports what was expected, and where";

@@ -171,14 +171,7 @@ fn run_arguments<T: Threads + Wait + Sync>(rt: &HostRuntime, threads: &T, args: 
         Ok(Options::Follow { file, plan, form }) => return run_follow(
             rt, file, plan, form,
         ).status(),
-        Ok(
-            Options::Audit {
-                file,
-                shows_book,
-                foreign,
-                form,
-            },
-        ) => return run_audit(rt, file, shows_book, foreign, form).status(),
+        Ok(Options::Audit { file, plan, form }) => return run_audit(rt, file, plan, form).status(),
         Ok(Options::Explain { text }) => explain(rt, text.as_str()),
         Err(OptionsFault::BadWords { message }) => refuse_arguments(rt, message.as_str()),
         Err(OptionsFault::OutOfMemory) => abort(rt, ProgramFault::OutOfMemory, Form::Text),

@@ -4,7 +4,7 @@ ghost use Rattle.std.specs.Prelude.{◌≡◌, length, codes, IfOk, IfSome, IsOk
 ghost use Rattle.cdc_types.specs.Windows.{IsWindow};
 ghost use Rattle.cdc_app.specs.Options.{IsRun, IsWithinLimits};
 
-use crate::audit_options::audit_arguments;
+use crate::audit_options::{audit_arguments, audit_plan};
 pub use crate::command_line::{Diagnostics, Form, Options, OptionsFault, RunDiagnostics};
 use crate::delivery_options::{asked_deliveries, deliveries_option, expect_flag};
 use crate::follow_options::{follow_arguments, follow_plan};
@@ -299,8 +299,7 @@ fn asked_of<'a>(
         }),
         ("audit", _) => Ok(Options::Audit {
             file,
-            shows_book: arguments.get_flag("book"),
-            foreign: arguments.get_flag("foreign"),
+            plan: audit_plan(alloc, arguments)?,
             form,
         }),
         _ => Err(usage_error(alloc, "error: no command has such arguments\n")?),

@@ -47,19 +47,19 @@ first_audited state number line rest read is =
     ∙ ap (λ read. stream_with number read (stream_of_lines false (number + 1) rest)) is)
 
 -- a line that is ignored
-past_line : (state : AuditState) (number : ℕ) (line : List ℕ) (rest : List (List ℕ)) → line_entry false line ≡ Ok None
+pub past_line : (state : AuditState) (number : ℕ) (line : List ℕ) (rest : List (List ℕ)) → line_entry false line ≡ Ok None
     → lines_audited state number (line ∷ rest) ≡ lines_audited state (number + 1) rest
 past_line state number line rest is = first_audited state number line rest (Ok None) is
 
 -- a line that is no entry
-bad_line : (state : AuditState) (number : ℕ) (line : List ℕ) (rest : List (List ℕ)) (error : LineError)
+pub bad_line : (state : AuditState) (number : ℕ) (line : List ℕ) (rest : List (List ℕ)) (error : LineError)
     → line_entry false line ≡ Err error
     → lines_audited state number (line ∷ rest) ≡ record { state = state; stop = stop.BadLine number error }
 bad_line state number line rest error is =
     first_audited state number line rest (Err error) is ∙ entries-none state (stop.BadLine number error)
 
 -- a line with an entry, by the answer to it
-entry_line : (state : AuditState) (number : ℕ) (line : List ℕ) (rest : List (List ℕ)) (entry : Entry)
+pub entry_line : (state : AuditState) (number : ℕ) (line : List ℕ) (rest : List (List ℕ)) (entry : Entry)
     (answer : Option Refusal) → line_entry false line ≡ Ok (Some entry) → entry_refusal state entry.content ≡ answer
     → lines_audited state number (line ∷ rest)
     ≡ audited_on answer number state (lines_audited (next_audit state entry.content) (number + 1) rest)
@@ -69,7 +69,7 @@ entry_line state number line rest entry answer is refusal =
     ∙ entries-first state (stop_at later.bad) (record { line = number; entry = entry }) later.entries answer refusal
 
 -- no lines are audited to the end
-no_lines : (state : AuditState) (number : ℕ)
+pub no_lines : (state : AuditState) (number : ℕ)
     → lines_audited state number [] ≡ record { state = state; stop = stop.AtEnd }
 unfolding stream_of_lines audit_entries
 no_lines state number = refl

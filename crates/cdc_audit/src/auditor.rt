@@ -90,6 +90,38 @@ impl Auditor {
         }
     }
 
+    /// An auditor with these parts of another one, which goes on where that one stopped. `of_another`: whether the stream
+    /// is another ledger's. `in_chain`: whether the last event stored a linked transfer.
+    pub fn resume(
+        of_another: bool,
+        subscriber: Subscriber,
+        transfers: IndexMap<u128, Stored>,
+        open_ones: IndexMap<u128, Event>,
+        fields: IndexMap<u128, FixedFields>,
+        in_chain: bool,
+        last_expiry: Option<Event>,
+    ) -> Auditor
+        ensures { result ≡ record {
+          foreign = of_another;
+          kept = subscriber;
+          transfers = transfers.entries;
+          open_ones = open_ones.entries;
+          fields = fields.entries;
+          linked = in_chain;
+          expired = last_expiry;
+        } }
+    {
+        Auditor {
+            foreign: of_another,
+            subscriber,
+            transfers,
+            open_ones,
+            fields,
+            linked: in_chain,
+            expired: last_expiry,
+        }
+    }
+
     /// Takes an entry of the stream: accepts it, or returns why it is refused. A refused entry changes nothing. The one
     /// error is that memory ran out, and then nothing changes either.
     pub fn take(&mut self, content: &Content) -> Result<Option<Refusal>, AllocError>
@@ -118,6 +150,48 @@ impl Auditor {
         ensures stands { (state : AuditState) → StandsFor self.now state → result.now ≡ kept_after state }
     {
         &self.subscriber
+    }
+
+    /// Whether the stream is another ledger's.
+    pub fn foreign(&self) -> bool
+        ensures { result ≡ self.now.foreign }
+    {
+        self.foreign
+    }
+
+    /// What is known of each stored transfer, by its id.
+    pub fn transfers(&self) -> &IndexMap<u128, Stored>
+        ensures { result.now.entries ≡ self.now.transfers }
+    {
+        &self.transfers
+    }
+
+    /// The events that stored the open pending transfers, by these transfers' ids.
+    pub fn open_ones(&self) -> &IndexMap<u128, Event>
+        ensures { result.now.entries ≡ self.now.open_ones }
+    {
+        &self.open_ones
+    }
+
+    /// The fields of each account that never change, by its id.
+    pub fn fields(&self) -> &IndexMap<u128, FixedFields>
+        ensures { result.now.entries ≡ self.now.fields }
+    {
+        &self.fields
+    }
+
+    /// Whether the last event stored a linked transfer.
+    pub fn in_chain(&self) -> bool
+        ensures { result ≡ self.now.linked }
+    {
+        self.linked
+    }
+
+    /// The last expiry.
+    pub fn last_expiry(&self) -> Option<Event>
+        ensures { result ≡ self.now.expired }
+    {
+        self.expired
     }
 
     /// What is known of the transfer with this id, if it counts.

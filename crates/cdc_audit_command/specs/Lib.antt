@@ -1,3 +1,4 @@
 pub mod Endings
 pub mod Printed
+pub mod Saving
 pub mod Texts

@@ -5,7 +5,9 @@ mod audit;
 mod endings;
 mod forms;
 mod json;
+mod savers;
 
-pub use audit::audit_command;
+pub use audit::{audit_command, audit_stream};
 pub use endings::AuditEnding;
 pub use forms::AuditForm;
+pub use savers::{StateSaver, begin_state, resume};

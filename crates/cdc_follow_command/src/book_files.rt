@@ -1,22 +1,22 @@
-//! A follower's book in a file.
+//! A text that is kept in a file, such as a follower's book.
 
 ghost use Rattle.std.specs.Prelude.{◌≡◌, IfOk};
 
 use crate::stores::BookStore;
 use cdc_files::{Replaced, holds, open_locked, path_of_new, replace, target_of};
-use cdc_follow::BOOK_MARK;
 use cdc_progress::StoreError;
 use std::fs::{File, Files, OpenFile, Permissions};
 use std::io::{ErrorKind, Read};
 use std::{fs, io};
 
-/// The text of a book in a file. A save writes the file `PATH.new`, syncs it to the disk and renames it to PATH, so an
-/// interrupted save leaves the old text. If PATH is a link, both names refer to the link's target, and the link stays.
+/// A text in a file: a follower's book, or another text that begins with a mark of its own. A save writes the file
+/// `PATH.new`, syncs it to the disk and renames it to PATH, so an interrupted save leaves the old text. If PATH is a
+/// link, both names refer to the link's target, and the link stays.
 /// The file's mode is kept, its owner isn't.
 ///
-/// The file is locked from its opening or its first save on, and another follower that uses it is refused. A save is
+/// The file is locked from its opening or its first save on, and another process that uses it is refused. A save is
 /// refused if PATH no longer holds what this store has last loaded or saved, if nobody may write it, and if `PATH.new`
-/// exists and can't be the leftover of an interrupted save.
+/// exists and can't be the leftover of an interrupted save, by the text's mark.
 ///
 /// No contract can state what a file holds. `held` is the text that this store has last loaded or saved. That the file
 /// returns it is an assumption of the store's user; nothing here proves it.
@@ -25,6 +25,8 @@ pub struct FileBook<'a, R> {
     rt: &'a R,
     path: String,
     new_path: String,
+    /// The first bytes of each text of this kind.
+    mark: &'static [u8],
     /// The file, locked, once there is one.
     file: Option<File>,
     known: Option<Vec<u8>>,
@@ -39,14 +41,16 @@ fn read_error(error: io::Error) -> StoreError {
 }
 
 impl<'a, R: Files<File = File> + AllocGlobal> FileBook<'a, R> {
-    /// Opens the book at this path, and locks and reads it if there is one.
-    pub fn open(rt: &'a R, path: &str) -> Result<FileBook<'a, R>, StoreError> {
+    /// Opens the text at this path, and locks and reads it if there is one. `mark`: the first bytes of each text of its
+    /// kind.
+    pub fn open(rt: &'a R, path: &str, mark: &'static [u8]) -> Result<FileBook<'a, R>, StoreError> {
         let path = target_of(rt, path).map_err(read_error)?;
         let new_path = path_of_new(rt.alloc(), path.as_str())?;
         let mut book = FileBook {
             rt,
             path,
             new_path,
+            mark,
             file: None,
             known: None,
         };
@@ -59,7 +63,7 @@ impl<'a, R: Files<File = File> + AllocGlobal> FileBook<'a, R> {
         Ok(book)
     }
 
-    /// The text of the book, if there is one.
+    /// The text, if there is one.
     pub fn text(&self) -> Option<&[u8]> {
         match &self.known {
             Some(text) => Some(text.as_slice()),
@@ -88,7 +92,7 @@ impl<'a, R: Files<File = File> + AllocGlobal> FileBook<'a, R> {
         let file = Replaced {
             path: self.path.as_str(),
             new_path: self.new_path.as_str(),
-            mark: BOOK_MARK,
+            mark: self.mark,
         };
         replace(self.rt, file, mode, text)
     }

@@ -1,0 +1,13 @@
+use Rattle.std.proofs.Common.{subst, ap, ◌∙◌}
+use Rattle.std.specs.Io.KnownBytes.{Appends}
+use Rattle.cdc_audit.specs.Standing.{AuditorState}
+use Rattle.cdc_subscriber.specs.SubscriberState.{SubscriberState}
+use Rattle.cdc_audit_command.proofs.savers.StateSaver.save.Goals as goal
+
+pub returns-in-Ok-clause-printed : goal.returns-in-Ok-clause-printed
+returns-in-Ok-clause-printed g c fine =
+    let last = c.last.ensures ∙ ap (λ (k : SubscriberState). k.last) c.subscriber.ensures.kept in
+    let line = c.in_ok-line.ensures ∙ ap g.F.FollowForm.prints_saved last in
+    let written = rw c.as_slice.ensures.value at c.in-Ok.ensures in
+    rw c.in-Some.is
+    (subst (Appends (g.W.Write.contents c.args.writer.now) (g.W.Write.contents c.write_text.new.writer)) line written)

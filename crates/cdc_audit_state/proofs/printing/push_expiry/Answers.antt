@@ -1,0 +1,14 @@
+use Rattle.std.proofs.Common.{ap, append-nil, sym, ◌∙◌, ◌++◌}
+use Rattle.std.proofs.lemmas.Result.{on_ok_weaker}
+use Rattle.std.specs.Prelude.{codes}
+use Rattle.cdc_audit_state.specs.States.{event_line, expiry_rows, row_line, rows_text}
+use Rattle.cdc_audit_state.proofs.printing.push_expiry.Goals as goal
+
+pub returns-in-Some : goal.returns-in-Some
+unfolding row_line
+returns-in-Some c =
+    on_ok_weaker c.push_event.result
+    (λ is. is ∙ ap (λ text. c.args.text.now.items ++ text)
+    (sym (append-nil (event_line (codes "expired ") c.in-Some.event))
+    ∙ ap (λ expired. rows_text (expiry_rows expired)) (sym c.in-Some.is)))
+    c.push_event.ensures

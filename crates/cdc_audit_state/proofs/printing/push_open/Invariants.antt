@@ -1,0 +1,5 @@
+use Rattle.cdc_audit_state.proofs.PrintingLemmas.{Pushed, open_text}
+use Rattle.cdc_audit_state.proofs.printing.push_open.Given as goal
+
+abbrev pub invariant-loop-event : goal.invariant-loop-event
+invariant-loop-event l = Pushed open_text l.events.entries l.event-iterator l.initial.text.items l.text.items

@@ -1,0 +1,13 @@
+//! The state of an audit as text: how it is saved, and how it is read back.
+#![tactic(auto)]
+
+pub mod laws;
+pub mod numbers;
+pub mod parts;
+pub mod printing;
+pub mod rows;
+pub mod saved;
+
+pub use laws::{audited_events_fit, audits_can_be_saved, audits_go_on};
+pub use printing::push_state;
+pub use saved::{STATE_MARK, read_state};

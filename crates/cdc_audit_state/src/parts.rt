@@ -1,0 +1,96 @@
+//! What the lines of a state's text tell, taken one after another.
+
+ghost use Rattle.std.specs.Prelude.{◌≡◌, ℕ, List, [], IfOk, IsSomeAnd, OnOk, fold};
+ghost use Rattle.std.specs.List.{AllByRecursion};
+ghost use Rattle.cdc_audit_state.specs.Parts.{GivesParts, no_parts, with_row};
+ghost use Rattle.cdc_audit_state.specs.States.{rows_text};
+
+use crate::rows::{Row, read_row};
+use cdc_audit::{FixedFields, Stored};
+use cdc_subscriber::Book;
+use cdc_types::Event;
+use indexmap::IndexMap;
+use std::alloc::{AllocError, Global};
+use std::marker::Model;
+
+/// The parts of a state that its lines tell.
+#[derive(Drop)]
+pub(crate) struct Parts {
+    pub(crate) book: Book,
+    pub(crate) expired: Option<Event>,
+    pub(crate) transfers: IndexMap<u128, Stored>,
+    pub(crate) open_ones: IndexMap<u128, Event>,
+    pub(crate) fields: IndexMap<u128, FixedFields>,
+}
+
+impl Model for Parts {
+    ghost use Rattle.cdc_audit_state.specs.Parts.{PartsState};
+
+    ghost Value = { PartsState };
+
+    ghost view = { λ p. record {
+      accounts = p.book;
+      expired = p.expired;
+      transfers = p.transfers.entries;
+      open_ones = p.open_ones.entries;
+      fixed = p.fields.entries;
+    } };
+}
+
+impl Parts {
+    fn new(alloc: Global) -> Parts
+        ensures { result ≡ no_parts }
+    {
+        Parts {
+            book: Book::new(alloc),
+            expired: None,
+            transfers: IndexMap::new(alloc),
+            open_ones: IndexMap::new(alloc),
+            fields: IndexMap::new(alloc),
+        }
+    }
+
+    /// Adds what a line tells.
+    fn add(&mut self, row: Row) -> Result<(), AllocError>
+        ensures { OnOk result (self.new ≡ with_row self.old row) }
+    {
+        match row {
+            Row::Account(entry) => {
+                let _added = self.book.push(entry)?;
+            }
+            Row::Expired(event) => self.expired = Some(event),
+            Row::Transfer(id, stored) => {
+                if self.transfers.insert(id, stored).is_err() {
+                    return Err(AllocError);
+                }
+            }
+            Row::Open(event) => {
+                if self.open_ones.insert(event.transfer.id, event).is_err() {
+                    return Err(AllocError);
+                }
+            }
+            Row::Fields(id, fields) => {
+                if self.fields.insert(id, fields).is_err() {
+                    return Err(AllocError);
+                }
+            }
+        }
+        Ok(())
+    }
+}
+
+/// The parts of a text of such lines. `None`: a line is none.
+pub(crate) fn read_parts(alloc: Global, text: &[u8]) -> Result<Option<Parts>, AllocError>
+    ensures { IfOk result (λ read. GivesParts text.now read) }
+{
+    let mut parts = Parts::new(alloc);
+    let mut rest = text;
+    while !rest.is_empty() {
+        let Some(read) = read_row(alloc, rest)? else {
+            return Ok(None);
+        };
+        parts.add(read.row)?;
+        rest = read.rest;
+    }
+    Ok(Some(parts))
+}

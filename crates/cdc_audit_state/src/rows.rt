@@ -1,0 +1,226 @@
+//! The lines of a state's text, after its heading.
+
+ghost use Rattle.std.specs.Prelude.{◌≡◌, ◌≢◌, ◌<◌, ◌≤◌, ℕ, List, IfOk, IfSome, IsSomeAnd, OnOk, length};
+ghost use Rattle.cdc_types.specs.declared.events.Event.{Event as Shown};
+ghost use Rattle.cdc_audit_state.specs.Reading.{first_of};
+ghost use Rattle.cdc_audit_state.specs.Rows.{GivesRow, IsEventLine, ReadsAccount, ReadsFields, ReadsRow};
+
+use crate::numbers::{first, line, number, number_16, number_32, number_64, skip};
+use cdc_audit::{FixedFields, Stored};
+use cdc_message::{DecodeError, decode};
+use cdc_subscriber::BookEntry;
+use cdc_types::{Balances, Event};
+use std::alloc::{AllocError, Global};
+
+/// A line of a state's text.
+#[derive(Clone, Copy)]
+pub(crate) enum Row {
+    /// An account, with its last balances.
+    Account(BookEntry),
+    /// The last expiry.
+    Expired(Event),
+    /// What is known of the stored transfer with this id.
+    Transfer(u128, Stored),
+    /// The event that stored an open pending transfer.
+    Open(Event),
+    /// The fields of the account with this id that never change.
+    Fields(u128, FixedFields),
+}
+
+/// A line that was read, and the bytes after it.
+#[derive(Drop)]
+pub(crate) struct ReadRow<'a> {
+    pub(crate) row: Row,
+    pub(crate) rest: &'a [u8],
+}
+
+/// The numbers of an account, and the bytes after their line.
+fn read_account(text: &[u8]) -> (BookEntry, &[u8])
+    ensures reads { ReadsAccount text.now result.0 result.1.now }
+    ensures shorter { length result.1.now ≤ length text.now }
+{
+    let (id, rest) = number(text);
+    let (debits_pending, rest) = number(rest);
+    let (debits_posted, rest) = number(rest);
+    let (credits_pending, rest) = number(rest);
+    let (credits_posted, rest) = number(rest);
+    let balances = Balances {
+        debits_pending,
+        debits_posted,
+        credits_pending,
+        credits_posted,
+    };
+    (BookEntry { id, balances }, skip(rest, 1))
+}
+
+/// The numbers of an account's fixed fields, and the bytes after their line.
+fn read_fields(text: &[u8]) -> (FixedFields, &[u8])
+    ensures reads { ReadsFields text.now result.0 result.1.now }
+    ensures shorter { length result.1.now ≤ length text.now }
+{
+    let (user_data_128, rest) = number(text);
+    let (user_data_64, rest) = number_64(rest);
+    let (user_data_32, rest) = number_32(rest);
+    let (ledger, rest) = number_32(rest);
+    let (code, rest) = number_16(rest);
+    let (flags, rest) = number_16(rest);
+    let (timestamp, rest) = number_64(rest);
+    let fields = FixedFields {
+        user_data_128,
+        user_data_64,
+        user_data_32,
+        ledger,
+        code,
+        flags,
+        timestamp,
+    };
+    (fields, skip(rest, 1))
+}
+
+/// An event that was read, and the bytes after its line.
+#[derive(Drop)]
+pub(crate) struct ReadEvent<'a> {
+    event: Event,
+    rest: &'a [u8],
+}
+
+/// Passes by the error of a text that is no body. The error that memory ran out is one here, too.
+fn unless_memory(error: DecodeError) -> Result<(), AllocError>
+    ensures { OnOk result (error ≢ DecodeError.OutOfMemory) }
+{
+    match error {
+        DecodeError::OutOfMemory => Err(AllocError),
+        _ => Ok(()),
+    }
+}
+
+/// The event whose body is the first line. `None`: the line is no body.
+fn read_event(alloc: Global, text: &[u8]) -> Result<Option<ReadEvent<'_>>, AllocError>
+    ensures reads { IfOk result (λ read. (e : Shown) (left : List ℕ) → IsEventLine text.now e left
+        → IsSomeAnd read (λ it. (it.event ≡ e) × (it.rest.now ≡ left))) }
+    ensures shorter { IfOk result (λ read. IfSome read (λ it. length it.rest.now ≤ length text.now)) }
+{
+    let (body, rest) = line(text);
+    match decode(alloc, body) {
+        Ok(event) => Ok(Some(ReadEvent { event, rest })),
+        Err(error) => {
+            unless_memory(error)?;
+            Ok(None)
+        }
+    }
+}
+
+/// The line of an account, whose first byte is an `a`.
+fn account_row(text: &[u8]) -> ReadRow<'_>
+    requires { first_of text.now ≡ 97 }
+    ensures reads { ReadsRow text.now result }
+    ensures shorter { length result.rest.now < length text.now }
+{
+    let (entry, rest) = read_account(skip(text, 7));
+    ReadRow {
+        row: Row::Account(entry),
+        rest,
+    }
+}
+
+/// The line of a transfer that isn't pending and never was.
+fn plain_row(text: &[u8]) -> ReadRow<'_>
+    requires { first_of text.now ≡ 112 }
+    ensures reads { ReadsRow text.now result }
+    ensures shorter { length result.rest.now < length text.now }
+{
+    let (id, rest) = number(skip(text, 5));
+    ReadRow {
+        row: Row::Transfer(id, Stored::Plain),
+        rest: skip(rest, 1),
+    }
+}
+
+/// The line of a transfer that is pending.
+fn held_row(text: &[u8]) -> ReadRow<'_>
+    requires { first_of text.now ≡ 104 }
+    ensures reads { ReadsRow text.now result }
+    ensures shorter { length result.rest.now < length text.now }
+{
+    let (id, rest) = number(skip(text, 4));
+    let (amount, rest) = number(rest);
+    ReadRow {
+        row: Row::Transfer(id, Stored::Pending(amount)),
+        rest: skip(rest, 1),
+    }
+}
+
+/// The line of a transfer that was pending.
+fn settled_row(text: &[u8]) -> ReadRow<'_>
+    requires { first_of text.now ≡ 115 }
+    ensures reads { ReadsRow text.now result }
+    ensures shorter { length result.rest.now < length text.now }
+{
+    let (id, rest) = number(skip(text, 7));
+    let (amount, rest) = number(rest);
+    ReadRow {
+        row: Row::Transfer(id, Stored::Settled(amount)),
+        rest: skip(rest, 1),
+    }
+}
+
+/// The line of an account's fixed fields.
+fn fields_row(text: &[u8]) -> ReadRow<'_>
+    requires { first_of text.now ≡ 102 }
+    ensures reads { ReadsRow text.now result }
+    ensures shorter { length result.rest.now < length text.now }
+{
+    let (id, rest) = number(skip(text, 6));
+    let (fields, rest) = read_fields(rest);
+    ReadRow {
+        row: Row::Fields(id, fields),
+        rest,
+    }
+}
+
+/// The line of the last expiry, if it is one.
+fn expired_row(alloc: Global, text: &[u8]) -> Result<Option<ReadRow<'_>>, AllocError>
+    requires { first_of text.now ≡ 101 }
+    ensures reads { IfOk result (λ read. GivesRow text.now read) }
+    ensures shorter { IfOk result (λ read. IfSome read (λ it. length it.rest.now < length text.now)) }
+{
+    match read_event(alloc, skip(text, 8))? {
+        Some(read) => Ok(Some(ReadRow {
+            row: Row::Expired(read.event),
+            rest: read.rest,
+        })),
+        None => Ok(None),
+    }
+}
+
+/// The line of an open pending transfer, if it is one.
+fn open_row(alloc: Global, text: &[u8]) -> Result<Option<ReadRow<'_>>, AllocError>
+    requires { first_of text.now ≡ 111 }
+    ensures reads { IfOk result (λ read. GivesRow text.now read) }
+    ensures shorter { IfOk result (λ read. IfSome read (λ it. length it.rest.now < length text.now)) }
+{
+    match read_event(alloc, skip(text, 5))? {
+        Some(read) => Ok(Some(ReadRow {
+            row: Row::Open(read.event),
+            rest: read.rest,
+        })),
+        None => Ok(None),
+    }
+}
+
+/// The first line, if it is one of a state's text. Whether it is just as it would be printed isn't checked.
+pub(crate) fn read_row(alloc: Global, text: &[u8]) -> Result<Option<ReadRow<'_>>, AllocError>
+    ensures reads { IfOk result (λ read. GivesRow text.now read) }
+    ensures shorter { IfOk result (λ read. IfSome read (λ it. length it.rest.now < length text.now)) }
+{
+    match first(text) {
+        b'a' => Ok(Some(account_row(text))),
+        b'e' => expired_row(alloc, text),
+        b'f' => Ok(Some(fields_row(text))),
+        b'h' => Ok(Some(held_row(text))),
+        b'o' => open_row(alloc, text),
+        b'p' => Ok(Some(plain_row(text))),
+        b's' => Ok(Some(settled_row(text))),
+        _ => Ok(None),
+    }
+}

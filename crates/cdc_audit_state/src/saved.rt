@@ -1,0 +1,114 @@
+//! Reading a state's text back.
+
+ghost use Rattle.std.specs.Prelude.{◌≡◌, ◌↔◌, Bool, IsTrue, ℕ, List, IfOk, IfSome, IsSomeAnd, false};
+ghost use Rattle.cdc_audit.specs.Standing.{AuditorState};
+ghost use Rattle.cdc_audit_state.specs.Headings.{ReadsFront};
+ghost use Rattle.cdc_audit_state.specs.Saveable.{CanBeSaved};
+ghost use Rattle.cdc_audit_state.specs.States.{state_text};
+
+use crate::numbers::{flag, number, number_64, skip};
+use crate::parts::{Parts, read_parts};
+use crate::printing::push_state;
+use cdc_audit::Auditor;
+use cdc_subscriber::Subscriber;
+use std::alloc::{AllocError, Global};
+
+/// The first bytes of the text of each saved state, whatever its version.
+pub const STATE_MARK: &[u8] = b"audit-state ";
+
+/// What precedes the lines, and the lines.
+#[derive(Drop)]
+pub(crate) struct Front<'a> {
+    foreign: bool,
+    linked: bool,
+    applied: u64,
+    last: u64,
+    ended: bool,
+    lines: &'a [u8],
+}
+
+/// What precedes the lines.
+fn read_front(text: &[u8]) -> Front<'_>
+    ensures { ReadsFront text.now result }
+{
+    let (foreign, rest) = flag(skip(text, 21));
+    let (linked, rest) = flag(skip(rest, 7));
+    let (_, rest) = number(skip(rest, 11));
+    let (applied, rest) = number_64(skip(rest, 8));
+    let (last, rest) = number_64(skip(rest, 5));
+    let (ended, rest) = flag(skip(rest, 6));
+    let (_, rest) = flag(skip(rest, 7));
+    Front {
+        foreign,
+        linked,
+        applied,
+        last,
+        ended,
+        lines: skip(rest, 1),
+    }
+}
+
+/// Whether a text is that of an auditor's state.
+fn is_text_of(alloc: Global, text: &[u8], auditor: &Auditor) -> Result<bool, AllocError>
+    ensures { IfOk result (λ same. IsTrue same ↔ (text.now ≡ state_text auditor.now)) }
+{
+    let mut printed = Vec::new(alloc);
+    push_state(alloc, &mut printed, auditor)?;
+    Ok(printed.as_slice() == text)
+}
+
+/// An auditor with these parts.
+fn auditor_of(front: &Front<'_>, parts: Parts) -> Auditor
+    ensures { result ≡ record {
+      foreign = front.now.foreign;
+      kept = record {
+        book = parts.accounts;
+        last = front.now.last;
+        applied = front.now.applied;
+        ended = front.now.ended;
+        closed = false;
+      };
+      transfers = parts.transfers;
+      open_ones = parts.open_ones;
+      fields = parts.fixed;
+      linked = front.now.linked;
+      expired = parts.expired;
+    } }
+{
+    let Parts {
+        book,
+        expired,
+        transfers,
+        open_ones,
+        fields,
+    } = parts;
+    let subscriber = Subscriber::resume(book, front.last, front.applied, front.ended);
+    Auditor::resume(
+        front.foreign,
+        subscriber,
+        transfers,
+        open_ones,
+        fields,
+        front.linked,
+        expired,
+    )
+}
+
+/// Reads the text of a saved state. `None`: it is the text of no state that can be saved. The only error is that memory
+/// ran out.
+pub fn read_state(alloc: Global, text: &[u8]) -> Result<Option<Auditor>, AllocError>
+    ensures exact { IfOk result (λ read. IfSome read (λ auditor. text.now ≡ state_text auditor)) }
+    ensures all { (state : AuditorState) → CanBeSaved state → text.now ≡ state_text state
+        → IfOk result (λ read. IsSomeAnd read (λ auditor. auditor ≡ state)) }
+{
+    let front = read_front(text);
+    let Some(parts) = read_parts(alloc, front.lines)? else {
+        return Ok(None);
+    };
+    let auditor = auditor_of(&front, parts);
+    if is_text_of(alloc, text, &auditor)? {
+        Ok(Some(auditor))
+    } else {
+        Ok(None)
+    }
+}

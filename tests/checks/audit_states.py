@@ -1,0 +1,239 @@
+"""The states that `audit --state` saves: their text, going on from them, and those that are killed and refused while they are saved.
+
+Part of audit.py. By hand: the text of a state with every kind of line. Cut: each stream of the rows by hand is cut at each line,
+audited up to there with a state, and then from there on; it has to come to what the whole stream comes to. Files that are no
+state are refused, and stay. Killed: the program ends at each open, read, write, sync and rename of a stream with a state, and is
+started again with the lines after the last one that was reported as saved, or that the state has; it has to come to the state of a
+run without a stop. Refused: each allocation and each of these calls is refused in turn. Killed and Refused need `cc`.
+"""
+import concurrent.futures
+import fcntl
+import json
+import os
+import re
+import shutil
+import sys
+
+sys.path.append(os.path.join(os.path.dirname(os.path.realpath(__file__)), "..", "faults"))
+import audit
+import needs
+import sweep
+from audit import END, EXPIRY, HELD, PAID, POST, SECOND, THREE, TIMED, UP, account, event, expiry, text_of, with_transfer
+from commands import check, run
+
+JOBS = 2  # runs at a time
+SAVED = re.compile(r"(?m)^saved (\d+)\n")
+STORE = (1, "fault: store\n")
+
+
+def own(body):
+    """A body as the program prints it."""
+    return json.dumps(body, sort_keys=True, separators=(",", ":"))
+
+
+def read(path):
+    with open(path, "rb") as it:
+        return it.read()
+
+
+def write(path, content):
+    with open(path, "wb") as it:
+        it.write(content)
+
+
+def texts():
+    """Each row: what it is, the stream, the arguments, and the text of the state after it."""
+    head = "audit-state 1 foreign no linked no\n"
+    fields = "fields 1 0 0 0 700 1 0 1\nfields 2 0 0 0 700 1 0 1\n"
+    yield "nothing", [], [], head + "subscriber 1 applied 0 last 0 ended no closed no\n"
+    paid = "account 1 0 30 0 0\naccount 2 0 0 0 30\n"
+    yield "one event", [PAID], [], (
+        head + "subscriber 1 applied 1 last 10 ended no closed no\n" + paid + "plain 1\n" + fields
+    )
+    yield "an open transfer", [PAID, HELD], [], (
+        head + "subscriber 1 applied 2 last 20 ended no closed no\naccount 1 10 30 0 0\naccount 2 0 0 10 30\n"
+        "plain 1\nheld 2 10\nopen " + own(HELD) + "\n" + fields
+    )
+    yield "a post, and the end", [PAID, HELD, POST, END], [], (
+        head + "subscriber 1 applied 3 last 30 ended yes closed no\naccount 1 0 34 0 0\naccount 2 0 0 0 34\n"
+        "plain 1\nsettled 2 10\nplain 3\n" + fields
+    )
+    yield "an expiry", [PAID, TIMED, EXPIRY], [], (
+        head + f"subscriber 1 applied 3 last {UP} ended no closed no\n" + paid
+        + "expired " + own(EXPIRY) + "\nplain 1\nsettled 2 10\n" + fields
+    )
+    linked = with_transfer(PAID, flags=1)
+    yield "a chain", [linked], [], (
+        "audit-state 1 foreign no linked yes\nsubscriber 1 applied 1 last 10 ended no closed no\n" + paid + "plain 1\n" + fields
+    )
+    other = {**PAID, "debit_account": account(1, 0, 30, 0, 0, user_data_128="5", user_data_64="6", user_data_32=7, flags=24)}
+    yield "another ledger's", [other], ["--foreign"], (
+        "audit-state 1 foreign yes linked no\nsubscriber 1 applied 1 last 10 ended no closed no\n" + paid + "plain 1\n"
+        "fields 1 5 6 7 700 1 8 1\nfields 2 0 0 0 700 1 0 1\n"
+    )
+
+
+def by_hand(folder):
+    state = os.path.join(folder, "a.state")
+    for name, stream, arguments, text in texts():
+        found = run([*arguments, "--state", state], text_of(stream))
+        check(f"a state's text: {name}", found[0] == 0 and read(state) == text.encode(), (found, read(state)))
+        last = re.search(r" last (\d+)", text).group(1)
+        check(f"a state's last save: {name}", SAVED.findall(found[1])[-1:] == [last], found)
+        found = run([*arguments, "--state", state, "--book"], b"")
+        kept = "".join(it for it in text.splitlines(True) if it.startswith(("subscriber", "account ")))
+        check(f"a state that is read: {name}", found[0] == 0 and found[1].endswith(kept), found)
+        check(f"a state that stays: {name}", read(state) == text.encode(), read(state))
+        os.remove(state)
+    found = run(["--state", state, "--every", "1", "--json"], text_of([PAID]))
+    lines = [json.loads(it) for it in found[1].splitlines()]
+    check("a save as JSON", {"kind": "saved", "timestamp": "10"} in lines, found)
+    check("nothing is left beside a state", sorted(os.listdir(folder)) == ["a.state"], os.listdir(folder))
+    os.remove(state)
+
+
+def without_saves(printed):
+    return SAVED.sub("", printed)
+
+
+def cut(row):
+    """What is wrong with a stream that is cut at some line and goes on."""
+    number, folder, arguments, name, stream, printed, status = row
+    for place in range(len(stream) + 1):
+        state = os.path.join(folder, f"{number}.{place}")
+        first = run([*arguments, "--state", state, "--every", "1"], text_of(stream[:place]))
+        then = run([*arguments, "--state", state, "--every", "1", "--book"], text_of(stream[place:]))
+        whole = run([*arguments, "--book"], text_of(stream))
+        if first[0] == 0:
+            # (the second part numbers its lines from 1)
+            shown = without_saves(then[1])
+            later = re.sub(r"(?m)^refused: line (\d+):", lambda it: f"refused: line {int(it[1]) + place}:", shown)
+            if (then[0], later) != (status, whole[1]):
+                return f"{name}, cut at {place}: {then!r}, not {whole!r}"
+        elif (first[0], without_saves(first[1])) != (status, printed):
+            return f"{name}, cut at {place}: {first!r}"
+        os.remove(state)
+    return None
+
+
+def cuts(folder):
+    """Each stream of the rows by hand is cut at each line."""
+    rows = [(folder, [], *row) for row in audit.rows()]
+    rows += [(folder, ["--foreign"], *row) for row in audit.rows_of_another_ledger()]
+    with concurrent.futures.ThreadPoolExecutor(JOBS) as pool:
+        for complaint in pool.map(cut, [(number, *row) for number, row in enumerate(rows)]):
+            check("a stream that is cut", complaint is None, complaint)
+
+
+def refused(folder):
+    """Files that are no state."""
+    state = os.path.join(folder, "a.state")
+    stream = [PAID, TIMED]
+    run(["--state", state], text_of(stream))
+    before = read(state)
+    found = run(["--foreign", "--state", state], b"")
+    check("a state without --foreign", found[:2] == STORE and f"{state}: store" in found[2], found)
+    check("it stays", read(state) == before, before)
+    plain, held = b"plain 1\n", b"held 2 10\n"
+    for name, content in [
+        ("empty", b""),
+        ("a book", b"book 1 chained no seen 0\nbinding all\nsubscriber 1 applied 0 last 0 ended no closed no\n"),
+        ("a record of progress", b"tb-cdc 2 1 0 0\n"),
+        ("a state that is cut", before[:-5]),
+        ("a further blank line", before + b"\n"),
+        ("an account twice", before.replace(b"account 2 0 0 10 30\n", b"account 2 0 0 10 30\naccount 2 0 0 10 30\n")),
+        ("a transfer twice", before.replace(plain, plain + plain)),
+        ("an open transfer twice", before.replace(b"fields 1", b"open " + own(TIMED).encode() + b"\nfields 1")),
+        ("other fields twice", before + b"fields 2 0 0 0 700 1 0 1\n"),
+        ("another order", before.replace(plain + held, b"").replace(b"fields 1", plain + held + b"fields 1")),
+        ("a leading zero", before.replace(b"held 2 10", b"held 2 010")),
+        ("a number past its width", before.replace(b"fields 1 0 0 0 700 1 0 1", b"fields 1 0 0 0 700 65536 0 1")),
+        ("another version", before.replace(b"audit-state 1", b"audit-state 2")),
+        ("an unknown line", before + b"more 1\n"),
+        ("an open line that is no body", before.replace(b"open {", b"open [{")),
+        ("a body with a space", before.replace(b'open {"', b'open { "')),
+        ("a closed subscriber", before.replace(b"closed no", b"closed yes")),
+    ]:
+        check(f"another file: {name}", content != before, name)
+        other = os.path.join(folder, "other")
+        write(other, content)
+        found = run(["--state", other], text_of(stream))
+        check(f"a state that is none: {name}", found[:2] == STORE and f"{other}: store" in found[2], found)
+        check(f"it stays: {name}", read(other) == content, name)
+        os.remove(other)
+    check("a folder", run(["--state", folder], b"")[:2] == STORE, folder)
+    check("no folder", run(["--state", os.path.join(folder, "no", "where")], b"")[:2] == STORE, folder)
+    with open(state, "rb") as it:
+        fcntl.flock(it, fcntl.LOCK_EX)
+        check("a locked state", run(["--state", state], b"")[:2] == STORE, state)
+    beside = state + ".new"
+    write(beside, b"book 1 is mine\n")
+    later = event(30, 3, audit.POSTED, 4, (1, 0, 34, 0, 0), (2, 0, 0, 0, 34), 2)
+    check("a book beside a state", run(["--state", state], text_of([later]))[:2] == STORE, state)
+    check("it stays, too", read(beside) == b"book 1 is mine\n" and read(state) == before, state)
+    os.remove(beside)
+    os.remove(state)
+    for arguments in (["--every", "0"], ["--every", "x"], ["--state"]):
+        found = run(arguments, b"")
+        check(f"usage: {arguments}", found[0] == 2 and not found[1] and found[2].startswith("error: "), found)
+
+
+class Killed:
+    """A stream with a state that ends at one call of the C library, and is started again."""
+
+    def __init__(self, library, folder):
+        self.library, self.folder = library, folder
+        self.stream = [PAID, TIMED, THREE, expiry(30 + SECOND, TIMED, 5), expiry(30 + 2 * SECOND, THREE, 0)]
+        whole = os.path.join(folder, "whole")
+        self.whole = run(["--book", "--state", whole], text_of(self.stream))
+        self.state = read(whole)
+        calls = os.path.join(folder, "calls")
+        self.run("counted", CALLS=calls)
+        with open(calls, encoding="ascii") as file:
+            self.calls = {kind: int(count) for kind, count in (line.split() for line in file)}
+
+    def run(self, name, **plan):
+        """Runs the stream over a state of this name."""
+        env = dict(os.environ, LD_PRELOAD=self.library, **plan)
+        return run(["--state", os.path.join(self.folder, name), "--every", "1"], text_of(self.stream), env)
+
+    def plans(self, word):
+        return [f"{kind}:{n}{word}" for kind in ("open", "read", "write", "sync", "rename") for n in range(1, self.calls[kind] + 1)]
+
+    def complaint(self, number, plan):
+        """Returns what is wrong after the program was ended by a plan, or a call was refused."""
+        name = f"{number}.state"
+        ended = self.run(name, FAULT=plan)
+        saved = [int(it) for it in SAVED.findall(ended[1])]
+        path = os.path.join(self.folder, name)
+        text = read(path) if os.path.exists(path) else b" last 0 "
+        last = int(re.search(rb" last (\d+) ", text).group(1))
+        if saved != sorted(saved) or last < max(saved, default=0):
+            return f"{plan}: {ended!r}"
+        left = [it for it in self.stream if int(it["timestamp"]) > last]
+        again = run(["--book", "--state", path], text_of(left))
+        if again[0] or without_saves(again[1]) != without_saves(self.whole[1]) or read(path) != self.state:
+            return f"{plan}: {ended!r}, then {again!r}"
+        if "end" not in plan and (ended[0] not in (0, 1) or ended[0] == 1 and "write" not in plan and not ended[1].splitlines()[-1:][0].startswith("fault: ")):
+            return f"{plan}: {ended!r}"
+        return None
+
+
+def killed(folder):
+    """The program is ended at each call, done and not done; and each call is refused."""
+    if not shutil.which("cc"):
+        print(f"audit: not tried: states that are killed and refused: {needs.no_command('cc')}")
+        return
+    it = Killed(sweep.built_library(folder), folder)
+    plans = [*it.plans(" end"), *it.plans(" after end"), *it.plans(""), *it.plans(" after"), "short"]
+    plans += [f"allocation:{n}" for n in range(1, it.calls["allocation"] + 1)]
+    with concurrent.futures.ThreadPoolExecutor(JOBS) as pool:
+        for wrong in pool.map(it.complaint, range(len(plans)), plans):
+            check("killed or refused", wrong is None, wrong)
+
+
+def states(folder):
+    for part in (by_hand, cuts, refused, killed):
+        room = os.path.join(folder, f"state-{part.__name__}")
+        os.mkdir(room)
+        part(room)
