@@ -51,7 +51,7 @@ fn state_option<'a>(alloc: Global) -> Arg<'a> {
         .long("state")
         .value_name("STATE")
         .action(ArgAction::Set)
-        .help("File in which the state is saved, and from which auditing resumes [default: memory]")
+        .help("Save the state in this file, and resume from it [default: memory]")
 }
 
 fn every_option<'a>(alloc: Global) -> Arg<'a> {
@@ -59,7 +59,7 @@ fn every_option<'a>(alloc: Global) -> Arg<'a> {
         .long("every")
         .value_name("N")
         .action(ArgAction::Set)
-        .help("Number of lines after which the state is saved, at the latest [default: 1000]")
+        .help("Save the state after N lines at the latest [1-18446744073709551615; default: 1000]")
 }
 
 /// The plan that the arguments ask for, or a usage error.

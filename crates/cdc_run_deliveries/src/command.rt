@@ -32,9 +32,9 @@ use std::io::{Read, Write};
 use std::sync::Wait;
 use std::thread::Threads;
 
-/// What `run --deliveries` prints for the bytes of a script, and how it ends: the lines of what the run delivered to the
-/// subscriber up to its close. For a script with an error it is the error. If the script has no such subscriber, it runs
-/// nothing, prints nothing and ends as a usage error. Fails if the run does.
+/// What `run --deliveries` prints for the bytes of a script, and how it ends: the lines of what the run delivered to
+/// the subscriber up to its close. For a script with an error it is the error. If the script has no such subscriber,
+/// it runs nothing, prints nothing and ends as a usage error. Fails if the run does.
 pub fn deliveries_of_run<
     F: Form,
     T: Threads + Wait + Sync,
@@ -122,7 +122,8 @@ fn script_deliveries<
     })
 }
 
-/// The binding of the subscriber of this number, from 1, or `None` if the script has none. An error means out of memory.
+/// The binding of the subscriber of this number, from 1, or `None` if the script has none. An error means that memory
+/// ran out.
 fn subscriber_binding(
     alloc: Global,
     script: &Script,
