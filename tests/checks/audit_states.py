@@ -138,7 +138,7 @@ def refused(folder):
     for name, content in [
         ("empty", b""),
         ("a book", b"book 1 chained no seen 0\nbinding all\nsubscriber 1 applied 0 last 0 ended no closed no\n"),
-        ("a record of progress", b"tb-cdc 2 1 0 0\n"),
+        ("a progress record", b"tb-cdc 2 1 0 0\n"),
         ("a state that is cut", before[:-5]),
         ("a further blank line", before + b"\n"),
         ("an account twice", before.replace(b"account 2 0 0 10 30\n", b"account 2 0 0 10 30\naccount 2 0 0 10 30\n")),

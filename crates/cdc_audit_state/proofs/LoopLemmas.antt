@@ -14,7 +14,7 @@ use Rattle.cdc_audit_state.specs.States.{row_line, rows_text}
 use Rattle.cdc_audit_state.proofs.PartLemmas.{on}
 use Rattle.cdc_audit_state.proofs.RowLemmas.{first_row, row_first}
 
--- lines of which the first ones were read: these parts are what they tell, and the text that is left has the others
+-- lines of which the first ones were read: these parts are what they contain, and the text that is left has the others
 pub record Left (rows : List Row) (parts : PartsState) (rest : List ℕ) : Type 0 where
   pub left : List Row
   pub goes_on : parts_of rows ≡ on parts left

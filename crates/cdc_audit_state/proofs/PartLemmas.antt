@@ -1,4 +1,4 @@
--- What the lines of a state that can be saved tell.
+-- What the lines of a state that can be saved contain.
 use Rattle.std.proofs.Common.{◌≡◌, ◌≢◌, ℕ, Bool, true, false, cond, length, List, [], ◌∷◌, ◌++◌, Option, Some, None, refl, sym, ap, ◌∙◌, subst, append_assoc, append-nil}
 use Rattle.std.specs.Prelude.{◌==◌, ◌&&◌, fold, map, nat_eq, not}
 use Rattle.std.specs.List.{AllByRecursion, IsDistinct, flat_map}
@@ -69,7 +69,7 @@ not_yet (b ∷ book) left entry distinct =
 
 -- ---- lines of one kind, one after another
 
--- what further lines tell
+-- what further lines contain
 abbrev pub on : PartsState → List Row → PartsState
 on parts rows = fold with_row parts rows
 
@@ -133,7 +133,7 @@ expiry_on None parts more none = ap (λ expired. on (record parts { expired = ex
 expiry_on (Some e) parts more none = refl
 
 -- all lines of a state
-pub told : (auditor : AuditorState) → CanBeSaved auditor
+pub contained : (auditor : AuditorState) → CanBeSaved auditor
     → parts_of (account_rows auditor.kept.book ++ known_rows auditor) ≡ record {
       accounts = auditor.kept.book;
       expired = auditor.expired;
@@ -141,7 +141,7 @@ pub told : (auditor : AuditorState) → CanBeSaved auditor
       open_ones = auditor.open_ones;
       fixed = auditor.fields;
     }
-told auditor can =
+contained auditor can =
     let a1 : PartsState = record no_parts { accounts = auditor.kept.book } in
     let a2 : PartsState = record a1 { expired = auditor.expired } in
     let a3 : PartsState = record a2 { transfers = auditor.transfers } in

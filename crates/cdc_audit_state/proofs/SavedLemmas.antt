@@ -14,7 +14,7 @@ use Rattle.cdc_audit_state.specs.Parts.{GivesParts, PartsState}
 use Rattle.cdc_audit_state.specs.Reading.{word_of}
 use Rattle.cdc_audit_state.specs.Saveable.{CanBeSaved, RowFits}
 use Rattle.cdc_audit_state.specs.States.{heading, known_rows, row_line, rows_text, state_text}
-use Rattle.cdc_audit_state.proofs.PartLemmas.{account_rows, accounts_text, told}
+use Rattle.cdc_audit_state.proofs.PartLemmas.{account_rows, accounts_text, contained}
 
 -- what precedes the lines, and the lines
 pub state_parts : (auditor : AuditorState)
@@ -119,7 +119,7 @@ pub reads_state : (text : List ℕ) (front : Front) (parts : PartsState) (state 
     → auditor_of front parts ≡ state
 reads_state text front parts state reads gives can is =
     let it = reads_front text front state reads can is in
-    ap (auditor_of front) (gives (all_rows state) (rows_fit state can) it.lines_are ∙ told state can)
+    ap (auditor_of front) (gives (all_rows state) (rows_fit state can) it.lines_are ∙ contained state can)
     ∙ same_auditor state front (rows_text (all_rows state)) it can.open_yet
 
 -- and there are lines

@@ -1,4 +1,4 @@
--- What the lines of a state's text tell (private: for the code's own contracts).
+-- What the lines of a state's text contain (private: for the code's own contracts).
 use Rattle.std.specs.Prelude.{◌≡◌, ℕ, List, [], ◌∷◌, ◌++◌, Option, Some, None, IsSomeAnd, fold, nat_eq, if◌then◌else◌}
 use Rattle.std.specs.List.{AllByRecursion}
 use Rattle.indexmap.specs.IndexMap.{insert_entry}
@@ -28,7 +28,7 @@ abbrev pub with_account : List BookEntry → BookEntry → List BookEntry
 with_account entries entry =
     if is_among entry.id (ids_of entries) then entries else (entries ++ entry ∷ [])
 
--- with what one more line tells
+-- with what one more line contains
 abbrev pub with_row : PartsState → Row → PartsState
 with_row parts (Account entry) = record parts { accounts = with_account parts.accounts entry }
 with_row parts (Expired e) = record parts { expired = Some e }
@@ -36,11 +36,11 @@ with_row parts (Transfer id stored) = record parts { transfers = insert_entry na
 with_row parts (Open e) = record parts { open_ones = insert_entry nat_eq parts.open_ones e.transfer.id e }
 with_row parts (Fields id fields) = record parts { fixed = insert_entry nat_eq parts.fixed id fields }
 
--- what these lines tell
+-- what these lines contain
 abbrev pub parts_of : List Row → PartsState
 parts_of rows = fold with_row no_parts rows
 
--- if a text is that of lines, this is what they tell
+-- if a text is that of lines, this is what they contain
 abbrev pub GivesParts : List ℕ → Option PartsState → Type 0
 GivesParts text read =
     (rows : List Row) → AllByRecursion RowFits rows → text ≡ rows_text rows

@@ -1,4 +1,4 @@
-//! What the lines of a state's text tell, taken one after another.
+//! What the lines of a state's text contain, taken one after another.
 
 ghost use Rattle.std.specs.Prelude.{◌≡◌, ℕ, List, [], IfOk, IsSomeAnd, OnOk, fold};
 ghost use Rattle.std.specs.List.{AllByRecursion};
@@ -13,7 +13,7 @@ use indexmap::IndexMap;
 use std::alloc::{AllocError, Global};
 use std::marker::Model;
 
-/// The parts of a state that its lines tell.
+/// The parts of a state that its lines contain.
 #[derive(Drop)]
 pub(crate) struct Parts {
     pub(crate) book: Book,
@@ -50,7 +50,7 @@ impl Parts {
         }
     }
 
-    /// Adds what a line tells.
+    /// Adds what a line contains.
     fn add(&mut self, row: Row) -> Result<(), AllocError>
         ensures { OnOk result (self.new ≡ with_row self.old row) }
     {

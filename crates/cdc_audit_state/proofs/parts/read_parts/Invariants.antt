@@ -2,7 +2,7 @@ use Rattle.std.proofs.Common.{length}
 use Rattle.cdc_audit_state.proofs.LoopLemmas.{ReadSoFar}
 use Rattle.cdc_audit_state.proofs.parts.read_parts.Given as goal
 
--- the parts are what the lines so far tell
+-- the parts are what the lines so far contain
 abbrev pub invariant-loop-rest : goal.invariant-loop-rest
 invariant-loop-rest l = ReadSoFar l.text l.parts l.rest
 
