@@ -67,20 +67,22 @@ count_grows front rest =
 
 -- ---- what was audited of some of the lines of bytes
 
+-- an answer to an entry, before audits that come to one state
+any_answer : (answer : Option Refusal) (number : ℕ) (state : AuditState) (one other : Audited)
+    → one.state ≡ other.state
+    → (audited_on answer number state one).state ≡ (audited_on answer number state other).state
+any_answer None number state one other same = same
+any_answer (Some why) number state one other same = refl
+
 -- what was audited doesn't depend on how the stream ends
 any_end : (state : AuditState) (one other : AuditStop) (entries : List NumberedEntry)
     → (audit_entries state one entries).state ≡ (audit_entries state other entries).state
 unfolding audit_entries
 any_end state one other [] = refl
-any_end state one other (numbered ∷ rest) = by (entry_refusal state numbered.entry.content)
-  where
-    by : (answer : Option Refusal)
-        → (audited_on answer numbered.line state
-        (audit_entries (next_audit state numbered.entry.content) one rest)).state
-        ≡ (audited_on answer numbered.line state
-        (audit_entries (next_audit state numbered.entry.content) other rest)).state
-    by None = any_end (next_audit state numbered.entry.content) one other rest
-    by (Some why) = refl
+any_end state one other (numbered ∷ rest) =
+    let next = next_audit state numbered.entry.content in
+    any_answer (entry_refusal state numbered.entry.content) numbered.line state (audit_entries next one rest)
+    (audit_entries next other rest) (any_end next one other rest)
 
 -- what is audited of lines is what is audited of as many of the first entries, whatever lines come after
 lines_keep : (state : AuditState) (bytes : List ℕ) (front rest : List (List ℕ)) → lines_of bytes ≡ front ++ rest
@@ -150,7 +152,7 @@ Keeps start (Some bytes) auditor number (Some left) auditors =
 
 pub keeps_begin : (auditor : AuditorState) (known : Option (List ℕ)) → Keeps auditor known auditor 1 known []
 keeps_begin auditor None = tt
-keeps_begin auditor (Some bytes) state stands = record {
+keeps_begin auditor (Some bytes) = λ state stands. record {
   goes = record { front = []; whole = refl; next = state; stands = stands; leads = λ rest. refl };
   are = omega arith;
 }
@@ -161,7 +163,7 @@ pub keeps_now : (start auditor : AuditorState) (number : ℕ) (known left : Opti
     → Keeps start known auditor number left (auditors ++ auditor ∷ [])
 keeps_now start auditor number None left auditors keeps = tt
 keeps_now start auditor number (Some bytes) None auditors keeps = absurd keeps
-keeps_now start auditor number (Some bytes) (Some left) auditors keeps state stands =
+keeps_now start auditor number (Some bytes) (Some left) auditors keeps = λ state stands.
     let it = keeps state stands in
     let count = entry_count it.goes.front in record {
       goes = it.goes;
