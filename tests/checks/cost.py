@@ -28,10 +28,10 @@ from scripts import BATCH_ITEMS, SCRIPT_BYTES, TRANSFERS, batches, most_transfer
 
 # The limits.
 MORE = 3.0  # per cent, of what a further transfer costs, for each doubling
-EXPONENT = 1.02
-FULL = 40_000  # instructions for each transfer of a full script, of the program that LLVM makes
+EXPONENT = 1.03  # of the instructions: a hash table that doubles between two sizes adds up to 0.021; n log n would be 1.12
+FULL = 30_000  # instructions for each transfer of a full script, of the program that LLVM makes
 OWN = 1.25  # how many times these the program may take that Rattle's own compiler makes, as it does of records
-FURTHER = 20_000  # instructions for each transfer and each subscriber beyond the first
+FURTHER = 7_500  # instructions for each transfer and each subscriber beyond the first
 LINKED = 1.05  # what a transfer of a chain may cost, in single-phase transfers
 FAILED = 2.0  # what an item of a chain may cost that fails at its end, in single-phase transfers
 TIMES = 2.0  # what an item of two phases may cost, in single-phase transfers
