@@ -9,10 +9,13 @@ import io
 import os
 import pathlib
 import random
+import signal
 import subprocess
 import sys
 import tempfile
+import types
 import unittest
+from unittest import mock
 
 import console
 from console import FAILED, USAGE_ERROR, Stop
@@ -234,6 +237,30 @@ class Following(Case):
         with self.subTest('closed'), contextlib.suppress(ValueError):
             found.write(b'a line\n')
         self.assertEqual((found.saved, found.has_ended), (follower.NOTHING, False))
+
+    def consumer(self, waiting):
+        """A consumer, and a channel on which nothing comes while so many messages wait."""
+        arguments = types.SimpleNamespace(name='name', place=1, url=None, prefetch=1, quiet=None, gap_timeout=1.0)
+        found = take.Consumer(arguments)
+        found.follower = types.SimpleNamespace(saved=take.NOTHING, is_over=False)
+        turns = iter([(None, None, None)] * 3)
+        answer = types.SimpleNamespace(method=types.SimpleNamespace(message_count=waiting))
+        channel = types.SimpleNamespace(consume=lambda *_, **__: turns, queue_declare=lambda queue, passive: answer)
+        return found, channel
+
+    def test_a_broker_that_forgets_its_consumer(self):
+        with mock.patch.object(client, 'SECONDS', 1e-9), mock.patch.object(take, 'answer_within'):
+            found, channel = self.consumer(waiting=1)
+            self.assertRaises(take.Stalled, found.move, channel)
+            # (an empty queue stalls nobody)
+            found, channel = self.consumer(waiting=0)
+            self.assertRaises(take.Lost, found.move, channel)
+
+    def test_a_broker_that_does_not_answer(self):
+        before = signal.signal(signal.SIGALRM, take.late)
+        self.addCleanup(signal.signal, signal.SIGALRM, before)
+        take.answer_within(0.01)
+        self.assertRaises(take.Lost, signal.pause)
 
 
 class Arguments(Case):

@@ -13,6 +13,7 @@ ends with status 1. The bridge can then send the queue again.
 import argparse
 import itertools
 import json
+import signal
 import time
 from dataclasses import dataclass
 
@@ -25,6 +26,7 @@ from follower import NOTHING, Follower, has_ended, line_of
 from pika.exceptions import AMQPError
 
 TICK_SECONDS = 0.05
+CLOSE_SECONDS = 2
 MOST_PREFETCH = 65535
 AFTER_ALL = float('inf')
 
@@ -35,6 +37,19 @@ class Lost(Exception):
 
 class Gap(Exception):
     """Events came, and what is before them in the queue didn't."""
+
+
+class Stalled(Exception):
+    """Nothing came, though messages wait in the queue."""
+
+
+def answer_within(seconds):
+    """Gives the broker so many seconds for its answer: pika's calls that block have no deadline. 0 gives it any time."""
+    signal.setitimer(signal.ITIMER_REAL, seconds)
+
+
+def late(_signal, _frame):
+    raise Lost('the broker does not answer in time')
 
 
 @dataclass(frozen=True)
@@ -75,10 +90,13 @@ class Consumer:
     def run(self):
         """Takes messages until the end of the queue, a quiet time or a gap that stays; the exit status."""
         failures = 0
+        signal.signal(signal.SIGALRM, late)
         while True:
             before = self.saved
             try:
                 status = self.read_once()
+            except Stalled:
+                say(f'nothing comes, though messages wait in {self.queue}; it is read again')
             except Gap:
                 if not self.may_read_again():
                     return self.end_at_gap()
@@ -99,24 +117,33 @@ class Consumer:
         end of the queue, nothing is read: no message may be left that would end the reading."""
         self.follower = self.follower or Follower(self.arguments.program, self.arguments.book, self.arguments.every)
         self.unsaved, self.changed_at, self.end_after = {}, time.monotonic(), AFTER_ALL
-        if has_ended(self.arguments.book):
-            return self.finish(None)
-        connection = client.connect(next(self.nodes))
+        try:
+            return self.finish(None) if has_ended(self.arguments.book) else self.read_from(next(self.nodes))
+        finally:
+            answer_within(0)
+
+    def read_from(self, node):
+        """Reads the queue by a node. What the broker has to answer has a deadline, and no line that is written to `follow`: half of
+        one would be a bad line."""
+        answer_within(client.SECONDS)
+        connection = client.connect(node)
         try:
             channel = connection.channel()
             channel.basic_qos(prefetch_count=self.prefetch)
             return self.move(channel)
         finally:
+            answer_within(CLOSE_SECONDS)
             if connection.is_open:
                 connection.close()
 
     def move(self, channel):
         """Moves messages into `follow`, and acknowledges what it has saved."""
-        quiet_since = time.monotonic()
+        quiet_since = asked_at = time.monotonic()
         for delivery, properties, body in channel.consume(self.queue, inactivity_timeout=TICK_SECONDS):
+            answer_within(0)
             now = time.monotonic()
             if delivery is not None:
-                quiet_since = now
+                quiet_since = asked_at = now
                 self.take(channel, delivery.delivery_tag, taken_of(properties, body), now)
             if self.follower.saved != self.saved:
                 self.saved, self.changed_at = self.follower.saved, now
@@ -126,7 +153,19 @@ class Consumer:
                 return self.finish(channel)
             if self.unsaved and now - self.changed_at > self.arguments.gap_timeout:
                 raise Gap
+            if not self.unsaved and now - asked_at > client.SECONDS:
+                asked_at = now
+                self.ask_whether_stalled(channel)
         raise Lost(f'the broker cancels the consumer of {self.queue}')
+
+    def ask_whether_stalled(self, channel):
+        """After a node died, a broker may forget a consumer. Another consumer of the queue may also be the active one; reading again
+        does no harm then."""
+        answer_within(client.SECONDS)
+        waiting = channel.queue_declare(self.queue, passive=True).method.message_count
+        answer_within(0)
+        if waiting > 0:
+            raise Stalled
 
     def take(self, channel, tag, taken, now):
         """Moves one message. If the book is saved beyond it, it is a duplicate, and done with."""
