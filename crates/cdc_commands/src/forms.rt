@@ -48,7 +48,7 @@ pub trait Form {
         bindings: &[Binding],
     ) -> Result<Vec<u8>, AllocError>
         ensures text { (script : Parsed) → log.now.events ≡ events (history_of script)
-            → IfOk result (λ text. prints_messages script text.items) }
+            → bindings.now ≡ script.bindings → IfOk result (λ text. prints_messages script text.items) }
         ensures memory { OnErr result (0 < length log.now.events) };
 
     /// Prints a simulation of `all` acts for `simulate`.

@@ -1,8 +1,10 @@
 -- What commands print as JSON of what they report.
 use Rattle.std.specs.Prelude.{◌≡◌, ℕ, List, ◌∷◌, ◌++◌, codes, length, map, Option}
 use Rattle.serde_json.specs.Data.{Data}
+use Rattle.cdc_ledger.specs.Events.{events}
 use Rattle.cdc_ledger.specs.History.{empty_history}
 use Rattle.cdc_laws.specs.Line.{line}
+use Rattle.cdc_queues.specs.Messages.{messages_text}
 use Rattle.cdc_script.specs.declared.faults.ScriptFault.{ScriptFault}
 use Rattle.cdc_script.specs.declared.scripts.Script.{Script}
 use Rattle.cdc_subscriber.specs.Reception.{kept_of}
@@ -29,9 +31,9 @@ books_values script =
 abbrev pub ReportsBooks : Script → List ℕ → Type 0
 ReportsBooks script printed = printed ≡ json_lines (books_values script)
 
--- `messages` reports the events of a script; this states nothing about its lines
+-- `messages` reports the events of a script, each with the queues of its bindings that take it
 abbrev pub ReportsMessages : Script → List ℕ → Type 0
-ReportsMessages script printed = Unit {0}
+ReportsMessages script printed = printed ≡ messages_text script.bindings (events (history_of script))
 
 -- the line of the fault that a command ends with
 abbrev pub ReportsEnding : Ending → List ℕ → Type 0

@@ -7,7 +7,6 @@ mod batches;
 mod books;
 mod faults;
 mod lines;
-mod messages;
 mod objects;
 mod refusals;
 mod simulations;

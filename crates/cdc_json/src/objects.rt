@@ -2,11 +2,11 @@
 
 use crate::books::books_lines;
 use crate::faults::{fault_line, file_fault};
-use crate::messages::message_lines;
 use crate::simulations::simulation_lines;
 use cdc_commands::{BooksReport, Form, ProgramFault, Simulated};
 use cdc_log::EventLog;
 use cdc_match::Binding;
+use cdc_queues::message_lines;
 use cdc_script::ScriptFault;
 use std::alloc::{AllocError, Global};
 
@@ -35,7 +35,7 @@ impl Form for Json {
         log: &EventLog,
         bindings: &[Binding],
     ) -> Result<Vec<u8>, AllocError> {
-        Ok(message_lines(alloc, log, bindings)?.into_text())
+        message_lines(alloc, log, bindings)
     }
 
     fn simulation(

@@ -1,4 +1,5 @@
 pub mod LineTexts
+pub mod MessageTexts
 pub mod Neat
 pub mod StepLemmas
 pub mod Values

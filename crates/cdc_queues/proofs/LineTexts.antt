@@ -85,7 +85,7 @@ end_pieces previous =
 -- ---- the lines of a queue, one event of the log after another
 
 -- what is left after the elements before one that was found: it, and what is left after it
-drop_found : {X : Type 0} (xs : List X) (i : ℕ) (x : X) → slice_get xs i ≡ Some x → drop i xs ≡ x ∷ drop (i + 1) xs
+pub drop_found : {X : Type 0} (xs : List X) (i : ℕ) (x : X) → slice_get xs i ≡ Some x → drop i xs ≡ x ∷ drop (i + 1) xs
 drop_found [] i x h = cc
 drop_found (y ∷ xs) zero x h = let same : y ≡ x = cc in ap (λ z. z ∷ xs) same
 drop_found (y ∷ xs) (suc i) x h =

@@ -1,5 +1,5 @@
 pub mod Lines
-pub mod PredecessorValues
+pub mod Messages
 pub mod Predecessors
 pub mod Reading
 pub mod Steps

@@ -4,8 +4,10 @@
 
 mod laws;
 mod lines;
+mod messages;
 pub mod predecessors;
 
 pub use laws::line_laws;
 pub use lines::{push_headers, queue_lines};
+pub use messages::message_lines;
 pub use predecessors::{Predecessor, Predecessors};

@@ -100,7 +100,11 @@ fn push_end(text: &mut String, previous: u64) -> Result<(), AllocError>
 }
 
 /// Adds what stands before a number, and the number in decimal digits.
-fn push_field<I: Integer>(text: &mut String, before: &str, number: I) -> Result<(), AllocError>
+pub(crate) fn push_field<I: Integer>(
+    text: &mut String,
+    before: &str,
+    number: I,
+) -> Result<(), AllocError>
     ensures { OnOk result (string_bytes text.new
         ≡ string_bytes text.old ++ (before.now ++ I.text number)) }
 {

@@ -7,8 +7,6 @@ ghost use Rattle.cdc_queues.specs.Steps.{found_after, last_after};
 use cdc_match::Binding;
 use cdc_message::headers_of;
 use cdc_types::Event;
-use itoa::Buffer;
-use serde::{Described, Serialize, Serializer};
 use std::alloc::{AllocError, Global};
 use std::marker::Model;
 
@@ -19,24 +17,6 @@ pub struct Predecessor {
     pub queue: usize,
     /// The timestamp of the event before this one in the queue, in nanoseconds; 0 if there is none.
     pub previous: u64,
-}
-
-impl Described for Predecessor {
-    ghost use Rattle.serde_json.specs.Events.{SendsValue};
-    ghost use Rattle.cdc_queues.specs.PredecessorValues.{predecessor_value};
-
-    ghost writes = { λ predecessor. SendsValue (predecessor_value predecessor) };
-}
-
-impl Serialize for Predecessor {
-    fn serialize<S: Serializer>(&self, out: &mut S) -> Result<(), S::Error> {
-        out.begin_map(Some(2))?;
-        out.key("queue")?;
-        out.u64(self.queue as u64)?;
-        out.key("previous")?;
-        out.str(Buffer::new().format(self.previous))?;
-        out.end_map()
-    }
 }
 
 /// The timestamp of the last event of each queue, while the events come one after another. Contracts see these
