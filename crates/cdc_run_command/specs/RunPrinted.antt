@@ -4,21 +4,9 @@ use Rattle.cdc_script.specs.Scripts.{script_of}
 use Rattle.cdc_script.specs.declared.scripts.Script.{Script}
 use Rattle.cdc_commands.specs.declared.endings.Ending.{Ending}
 use Rattle.cdc_commands.specs.declared.endings.Ending.TheVariants.{Done, Failed, Refused, BadScript, BadSteps, BadWords}
-use Rattle.cdc_commands.specs.declared.faults.ProgramFault.{ProgramFault}
-use Rattle.cdc_commands.specs.declared.faults.ProgramFault.TheVariants as fault
 use Rattle.cdc_run.specs.declared.reports.Report.{Report}
+use Rattle.cdc_run_command.specs.Failed.{MayEndWith}
 use Rattle.cdc_run_command.specs.Runs.{RunsTo, Setting}
-
--- a command that runs a script on threads fails if a read, memory or the run failed; its actors are of one system
-abbrev pub MayFailRun : ProgramFault → Type 0
-MayFailRun (fault.ReadFault why) = Unit {0}
-MayFailRun (fault.WriteFault why) = ⊥
-MayFailRun (fault.Store why) = Unit {0}
-MayFailRun fault.OutOfMemory = Unit {0}
-MayFailRun fault.PeerGone = Unit {0}
-MayFailRun fault.SessionsExhausted = Unit {0}
-MayFailRun fault.NotOneSystem = ⊥
-MayFailRun fault.StartNotAllowed = Unit {0}
 
 -- these bytes are a script, and a run of it prints this, if reports are printed so
 pub record PrintsRun (Prints : List ℕ → Report → List ℕ → Type 0) (setting : Setting) (bytes printed : List ℕ)
@@ -36,7 +24,7 @@ RunCommandPrints Prints PrintsFault setting script Done printed =
 RunCommandPrints Prints PrintsFault setting script (BadScript at) printed =
     PrintsFault (BadScript at) printed × IfSome script (λ bytes. script_of bytes ≡ Err at)
 RunCommandPrints Prints PrintsFault setting script (Failed why) printed =
-    MayFailRun why × PrintsFault (Failed why) printed
+    MayEndWith setting.honest setting.risks why × PrintsFault (Failed why) printed
 RunCommandPrints Prints PrintsFault setting script (Refused why) printed = ⊥
 RunCommandPrints Prints PrintsFault setting script (BadSteps at) printed = ⊥
 RunCommandPrints Prints PrintsFault setting script BadWords printed = ⊥

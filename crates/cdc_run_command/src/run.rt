@@ -1,11 +1,10 @@
 //! The command `run`: a script's batches, submitted by clients on threads, and the books of its subscribers, to which
 //! the events come over a connector and a broker on threads of their own.
 
-ghost use Rattle.std.specs.Prelude.{◌≡◌, ◌+◌, ℕ, List, IfErr, IfOk, IfSome, IsSomeAnd, Ok, Some};
-ghost use Rattle.cdc_run.specs.Meeting.{MayStop};
+ghost use Rattle.std.specs.Prelude.{◌≡◌, ◌+◌, ℕ, List, IfErr, IfOk, IsSomeAnd, Ok, Some};
 ghost use Rattle.cdc_script.specs.Reading.{ConsumesAtMost};
 ghost use Rattle.cdc_script.specs.Scripts.{max_bytes, script_of};
-ghost use Rattle.cdc_run_command.specs.Failed.{MayFail};
+ghost use Rattle.cdc_run_command.specs.Failed.{MayFail, StoppedSo};
 ghost use Rattle.cdc_run_command.specs.LoneRuns.{LoneRunsPrintBooks};
 ghost use Rattle.cdc_run_command.specs.Plans.{IsPlan};
 ghost use Rattle.cdc_commands.specs.Outcomes.{Writes};
@@ -151,7 +150,7 @@ pub fn run_command<
         (W.contents writer.old) (W.contents writer.new) result.ended.ending }
     ensures report { HasRunOf (setting_of plan (S.held store) (S.is_honest store) (S.risks store))
         (R.remaining reader.old) result.ended.ending result.ran }
-    ensures stop { IfSome result.stop (λ s. MayStop (S.is_honest store) (S.risks store) s.0 s.1) }
+    ensures stop { StoppedSo (S.is_honest store) (S.risks store) result.stop result.ended.ending }
     ensures alone { LoneRunsPrintBooks }
     ensures bounded { ConsumesAtMost (max_bytes + 1)
         (R.remaining reader.old) (R.remaining reader.new) }

@@ -8,7 +8,7 @@ use Rattle.cdc_script.specs.declared.scripts.Script.{Script}
 use Rattle.cdc_actors.specs.declared.subscriber.arrivals.Arrival.{Arrival as Received}
 use Rattle.cdc_run.specs.Reports.{deliveries_of}
 use Rattle.cdc_run.specs.declared.reports.Report.{Report}
-use Rattle.cdc_run_command.specs.RunPrinted.{MayFailRun}
+use Rattle.cdc_run_command.specs.Failed.{MayEndWith}
 use Rattle.cdc_run_command.specs.Runs.{MayComeTo, Setting}
 use Rattle.cdc_commands.specs.QueuePrinted.{binding_at}
 use Rattle.cdc_commands.specs.declared.endings.Ending.{Ending}
@@ -51,6 +51,6 @@ PrintsRunDeliveries PrintsFault asked setting bytes BadWords printed = StatesScr
 PrintsRunDeliveries PrintsFault asked setting bytes (BadScript at) printed =
     PrintsFault (BadScript at) printed × IfSome bytes (λ all. script_of all ≡ Err at)
 PrintsRunDeliveries PrintsFault asked setting bytes (Failed why) printed =
-    MayFailRun why × PrintsFault (Failed why) printed
+    MayEndWith setting.honest setting.risks why × PrintsFault (Failed why) printed
 PrintsRunDeliveries PrintsFault asked setting bytes (Refused why) printed = ⊥
 PrintsRunDeliveries PrintsFault asked setting bytes (BadSteps at) printed = ⊥

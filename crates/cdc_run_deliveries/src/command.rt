@@ -1,15 +1,14 @@
 //! The command: it runs a script on threads, and prints what was delivered to one subscriber.
 
-ghost use Rattle.std.specs.Prelude.{◌≡◌, ◌+◌, ◌-◌, ℕ, List, IfErr, IfOk, IfSome, Ok, Some};
+ghost use Rattle.std.specs.Prelude.{◌≡◌, ◌+◌, ◌-◌, ℕ, List, IfErr, IfOk, Ok, Some};
 ghost use Rattle.std.specs.List.{slice_get};
 ghost use Rattle.cdc_actors.specs.declared.subscriber.arrivals.Arrival.{Arrival as Received};
 ghost use Rattle.cdc_commands.specs.Outcomes.{Writes};
 ghost use Rattle.cdc_commands.specs.QueuePrinted as queue;
 ghost use Rattle.cdc_deliveries.specs.Deliver.{asked_text};
 ghost use Rattle.cdc_ledger.specs.Events.{events};
-ghost use Rattle.cdc_run.specs.Meeting.{MayStop};
 ghost use Rattle.cdc_run.specs.Reports.{deliveries_of};
-ghost use Rattle.cdc_run_command.specs.Failed.{MayFail};
+ghost use Rattle.cdc_run_command.specs.Failed.{MayFail, StoppedSo};
 ghost use Rattle.cdc_run_command.specs.Plans.{IsPlan};
 ghost use Rattle.cdc_run_command.specs.Runnable.{IsRunnable};
 ghost use Rattle.cdc_run_command.specs.Runs.{HasRunOf, setting_of};
@@ -187,7 +186,7 @@ pub fn deliver_run<
         (W.contents writer.old) (W.contents writer.new) result.ended.ending }
     ensures report { HasRunOf (setting_of plan (S.held store) (S.is_honest store) (S.risks store))
         (R.remaining reader.old) result.ended.ending result.ran }
-    ensures stop { IfSome result.stop (λ s. MayStop (S.is_honest store) (S.risks store) s.0 s.1) }
+    ensures stop { StoppedSo (S.is_honest store) (S.risks store) result.stop result.ended.ending }
     ensures bounded { ConsumesAtMost (max_bytes + 1)
         (R.remaining reader.old) (R.remaining reader.new) }
 {

@@ -1,5 +1,7 @@
+use Rattle.std.proofs.Common.{refl}
 use Rattle.cdc_run_command.specs.RunPrinted.{RunCommandPrints}
 use Rattle.cdc_run_command.specs.Runs.{Setting, setting_of}
+use Rattle.cdc_run_command.proofs.RunFaults.{stopped_so}
 use Rattle.cdc_run_command.proofs.RunLemmas.{none_ran, ran_printed, writes_failure, writes_text}
 use Rattle.cdc_run_command.proofs.run.run_command.Goals as goal
 
@@ -18,7 +20,10 @@ returns-in-Err-clause-writes g c =
     writes_failure
     (RunCommandPrints g.F.RunForm.prints_run g.F.Form.prints_fault setting (g.R.Read.remaining c.args.reader.now))
     g.F.Form.prints_fault _ _ _ _ c.print_output-in-Err.ensures.fault
-    (λ line stated. (c.in-Err.ensures.failed.kind, stated))
+    (λ line stated. (
+      record { failed = c.in-Err.field-0; fault = refl; may = c.in-Err.ensures.failed },
+      stated,
+    ))
 
 pub returns-in-Ok-clause-report : goal.returns-in-Ok-clause-report
 returns-in-Ok-clause-report g c =
@@ -33,3 +38,8 @@ returns-in-Err-clause-report g c =
     (g.S.ProgressStore.is_honest c.args.store) (g.S.ProgressStore.risks c.args.store) in
     none_ran setting (g.R.Read.remaining c.args.reader.now) _ _ g.F.Form.prints_fault c.in-Err.field-0.fault _
     c.print_output-in-Err.ensures.fault
+
+pub returns-in-Err-clause-stop : goal.returns-in-Err-clause-stop
+returns-in-Err-clause-stop g c =
+    stopped_so (g.S.ProgressStore.is_honest c.args.store) (g.S.ProgressStore.risks c.args.store) g.F.Form.prints_fault _ _
+    c.in-Err.field-0 _ c.print_output-in-Err.ensures.fault c.in-Err.ensures.failed
