@@ -1,0 +1,4 @@
+mod Closing
+mod Lacking
+mod Polled
+mod Trying

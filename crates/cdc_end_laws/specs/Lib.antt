@@ -1,0 +1,4 @@
+pub mod Polls
+pub mod Said
+pub mod Subscribers
+pub mod Tries
