@@ -1,3 +1,4 @@
+pub mod Cut
 pub mod Polls
 pub mod Said
 pub mod Subscribers

@@ -6,6 +6,8 @@ mod actors;
 mod subscribers;
 mod tries;
 
-pub use actors::{actors_lack_one_message, finished_ledgers_reply_to_all};
+pub use actors::{
+    actors_lack_one_message, cut_off_runs_are_faithful, finished_ledgers_reply_to_all,
+};
 pub use subscribers::{books_are_the_ledgers, closes_decide};
 pub use tries::refused_steps_failed_each_time;
