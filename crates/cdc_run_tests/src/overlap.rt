@@ -3,7 +3,7 @@
 ghost use Rattle.std.specs.Prelude.{◌≡◌, ◌+◌, ◌≤◌, vec_len};
 ghost use Rattle.cdc_run.specs.Configs.{Fits};
 
-use crate::values::{accounts, transfer, two_of_all, with_two_more};
+use crate::values::{accounts, eight_of_all, transfer, two_of_all};
 use cdc_actors::{Repeats, Story};
 use cdc_match::Binding;
 use cdc_progress::MemoryStore;
@@ -101,14 +101,6 @@ fn scripts(rt: &impl Abort, alloc: Global) -> Vec<Vec<Batch>>
     let mut scripts = Vec::new(alloc);
     scripts.push(script).expect(rt, "memory");
     scripts
-}
-
-fn eight_of_all(rt: &impl Abort, alloc: Global) -> Vec<Binding>
-    ensures { vec_len result ≡ 8 }
-{
-    let four = with_two_more(rt, alloc, two_of_all(rt, alloc));
-    let six = with_two_more(rt, alloc, four);
-    with_two_more(rt, alloc, six)
 }
 
 // A run of one client and these subscribers.

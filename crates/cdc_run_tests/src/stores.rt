@@ -22,9 +22,7 @@ fn script(rt: &impl Abort, alloc: Global, first: u64) -> Vec<Batch>
     requires { first < 100 }
 {
     let mut script = Vec::new(alloc);
-    script
-        .push(accounts(rt, alloc, first))
-        .expect(rt, "memory");
+    script.push(accounts(rt, alloc, first)).expect(rt, "memory");
     for id in [first, first + 1] {
         script
             .push(transfer(rt, alloc, 2000, first, id))
@@ -72,7 +70,15 @@ fn run_over<R: Threads + Wait + Abort + Sync>(
     let config = config_of(rt, alloc, window);
     let scripts = scripts(rt, alloc);
     let store = MemoryStore::with_faults(None, call, false);
-    run(rt, alloc, config, scripts, Faults::none(alloc), store, &OpenGate)
+    run(
+        rt,
+        alloc,
+        config,
+        scripts,
+        Faults::none(alloc),
+        store,
+        &OpenGate,
+    )
 }
 
 // Whether the connector's store failed: the first call loads, and the others save.
@@ -93,11 +99,8 @@ fn is_of_store(failure: &Failure<MemoryStore>, call: u64) -> bool {
 // Whether each subscriber has applied all four events and has received the end.
 fn is_whole(report: &Report) -> bool {
     report.subscribers.len() == 2
-        && report
-            .subscribers
-            .as_slice()
-            .iter()
-            .all(|subscriber| subscriber.applied_count() == 4 && subscriber.ended())
+        && report.subscribers.as_slice().iter().all(|subscriber| subscriber.applied_count() == 4
+            && subscriber.ended())
 }
 
 // Fails at each call in turn. Returns the number of the first call that no run makes.

@@ -29,9 +29,8 @@ pub(crate) fn accounts(rt: &impl Abort, alloc: Global, first: u64) -> Batch {
     }
 }
 
-// A batch of one transfer from an account to the next one.
-pub(crate) fn transfer(rt: &impl Abort, alloc: Global, now: u64, from: u64, id: u64) -> Batch {
-    let transfer = NewTransfer {
+fn transfer_of(from: u64, id: u64) -> NewTransfer {
+    NewTransfer {
         id: u128::from(id),
         debit_account_id: u128::from(from),
         credit_account_id: u128::from(from) + 1,
@@ -44,10 +43,28 @@ pub(crate) fn transfer(rt: &impl Abort, alloc: Global, now: u64, from: u64, id: 
         ledger: 700,
         code: 1,
         flags: 0,
-    };
-    let transfers = Vec::from_slice(alloc, &[transfer]).expect(rt, "memory");
+    }
+}
+
+// A batch of one transfer from an account to the next one.
+pub(crate) fn transfer(rt: &impl Abort, alloc: Global, now: u64, from: u64, id: u64) -> Batch {
+    let transfers = Vec::from_slice(alloc, &[transfer_of(from, id)]).expect(rt, "memory");
     Batch::Transfers {
         now,
+        items: Items::from_vec(transfers),
+    }
+}
+
+// A batch of so many transfers from account 1 to account 2.
+pub(crate) fn transfers(rt: &impl Abort, alloc: Global, count: u64) -> Batch {
+    let mut transfers = Vec::new(alloc);
+    for id in 0..count {
+        transfers
+            .push(transfer_of(1, id.saturating_add(1)))
+            .expect(rt, "memory");
+    }
+    Batch::Transfers {
+        now: 2000,
         items: Items::from_vec(transfers),
     }
 }
@@ -57,7 +74,7 @@ pub(crate) fn all_events(rt: &impl Abort, alloc: Global) -> Binding {
 }
 
 // The bindings, with those of two more subscribers to all events.
-pub(crate) fn with_two_more(rt: &impl Abort, alloc: Global, bindings: Vec<Binding>) -> Vec<Binding>
+fn with_two_more(rt: &impl Abort, alloc: Global, bindings: Vec<Binding>) -> Vec<Binding>
     ensures { vec_len result ≡ vec_len bindings + 2 }
 {
     let mut bindings = bindings;
@@ -70,4 +87,12 @@ pub(crate) fn two_of_all(rt: &impl Abort, alloc: Global) -> Vec<Binding>
     ensures { vec_len result ≡ 2 }
 {
     with_two_more(rt, alloc, Vec::new(alloc))
+}
+
+pub(crate) fn eight_of_all(rt: &impl Abort, alloc: Global) -> Vec<Binding>
+    ensures { vec_len result ≡ 8 }
+{
+    let four = with_two_more(rt, alloc, two_of_all(rt, alloc));
+    let six = with_two_more(rt, alloc, four);
+    with_two_more(rt, alloc, six)
 }
