@@ -1,5 +1,5 @@
 -- A subscriber's close decides what it keeps, and its book has the ledger's balances.
-use Rattle.std.proofs.Common.{◌≡◌, ℕ, zero, suc, ◌≤◌, Bool, true, false, List, [], ◌∷◌, ◌++◌, cond, refl, sym, ap, ap₂, ◌∙◌, subst, length, take, inl, inr, arith}
+use Rattle.std.proofs.Common.{◌≡◌, ℕ, zero, suc, Bool, true, false, List, [], ◌∷◌, ◌++◌, cond, refl, sym, ap, ap₂, ◌∙◌, subst, length, take, inl, inr, arith}
 use Rattle.std.specs.Prelude.{Option, None, Some, All, filter, min, nat_le, nat_lt, not}
 use Rattle.std.proofs.Math.Seq.{take-append_seam}
 use Rattle.std.proofs.lemmas.Bool.{cases_Bool, leb-false, leb-true}
@@ -18,7 +18,7 @@ use Rattle.cdc_subscriber.specs.SubscriberState.{SubscriberState}
 use Rattle.cdc_laws.specs.Faithful.{IsFaithful, applied, kept_from}
 use Rattle.cdc_laws.specs.Line.{feed_after}
 use Rattle.cdc_run.specs.Subscribing.{ClosesWith, EndsOpen, HasCome}
-use Rattle.cdc_end_laws.specs.Subscribers.{AllClosesDecide, BooksAreTheLedgers, ClosesDecide, HasLedgersBalances, ReportedBooksAreTheLedgers, TakesAll, state_due, state_with}
+use Rattle.cdc_end_laws.specs.Subscribers.{AllClosesDecide, BooksAreTheLedgers, ClosesDecide, HasLedgersBalances, ReportedBooksAreTheLedgers, state_due, state_with}
 
 -- ---- closes
 

@@ -1,13 +1,12 @@
 -- Each subscriber of a run that was cut off is faithful to what the ledger has.
-use Rattle.std.proofs.Common.{◌≡◌, ℕ, ◌+◌, ◌-◌, ◌<◌, true, List, [], ◌∷◌, ◌++◌, refl, sym, ap, ◌∙◌, subst, length, map, take, inl, inr, append_assoc, arith}
-use Rattle.std.specs.Prelude.{◌⊎◌, All, Contains, None, Option, Some, slice_get, unwrap_or}
+use Rattle.std.proofs.Common.{◌≡◌, ℕ, ◌+◌, ◌-◌, ◌<◌, List, [], ◌∷◌, ◌++◌, refl, sym, ap, ◌∙◌, subst, length, map, take, inl, inr, append_assoc, arith}
+use Rattle.std.specs.Prelude.{Contains, None, Option, Some, slice_get, unwrap_or}
 use Rattle.std.specs.List.{cons_option, filter_map}
 use Rattle.std.proofs.Math.Seq.{take-append_seam}
-use Rattle.std.proofs.lemmas.List.{map-append}
 use Rattle.std.proofs.lemmas.List.Elements.{All-contains, Contains-append_left, Contains-get_or, filter_map-append}
 use Rattle.std.proofs.lemmas.List.Sums.{fold-append}
 use Rattle.std.proofs.lemmas.Option.{slice_get_within, unwrap_or-slice_get}
-use Rattle.cdc_broker.specs.Broker.{BrokerState, nobody, queue_of}
+use Rattle.cdc_broker.specs.Broker.{nobody, queue_of}
 use Rattle.cdc_broker.specs.Packets.{items_of}
 use Rattle.cdc_broker.specs.Queues.{QueueState, empty_queue}
 use Rattle.cdc_ledger.specs.History.{History}
@@ -20,21 +19,18 @@ use Rattle.cdc_message.specs.declared.packets.Confirm.{Confirm}
 use Rattle.cdc_message.specs.declared.packets.Packet.{Packet}
 use Rattle.cdc_message.specs.Replays.{IsPrefix, IsReplay}
 use Rattle.cdc_message.proofs.ReplayLaws.{IsReplay-take}
-use Rattle.cdc_subscriber.specs.Reception.{Reception, kept_of}
-use Rattle.cdc_laws.specs.Arrivals.{AreAmong, AreOfTaken, taken_of}
+use Rattle.cdc_subscriber.specs.Reception.{Reception}
+use Rattle.cdc_laws.specs.Arrivals.{AreAmong, taken_of}
 use Rattle.cdc_laws.specs.ConnectorRuns.{IsConnectorRun}
 use Rattle.cdc_laws.specs.Deliveries.{deliveries, items_in}
-use Rattle.cdc_laws.specs.Faithful.{IsFaithful}
 use Rattle.cdc_laws.specs.Laws.{DeliveriesAreReceivedAsReplays, SubscribersOfReplaysAreFaithful}
 use Rattle.cdc_laws.specs.Line.{line_after}
-use Rattle.cdc_laws.specs.Receiving.{HasTaken}
 use Rattle.cdc_laws.specs.RunLaws.{RunsStayOnLongerLines, TakenOfRunsIsAReplay}
-use Rattle.cdc_links.specs.Links.{CanSend, FollowFrom, of_sender}
+use Rattle.cdc_links.specs.Links.{CanSend, of_sender}
 use Rattle.cdc_links.proofs.Entries.{follow-prefix}
 use Rattle.cdc_traffic.specs.Following.{FollowsToConnector, MaySendConnector, last_named}
 use Rattle.cdc_traffic.specs.Laws.{PastsGoOn}
 use Rattle.cdc_traffic.specs.Pasts.{Continues, history_of, no_past}
-use Rattle.cdc_traffic.specs.declared.messages.ToBroker.{ToBroker}
 use Rattle.cdc_traffic.specs.declared.messages.ToConnector.{ToConnector}
 use Rattle.cdc_traffic.specs.declared.messages.ToConnector.TheVariants as message
 use Rattle.cdc_traffic.specs.declared.messages.ToSubscriber.{ToSubscriber}
@@ -50,7 +46,7 @@ use Rattle.cdc_actors.specs.Ledger.SoFar.{IsLedgerSoFar, LedgersComeSoFar}
 use Rattle.cdc_actors.specs.Subscriber.{DeliveriesAreReceived, SubscriberCore, delivery_of, received_by, taken_by}
 use Rattle.cdc_actors.specs.declared.broker.consumers.Consumer.{Consumer}
 use Rattle.cdc_end_laws.specs.Cut.{AreCutOff, CutOffSubscribersAreFaithful, IsFaithfulSoFar, IsServed}
-use Rattle.cdc_end_laws.specs.Said.{ConnectorsKeepToRuns, HasSubscriberSaid, Lacks, SubscribersLackOne}
+use Rattle.cdc_end_laws.specs.Said.{ConnectorsKeepToRuns, HasSubscriberSaid, SubscribersLackOne}
 
 -- ---- lists
 

@@ -1,20 +1,16 @@
 -- What each actor has sent lacks one message at most of what it owes.
 use Rattle.std.proofs.Common.{◌≡◌, ℕ, zero, suc, ◌+◌, ◌≤◌, Bool, true, false, List, [], ◌∷◌, ◌++◌, cond, refl, sym, ap, ◌∙◌, subst, length, map, inl, inr, append_assoc, append-nil, arith}
-use Rattle.std.specs.Prelude.{◌⊎◌, ◌==◌, Option, None, Some, fold, slice_get, unwrap_or}
+use Rattle.std.specs.Prelude.{◌==◌, Option, None, Some, slice_get, unwrap_or}
 use Rattle.std.proofs.lemmas.Bool.{cases_Bool}
 use Rattle.std.proofs.lemmas.List.{length-append, length-map, map-append}
 use Rattle.std.proofs.lemmas.List.Sums.{fold-append}
 use Rattle.cdc_types.specs.declared.batches.Batch.{Batch}
-use Rattle.cdc_message.specs.declared.items.Delivery.{Delivery}
 use Rattle.cdc_message.specs.declared.packets.Confirm.{Confirm}
 use Rattle.cdc_message.specs.declared.packets.Packet.{Packet}
 use Rattle.cdc_message.specs.declared.packets.Answer.TheVariants.{Broken}
 use Rattle.cdc_laws.specs.Arrivals.{taken_of}
-use Rattle.cdc_subscriber.specs.Reception.{kept_of}
-use Rattle.cdc_links.specs.Links.{CanSend, Outgoing, of_sender}
-use Rattle.cdc_traffic.specs.Following.{FollowsToConnector}
+use Rattle.cdc_links.specs.Links.{Outgoing, of_sender}
 use Rattle.cdc_traffic.specs.Pasts.{history_of}
-use Rattle.cdc_traffic.specs.declared.messages.ToConnector.{ToConnector}
 use Rattle.cdc_traffic.specs.declared.messages.ToLedger.{ToLedger}
 use Rattle.cdc_traffic.specs.declared.pasts.Past.{Past}
 use Rattle.cdc_traffic.specs.declared.requests.Reply.{Reply}
@@ -27,11 +23,9 @@ use Rattle.cdc_actors.specs.Connector.SoFar.{ConnectorsComeSoFar}
 use Rattle.cdc_actors.specs.Ledger.{LedgerCore, ReceiveReplies, order_of}
 use Rattle.cdc_actors.specs.Ledger.SoFar.{IsLedgerSoFar, LedgersComeSoFar}
 use Rattle.cdc_actors.specs.Orders.{RepliesAreSent, batches_in, named_replies_of, named_replies_to, past_of, reply_after}
-use Rattle.cdc_actors.specs.Subscriber.{SubscriberCore, ack_of, received_by, taken_by}
+use Rattle.cdc_actors.specs.Subscriber.{SubscriberCore, ack_of, taken_by}
 use Rattle.cdc_actors.specs.Subscriber.SoFar.{IsSubscriberSoFar, SubscribersComeSoFar}
 use Rattle.cdc_actors.specs.declared.broker.plans.BrokerPlan.{BrokerPlan}
-use Rattle.cdc_actors.specs.declared.broker.consumers.Consumer.{Consumer}
-use Rattle.cdc_actors.specs.declared.faults.RunFault.{RunFault}
 use Rattle.cdc_end_laws.specs.Said.{BrokersLackOne, ClientsLackOne, ConnectorsKeepToRuns, HasBrokerSaid, HasClientSaid, HasLedgerSaid, HasSubscriberSaid, Lacks, LedgersLackOne, SubscribersLackOne}
 
 -- ---- lists
@@ -83,7 +77,7 @@ rest_of c so_far true over =
     let sent : map (λ m. m.0) c.requests.sent ≡ owed ++ done_if true c.number =
     so_far.dispatched
     ∙ ap (λ (asked : List Batch).
-      owed ++ map (request_for c.number (length c.replies + 1)) asked ++ done_if c.finished c.number)
+    owed ++ map (request_for c.number (length c.replies + 1)) asked ++ done_if c.finished c.number)
     (so_far.over over)
     ∙ ap (λ (b : Bool). owed ++ [] ++ done_if b c.number) over
     ∙ ap (λ (l : List ToLedger). l ++ done_if true c.number) (append-nil owed) in
@@ -202,7 +196,7 @@ lacks_confirm plan packets come [] confirms unsent all answered few =
     lacks_mapped as_confirm confirms unsent (dealings plan packets).confirms same (omega (arith, few))
 lacks_confirm plan packets come (packet ∷ []) confirms [] all answered few =
     let (more, one) = one_confirm plan (dealings plan come) packet
-        (is_lost plan (dealings plan come).publishes packet) refl in
+    (is_lost plan (dealings plan come).publishes packet) refl in
     let same : (dealings plan packets).confirms ≡ confirms ++ more ∷ [] =
     ap (λ (ps : List Packet). (dealings plan ps).confirms) all
     ∙ ap (λ (d : Dealings). d.confirms) (fold-append (with_packet plan) no_dealings come (packet ∷ []))

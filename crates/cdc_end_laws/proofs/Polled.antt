@@ -1,12 +1,11 @@
 -- The ledger's actor replies to polls in their order, and to each once it has finished.
-use Rattle.std.proofs.Common.{◌≡◌, ℕ, zero, suc, ◌≤◌, Bool, true, false, cond, List, [], ◌∷◌, ◌++◌, refl, sym, ap, ap₂, ◌∙◌, subst, length, map, inl, inr, append_assoc, append-nil, arith}
+use Rattle.std.proofs.Common.{◌≡◌, ℕ, zero, suc, ◌≤◌, Bool, true, cond, List, [], ◌∷◌, ◌++◌, refl, sym, ap, ap₂, ◌∙◌, subst, length, map, inl, inr, append_assoc, append-nil, arith}
 use Rattle.std.specs.Prelude.{Option, None, Some}
-use Rattle.std.specs.List.{filter_map}
 use Rattle.std.proofs.lemmas.Bool.{cases_Bool}
 use Rattle.std.proofs.lemmas.List.{map-append}
 use Rattle.std.proofs.lemmas.List.Elements.{filter_map-append}
 use Rattle.cdc_ledger.specs.History.{History}
-use Rattle.cdc_links.specs.Links.{Incoming, Outgoing, with_received}
+use Rattle.cdc_links.specs.Links.{Incoming, Outgoing}
 use Rattle.cdc_traffic.specs.Answering.{read_by}
 use Rattle.cdc_traffic.specs.declared.messages.ToConnector.{ToConnector}
 use Rattle.cdc_traffic.specs.declared.messages.ToConnector.TheVariants.{PollReply as OfPoll}
@@ -15,11 +14,9 @@ use Rattle.cdc_traffic.specs.declared.messages.ToLedger.TheVariants as to_ledger
 use Rattle.cdc_traffic.specs.declared.pasts.Past.{Past}
 use Rattle.cdc_traffic.specs.declared.polls.Poll.{Poll}
 use Rattle.cdc_traffic.specs.declared.polls.PollReply.{PollReply}
-use Rattle.cdc_traffic.specs.declared.requests.Reply.{Reply}
 use Rattle.cdc_actors.specs.Connector.{poll_in}
-use Rattle.cdc_actors.specs.Ledger.{FinishedLedgersAreClosed, IsLedgerActor, IsLedgerTurn, LedgerCore, asked, first_ledger, has_to_wait, is_over, kept_of, past_of_inbox, replied_first, replied_of, replies_of, with_replies}
+use Rattle.cdc_actors.specs.Ledger.{FinishedLedgersAreClosed, IsLedgerTurn, LedgerCore, asked, first_ledger, has_to_wait, is_over, kept_of, past_of_inbox, replied_first, replied_of, replies_of, with_replies}
 use Rattle.cdc_end_laws.specs.Polls.{FinishedLedgersReplyToAll, HasWorked, PollsLackOne, TurnsTo, poll_replied, polls_received, polls_replied}
-use Rattle.cdc_end_laws.specs.Said.{Lacks}
 
 -- ---- replies
 

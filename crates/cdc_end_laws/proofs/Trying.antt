@@ -1,15 +1,14 @@
 -- Steps that are tried again fail each time, or are taken.
-use Rattle.std.proofs.Common.{◌≡◌, ℕ, suc, Bool, true, false, List, [], ◌∷◌, refl, sym, ap, subst, inl, inr}
-use Rattle.std.specs.Prelude.{IsTrue, Option, Some, Result, Err, drop}
+use Rattle.std.proofs.Common.{◌≡◌, ℕ, suc, List, [], ◌∷◌, refl, subst, inl, inr}
+use Rattle.std.specs.Prelude.{IsTrue, Some, Err, drop}
 use Rattle.std.proofs.lemmas.Bool.{cases_Bool}
 use Rattle.cdc_progress.specs.Stores.{Risks}
 use Rattle.cdc_types.specs.declared.steps.Step.{Step}
-use Rattle.cdc_world.specs.declared.steps.Did.{Did}
 use Rattle.cdc_world.specs.declared.steps.StepError.{StepError}
 use Rattle.cdc_world.specs.Moves.{StopsAt}
 use Rattle.cdc_world.specs.Tries.{FailsTimes, NextPast, is_passing}
 use Rattle.cdc_world.specs.Worlds.{WorldState}
-use Rattle.cdc_end_laws.specs.Tries.{EnoughTriesRefuseNothing, FailedEachTime, RefusedPlaysFailedEachTime, RefusedStepsFailedEachTime}
+use Rattle.cdc_end_laws.specs.Tries.{EnoughTriesRefuseNothing, RefusedPlaysFailedEachTime, RefusedStepsFailedEachTime}
 
 pub steps_failed : RefusedStepsFailedEachTime
 steps_failed risks tries w step answer w' past passing =

@@ -1,5 +1,5 @@
 -- What subscribers may rely on wherever a run is cut off.
-use Rattle.std.specs.Prelude.{◌≡◌, ℕ, ◌+◌, true, List, Some, map, slice_get}
+use Rattle.std.specs.Prelude.{◌≡◌, ℕ, ◌+◌, true, Some, map, slice_get}
 use Rattle.cdc_broker.specs.Broker.{queue_of}
 use Rattle.cdc_links.specs.Links.{CanSend, of_sender}
 use Rattle.cdc_message.specs.Replays.{IsPrefix}

@@ -1,5 +1,5 @@
 -- What an actor has sent at any time, of what it owes for all that it has received: it lacks one message at most.
-use Rattle.std.specs.Prelude.{◌≡◌, ◌⊎◌, ℕ, ◌+◌, ◌≤◌, ◌==◌, false, true, None, Option, Some, List, ◌++◌, length, map, slice_get}
+use Rattle.std.specs.Prelude.{◌≡◌, ◌⊎◌, ℕ, ◌+◌, ◌≤◌, ◌==◌, false, true, Some, List, ◌++◌, length, map, slice_get}
 use Rattle.cdc_types.specs.declared.batches.Batch.{Batch}
 use Rattle.cdc_broker.specs.Broker.{queue_of}
 use Rattle.cdc_message.specs.declared.items.Delivery.{Delivery}

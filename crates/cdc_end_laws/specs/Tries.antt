@@ -1,5 +1,5 @@
 -- When a step that is tried again is refused all the same.
-use Rattle.std.specs.Prelude.{◌≡◌, ℕ, suc, IsTrue, false, List, ◌∷◌, Option, Some, Result, Err, drop, take}
+use Rattle.std.specs.Prelude.{◌≡◌, ℕ, suc, IsTrue, false, List, ◌∷◌, Some, Result, Err, drop, take}
 use Rattle.cdc_progress.specs.Stores.{Risks}
 use Rattle.cdc_types.specs.declared.steps.Step.{Step}
 use Rattle.cdc_world.specs.declared.steps.Did.{Did}
