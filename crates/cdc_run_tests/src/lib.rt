@@ -4,6 +4,12 @@
 #[cfg(test)]
 mod overlap;
 #[cfg(test)]
+mod plans;
+#[cfg(test)]
 mod runs;
 #[cfg(test)]
 mod settle;
+#[cfg(test)]
+mod stores;
+#[cfg(test)]
+mod values;

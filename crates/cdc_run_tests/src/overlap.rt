@@ -3,12 +3,13 @@
 ghost use Rattle.std.specs.Prelude.{◌≡◌, ◌+◌, ◌≤◌, vec_len};
 ghost use Rattle.cdc_run.specs.Configs.{Fits};
 
+use crate::values::{accounts, eight_of_all, transfer, two_of_all};
 use cdc_actors::{Repeats, Story};
 use cdc_match::Binding;
 use cdc_progress::MemoryStore;
 use cdc_run::{Config, Faults, Gate, Place, Report, run};
 use cdc_subscriber::Subscriber;
-use cdc_types::{Batch, Items, NewAccount, NewTransfer};
+use cdc_types::Batch;
 use std::alloc::Global;
 use std::hint::spin_loop;
 use std::process::Abort;
@@ -85,93 +86,21 @@ impl<R: Abort> Gate for MeetingGate<'_, R> {
     fn observe_subscriber(&self, _number: u64, _repeats: Repeats) {}
 }
 
-fn account(id: u128) -> NewAccount {
-    NewAccount {
-        id,
-        user_data_128: 0,
-        user_data_64: 0,
-        user_data_32: 0,
-        ledger: 700,
-        code: 10,
-        flags: 0,
-    }
-}
-
-// A batch that opens accounts 1 and 2.
-fn accounts(rt: &impl Abort, alloc: Global) -> Batch {
-    let accounts = Vec::from_slice(alloc, &[account(1), account(2)]).expect(rt, "memory");
-    Batch::Accounts {
-        now: 1000,
-        items: Items::from_vec(accounts),
-    }
-}
-
-// A batch of one transfer from account 1 to account 2.
-fn transfer(rt: &impl Abort, alloc: Global, now: u64, id: u128, amount: u128) -> Batch {
-    let transfer = NewTransfer {
-        id,
-        debit_account_id: 1,
-        credit_account_id: 2,
-        amount,
-        pending_id: 0,
-        user_data_128: 0,
-        user_data_64: 0,
-        user_data_32: 0,
-        timeout: 0,
-        ledger: 700,
-        code: 1,
-        flags: 0,
-    };
-    let transfers = Vec::from_slice(alloc, &[transfer]).expect(rt, "memory");
-    Batch::Transfers {
-        now,
-        items: Items::from_vec(transfers),
-    }
-}
-
 // One script, for the one client.
 fn scripts(rt: &impl Abort, alloc: Global) -> Vec<Vec<Batch>>
     ensures { vec_len result ≡ 1 }
 {
     let mut script = Vec::new(alloc);
-    script.push(accounts(rt, alloc)).expect(rt, "memory");
+    script.push(accounts(rt, alloc, 1)).expect(rt, "memory");
     script
-        .push(transfer(rt, alloc, 2000, 1, 5))
+        .push(transfer(rt, alloc, 2000, 1, 1))
         .expect(rt, "memory");
     script
-        .push(transfer(rt, alloc, 3000, 2, 7))
+        .push(transfer(rt, alloc, 3000, 1, 2))
         .expect(rt, "memory");
     let mut scripts = Vec::new(alloc);
     scripts.push(script).expect(rt, "memory");
     scripts
-}
-
-fn all_events(rt: &impl Abort, alloc: Global) -> Binding {
-    Binding::parse(alloc, &["all"]).expect(rt, "a binding")
-}
-
-// The bindings, with those of two more subscribers to all events.
-fn with_two_more(rt: &impl Abort, alloc: Global, bindings: Vec<Binding>) -> Vec<Binding>
-    ensures { vec_len result ≡ vec_len bindings + 2 }
-{
-    let mut bindings = bindings;
-    bindings.push(all_events(rt, alloc)).expect(rt, "memory");
-    bindings.push(all_events(rt, alloc)).expect(rt, "memory");
-    bindings
-}
-
-fn two_of_all(rt: &impl Abort, alloc: Global) -> Vec<Binding>
-    ensures { vec_len result ≡ 2 }
-{
-    with_two_more(rt, alloc, Vec::new(alloc))
-}
-
-fn eight_of_all(rt: &impl Abort, alloc: Global) -> Vec<Binding>
-    ensures { vec_len result ≡ 8 }
-{
-    let four = with_two_more(rt, alloc, two_of_all(rt, alloc));
-    let six = with_two_more(rt, alloc, four);
-    with_two_more(rt, alloc, six)
 }
 
 // A run of one client and these subscribers.

@@ -1,0 +1,5 @@
+mod Closing
+mod Cutting
+mod Lacking
+mod Polled
+mod Trying

@@ -1,0 +1,5 @@
+pub mod Cut
+pub mod Polls
+pub mod Said
+pub mod Subscribers
+pub mod Tries
