@@ -1,3 +1,5 @@
+pub mod OpenLemmas
+pub mod FirstLemmas
 pub mod KnownLemmas
 pub mod StandLemmas
 pub mod AuditLemmas
