@@ -34,7 +34,7 @@ use Rattle.cdc_ledger.specs.Follows.{Follows, SettlesOpen}
 use Rattle.cdc_ledger.specs.History.{History, Opened, empty_history, opened}
 use Rattle.cdc_ledger.specs.Kinds.{holds, settled_id, settles, stores}
 use Rattle.cdc_ledger.specs.Sound.{HasAccounts, IsSound}
-use Rattle.cdc_ledger.specs.Submit.{entry_of, opened_by}
+use Rattle.cdc_ledger.specs.Submit.{IsLegal, entry_of, opened_by}
 use Rattle.cdc_ledger.specs.Verdict.{max_timestamp}
 use Rattle.cdc_ledger.proofs.AcceptedLaws.{Follows-accepted}
 use Rattle.cdc_ledger.proofs.BalanceLaws.{balances-pushed, balances_later, released_credit, released_debit, same_balances, settled_by_is, settled_by_none}
@@ -67,12 +67,12 @@ use Rattle.cdc_audit_laws.proofs.Shown.{balances_after-credited, balances_after-
 use Rattle.cdc_audit_laws.proofs.Streams.{accepted-push, none_follows, prefixes_are_accepted}
 
 -- the events of a history are accepted, and show last the balances of each account
-record IsAudited (h : History) : Type 0 where
-  accepted : is_accepted (events h) ≡ true
-  shown : (id : ℕ) → balances_after (events h) id ≡ balances h id h.last
+pub record IsAudited (h : History) : Type 0 where
+  pub accepted : is_accepted (events h) ≡ true
+  pub shown : (id : ℕ) → balances_after (events h) id ≡ balances h id h.last
 
 -- an account that is there is shown under its id
-id_found : (h : History) (id : ℕ) (o : Option Opened) → opened h id ≡ o → IsSome o
+pub id_found : (h : History) (id : ℕ) (o : Option Opened) → opened h id ≡ o → IsSome o
     → (unwrap_or o nobody).request.id ≡ id
 id_found h id None is found = cc
 id_found h id (Some x) is found = opened_id h x id is
@@ -85,10 +85,10 @@ stored_id h id x there =
     eqb-true x.transfer.id id (and_parts (stores x.kind) (x.transfer.id == id) passes.0).1
 
 -- the share of the account on a side, and of another one
-part_own : (a n : ℕ) → part a a n ≡ n
+pub part_own : (a n : ℕ) → part a a n ≡ n
 part_own a n = rw (eq-eqb a a refl) refl
 
-part_other : (side a n : ℕ) → side ≢ a → part side a n ≡ 0
+pub part_other : (side a n : ℕ) → side ≢ a → part side a n ≡ 0
 part_other side a n other = rw (ne_eqb side a other) refl
 
 -- a transfer is the same as itself
@@ -113,7 +113,7 @@ whole TwoPhaseExpired x p shown kept =
     ∙ is_same (shown_transfer x)
 
 -- the fields of an account that was opened
-abbrev fixed_of : Opened → FixedFields
+abbrev pub fixed_of : Opened → FixedFields
 fixed_of o = record {
   user_data_128 = o.request.user_data_128;
   user_data_64 = o.request.user_data_64;
@@ -694,7 +694,7 @@ audited-closed : (h : History) (closed : Bool) → IsAudited h → IsAudited (re
 audited-closed h closed audited = record { accepted = audited.accepted; shown = audited.shown }
 
 -- the events of a history are accepted, and its accounts and entries are as they have to be
-abbrev IsAuditable : History → Type 0
+abbrev pub IsAuditable : History → Type 0
 IsAuditable h = IsKept h × IsAudited h
 
 -- one more entry
@@ -705,10 +705,9 @@ auditable-pushed h e sound follows after next enters is = (
   audited-pushed h e sound follows after next enters is.0 is.1,
 )
 
--- so the events of every legal history are accepted, and each prefix of them
-pub ledgers_are_accepted : LedgersAreAccepted
-ledgers_are_accepted h count legal =
-    let auditable : IsAuditable h =
+-- so it is with every legal history
+pub auditable : (h : History) → IsLegal h → IsAuditable h
+auditable h legal =
     kept_by_legal IsAuditable (kept-empty, audited-empty)
     (λ g r t sound later chained none next is.
     auditable-pushed g (entry_of g r t) sound (Follows-accepted g r t sound later none) later next
@@ -719,5 +718,8 @@ ledgers_are_accepted h count legal =
     (λ g a t sound later none is.
     (kept-account g a t sound later none is.0, audited-account g (opened_by a t) sound (omega arith) is.1))
     (λ g t sound later is. (kept-timed g t sound later is.0, audited-timed g t sound later is.1))
-    (λ g closed is. (kept-closed g closed is.0, audited-closed g closed is.1)) h legal in
-    prefixes_are_accepted (events h) count auditable.1.accepted
+    (λ g closed is. (kept-closed g closed is.0, audited-closed g closed is.1)) h legal
+
+-- so the events of every legal history are accepted, and each prefix of them
+pub ledgers_are_accepted : LedgersAreAccepted
+ledgers_are_accepted h count legal = prefixes_are_accepted (events h) count (auditable h legal).1.accepted

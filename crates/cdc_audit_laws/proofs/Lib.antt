@@ -9,4 +9,13 @@ pub mod Requests
 pub mod Kept
 pub mod Entries
 pub mod Ledgers
+pub mod Traces
+pub mod Flags
+pub mod Coming
+pub mod Plain
+pub mod Posting
+pub mod Entering
+pub mod Submitting
+pub mod Told
+pub mod Walk
 mod Examples
