@@ -1,23 +1,19 @@
 -- An event that comes after a ledger's events, and is accepted: what a request for it finds.
-use Rattle.std.proofs.Common.{◌≡◌, ◌≢◌, ℕ, ◌+◌, ◌<◌, ◌≤◌, Bool, true, false, not, List, [], ◌∷◌, ◌++◌, Option, Some, None, is_none, if◌then◌else◌, refl, sym, ap, ap₂, ◌∙◌, subst, arith}
+use Rattle.std.proofs.Common.{◌≡◌, ℕ, ◌<◌, true, false, not, List, [], ◌∷◌, ◌++◌, Option, Some, None, if◌then◌else◌, refl, sym, ap, ◌∙◌, subst, arith}
 use Rattle.std.specs.Prelude.{◌==◌, ◌&&◌, nat_lt}
-use Rattle.std.proofs.lemmas.Bool.{eqb-true, ltb-false, not-false, true≢false}
-use Rattle.cdc_types.specs.declared.accounts.Balances.{Balances}
-use Rattle.cdc_types.specs.declared.accounts.TheConstants.AccountFlags.{CREDITS_MUST_NOT_EXCEED_DEBITS, DEBITS_MUST_NOT_EXCEED_CREDITS}
+use Rattle.std.proofs.lemmas.Bool.{eqb-true, not-false, true≢false}
 use Rattle.cdc_types.specs.declared.bounds.TheConstants.Limits.{TIMESTAMP}
 use Rattle.cdc_types.specs.declared.events.Event.{Event}
 use Rattle.cdc_types.specs.declared.events.EventAccount.{EventAccount}
 use Rattle.cdc_types.specs.declared.results.TransferResult.TheVariants as transfer
 use Rattle.cdc_types.specs.declared.transfers.NewTransfer.{NewTransfer}
-use Rattle.cdc_types.specs.Flags.{has_flag}
 use Rattle.cdc_types.specs.Lines.{first_line}
 use Rattle.cdc_types.specs.Results.{transfer_number}
 use Rattle.cdc_types.specs.Shapes.{account_refusal, transfer_refusal, transfer_shape_lines}
-use Rattle.cdc_types.specs.Widths.{max_128}
 use Rattle.cdc_ledger.specs.Balances.{balances}
 use Rattle.cdc_ledger.specs.Events.{events}
 use Rattle.cdc_ledger.specs.History.{History, Opened, opened}
-use Rattle.cdc_ledger.specs.Kinds.{holds, settles, stores}
+use Rattle.cdc_ledger.specs.Kinds.{holds, stores}
 use Rattle.cdc_ledger.specs.Sound.{IsSound}
 use Rattle.cdc_ledger.specs.Filling.{stored}
 use Rattle.cdc_ledger.specs.Submit.{opened_by}
@@ -27,9 +23,9 @@ use Rattle.cdc_ledger.proofs.AcceptedLaws.{own_lines}
 use Rattle.cdc_ledger.proofs.LineLaws.{first_line-append_none, test_fails}
 use Rattle.cdc_audit.specs.declared.refusals.Refusal.{Refusal}
 use Rattle.cdc_audit.specs.declared.refusals.Refusal.TheVariants.{OtherKind, OtherTimestamp, TransferShape}
-use Rattle.cdc_audit.specs.EventShapes.{account_lines, asked_account, asked_transfer, is_of_kind, refused_as, shape_lines, stored_lines}
+use Rattle.cdc_audit.specs.EventShapes.{account_lines, asked_account, asked_transfer, is_of_kind, refused_as, stored_lines}
 use Rattle.cdc_audit.specs.Known.{balances_after, is_stored}
-use Rattle.cdc_audit.specs.Limits.{all_credits, all_debits, limit_lines}
+use Rattle.cdc_audit.specs.Limits.{limit_lines}
 use Rattle.cdc_audit.specs.Settling.{expires_at}
 use Rattle.cdc_audit_laws.specs.Soundness.{IsAlone}
 use Rattle.cdc_audit_laws.proofs.Flags.{Asks, asks}
@@ -68,7 +64,8 @@ pub has_stored : (past : List Event) (e : Event) → CanFollow past e → stores
 has_stored past e can storing =
     let whole = (none_both (if stores e.kind then stored_lines e else [])
     (account_lines e.ledger e.debit_account ++ account_lines e.ledger e.credit_account) can.shape).0 in
-    let lines : NoneApplies (stored_lines e) = subst (λ b. NoneApplies (if b then stored_lines e else [])) storing whole in
+    let lines : NoneApplies (stored_lines e) =
+    subst (λ b. NoneApplies (if b then stored_lines e else [])) storing whole in
     let parts = none_both (refused_as (TransferShape e.transfer.id) (transfer_refusal (asked_transfer e))) (
     (e.ledger == 0, TransferShape e.transfer.id transfer.LedgerMustNotBeZero) ∷
     (e.transfer.code == 0, TransferShape e.transfer.id transfer.CodeMustNotBeZero) ∷ (

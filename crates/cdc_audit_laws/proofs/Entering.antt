@@ -1,5 +1,5 @@
 -- A request for an event that is accepted makes this event.
-use Rattle.std.proofs.Common.{◌≡◌, ◌≢◌, ℕ, ◌+◌, ◌<◌, ◌≤◌, Bool, true, false, List, [], ◌∷◌, ◌++◌, Option, Some, None, if◌then◌else◌, refl, sym, ap, ap₂, ◌∙◌, subst, arith}
+use Rattle.std.proofs.Common.{◌≡◌, ◌≢◌, ℕ, Bool, true, false, [], ◌∷◌, ◌++◌, Option, None, if◌then◌else◌, refl, sym, ap, ap₂, ◌∙◌, subst, arith}
 use Rattle.std.specs.Prelude.{unwrap_or}
 use Rattle.cdc_types.specs.declared.accounts.Balances.{Balances}
 use Rattle.cdc_types.specs.declared.events.Entry.{Entry}
@@ -9,11 +9,10 @@ use Rattle.cdc_types.specs.declared.events.EventKind.{EventKind}
 use Rattle.cdc_types.specs.declared.events.EventKind.TheVariants.{SinglePhase, TwoPhasePending, TwoPhasePosted, TwoPhaseVoided, TwoPhaseExpired}
 use Rattle.cdc_types.specs.declared.events.EventTransfer.{EventTransfer}
 use Rattle.cdc_types.specs.declared.transfers.NewTransfer.{NewTransfer}
-use Rattle.cdc_types.specs.declared.transfers.Transfer.{Transfer}
 use Rattle.cdc_ledger.specs.Balances.{balances}
 use Rattle.cdc_ledger.specs.Changes.{pushed}
-use Rattle.cdc_ledger.specs.Effects.{amount_of, balances_after_entry, effect_of, part}
-use Rattle.cdc_ledger.specs.Events.{event_of, events, nobody, shown_account, shown_transfer}
+use Rattle.cdc_ledger.specs.Effects.{amount_of, effect_of}
+use Rattle.cdc_ledger.specs.Events.{event_of, events, nobody, shown_account}
 use Rattle.cdc_ledger.specs.Filling.{as_asked, filled}
 use Rattle.cdc_ledger.specs.Follows.{Follows, SettlesOpen}
 use Rattle.cdc_ledger.specs.History.{History, Opened, opened}
@@ -26,7 +25,7 @@ use Rattle.cdc_ledger.proofs.EventLaws.{events-pushed}
 use Rattle.cdc_audit.specs.EventShapes.{asked_transfer}
 use Rattle.cdc_audit.specs.Known.{pending_amount, settled_id_by}
 use Rattle.cdc_audit.specs.Rules.{released}
-use Rattle.cdc_audit_laws.proofs.Coming.{Comes, asks_kind, not_refused, on_stored, opening}
+use Rattle.cdc_audit_laws.proofs.Coming.{Comes, asks_kind, not_refused, on_stored}
 use Rattle.cdc_audit_laws.proofs.Entries.{pending_amount-events}
 use Rattle.cdc_audit_laws.proofs.Flags.{kind_is}
 use Rattle.cdc_audit_laws.proofs.Following.{IsCredited, IsDebited}

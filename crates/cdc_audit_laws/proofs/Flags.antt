@@ -74,7 +74,8 @@ kind_by pending post void =
     else if void then TwoPhaseVoided
     else SinglePhase
 
-same_kind : (k : EventKind) → stores k ≡ true → kind_by (holds k) (settles k && moves k) (settles k && not (moves k)) ≡ k
+same_kind : (k : EventKind) → stores k ≡ true
+    → kind_by (holds k) (settles k && moves k) (settles k && not (moves k)) ≡ k
 same_kind SinglePhase storing = refl
 same_kind TwoPhasePending storing = refl
 same_kind TwoPhasePosted storing = refl

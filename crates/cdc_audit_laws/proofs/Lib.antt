@@ -18,4 +18,6 @@ pub mod Entering
 pub mod Submitting
 pub mod Told
 pub mod Walk
+pub mod Soundness
 mod Examples
+mod SoundExamples

@@ -147,13 +147,12 @@ module _ (h : History) (e : Event) (comes : Comes h e) (is : settles e.kind ≡ 
       ∙ ap₂ (λ o p. first_line (plain_lines o p h request e.timestamp)) comes.debit comes.credit
       ∙ no_first_line
       (plain_lines (Some (opening e.ledger e.debit_account)) (Some (opening e.ledger e.credit_account)) h request
-      e.timestamp)
-      (
+      e.timestamp) (
         not_from_true _ (eq-eqb e.ledger e.ledger refl),
         (
           not_from_true _ (eq-eqb e.ledger e.ledger refl),
           no_sum_line debits credits (asked_account e.ledger e.debit_account)
-          (asked_account e.ledger e.credit_account) request e.timestamp has_sums,
+              (asked_account e.ledger e.credit_account) request e.timestamp has_sums,
         ),
       )
 

@@ -1,8 +1,8 @@
 -- A post or a void of an event that is accepted: a ledger accepts a request for it.
-use Rattle.std.proofs.Common.{◌≡◌, ℕ, ◌+◌, ◌≤◌, Bool, true, false, not, List, [], ◌∷◌, Option, Some, None, is_none, if◌then◌else◌, refl, sym, ap, ap₂, ◌∙◌, subst, arith}
+use Rattle.std.proofs.Common.{◌≡◌, ℕ, ◌≤◌, Bool, true, false, not, List, [], ◌∷◌, Option, Some, None, is_none, if◌then◌else◌, refl, sym, ap, ap₂, ◌∙◌, subst, arith}
 use Rattle.std.specs.Prelude.{◌==◌, ◌&&◌, ◌||◌, nat_le, nat_lt, option_map, unwrap_or}
 use Rattle.std.specs.List.{list_any}
-use Rattle.std.proofs.lemmas.Bool.{and_left, and_parts, and_right, eq-eqb, eqb-true, le-ltb, leb-true, not-false, not_from_true, or_from, or_parts}
+use Rattle.std.proofs.lemmas.Bool.{and_parts, and_right, eq-eqb, eqb-true, le-ltb, leb-true, not-false, not_from_true, or_from, or_parts}
 use Rattle.cdc_types.specs.declared.accounts.Balances.{Balances}
 use Rattle.cdc_types.specs.declared.events.Entry.{Entry}
 use Rattle.cdc_types.specs.declared.events.Event.{Event}
@@ -14,20 +14,20 @@ use Rattle.cdc_types.specs.declared.transfers.Transfer.{Transfer}
 use Rattle.cdc_types.specs.Flags.{is_post_request, is_void_request}
 use Rattle.cdc_types.specs.Lines.{first_line}
 use Rattle.cdc_types.specs.Widths.{max_128}
-use Rattle.cdc_ledger.specs.Balances.{balances, resolved, resolves, some_by}
+use Rattle.cdc_ledger.specs.Balances.{resolved, resolves, some_by}
 use Rattle.cdc_ledger.specs.Events.{event_of, events, shown_transfer}
-use Rattle.cdc_ledger.specs.Filling.{as_asked, expires_at, filled, filled_by, filled_from, or_own, settled_amount, stored}
+use Rattle.cdc_ledger.specs.Filling.{as_asked, expires_at, filled, filled_by, or_own, settled_amount, stored}
 use Rattle.cdc_ledger.specs.History.{History, opened}
-use Rattle.cdc_ledger.specs.Kinds.{expires, holds, moves, posts, settles, stores, voids}
+use Rattle.cdc_ledger.specs.Kinds.{expires, moves, posts, settles, stores, voids}
 use Rattle.cdc_ledger.specs.Sound.{HasAccounts}
-use Rattle.cdc_ledger.specs.Verdict.{end_lines, field_lines, is_other, plain_lines, settling_lines}
+use Rattle.cdc_ledger.specs.Verdict.{is_other, plain_lines, settling_lines}
 use Rattle.cdc_ledger.proofs.AcceptedLaws.{own_lines}
 use Rattle.cdc_ledger.proofs.BalanceLaws.{holds-settles}
 use Rattle.cdc_ledger.proofs.StoredLaws.{stored_has}
 use Rattle.cdc_audit.specs.EventShapes.{asked_transfer}
 use Rattle.cdc_audit.specs.Known.{is_settled, open_event, pending_amount, pending_event, settled_id, settled_id_by}
 use Rattle.cdc_audit.specs.Rules.{held, released, settled_event}
-use Rattle.cdc_audit.specs.Settling.{has_amount_of, has_data_of, has_fields_of, is_taken_over, is_same_transfer, settling_lines as lines_of}
+use Rattle.cdc_audit.specs.Settling.{has_data_of, is_taken_over, is_same_transfer, settling_lines as lines_of}
 use Rattle.cdc_audit_laws.proofs.Coming.{Comes, asks_kind}
 use Rattle.cdc_audit_laws.proofs.Flags.{plain_is}
 use Rattle.cdc_audit_laws.proofs.Following.{NoneApplies, no_first_line}

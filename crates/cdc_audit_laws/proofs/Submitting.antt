@@ -1,23 +1,21 @@
 -- Batches of one request: one that opens an account, and one for a transfer.
-use Rattle.std.proofs.Common.{◌≡◌, ℕ, ◌+◌, ◌-◌, ◌<◌, ◌≤◌, ◌^◌, false, true, List, [], ◌∷◌, Option, Some, None, Ok, refl, sym, ap, ap₂, ◌∙◌, subst, arith}
-use Rattle.std.specs.Prelude.{◌&&◌, max, nat_lt}
+use Rattle.std.proofs.Common.{◌≡◌, ℕ, ◌+◌, ◌-◌, ◌<◌, ◌≤◌, false, [], ◌∷◌, None, Ok, ap, ap₂, ◌∙◌, arith}
+use Rattle.std.specs.Prelude.{nat_lt}
 use Rattle.std.proofs.Math.Nat.{max-eq_left}
 use Rattle.std.proofs.lemmas.Bool.{and_right, le-ltb}
 use Rattle.cdc_types.specs.declared.accounts.NewAccount.{NewAccount}
 use Rattle.cdc_types.specs.declared.batches.Batch.TheVariants as batch
-use Rattle.cdc_types.specs.declared.batches.BatchResults.{BatchResults}
 use Rattle.cdc_types.specs.declared.batches.BatchResults.TheVariants as results
 use Rattle.cdc_types.specs.declared.bounds.TheConstants.Limits.{TIMESTAMP}
 use Rattle.cdc_types.specs.declared.transfers.NewTransfer.{NewTransfer}
 use Rattle.cdc_types.specs.Flags.{is_linked_account, is_linked_transfer}
 use Rattle.cdc_types.specs.Lines.{first_line}
-use Rattle.cdc_ledger.specs.declared.errors.BatchError.{BatchError}
 use Rattle.cdc_ledger.specs.declared.errors.BatchError.TheVariants as refusal
 use Rattle.cdc_ledger.specs.Changes.{pushed, with_account}
 use Rattle.cdc_ledger.specs.Chains.{Rules, items_from}
 use Rattle.cdc_ledger.specs.Fits.{NewAccountFits, NewTransferFits}
 use Rattle.cdc_ledger.specs.History.{History}
-use Rattle.cdc_ledger.specs.Submit.{IsLegal, account_rules, answered, base, entry_of, is_past_the_end, opened_by, refusal_at, taken, transfer_rules}
+use Rattle.cdc_ledger.specs.Submit.{IsLegal, account_rules, answered, base, entry_of, opened_by, refusal_at, taken, transfer_rules}
 use Rattle.cdc_ledger.specs.Verdict.{account_refused, max_timestamp, transfer_refused}
 use Rattle.cdc_ledger.proofs.LegalLaws.{IsLegal-submit}
 use Rattle.cdc_ledger.proofs.Unlinked.{alone, items_from-unlinked}

@@ -1,5 +1,5 @@
 -- What a ledger is told: accounts to open and events to store, in the order of their timestamps.
-use Rattle.std.proofs.Common.{◌≡◌, ◌≢◌, ◌⊎◌, inl, inr, ℕ, ◌+◌, ◌<◌, ◌≤◌, Bool, true, false, List, [], ◌∷◌, ◌++◌, if◌then◌else◌, map, refl, ap, ◌∙◌, arith}
+use Rattle.std.proofs.Common.{◌≡◌, ◌≢◌, ◌⊎◌, inl, inr, ℕ, ◌<◌, Bool, true, false, List, [], ◌∷◌, if◌then◌else◌, map, refl, ap, ◌∙◌, arith}
 use Rattle.std.specs.Prelude.{◌==◌, nat_lt}
 use Rattle.std.specs.List.{AllByRecursion}
 use Rattle.std.proofs.lemmas.Bool.{eqb-false, eqb-true, ltb-false, ltb-true}
@@ -164,14 +164,15 @@ module _ {A : Type 0} (opening : A → Opened) where
   events_in-place_all (a ∷ rest) told =
       events_in-place_in (opening a) (place_all rest told) ∙ events_in-place_all rest told
 
-  pub rises-place_all : (t : ℕ) (those : List A) (told : List Told) → AllByRecursion (λ a. t < (opening a).timestamp) those
-      → Rises t told → Rises t (place_all those told)
+  pub rises-place_all : (t : ℕ) (those : List A) (told : List Told)
+      → AllByRecursion (λ a. t < (opening a).timestamp) those → Rises t told → Rises t (place_all those told)
   rises-place_all t [] told after rises = rises
   rises-place_all t (a ∷ rest) told after rises =
       rises-place_in t (opening a) (place_all rest told) after.0 (rises-place_all t rest told after.1 rises)
 
   pub all-place_all : (P : Told → Type 0) (those : List A) (told : List Told)
-      → AllByRecursion (λ a. P (inl (opening a))) those → AllByRecursion P told → AllByRecursion P (place_all those told)
+      → AllByRecursion (λ a. P (inl (opening a))) those → AllByRecursion P told
+      → AllByRecursion P (place_all those told)
   all-place_all P [] told all others = others
   all-place_all P (a ∷ rest) told all others =
       all-place_in P (opening a) (place_all rest told) all.0 (all-place_all P rest told all.1 others)

@@ -1,7 +1,7 @@
 -- What the entries of a history are by their events: the other way round of what `Entries` has.
-use Rattle.std.proofs.Common.{◌≡◌, ℕ, ◌≤◌, Bool, true, false, List, [], ◌∷◌, Option, Some, None, is_none, map, refl, sym, ap, ◌∙◌, subst}
+use Rattle.std.proofs.Common.{◌≡◌, ℕ, true, false, List, [], ◌∷◌, Option, Some, None, is_none, map, refl, sym, ap, ◌∙◌, subst}
 use Rattle.std.specs.Prelude.{◌==◌, ◌&&◌, find, option_map, nat_le, if◌then◌else◌}
-use Rattle.std.specs.List.{AllByRecursion, list_any}
+use Rattle.std.specs.List.{list_any}
 use Rattle.std.proofs.lemmas.Bool.{and_parts, and_right, eqb-true, or_from, or_parts, true≢false}
 use Rattle.cdc_types.specs.declared.events.Entry.{Entry}
 use Rattle.cdc_types.specs.declared.events.Event.{Event}
@@ -10,7 +10,7 @@ use Rattle.cdc_ledger.specs.Balances.{resolved, resolves}
 use Rattle.cdc_ledger.specs.Events.{event_of, events, shown_transfer}
 use Rattle.cdc_ledger.specs.Filling.{stored, stored_in}
 use Rattle.cdc_ledger.specs.History.{History}
-use Rattle.cdc_ledger.specs.Kinds.{holds, settled_id, settles, stores}
+use Rattle.cdc_ledger.specs.Kinds.{holds, settles, stores}
 use Rattle.cdc_ledger.specs.Sound.{IsSound}
 use Rattle.cdc_ledger.proofs.BalanceLaws.{resolves_is, stores-holds}
 use Rattle.cdc_ledger.proofs.Found.{find-map}

@@ -2,10 +2,18 @@
 
 ghost use Rattle.cdc_audit_laws.specs.Laws.{AChangeShows, AcceptedEventsRise, BalancesAreSums, LedgersAreAccepted, NoOtherBalances};
 ghost use Rattle.cdc_audit_laws.specs.Laws.{PrefixesAreAccepted, WhatIsLeftOutMovedNothing};
+ghost use Rattle.cdc_audit_laws.specs.Soundness.{AcceptedEventsAreALedgers};
 
 /// Does nothing. Every stream that a ledger's events make is accepted, whole and every prefix of it.
 pub fn ledgers_are_accepted()
     ensures { LedgersAreAccepted }
+{}
+
+/// Does nothing. The converse, for events that store a transfer each, without chains: if they are accepted, they are the
+/// events of a legal history. No expiry is among them, and each of their accounts was opened by itself: it isn't linked,
+/// and no event and no other account has its timestamp.
+pub fn accepted_events_are_a_ledgers()
+    ensures { AcceptedEventsAreALedgers }
 {}
 
 /// Does nothing. Each prefix of an accepted stream is accepted. So what the other laws promise of the last event of a
