@@ -27,7 +27,6 @@ use Rattle.cdc_audit.specs.EventShapes.{account_lines, asked_account, asked_tran
 use Rattle.cdc_audit.specs.Known.{balances_after, is_stored}
 use Rattle.cdc_audit.specs.Limits.{limit_lines}
 use Rattle.cdc_audit.specs.Settling.{expires_at}
-use Rattle.cdc_audit_laws.specs.Soundness.{IsAlone}
 use Rattle.cdc_audit_laws.proofs.Flags.{Asks, asks}
 use Rattle.cdc_audit_laws.proofs.Following.{CanFollow, IsCredited, IsDebited, NoneApplies, none_both}
 use Rattle.cdc_audit_laws.proofs.Traces.{stored_none}
@@ -42,7 +41,6 @@ pub record Comes (h : History) (e : Event) : Type 0 where
   pub shown : (id : ℕ) → balances_after (events h) id ≡ balances h id h.last
   pub later : h.last < e.timestamp
   pub can : CanFollow (events h) e
-  pub alone : IsAlone e
   pub debit : opened h e.debit_account.id ≡ Some (opening e.ledger e.debit_account)
   pub credit : opened h e.credit_account.id ≡ Some (opening e.ledger e.credit_account)
 
@@ -97,20 +95,6 @@ has_accounts past e can =
     (no_reason _ _ parts.0, no_reason _ _ parts.1)
 
 module _ (h : History) (e : Event) (comes : Comes h e) where
-  -- the transfer as a request
-  abbrev pub request : NewTransfer
-  request = asked_transfer e
-
-  pub on_stored : HasStored e
-  on_stored = has_stored (events h) e comes.can comes.alone.stored
-
-  -- it asks for the kind of the event
-  pub asks_kind : Asks e.kind request
-  asks_kind =
-      asks e.kind request comes.alone.stored
-      (test_fails transfer_number transfer.FlagsAreMutuallyExclusive (transfer_shape_lines request) on_stored.fields)
-      on_stored.kind
-
   -- the balances that the events show are those at its timestamp too
   pub now : (id : ℕ) → balances_after (events h) id ≡ balances h id e.timestamp
   now id = comes.shown id ∙ sym (balances_later h id h.last e.timestamp comes.sound.past (omega (arith, comes.later)))
@@ -129,11 +113,27 @@ module _ (h : History) (e : Event) (comes : Comes h e) where
   pub credit_limits : NoneApplies (limit_lines e.credit_account)
   credit_limits = (none_both (limit_lines e.debit_account) (limit_lines e.credit_account) comes.can.limits).1
 
+-- an event that stores a transfer
+module _ (h : History) (e : Event) (comes : Comes h e) (storing : stores e.kind ≡ true) where
+  -- the transfer as a request
+  abbrev pub request : NewTransfer
+  request = asked_transfer e
+
+  pub on_stored : HasStored e
+  on_stored = has_stored (events h) e comes.can storing
+
+  -- it asks for the kind of the event
+  pub asks_kind : Asks e.kind request
+  asks_kind =
+      asks e.kind request storing
+      (test_fails transfer_number transfer.FlagsAreMutuallyExclusive (transfer_shape_lines request) on_stored.fields)
+      on_stored.kind
+
   -- no entry stored its id
   pub is_new : stored h request.id ≡ None
   is_new =
       stored_none h e.transfer.id
-      (sym (ap (λ b. b && is_stored (events h) e.transfer.id) comes.alone.stored) ∙ comes.can.new)
+      (sym (ap (λ b. b && is_stored (events h) e.transfer.id) storing) ∙ comes.can.new)
 
   -- so the request isn't refused, if the lines on its accounts or on its pending transfer don't refuse it
   pub not_refused : first_line (own_lines h request e.timestamp) ≡ None

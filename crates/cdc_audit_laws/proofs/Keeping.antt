@@ -65,7 +65,7 @@ passing_all test P holds (e ∷ es) = by (test e) refl (passing_all test P holds
     by false passes more = more
 
 -- the time of each transfer that is due is up
-due_up : (h : History) (now : ℕ) → AllByRecursion (λ p. IsUp p now) (due h now)
+pub due_up : (h : History) (now : ℕ) → AllByRecursion (λ p. IsUp p now) (due h now)
 due_up h now =
     All-in_order (λ p. IsUp p now) (map (λ e. e.transfer) (filter (is_due h now) h.entries))
     (passing_all (is_due h now) (λ p. IsUp p now) (λ e is.

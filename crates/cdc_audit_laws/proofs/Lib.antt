@@ -14,10 +14,11 @@ pub mod Flags
 pub mod Coming
 pub mod Plain
 pub mod Posting
+pub mod Made
 pub mod Entering
+pub mod Expiry
+pub mod Turns
+pub mod Running
 pub mod Submitting
 pub mod Told
-pub mod Walk
-pub mod Soundness
 mod Examples
-mod SoundExamples

@@ -74,7 +74,7 @@ moved_by TwoPhasePosted n storing is = cc
 moved_by TwoPhaseVoided n storing is = cc
 moved_by TwoPhaseExpired n storing is = cc
 
-module _ (h : History) (e : Event) (comes : Comes h e) (is : settles e.kind ≡ false) where
+module _ (h : History) (e : Event) (comes : Comes h e) (storing : stores e.kind ≡ true) (is : settles e.kind ≡ false) where
   abbrev request : NewTransfer
   request = asked_transfer e
 
@@ -88,7 +88,7 @@ module _ (h : History) (e : Event) (comes : Comes h e) (is : settles e.kind ≡ 
   none_released = ap (λ b. if b then unwrap_or (pending_amount (events h) (settled_id e)) 0 else 0) is
 
   moved : held e + posted e ≡ e.transfer.amount
-  moved = moved_by e.kind e.transfer.amount comes.alone.stored is
+  moved = moved_by e.kind e.transfer.amount storing is
 
   -- the sums of its accounts after it
   debits_after : all_debits e.debit_account ≡ debits.debits_pending + debits.debits_posted + e.transfer.amount
@@ -110,13 +110,13 @@ module _ (h : History) (e : Event) (comes : Comes h e) (is : settles e.kind ≡ 
           ≡ false
       by true holding =
           ap₂ (λ b n. b && not (e.transfer.timeout == 0)
-          && nat_lt TIMESTAMP (n + e.transfer.timeout * 1000000000)) (sym holding) (sym (on_stored h e comes).dated)
-          ∙ (on_stored h e comes).timely
+          && nat_lt TIMESTAMP (n + e.transfer.timeout * 1000000000)) (sym holding) (sym (on_stored h e comes storing).dated)
+          ∙ (on_stored h e comes storing).timely
       by false holding =
           and_left _ _ (ap (λ b. not b && not (e.transfer.timeout == 0))
-          (sym ((asks_kind h e comes).pending ∙ holding))
+          (sym ((asks_kind h e comes storing).pending ∙ holding))
           ∙ test_fails transfer_number transfer.TimeoutReservedForPendingTransfer (transfer_shape_lines request)
-          (on_stored h e comes).fields)
+          (on_stored h e comes storing).fields)
 
   has_sums : HasSums debits credits (asked_account e.ledger e.debit_account) (asked_account e.ledger e.credit_account)
       request e.timestamp
@@ -143,7 +143,7 @@ module _ (h : History) (e : Event) (comes : Comes h e) (is : settles e.kind ≡ 
       ap (λ b. first_line
       (if b then plain_lines (opened h request.debit_account_id) (opened h request.credit_account_id) h request
       e.timestamp else settling_lines (stored h request.pending_id) h request e.timestamp))
-      (plain_is e.kind request (asks_kind h e comes) ∙ ap not is)
+      (plain_is e.kind request (asks_kind h e comes storing) ∙ ap not is)
       ∙ ap₂ (λ o p. first_line (plain_lines o p h request e.timestamp)) comes.debit comes.credit
       ∙ no_first_line
       (plain_lines (Some (opening e.ledger e.debit_account)) (Some (opening e.ledger e.credit_account)) h request
@@ -160,4 +160,4 @@ module _ (h : History) (e : Event) (comes : Comes h e) (is : settles e.kind ≡ 
   pub plain_filled : filled h request e.timestamp ≡ as_asked request e.timestamp
   plain_filled =
       ap (λ b. if b then as_asked request e.timestamp else filled_by (stored h request.pending_id) request e.timestamp)
-      (plain_is e.kind request (asks_kind h e comes) ∙ ap not is)
+      (plain_is e.kind request (asks_kind h e comes storing) ∙ ap not is)

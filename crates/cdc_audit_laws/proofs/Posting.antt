@@ -130,7 +130,7 @@ same_fields x d c n a b u l k one two three four five six seven eight =
     ∙ ap₂ (λ l k. with_fields x x.debit_account_id x.credit_account_id x.amount x.user_data_128 x.user_data_64
     x.user_data_32 l k) seven eight
 
-module _ (h : History) (e : Event) (comes : Comes h e) (is : settles e.kind ≡ true) where
+module _ (h : History) (e : Event) (comes : Comes h e) (storing : stores e.kind ≡ true) (is : settles e.kind ≡ true) where
   abbrev request : NewTransfer
   request = asked_transfer e
 
@@ -139,7 +139,7 @@ module _ (h : History) (e : Event) (comes : Comes h e) (is : settles e.kind ≡ 
 
   -- the event names its pending transfer
   names : settled_id e ≡ named
-  names = named_by e.kind e.transfer comes.alone.stored is
+  names = named_by e.kind e.transfer storing is
 
   pub on_pending : IsTraced h named
   on_pending =
@@ -200,7 +200,7 @@ module _ (h : History) (e : Event) (comes : Comes h e) (is : settles e.kind ≡ 
         ledger = eqb-true e.ledger x.ledger two.1;
         code = eqb-true e.transfer.code x.transfer.code three.1;
         user_data = sym (ap (λ b. if b then has_data_of x.transfer e.transfer
-            else is_same_transfer e.transfer x.transfer) comes.alone.stored) ∙ four.1;
+            else is_same_transfer e.transfer x.transfer) storing) ∙ four.1;
       }
 
   -- and an amount that it may have
@@ -222,10 +222,10 @@ module _ (h : History) (e : Event) (comes : Comes h e) (is : settles e.kind ≡ 
       omega (arith, sums.debits_pending, bound.0, none, before, releases)
 
   posting : is_post_request request ≡ moves e.kind
-  posting = (asks_kind h e comes).post ∙ ap (λ b. b && moves e.kind) is
+  posting = (asks_kind h e comes storing).post ∙ ap (λ b. b && moves e.kind) is
 
   voiding : is_void_request request ≡ not (moves e.kind)
-  voiding = (asks_kind h e comes).void ∙ ap (λ b. b && not (moves e.kind)) is
+  voiding = (asks_kind h e comes storing).void ∙ ap (λ b. b && not (moves e.kind)) is
 
   amount_is : settled_amount request own ≡ e.transfer.amount
   amount_is =
@@ -265,7 +265,7 @@ module _ (h : History) (e : Event) (comes : Comes h e) (is : settles e.kind ≡ 
                       or_from _ _
                           (ended_by (λ x. expires x.kind x.transfer own) (λ x none. (resolved_parts own x none).2))
                           (sym (ap (λ b. b && (not (own.timeout == 0) && nat_le (expires_at own) e.timestamp))
-                          comes.alone.stored) ∙ lines.1.1.1.1.0),
+                          storing) ∙ lines.1.1.1.1.0),
                       tt,
                     ),
                   ),
@@ -283,7 +283,7 @@ module _ (h : History) (e : Event) (comes : Comes h e) (is : settles e.kind ≡ 
       ap (λ b. first_line
       (if b then plain_lines (opened h request.debit_account_id) (opened h request.credit_account_id) h request
       e.timestamp else settling_lines (stored h request.pending_id) h request e.timestamp))
-      (plain_is e.kind request (asks_kind h e comes) ∙ ap not is)
+      (plain_is e.kind request (asks_kind h e comes storing) ∙ ap not is)
       ∙ ap (λ o. first_line (settling_lines o h request e.timestamp)) on_pending.named
       ∙ no_first_line (settling_lines (Some pending) h request e.timestamp) no_line
 
@@ -297,7 +297,7 @@ module _ (h : History) (e : Event) (comes : Comes h e) (is : settles e.kind ≡ 
       let one = and_parts (is_taken_over e.transfer.user_data_128 own.user_data_128)
       (is_taken_over e.transfer.user_data_64 own.user_data_64) two.0 in
       ap (λ b. if b then as_asked request e.timestamp else filled_by (stored h request.pending_id) request e.timestamp)
-      (plain_is e.kind request (asks_kind h e comes) ∙ ap not is)
+      (plain_is e.kind request (asks_kind h e comes storing) ∙ ap not is)
       ∙ ap (λ o. filled_by o request e.timestamp) on_pending.named
       ∙ same_fields x _ _ _ _ _ _ _ _ (own_is e.debit_account.id own.debit_account_id has_own.debit)
       (own_is e.credit_account.id own.credit_account_id has_own.credit) amount_is

@@ -2,7 +2,7 @@
 
 ghost use Rattle.cdc_audit_laws.specs.Laws.{AChangeShows, AcceptedEventsRise, BalancesAreSums, LedgersAreAccepted, NoOtherBalances};
 ghost use Rattle.cdc_audit_laws.specs.Laws.{PrefixesAreAccepted, WhatIsLeftOutMovedNothing};
-ghost use Rattle.cdc_audit_laws.specs.Soundness.{AcceptedEventsAreALedgers};
+ghost use Rattle.cdc_audit_laws.specs.Soundness.{AcceptedEventsAreALedgers, EventsAloneAreALedgers};
 
 /// Does nothing. Every stream that a ledger's events make is accepted, whole and every prefix of it.
 pub fn ledgers_are_accepted()
