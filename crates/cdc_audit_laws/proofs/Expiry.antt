@@ -1,5 +1,5 @@
 -- An expiry of an event that is accepted: the pending transfer is open, and its expiry makes this event.
-use Rattle.std.proofs.Common.{◌≡◌, ℕ, ◌≤◌, Bool, true, false, not, Option, Some, None, is_none, if◌then◌else◌, refl, sym, ap, ap₂, ◌∙◌, subst, arith}
+use Rattle.std.proofs.Common.{◌≡◌, ℕ, ◌≤◌, true, false, not, Some, None, is_none, if◌then◌else◌, refl, sym, ap, ap₂, ◌∙◌, subst}
 use Rattle.std.specs.Prelude.{◌==◌, ◌&&◌, nat_lt}
 use Rattle.std.proofs.lemmas.Bool.{and_parts, eqb-true, ltb-false, not-false}
 use Rattle.cdc_types.specs.declared.events.Entry.{Entry}
@@ -8,9 +8,8 @@ use Rattle.cdc_types.specs.declared.events.EventKind.{EventKind}
 use Rattle.cdc_types.specs.declared.events.EventKind.TheVariants.{SinglePhase, TwoPhasePending, TwoPhasePosted, TwoPhaseVoided, TwoPhaseExpired}
 use Rattle.cdc_types.specs.declared.events.EventTransfer.{EventTransfer}
 use Rattle.cdc_types.specs.declared.transfers.Transfer.{Transfer}
-use Rattle.cdc_ledger.specs.Balances.{resolved}
 use Rattle.cdc_ledger.specs.Changes.{expiry}
-use Rattle.cdc_ledger.specs.Events.{event_of, events, shown_transfer}
+use Rattle.cdc_ledger.specs.Events.{event_of, events}
 use Rattle.cdc_ledger.specs.Filling.{expires_at, stored}
 use Rattle.cdc_ledger.specs.Follows.{Follows}
 use Rattle.cdc_ledger.specs.History.{History}

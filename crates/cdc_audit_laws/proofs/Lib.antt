@@ -19,6 +19,10 @@ pub mod Entering
 pub mod Expiry
 pub mod Turns
 pub mod Running
+pub mod Modes
 pub mod Submitting
 pub mod Told
+pub mod Walk
+pub mod Soundness
 mod Examples
+mod SoundExamples

@@ -1,6 +1,6 @@
 -- An entry that has what an event shows makes this event.
-use Rattle.std.proofs.Common.{◌≡◌, ◌≢◌, ℕ, ◌+◌, ◌<◌, ◌≤◌, Bool, true, false, [], ◌∷◌, ◌++◌, Option, if◌then◌else◌, refl, sym, ap, ap₂, ◌∙◌, subst, inl, inr, arith}
-use Rattle.std.specs.Prelude.{unwrap_or, Some}
+use Rattle.std.proofs.Common.{◌≡◌, ◌≢◌, ℕ, ◌+◌, Bool, true, false, [], ◌∷◌, ◌++◌, Option, if◌then◌else◌, refl, sym, ap, ap₂, ◌∙◌, subst, inl, inr, arith}
+use Rattle.std.specs.Prelude.{unwrap_or}
 use Rattle.std.proofs.lemmas.Bool.{ltb-false}
 use Rattle.std.proofs.lemmas.Bool.Decides.{eqb_tells}
 use Rattle.cdc_types.specs.declared.accounts.Balances.{Balances}
@@ -23,7 +23,7 @@ use Rattle.cdc_ledger.proofs.EventLaws.{events-pushed}
 use Rattle.cdc_ledger.proofs.SoundLaws.{IsSound-pushed}
 use Rattle.cdc_audit.specs.Known.{balances_after, pending_amount, settled_id_by}
 use Rattle.cdc_audit.specs.Rules.{held, posted, released}
-use Rattle.cdc_audit_laws.proofs.Coming.{Comes, opening}
+use Rattle.cdc_audit_laws.proofs.Coming.{Comes}
 use Rattle.cdc_audit_laws.proofs.Entries.{pending_amount-events, settled_id-shown}
 use Rattle.cdc_audit_laws.proofs.Following.{IsCredited, IsDebited}
 use Rattle.cdc_audit_laws.proofs.Ledgers.{part_other, part_own}

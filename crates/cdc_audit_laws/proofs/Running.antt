@@ -1,6 +1,6 @@
 -- Chains of requests and pulses that a ledger takes one item at a time.
-use Rattle.std.proofs.Common.{◌≡◌, ℕ, ◌+◌, ◌-◌, ◌<◌, ◌≤◌, false, true, List, [], ◌∷◌, ◌++◌, Option, Some, None, Ok, length, refl, sym, ap, ap₂, ◌∙◌, subst, arith}
-use Rattle.std.specs.Prelude.{◌&&◌, ◌==◌, Bool, if◌then◌else◌, max, nat_lt, unwrap_or}
+use Rattle.std.proofs.Common.{◌≡◌, ℕ, ◌+◌, ◌-◌, ◌<◌, ◌≤◌, false, true, List, [], ◌∷◌, ◌++◌, Some, None, Ok, length, refl, sym, ap, ap₂, ◌∙◌, subst, arith}
+use Rattle.std.specs.Prelude.{◌==◌, Bool, if◌then◌else◌, nat_lt, unwrap_or}
 use Rattle.std.specs.List.{AllByRecursion}
 use Rattle.std.proofs.Math.Nat.{max-eq_left}
 use Rattle.std.proofs.lemmas.Bool.{and_right, eqb-false, eqb-true, le-ltb}
@@ -15,7 +15,7 @@ use Rattle.cdc_types.specs.Flags.{is_linked_transfer}
 use Rattle.cdc_types.specs.Lines.{first_line}
 use Rattle.cdc_ledger.specs.declared.errors.BatchError.TheVariants as refusal
 use Rattle.cdc_ledger.specs.Changes.{expiry, pushed, timed}
-use Rattle.cdc_ledger.specs.Chains.{before_others, chains_from, chains_of, in_front, items_from, played}
+use Rattle.cdc_ledger.specs.Chains.{before_others, chains_from, chains_of, in_front, played}
 use Rattle.cdc_ledger.specs.Due.{due}
 use Rattle.cdc_ledger.specs.Fits.{NewTransferFits}
 use Rattle.cdc_ledger.specs.History.{History}
@@ -23,7 +23,7 @@ use Rattle.cdc_ledger.specs.Submit.{IsLegal, answered, base, entry_of, expiries_
 use Rattle.cdc_ledger.specs.Verdict.{max_timestamp, transfer_refused}
 use Rattle.cdc_ledger.proofs.BatchLaws.{alone_accepted}
 use Rattle.cdc_ledger.proofs.LegalLaws.{IsLegal-submit}
-use Rattle.cdc_ledger.proofs.Unlinked.{alone, items_from-unlinked}
+use Rattle.cdc_ledger.proofs.Unlinked.{items_from-unlinked}
 
 -- a batch that isn't too large isn't refused, if there are timestamps for it
 unrefused : (h : History) (now t n : ℕ) (large : Bool) → h.closed ≡ false → large ≡ false → base h now ≡ t
@@ -77,6 +77,10 @@ runs-legal h t legal is_open later r rest g long chain fits within is =
     (unrefused h t t (length items) (nat_lt BATCH_ITEMS (length items)) is_open
     (le-ltb BATCH_ITEMS (length items) (omega (arith, long))) first within)
     ∙ ap (λ q. Ok (results.Transfers q.0, q.1)) all)
+
+-- with more items taken, fewer may come
+pub runs-more : (h : History) (t n : ℕ) → RunsOn h t 0 → RunsOn h t n
+runs-more h t n runs r rest g long chain fits within is = runs r rest g (omega (arith, long)) chain fits within is
 
 -- one item of it is taken
 pub runs-taken : (h : History) (t n : ℕ) (r : NewTransfer) → RunsOn h t n → is_linked_transfer r ≡ true

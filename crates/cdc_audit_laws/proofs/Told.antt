@@ -44,6 +44,18 @@ opens_later t o (inl x ∷ rest) rises (inr opens) =
 opens_later t o (inr e ∷ rest) rises opens =
     omega (arith, rises.0, opens_later e.timestamp o rest rises.1 opens)
 
+-- and so has the first event
+pub events_later : (t : ℕ) (told : List Told) (e : Event) (es : List Event) → Rises t told → events_in told ≡ e ∷ es
+    → t < e.timestamp
+events_later t [] e es rises is = cc
+events_later t (inl o ∷ rest) e es rises is =
+    let later = events_later o.timestamp rest e es rises.1 is in
+    omega (arith, later, rises.0)
+events_later t (inr x ∷ rest) e es rises is =
+    let same : x ≡ e = cc in
+    let time : x.timestamp ≡ e.timestamp = ap (λ (y : Event). y.timestamp) same in
+    omega (arith, time, rises.0)
+
 -- events alone
 abbrev pub only : List Event → List Told
 only events = map (λ (e : Event). let x : Told = inr e in x) events

@@ -1,14 +1,12 @@
 -- In which order the transfers of a ledger expire, by its events.
-use Rattle.std.proofs.Common.{◌≡◌, ◌≢◌, ℕ, ◌+◌, ◌<◌, ◌≤◌, Bool, true, false, not, List, [], ◌∷◌, ◌++◌, Option, Some, None, if◌then◌else◌, refl, sym, ap, ap₂, ◌∙◌, subst, arith}
+use Rattle.std.proofs.Common.{◌≡◌, ◌≢◌, ℕ, ◌<◌, ◌≤◌, true, false, not, ◌∷◌, Some, None, if◌then◌else◌, sym, ap, ◌∙◌, arith}
 use Rattle.std.specs.Prelude.{◌==◌, ◌&&◌, ◌||◌, nat_le, nat_lt}
 use Rattle.std.specs.List.{AllByRecursion}
-use Rattle.std.proofs.lemmas.Bool.{and_from, and_parts, eqb-true, le-leb, leb-true, not-false, not-true, not_from_false}
+use Rattle.std.proofs.lemmas.Bool.{and_from, and_parts, le-leb, leb-true, not-true, not_from_false}
 use Rattle.std.proofs.lemmas.Bool.Decides.{nat_tests}
 use Rattle.cdc_types.specs.declared.events.Entry.{Entry}
 use Rattle.cdc_types.specs.declared.events.Event.{Event}
 use Rattle.cdc_types.specs.declared.events.EventTransfer.{EventTransfer}
-use Rattle.cdc_types.specs.declared.transfers.Transfer.{Transfer}
-use Rattle.cdc_types.specs.Timestamps.{last_timestamp}
 use Rattle.cdc_ledger.specs.Balances.{resolved}
 use Rattle.cdc_ledger.specs.Changes.{expiry, pushed}
 use Rattle.cdc_ledger.specs.Due.{due, is_due, is_sooner as is_sooner_one}
@@ -21,10 +19,9 @@ use Rattle.cdc_ledger.proofs.BalanceLaws.{stores-holds}
 use Rattle.cdc_ledger.proofs.DueLaws.{due-first, due-rest}
 use Rattle.cdc_ledger.proofs.Elements.{AllByRecursion-weaker}
 use Rattle.cdc_ledger.proofs.Pending.{All-around, Around, Around-both, Around-weaker, IsAmong, IsOther, IsOther-around, IsStored-found}
-use Rattle.cdc_ledger.proofs.PulseLaws.{IsOpen}
 use Rattle.cdc_ledger.proofs.StoredLaws.{stored_each}
 use Rattle.cdc_audit.specs.Expiries.{is_sooner}
-use Rattle.cdc_audit.specs.Known.{open_event, pending_event}
+use Rattle.cdc_audit.specs.Known.{pending_event}
 use Rattle.cdc_audit_laws.specs.Soundness.{IsWaiting}
 use Rattle.cdc_audit_laws.proofs.Coming.{Comes}
 use Rattle.cdc_audit_laws.proofs.Entries.{pending_event-events, unsettled}

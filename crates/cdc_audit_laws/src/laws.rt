@@ -9,11 +9,13 @@ pub fn ledgers_are_accepted()
     ensures { LedgersAreAccepted }
 {}
 
-/// Does nothing. The converse, for events that store a transfer each, without chains: if they are accepted, they are the
-/// events of a legal history. No expiry is among them, and each of their accounts was opened by itself: it isn't linked,
-/// and no event and no other account has its timestamp.
+/// Does nothing. The converse: events that are accepted are those of a legal history, if they can be told to a ledger.
+/// Each account that they show was opened by itself. It isn't linked, and no event and no other account has its
+/// timestamp. A batch has room for each chain, and transfers expire in their turn. If no event is linked or an expiry,
+/// chains and expiries ask for nothing.
 pub fn accepted_events_are_a_ledgers()
-    ensures { AcceptedEventsAreALedgers }
+    ensures all { AcceptedEventsAreALedgers }
+    ensures alone { EventsAloneAreALedgers }
 {}
 
 /// Does nothing. Each prefix of an accepted stream is accepted. So what the other laws promise of the last event of a
