@@ -34,7 +34,10 @@ module _ (h : History) (e : Event) (comes : Comes h e) (storing : stores e.kind 
         not_refused h e comes storing (posting_passes h e comes storing is),
         posting_filled h e comes storing is,
       )
-      by false is = (not_refused h e comes storing (plain_passes h e comes storing is), plain_filled h e comes storing is)
+      by false is = (
+        not_refused h e comes storing (plain_passes h e comes storing is),
+        plain_filled h e comes storing is,
+      )
 
   pub unrefused : transfer_refused h request e.timestamp ≡ None
   unrefused = passes.0

@@ -20,8 +20,8 @@ pub mod Expiry
 pub mod Turns
 pub mod Running
 pub mod Modes
-pub mod Submitting
 pub mod Told
+pub mod Openings
 pub mod Walk
 pub mod Soundness
 mod Examples

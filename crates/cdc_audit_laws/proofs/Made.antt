@@ -40,32 +40,47 @@ pub record IsShownBy (e : Event) (y : Transfer) : Type 0 where
 abbrev pub entry_with : Event → Transfer → Entry
 entry_with e y = record { timestamp = e.timestamp; kind = e.kind; transfer = y }
 
--- the balances of the debited account after an effect, if these follow; those of the credited one; those of another one
-debit_after : (h : History) (x : Entry) (d c : ℕ) (b s : Balances) → c ≢ d → s.debits_pending + (effect_of h x).released ≡ b.debits_pending + (effect_of h x).held
-    → s.debits_posted ≡ b.debits_posted + (effect_of h x).moved → s.credits_pending ≡ b.credits_pending
-    → s.credits_posted ≡ b.credits_posted → after (effect_of h x) d c d b ≡ s
-debit_after h x d c b s other pending posted held moved =
-    same_balances _ _ _ _ s.debits_pending s.debits_posted s.credits_pending s.credits_posted
-    (omega (arith, pending, part_own d (effect_of h x).held, part_own d (effect_of h x).released)) (omega (arith, posted, part_own d (effect_of h x).moved))
-    (omega (arith, held, part_other c d (effect_of h x).held other, part_other c d (effect_of h x).released other))
-    (omega (arith, moved, part_other c d (effect_of h x).moved other))
+-- the balances of an account after an entry of these two accounts
+module _ (h : History) (x : Entry) (d c : ℕ) (b : Balances) where
+  abbrev held_by : ℕ
+  held_by = (effect_of h x).held
 
-credit_after : (h : History) (x : Entry) (d c : ℕ) (b s : Balances) → d ≢ c
-    → s.credits_pending + (effect_of h x).released ≡ b.credits_pending + (effect_of h x).held → s.credits_posted ≡ b.credits_posted + (effect_of h x).moved
-    → s.debits_pending ≡ b.debits_pending → s.debits_posted ≡ b.debits_posted → after (effect_of h x) d c c b ≡ s
-credit_after h x d c b s other pending posted held moved =
-    same_balances _ _ _ _ s.debits_pending s.debits_posted s.credits_pending s.credits_posted
-    (omega (arith, held, part_other d c (effect_of h x).held other, part_other d c (effect_of h x).released other))
-    (omega (arith, moved, part_other d c (effect_of h x).moved other))
-    (omega (arith, pending, part_own c (effect_of h x).held, part_own c (effect_of h x).released)) (omega (arith, posted, part_own c (effect_of h x).moved))
+  abbrev released_by : ℕ
+  released_by = (effect_of h x).released
 
-other_after : (h : History) (x : Entry) (d c a : ℕ) (b : Balances) → d ≢ a → c ≢ a → after (effect_of h x) d c a b ≡ b
-other_after h x d c a b not_debited not_credited =
-    same_balances _ _ _ _ b.debits_pending b.debits_posted b.credits_pending b.credits_posted
-    (omega (arith, part_other d a (effect_of h x).held not_debited, part_other d a (effect_of h x).released not_debited))
-    (omega (arith, part_other d a (effect_of h x).moved not_debited))
-    (omega (arith, part_other c a (effect_of h x).held not_credited, part_other c a (effect_of h x).released not_credited))
-    (omega (arith, part_other c a (effect_of h x).moved not_credited))
+  abbrev moved_by : ℕ
+  moved_by = (effect_of h x).moved
+
+  -- of the debited one, if these follow
+  debit_after : (s : Balances) → c ≢ d → s.debits_pending + released_by ≡ b.debits_pending + held_by
+      → s.debits_posted ≡ b.debits_posted + moved_by → s.credits_pending ≡ b.credits_pending
+      → s.credits_posted ≡ b.credits_posted → after (effect_of h x) d c d b ≡ s
+  debit_after s other pending posted held moved =
+      same_balances _ _ _ _ s.debits_pending s.debits_posted s.credits_pending s.credits_posted
+      (omega (arith, pending, part_own d held_by, part_own d released_by))
+      (omega (arith, posted, part_own d moved_by))
+      (omega (arith, held, part_other c d held_by other, part_other c d released_by other))
+      (omega (arith, moved, part_other c d moved_by other))
+
+  -- of the credited one
+  credit_after : (s : Balances) → d ≢ c → s.credits_pending + released_by ≡ b.credits_pending + held_by
+      → s.credits_posted ≡ b.credits_posted + moved_by → s.debits_pending ≡ b.debits_pending
+      → s.debits_posted ≡ b.debits_posted → after (effect_of h x) d c c b ≡ s
+  credit_after s other pending posted held moved =
+      same_balances _ _ _ _ s.debits_pending s.debits_posted s.credits_pending s.credits_posted
+      (omega (arith, held, part_other d c held_by other, part_other d c released_by other))
+      (omega (arith, moved, part_other d c moved_by other))
+      (omega (arith, pending, part_own c held_by, part_own c released_by))
+      (omega (arith, posted, part_own c moved_by))
+
+  -- of another one
+  other_after : (a : ℕ) → d ≢ a → c ≢ a → after (effect_of h x) d c a b ≡ b
+  other_after a not_debited not_credited =
+      same_balances _ _ _ _ b.debits_pending b.debits_posted b.credits_pending b.credits_posted
+      (omega (arith, part_other d a held_by not_debited, part_other d a released_by not_debited))
+      (omega (arith, part_other d a moved_by not_debited))
+      (omega (arith, part_other c a held_by not_credited, part_other c a released_by not_credited))
+      (omega (arith, part_other c a moved_by not_credited))
 
 module _ (h : History) (e : Event) (comes : Comes h e) (y : Transfer) (is : IsShownBy e y)
     (follows : Follows h (entry_with e y)) where
@@ -134,7 +149,7 @@ module _ (h : History) (e : Event) (comes : Comes h e) (y : Transfer) (is : IsSh
       → balances (pushed h entry) a e.timestamp ≡ balances h a h.last
   others a not_debited not_credited =
       balances-pushed h entry a comes.sound follows comes.later
-      ∙ other_after h entry y.debit_account_id y.credit_account_id a (balances h a h.last) not_debited
+      ∙ other_after h entry y.debit_account_id y.credit_account_id (balances h a h.last) a not_debited
       not_credited
 
   -- so its event is the event

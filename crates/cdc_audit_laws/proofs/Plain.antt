@@ -74,7 +74,8 @@ moved_by TwoPhasePosted n storing is = cc
 moved_by TwoPhaseVoided n storing is = cc
 moved_by TwoPhaseExpired n storing is = cc
 
-module _ (h : History) (e : Event) (comes : Comes h e) (storing : stores e.kind ≡ true) (is : settles e.kind ≡ false) where
+module _ (h : History) (e : Event) (comes : Comes h e) (storing : stores e.kind ≡ true)
+    (is : settles e.kind ≡ false) where
   abbrev request : NewTransfer
   request = asked_transfer e
 
@@ -110,7 +111,8 @@ module _ (h : History) (e : Event) (comes : Comes h e) (storing : stores e.kind 
           ≡ false
       by true holding =
           ap₂ (λ b n. b && not (e.transfer.timeout == 0)
-          && nat_lt TIMESTAMP (n + e.transfer.timeout * 1000000000)) (sym holding) (sym (on_stored h e comes storing).dated)
+          && nat_lt TIMESTAMP (n + e.transfer.timeout * 1000000000)) (sym holding)
+          (sym (on_stored h e comes storing).dated)
           ∙ (on_stored h e comes storing).timely
       by false holding =
           and_left _ _ (ap (λ b. not b && not (e.transfer.timeout == 0))

@@ -130,7 +130,8 @@ same_fields x d c n a b u l k one two three four five six seven eight =
     ∙ ap₂ (λ l k. with_fields x x.debit_account_id x.credit_account_id x.amount x.user_data_128 x.user_data_64
     x.user_data_32 l k) seven eight
 
-module _ (h : History) (e : Event) (comes : Comes h e) (storing : stores e.kind ≡ true) (is : settles e.kind ≡ true) where
+module _ (h : History) (e : Event) (comes : Comes h e) (storing : stores e.kind ≡ true)
+    (is : settles e.kind ≡ true) where
   abbrev request : NewTransfer
   request = asked_transfer e
 

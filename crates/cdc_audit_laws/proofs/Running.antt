@@ -1,4 +1,4 @@
--- Chains of requests and pulses that a ledger takes one item at a time.
+-- Batches that a ledger takes one item at a time: an account, chains of transfers, pulses.
 use Rattle.std.proofs.Common.{◌≡◌, ℕ, ◌+◌, ◌-◌, ◌<◌, ◌≤◌, false, true, List, [], ◌∷◌, ◌++◌, Some, None, Ok, length, refl, sym, ap, ap₂, ◌∙◌, subst, arith}
 use Rattle.std.specs.Prelude.{◌==◌, Bool, if◌then◌else◌, nat_lt, unwrap_or}
 use Rattle.std.specs.List.{AllByRecursion}
@@ -7,23 +7,26 @@ use Rattle.std.proofs.lemmas.Bool.{and_right, eqb-false, eqb-true, le-ltb}
 use Rattle.cdc_types.specs.declared.batches.Batch.TheVariants as batch
 use Rattle.cdc_types.specs.declared.batches.BatchResults.TheVariants as results
 use Rattle.cdc_types.specs.declared.bounds.TheConstants.Limits.{BATCH_ITEMS, TIMESTAMP}
+use Rattle.cdc_types.specs.declared.accounts.NewAccount.{NewAccount}
+use Rattle.cdc_types.specs.declared.results.AccountResult.{AccountResult}
+use Rattle.cdc_types.specs.declared.results.AccountResult.TheVariants as account
 use Rattle.cdc_types.specs.declared.results.TransferResult.{TransferResult}
 use Rattle.cdc_types.specs.declared.results.TransferResult.TheVariants as transfer
 use Rattle.cdc_types.specs.declared.transfers.NewTransfer.{NewTransfer}
 use Rattle.cdc_types.specs.declared.transfers.Transfer.{Transfer}
-use Rattle.cdc_types.specs.Flags.{is_linked_transfer}
+use Rattle.cdc_types.specs.Flags.{is_linked_account, is_linked_transfer}
 use Rattle.cdc_types.specs.Lines.{first_line}
 use Rattle.cdc_ledger.specs.declared.errors.BatchError.TheVariants as refusal
-use Rattle.cdc_ledger.specs.Changes.{expiry, pushed, timed}
+use Rattle.cdc_ledger.specs.Changes.{expiry, pushed, timed, with_account}
 use Rattle.cdc_ledger.specs.Chains.{before_others, chains_from, chains_of, in_front, played}
 use Rattle.cdc_ledger.specs.Due.{due}
-use Rattle.cdc_ledger.specs.Fits.{NewTransferFits}
+use Rattle.cdc_ledger.specs.Fits.{NewAccountFits, NewTransferFits}
 use Rattle.cdc_ledger.specs.History.{History}
-use Rattle.cdc_ledger.specs.Submit.{IsLegal, answered, base, entry_of, expiries_from, is_past_the_end, refusal_at, taken, transfer_rules, transfers_from}
-use Rattle.cdc_ledger.specs.Verdict.{max_timestamp, transfer_refused}
+use Rattle.cdc_ledger.specs.Submit.{IsLegal, answered, base, entry_of, expiries_from, is_past_the_end, refusal_at, taken, transfer_rules, transfers_from, account_rules, accounts_from, opened_by}
+use Rattle.cdc_ledger.specs.Verdict.{account_refused, max_timestamp, transfer_refused}
 use Rattle.cdc_ledger.proofs.BatchLaws.{alone_accepted}
 use Rattle.cdc_ledger.proofs.LegalLaws.{IsLegal-submit}
-use Rattle.cdc_ledger.proofs.Unlinked.{items_from-unlinked}
+use Rattle.cdc_ledger.proofs.Unlinked.{alone, items_from-unlinked}
 
 -- a batch that isn't too large isn't refused, if there are timestamps for it
 unrefused : (h : History) (now t n : ℕ) (large : Bool) → h.closed ≡ false → large ≡ false → base h now ≡ t
@@ -39,6 +42,25 @@ unrefused h now t n large is_open small first within =
 -- a later timestamp is the first one of its batch
 own_time : (h : History) (t : ℕ) → h.last < t → base h t ≡ t
 own_time h t later = max-eq_left (let next : h.last + 1 ≤ t = omega (arith, later) in next)
+
+-- ---- accounts
+
+-- an account is opened by itself
+pub opens : (h : History) (t : ℕ) (a : NewAccount) → IsLegal h → h.closed ≡ false → h.last < t → t ≤ TIMESTAMP
+    → NewAccountFits a → is_linked_account a ≡ false → account_refused h a ≡ None
+    → IsLegal (with_account h (opened_by a t))
+opens h t a legal is_open later within fits unlinked none =
+    let first : base h t ≡ t = own_time h t later in
+    let done : AccountResult = account.Accepted in
+    let all : accounts_from h (base h t) (a ∷ []) ≡ (done ∷ [], with_account h (opened_by a t)) =
+    ap (λ n. accounts_from h n (a ∷ [])) first
+    ∙ items_from-unlinked account_rules h t (a ∷ []) (unlinked, tt)
+    ∙ ap (λ o. ((alone account_rules h a t o).0 ∷ [], (alone account_rules h a t o).1)) none in
+    IsLegal-submit h (with_account h (opened_by a t)) (batch.Accounts t (a ∷ [])) (results.Accounts (done ∷ []))
+    (omega (arith, within), (fits, tt)) legal
+    (ap (λ o. answered o (taken h (batch.Accounts t (a ∷ []))))
+    (unrefused h t t 1 false is_open refl first (omega (arith, within)))
+    ∙ ap (λ q. Ok (results.Accounts q.0, q.1)) all)
 
 -- ---- chains
 

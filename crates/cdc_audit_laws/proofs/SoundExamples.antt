@@ -57,8 +57,8 @@ event kind timestamp id pending_id amount timeout flags stored debit credit = re
   credit_account = credit;
 }
 
--- account 1, created at 1, pays 10 to account 2, created at 2, at 3; it holds 5 at 4 and 7 at 5; of these 3 are posted at
--- 7, after account 3 was opened at 6, and 7 are voided at 8; account 3 pays 1 to account 1 at 9
+-- account 1, created at 1, pays 10 to account 2, created at 2, at 3. It holds 5 at 4 and 7 at 5. Of the 5 it posts 3 at
+-- 7, after account 3 was created at 6, and it voids the 7 at 8. Account 3 pays 1 to account 1 at 9
 abbrev paid : Event
 paid = event SinglePhase 3 7 0 10 0 0 3 (account 1 1 0 10 0 0) (account 2 2 0 0 0 10)
 
@@ -109,60 +109,61 @@ event_fits : (kind : EventKind) (t id pending_id amount timeout flags stored : �
     → nat_lt t 60000 ≡ true → nat_lt id 60000 ≡ true → nat_lt pending_id 60000 ≡ true → nat_lt amount 60000 ≡ true
     → nat_lt timeout 60000 ≡ true → nat_lt flags 60000 ≡ true → nat_lt stored 60000 ≡ true → AccountFits debit
     → AccountFits credit → EventFits (event kind t id pending_id amount timeout flags stored debit credit)
-event_fits kind t id pending_id amount timeout flags stored debit credit one two three four five six seven d c = record {
-  timestamp = omega (arith, small t one);
-  ledger = omega arith;
-  transfer = record {
-    id = omega (arith, small id two);
-    amount = omega (arith, small amount four);
-    pending_id = omega (arith, small pending_id three);
-    user_data_128 = omega arith;
-    user_data_64 = omega arith;
-    user_data_32 = omega arith;
-    timeout = omega (arith, small timeout five);
-    code = omega arith;
-    flags = omega (arith, small flags six);
-    timestamp = omega (arith, small stored seven);
-  };
-  debit_account = d;
-  credit_account = c;
-}
+event_fits kind t id pending_id amount timeout flags stored debit credit one two three four five six seven d c =
+    record {
+      timestamp = omega (arith, small t one);
+      ledger = omega arith;
+      transfer = record {
+        id = omega (arith, small id two);
+        amount = omega (arith, small amount four);
+        pending_id = omega (arith, small pending_id three);
+        user_data_128 = omega arith;
+        user_data_64 = omega arith;
+        user_data_32 = omega arith;
+        timeout = omega (arith, small timeout five);
+        code = omega arith;
+        flags = omega (arith, small flags six);
+        timestamp = omega (arith, small stored seven);
+      };
+      debit_account = d;
+      credit_account = c;
+    }
 
 -- so this stream is a ledger's
 paid_fits : EventFits paid
 paid_fits =
-    event_fits SinglePhase 3 7 0 10 0 0 3 (account 1 1 0 10 0 0) (account 2 2 0 0 0 10) refl refl refl refl refl refl refl
-    (account_fits 1 1 0 10 0 0 refl refl refl refl refl refl)
+    event_fits SinglePhase 3 7 0 10 0 0 3 (account 1 1 0 10 0 0) (account 2 2 0 0 0 10) refl refl refl
+    refl refl refl refl (account_fits 1 1 0 10 0 0 refl refl refl refl refl refl)
     (account_fits 2 2 0 0 0 10 refl refl refl refl refl refl)
 
 held_fits : EventFits held
 held_fits =
-    event_fits TwoPhasePending 4 8 0 5 60 2 4 (account 1 1 5 10 0 0) (account 2 2 0 0 5 10) refl refl refl refl refl refl refl
-    (account_fits 1 1 5 10 0 0 refl refl refl refl refl refl)
+    event_fits TwoPhasePending 4 8 0 5 60 2 4 (account 1 1 5 10 0 0) (account 2 2 0 0 5 10) refl refl refl
+    refl refl refl refl (account_fits 1 1 5 10 0 0 refl refl refl refl refl refl)
     (account_fits 2 2 0 0 5 10 refl refl refl refl refl refl)
 
 held_more_fits : EventFits held_more
 held_more_fits =
-    event_fits TwoPhasePending 5 9 0 7 0 2 5 (account 1 1 12 10 0 0) (account 2 2 0 0 12 10) refl refl refl refl refl refl refl
-    (account_fits 1 1 12 10 0 0 refl refl refl refl refl refl)
+    event_fits TwoPhasePending 5 9 0 7 0 2 5 (account 1 1 12 10 0 0) (account 2 2 0 0 12 10) refl refl refl
+    refl refl refl refl (account_fits 1 1 12 10 0 0 refl refl refl refl refl refl)
     (account_fits 2 2 0 0 12 10 refl refl refl refl refl refl)
 
 posted_fits : EventFits posted
 posted_fits =
-    event_fits TwoPhasePosted 7 10 8 3 0 4 7 (account 1 1 7 13 0 0) (account 2 2 0 0 7 13) refl refl refl refl refl refl refl
-    (account_fits 1 1 7 13 0 0 refl refl refl refl refl refl)
+    event_fits TwoPhasePosted 7 10 8 3 0 4 7 (account 1 1 7 13 0 0) (account 2 2 0 0 7 13) refl refl refl
+    refl refl refl refl (account_fits 1 1 7 13 0 0 refl refl refl refl refl refl)
     (account_fits 2 2 0 0 7 13 refl refl refl refl refl refl)
 
 voided_fits : EventFits voided
 voided_fits =
-    event_fits TwoPhaseVoided 8 11 9 7 0 8 8 (account 1 1 0 13 0 0) (account 2 2 0 0 0 13) refl refl refl refl refl refl refl
-    (account_fits 1 1 0 13 0 0 refl refl refl refl refl refl)
+    event_fits TwoPhaseVoided 8 11 9 7 0 8 8 (account 1 1 0 13 0 0) (account 2 2 0 0 0 13) refl refl refl
+    refl refl refl refl (account_fits 1 1 0 13 0 0 refl refl refl refl refl refl)
     (account_fits 2 2 0 0 0 13 refl refl refl refl refl refl)
 
 paid_back_fits : EventFits paid_back
 paid_back_fits =
-    event_fits SinglePhase 9 12 0 1 0 0 9 (account 3 6 0 1 0 0) (account 1 1 0 13 0 1) refl refl refl refl refl refl refl
-    (account_fits 3 6 0 1 0 0 refl refl refl refl refl refl)
+    event_fits SinglePhase 9 12 0 1 0 0 9 (account 3 6 0 1 0 0) (account 1 1 0 13 0 1) refl refl refl
+    refl refl refl refl (account_fits 3 6 0 1 0 0 refl refl refl refl refl refl)
     (account_fits 1 1 0 13 0 1 refl refl refl refl refl refl)
 
 each_alone : AllByRecursion IsAlone stream
@@ -221,7 +222,43 @@ opened_alone a unlinked no_event no_other = record {
         (one_but a b parts.0, none_but a bs parts.1)
 
 each_opened : AllByRecursion (IsOpenedAlone stream) (accounts_in stream)
-each_opened = (opened_alone _ refl refl refl, (opened_alone _ refl refl refl, (opened_alone _ refl refl refl, (opened_alone _ refl refl refl, (opened_alone _ refl refl refl, (opened_alone _ refl refl refl, (opened_alone _ refl refl refl, (opened_alone _ refl refl refl, (opened_alone _ refl refl refl, (opened_alone _ refl refl refl, (opened_alone _ refl refl refl, (opened_alone _ refl refl refl, tt))))))))))))
+each_opened = (
+  opened_alone _ refl refl refl,
+  (
+    opened_alone _ refl refl refl,
+    (
+      opened_alone _ refl refl refl,
+      (
+        opened_alone _ refl refl refl,
+        (
+          opened_alone _ refl refl refl,
+          (
+            opened_alone _ refl refl refl,
+            (
+              opened_alone _ refl refl refl,
+              (
+                opened_alone _ refl refl refl,
+                (
+                  opened_alone _ refl refl refl,
+                  (
+                    opened_alone _ refl refl refl,
+                    (
+                      opened_alone _ refl refl refl,
+                      (
+                        opened_alone _ refl refl refl,
+                        tt,
+                      ),
+                    ),
+                  ),
+                ),
+              ),
+            ),
+          ),
+        ),
+      ),
+    ),
+  ),
+)
 
 is_a_ledgers : (h : History) × IsLegal h × (events_of h ≡ stream)
 is_a_ledgers = events_alone_are_a_ledgers stream each_alone each_opened accepted

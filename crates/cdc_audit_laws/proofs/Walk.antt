@@ -1,10 +1,10 @@
 -- A ledger that is told accounts and events in the order of their timestamps.
 use Rattle.std.proofs.Common.{◌≡◌, ◌⊎◌, inl, inr, ℕ, ◌+◌, ◌-◌, ◌<◌, ◌≤◌, Bool, true, false, List, [], ◌∷◌, ◌++◌, Option, Some, None, is_some, refl, sym, ap, ap₂, ◌∙◌, subst, append_assoc, arith}
-use Rattle.std.specs.Prelude.{◌==◌, ◌&&◌, nat_eq, nat_lt, if◌then◌else◌}
+use Rattle.std.specs.Prelude.{◌==◌, ◌&&◌, nat_eq, if◌then◌else◌}
 use Rattle.std.specs.List.{AllByRecursion}
 use Rattle.std.specs.Map.{lookup}
 use Rattle.std.specs.Option.{option_or}
-use Rattle.std.proofs.lemmas.Bool.{and_parts, eq-eqb, false≢true, ltb-true, ltb-false, not-false}
+use Rattle.std.proofs.lemmas.Bool.{eq-eqb, false≢true, ltb-false}
 use Rattle.std.proofs.lemmas.List.{append-nil}
 use Rattle.cdc_types.specs.declared.bounds.TheConstants.Limits.{TIMESTAMP}
 use Rattle.cdc_types.specs.declared.events.Entry.{Entry}
@@ -12,9 +12,9 @@ use Rattle.cdc_types.specs.declared.events.Event.{Event}
 use Rattle.cdc_types.specs.declared.transfers.NewTransfer.{NewTransfer}
 use Rattle.cdc_types.specs.declared.transfers.TheConstants.TransferFlags.{LINKED}
 use Rattle.cdc_types.specs.declared.transfers.Transfer.{Transfer}
-use Rattle.cdc_types.specs.Flags.{has_flag, is_linked_account, is_linked_transfer}
+use Rattle.cdc_types.specs.Flags.{has_flag, is_linked_transfer}
 use Rattle.cdc_types.specs.Lines.{first_line}
-use Rattle.cdc_types.specs.Shapes.{account_refusal, account_shape_lines}
+use Rattle.cdc_types.specs.Shapes.{account_shape_lines}
 use Rattle.cdc_types.specs.Timestamps.{last_timestamp}
 use Rattle.cdc_types.proofs.Rising.{last_timestamp_from-push}
 use Rattle.cdc_ledger.specs.Balances.{balances}
@@ -22,7 +22,7 @@ use Rattle.cdc_ledger.specs.Changes.{pushed, timed, with_account}
 use Rattle.cdc_ledger.specs.Due.{due}
 use Rattle.cdc_ledger.specs.Events.{events}
 use Rattle.cdc_ledger.specs.Filling.{expires_at as expires_at_one}
-use Rattle.cdc_ledger.specs.Fits.{NewAccountFits, NewTransferFits}
+use Rattle.cdc_ledger.specs.Fits.{NewTransferFits}
 use Rattle.cdc_ledger.specs.Follows.{Follows}
 use Rattle.cdc_ledger.specs.History.{History, Opened, empty_history, opened}
 use Rattle.cdc_ledger.specs.Kinds.{stores}
@@ -41,84 +41,21 @@ use Rattle.cdc_message.specs.Widths.{EventFits}
 use Rattle.cdc_audit.specs.declared.fields.FixedFields.{FixedFields}
 use Rattle.cdc_audit.specs.Audits.{follows_on}
 use Rattle.cdc_audit.specs.EventShapes.{asked_transfer}
-use Rattle.cdc_audit.specs.Fields.{created_lines, fields_before, fields_lines}
 use Rattle.cdc_audit.specs.Known.{balances_after, ends_in_chain, is_linked, last_expiry}
 use Rattle.cdc_audit.specs.Settling.{expires_at}
 use Rattle.cdc_audit_laws.specs.Soundness.{AreInTurn, accounts_in, linked_run}
 use Rattle.cdc_audit_laws.proofs.Coming.{Comes}
 use Rattle.cdc_audit_laws.proofs.Entering.{entry_is, own, own_follows, shows_own, unrefused}
 use Rattle.cdc_audit_laws.proofs.Expiry.{expired, expiry_follows, expiry_is, is_up, shows_expired}
-use Rattle.cdc_audit_laws.proofs.Following.{CanFollow, none_both}
+use Rattle.cdc_audit_laws.proofs.Following.{CanFollow}
 use Rattle.cdc_audit_laws.proofs.Ledgers.{fixed_of}
 use Rattle.cdc_audit_laws.proofs.Made.{IsShownBy, entry_with, events_then, shown_then, sound_then}
 use Rattle.cdc_audit_laws.proofs.Modes.{GoesOn, Mode, chain-push, chain_goes_on, chain_next, expiry-push, pulse_goes_on, pulse_left, pulse_next, run-push, stores_or_not}
-use Rattle.cdc_audit_laws.proofs.Running.{Pulses, RunsOn, pulses-done, pulses-expired, pulses-legal, runs-done, runs-legal, runs-more, runs-taken, timed_before}
+use Rattle.cdc_audit_laws.proofs.Openings.{IsOpenable, are_created, opening_of, request_fits}
+use Rattle.cdc_audit_laws.proofs.Running.{opens, Pulses, RunsOn, pulses-done, pulses-expired, pulses-legal, runs-done, runs-legal, runs-more, runs-taken, timed_before}
 use Rattle.cdc_audit_laws.proofs.Streams.{first_follows}
-use Rattle.cdc_audit_laws.proofs.Submitting.{opens}
 use Rattle.cdc_audit_laws.proofs.Told.{Opens, Rises, Told, events_in, events_later, opens_later}
 use Rattle.cdc_audit_laws.proofs.Turns.{next_due}
-
--- an account of these fields, as it was opened
-abbrev pub opening_of : ℕ × FixedFields → Opened
-opening_of a = record {
-  request = record {
-    id = a.0;
-    user_data_128 = a.1.user_data_128;
-    user_data_64 = a.1.user_data_64;
-    user_data_32 = a.1.user_data_32;
-    ledger = a.1.ledger;
-    code = a.1.code;
-    flags = a.1.flags;
-  };
-  timestamp = a.1.timestamp;
-}
-
--- an account that a ledger can open by itself
-pub record IsOpenable (o : Opened) : Type 0 where
-  pub fields : account_refusal o.request ≡ None
-  pub fits : NewAccountFits o.request
-  pub unlinked : is_linked_account o.request ≡ false
-  pub within : o.timestamp ≤ TIMESTAMP
-
--- an event has numbers that a request may have
-request_fits : (e : Event) → EventFits e → NewTransferFits (asked_transfer e)
-request_fits e fits = record {
-  id = fits.transfer.id;
-  debit_account_id = fits.debit_account.id;
-  credit_account_id = fits.credit_account.id;
-  amount = fits.transfer.amount;
-  pending_id = fits.transfer.pending_id;
-  user_data_128 = fits.transfer.user_data_128;
-  user_data_64 = fits.transfer.user_data_64;
-  user_data_32 = fits.transfer.user_data_32;
-  timeout = fits.transfer.timeout;
-  ledger = fits.ledger;
-  code = fits.transfer.code;
-  flags = fits.transfer.flags;
-}
-
--- both accounts of an event that can follow were created before it, and after 0
-pub record AreCreated (e : Event) : Type 0 where
-  pub debit_some : 0 < e.debit_account.timestamp
-  pub debit : e.debit_account.timestamp < e.timestamp
-  pub credit_some : 0 < e.credit_account.timestamp
-  pub credit : e.credit_account.timestamp < e.timestamp
-
-pub are_created : (past : List Event) (e : Event) → CanFollow past e → AreCreated e
-are_created past e can =
-    let first = fields_lines (fields_before past e.debit_account.id) e.ledger e.debit_account in
-    let second = fields_lines (fields_before past e.credit_account.id) e.ledger e.credit_account in
-    let lines = (none_both (first ++ second) (created_lines e) can.fixed).1 in
-    let d = and_parts (nat_lt 0 e.debit_account.timestamp) (nat_lt e.debit_account.timestamp e.timestamp)
-    (not-false _ lines.0) in
-    let c = and_parts (nat_lt 0 e.credit_account.timestamp) (nat_lt e.credit_account.timestamp e.timestamp)
-    (not-false _ lines.1.0) in
-    record {
-      debit_some = ltb-true 0 e.debit_account.timestamp d.0;
-      debit = ltb-true e.debit_account.timestamp e.timestamp d.1;
-      credit_some = ltb-true 0 e.credit_account.timestamp c.0;
-      credit = ltb-true e.credit_account.timestamp e.timestamp c.1;
-    }
 
 module _ (all : List (ℕ × FixedFields)) where
   -- the account is the one that these show
@@ -210,7 +147,7 @@ module _ (all : List (ℕ × FixedFields)) where
 
     legal_then : IsLegal with_one
     legal_then =
-        opens h o.timestamp goes.rises.0 goes.told.0.0.within goes.is_open o.request legal goes.told.0.0.fits
+        opens h o.timestamp o.request legal goes.is_open goes.rises.0 goes.told.0.0.within goes.told.0.0.fits
         goes.told.0.0.unlinked unrefused_one
 
     -- it is found
