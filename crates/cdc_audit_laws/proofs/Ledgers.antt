@@ -203,12 +203,12 @@ not_too_late true up is = is refl
 not_too_late false up is = refl
 
 -- the events of entries end within a chain if these do, and at the same timestamp
-same_chain : (h : History) (b : Bool) (es : List Entry) → linked_from b (map (event_of h) es) ≡ links_from b es
+pub same_chain : (h : History) (b : Bool) (es : List Entry) → linked_from b (map (event_of h) es) ≡ links_from b es
 same_chain h b [] = refl
 same_chain h b (e ∷ es) = same_chain h (links e) es
 
 -- and so is the last expiry
-same_expiry : (h : History) (last : Option Entry) (es : List Entry)
+pub same_expiry : (h : History) (last : Option Entry) (es : List Entry)
     → last_expiry_from (option_map (event_of h) last) (map (event_of h) es)
     ≡ option_map (event_of h) (expiry_from last es)
 same_expiry h last [] = refl
@@ -709,12 +709,12 @@ auditable-pushed h e sound follows after next enters is = (
 pub auditable : (h : History) → IsLegal h → IsAuditable h
 auditable h legal =
     kept_by_legal IsAuditable (kept-empty, audited-empty)
-    (λ g r t sound later chained none next is.
+    (λ g r t sound later clear room chained none next is.
     auditable-pushed g (entry_of g r t) sound (Follows-accepted g r t sound later none) later next
     (enters-accepted g r t sound later is.0.ledgers chained none) is)
-    (λ g p t sound later is_open up unchained order next is.
-    auditable-pushed g (expiry p t) sound (Follows-open g p t sound is_open) later next
-    (enters-expiry g p t is.0.ledgers is_open up unchained order) is)
+    (λ g now t p ps sound later all up unchained pulsing next is.
+    auditable-pushed g (expiry p t) sound (Follows-open g p t sound all.0) later next
+    (enters-expiry g p t is.0.ledgers all.0 up unchained pulsing.first) is)
     (λ g a t sound later none is.
     (kept-account g a t sound later none is.0, audited-account g (opened_by a t) sound (omega arith) is.1))
     (λ g t sound later is. (kept-timed g t sound later is.0, audited-timed g t sound later is.1))

@@ -24,5 +24,7 @@ pub mod Told
 pub mod Openings
 pub mod Walk
 pub mod Soundness
+pub mod InTurn
+pub mod Apart
 mod Examples
 mod SoundExamples

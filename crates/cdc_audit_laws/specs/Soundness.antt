@@ -86,3 +86,12 @@ abbrev pub EventsAloneAreALedgers : Type 0
 EventsAloneAreALedgers = (events : List Event) → AllByRecursion IsAlone events
     → AllByRecursion (IsOpenedAlone events) (accounts_in events) → is_accepted events ≡ true
     → (h : History) × IsLegal h × (events_of h ≡ events)
+
+-- a ledger's events come in turn
+abbrev pub LedgersComeInTurn : Type 0
+LedgersComeInTurn = (h : History) → IsLegal h → AreInTurn [] (events_of h)
+
+-- and can be told, if their numbers are within their widths and none of their accounts is linked
+abbrev pub LedgersCanBeTold : Type 0
+LedgersCanBeTold = (h : History) → IsLegal h → AllByRecursion EventFits (events_of h)
+    → AllByRecursion (λ a. has_flag a.1.flags LINKED ≡ false) (accounts_in (events_of h)) → CanBeTold (events_of h)

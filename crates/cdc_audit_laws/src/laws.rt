@@ -2,7 +2,7 @@
 
 ghost use Rattle.cdc_audit_laws.specs.Laws.{AChangeShows, AcceptedEventsRise, BalancesAreSums, LedgersAreAccepted, NoOtherBalances};
 ghost use Rattle.cdc_audit_laws.specs.Laws.{PrefixesAreAccepted, WhatIsLeftOutMovedNothing};
-ghost use Rattle.cdc_audit_laws.specs.Soundness.{AcceptedEventsAreALedgers, EventsAloneAreALedgers};
+ghost use Rattle.cdc_audit_laws.specs.Soundness.{AcceptedEventsAreALedgers, EventsAloneAreALedgers, LedgersCanBeTold, LedgersComeInTurn};
 
 /// Does nothing. Every stream that a ledger's events make is accepted, whole and every prefix of it.
 pub fn ledgers_are_accepted()
@@ -16,6 +16,13 @@ pub fn ledgers_are_accepted()
 pub fn accepted_events_are_a_ledgers()
     ensures all { AcceptedEventsAreALedgers }
     ensures alone { EventsAloneAreALedgers }
+{}
+
+/// Does nothing. The events of a ledger come in turn. They can be told, if their numbers are within their widths and none
+/// of their accounts is linked.
+pub fn ledgers_can_be_told()
+    ensures turn { LedgersComeInTurn }
+    ensures told { LedgersCanBeTold }
 {}
 
 /// Does nothing. Each prefix of an accepted stream is accepted. So what the other laws promise of the last event of a
