@@ -219,7 +219,8 @@ module _ (P : History → Type 0) (on_empty : P empty_history)
     → run_of h < BATCH_ITEMS → (is_in_chain h ≡ true → t ≡ end_from 0 h.entries + 1) → transfer_refused h r t ≡ None
     → IsSound (pushed h (entry_of h r t)) → P h → P (pushed h (entry_of h r t)))
     (on_expiry : (h : History) (now t : ℕ) (p : Transfer) (ps : List Transfer) → IsSound h → h.last < t
-    → AllByRecursion (IsOpen h) (p ∷ ps) → IsUp p t → is_in_chain h ≡ false → IsPulsing h now t (p ∷ ps) → IsSound (pushed h (expiry p t)) → P h
+    → AllByRecursion (IsOpen h) (p ∷ ps) → IsUp p t → is_in_chain h ≡ false → IsPulsing h now t (p ∷ ps)
+    → IsSound (pushed h (expiry p t)) → P h
     → P (pushed h (expiry p t)))
     (on_account : (h : History) (a : NewAccount) (t : ℕ) → IsSound h → h.last < t → account_refused h a ≡ None → P h
     → P (with_account h (opened_by a t)))
@@ -316,7 +317,8 @@ module _ (P : History → Type 0) (on_empty : P empty_history)
 
   -- a chain, taken or not
   keeps-chain : (h : History) (t : ℕ) (chain : List NewTransfer) → Keeps h → h.last < t
-      → length chain ≤ BATCH_ITEMS → ((n : ℕ) → t ≤ n → n < t + length chain → n ≤ max_timestamp)
+      → length chain ≤ BATCH_ITEMS
+      → ((n : ℕ) → t ≤ n → n < t + length chain → n ≤ max_timestamp)
       → Past (t + length chain) (history_after transfer_rules h t chain)
   keeps-chain h t [] keeps later room fits = record { keeps = keeps; before = omega arith }
   keeps-chain h t (r ∷ rest) keeps later room fits =
@@ -343,7 +345,9 @@ module _ (P : History → Type 0) (on_empty : P empty_history)
 
   -- chains, one after another
   keeps-chains : (h : History) (t : ℕ) (chains : List (List NewTransfer)) → Keeps h → h.last < t
-      → total chains ≤ BATCH_ITEMS → ((n : ℕ) → t ≤ n → n < t + total chains → n ≤ max_timestamp) → Keeps (chains_from transfer_rules h t chains).1
+      → total chains ≤ BATCH_ITEMS
+      → ((n : ℕ) → t ≤ n → n < t + total chains → n ≤ max_timestamp)
+      → Keeps (chains_from transfer_rules h t chains).1
   keeps-chains h t [] keeps later room fits = keeps
   keeps-chains h t (chain ∷ chains) keeps later room fits =
       let first = keeps-chain h t chain keeps later (omega arith) (λ n from below. fits n from (omega arith)) in
@@ -353,7 +357,8 @@ module _ (P : History → Type 0) (on_empty : P empty_history)
 
   -- requests for transfers
   keeps-transfers : (h : History) (t : ℕ) (rs : List NewTransfer) → Keeps h → h.last < t
-      → length rs ≤ BATCH_ITEMS → (0 < length rs → t + length rs ≤ max_timestamp + 1) → Keeps (transfers_from h t rs).1
+      → length rs ≤ BATCH_ITEMS
+      → (0 < length rs → t + length rs ≤ max_timestamp + 1) → Keeps (transfers_from h t rs).1
   keeps-transfers h t rs keeps later room fits =
       keeps-chains h t (chains_of is_linked_transfer rs) keeps later
       (let all = total-chains_of is_linked_transfer rs in omega arith)

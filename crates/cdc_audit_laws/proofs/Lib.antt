@@ -28,3 +28,4 @@ pub mod InTurn
 pub mod Apart
 mod Examples
 mod SoundExamples
+mod TurnExamples

@@ -20,7 +20,7 @@ use Rattle.cdc_audit_laws.specs.Soundness.{IsAlone, IsOpenedAlone, accounts_in}
 use Rattle.cdc_audit_laws.proofs.Soundness.{events_alone_are_a_ledgers}
 
 -- an account, created at this time, and its balances
-abbrev account : ℕ → ℕ → ℕ → ℕ → ℕ → ℕ → EventAccount
+abbrev pub account : ℕ → ℕ → ℕ → ℕ → ℕ → ℕ → EventAccount
 account id created debits_pending debits_posted credits_pending credits_posted = record {
   id = id;
   debits_pending = debits_pending;
@@ -36,7 +36,7 @@ account id created debits_pending debits_posted credits_pending credits_posted =
 }
 
 -- an event: its timestamp, the transfer's id, pending id, amount, timeout, flags and timestamp, and the two accounts
-abbrev event : EventKind → ℕ → ℕ → ℕ → ℕ → ℕ → ℕ → ℕ → EventAccount → EventAccount → Event
+abbrev pub event : EventKind → ℕ → ℕ → ℕ → ℕ → ℕ → ℕ → ℕ → EventAccount → EventAccount → Event
 event kind timestamp id pending_id amount timeout flags stored debit credit = record {
   timestamp = timestamp;
   kind = kind;
@@ -88,7 +88,7 @@ accepted = refl
 small : (m : ℕ) → nat_lt m 60000 ≡ true → m < 60000
 small m is = ltb-true m 60000 is
 
-account_fits : (id created a b c d : ℕ) → nat_lt id 60000 ≡ true → nat_lt created 60000 ≡ true
+pub account_fits : (id created a b c d : ℕ) → nat_lt id 60000 ≡ true → nat_lt created 60000 ≡ true
     → nat_lt a 60000 ≡ true → nat_lt b 60000 ≡ true → nat_lt c 60000 ≡ true → nat_lt d 60000 ≡ true
     → AccountFits (account id created a b c d)
 account_fits id created a b c d one two three four five six = record {
@@ -105,13 +105,13 @@ account_fits id created a b c d one two three four five six = record {
   timestamp = omega (arith, small created two);
 }
 
-event_fits : (kind : EventKind) (t id pending_id amount timeout flags stored : ℕ) (debit credit : EventAccount)
-    → nat_lt t 60000 ≡ true → nat_lt id 60000 ≡ true → nat_lt pending_id 60000 ≡ true → nat_lt amount 60000 ≡ true
-    → nat_lt timeout 60000 ≡ true → nat_lt flags 60000 ≡ true → nat_lt stored 60000 ≡ true → AccountFits debit
+pub event_fits : (kind : EventKind) (t id pending_id amount timeout flags stored : ℕ) (debit credit : EventAccount)
+    → nat_lt t 4000000000 ≡ true → nat_lt id 60000 ≡ true → nat_lt pending_id 60000 ≡ true → nat_lt amount 60000 ≡ true
+    → nat_lt timeout 60000 ≡ true → nat_lt flags 60000 ≡ true → nat_lt stored 4000000000 ≡ true → AccountFits debit
     → AccountFits credit → EventFits (event kind t id pending_id amount timeout flags stored debit credit)
 event_fits kind t id pending_id amount timeout flags stored debit credit one two three four five six seven d c =
     record {
-      timestamp = omega (arith, small t one);
+      timestamp = omega (arith, ltb-true t 4000000000 one);
       ledger = omega arith;
       transfer = record {
         id = omega (arith, small id two);
@@ -123,7 +123,7 @@ event_fits kind t id pending_id amount timeout flags stored debit credit one two
         timeout = omega (arith, small timeout five);
         code = omega arith;
         flags = omega (arith, small flags six);
-        timestamp = omega (arith, small stored seven);
+        timestamp = omega (arith, ltb-true stored 4000000000 seven);
       };
       debit_account = d;
       credit_account = c;
@@ -188,15 +188,15 @@ each_alone = (
 )
 
 -- no account of it has the timestamp of an event or of another account
-opened_alone : (a : ℕ × FixedFields) → has_flag a.1.flags LINKED ≡ false
-    → list_any (λ (e : Event). e.timestamp == a.1.timestamp) stream ≡ false
-    → list_any (λ (b : ℕ × FixedFields). (b.1.timestamp == a.1.timestamp) && not (b.0 == a.0)) (accounts_in stream)
+pub opened_alone : (es : List Event) (a : ℕ × FixedFields) → has_flag a.1.flags LINKED ≡ false
+    → list_any (λ (e : Event). e.timestamp == a.1.timestamp) es ≡ false
+    → list_any (λ (b : ℕ × FixedFields). (b.1.timestamp == a.1.timestamp) && not (b.0 == a.0)) (accounts_in es)
     ≡ false
-    → IsOpenedAlone stream a
-opened_alone a unlinked no_event no_other = record {
+    → IsOpenedAlone es a
+opened_alone es a unlinked no_event no_other = record {
   unlinked = unlinked;
-  no_event = none_at a.1.timestamp stream no_event;
-  no_other = none_but a (accounts_in stream) no_other;
+  no_event = none_at a.1.timestamp es no_event;
+  no_other = none_but a (accounts_in es) no_other;
 }
   where
     none_at : (t : ℕ) (es : List Event) → list_any (λ (e : Event). e.timestamp == t) es ≡ false
@@ -223,29 +223,29 @@ opened_alone a unlinked no_event no_other = record {
 
 each_opened : AllByRecursion (IsOpenedAlone stream) (accounts_in stream)
 each_opened = (
-  opened_alone _ refl refl refl,
+  opened_alone stream _ refl refl refl,
   (
-    opened_alone _ refl refl refl,
+    opened_alone stream _ refl refl refl,
     (
-      opened_alone _ refl refl refl,
+      opened_alone stream _ refl refl refl,
       (
-        opened_alone _ refl refl refl,
+        opened_alone stream _ refl refl refl,
         (
-          opened_alone _ refl refl refl,
+          opened_alone stream _ refl refl refl,
           (
-            opened_alone _ refl refl refl,
+            opened_alone stream _ refl refl refl,
             (
-              opened_alone _ refl refl refl,
+              opened_alone stream _ refl refl refl,
               (
-                opened_alone _ refl refl refl,
+                opened_alone stream _ refl refl refl,
                 (
-                  opened_alone _ refl refl refl,
+                  opened_alone stream _ refl refl refl,
                   (
-                    opened_alone _ refl refl refl,
+                    opened_alone stream _ refl refl refl,
                     (
-                      opened_alone _ refl refl refl,
+                      opened_alone stream _ refl refl refl,
                       (
-                        opened_alone _ refl refl refl,
+                        opened_alone stream _ refl refl refl,
                         tt,
                       ),
                     ),
