@@ -37,7 +37,7 @@ no_first_line [] none = refl
 no_first_line (line ∷ lines) none = rw none.0 (no_first_line lines none.1)
 
 -- none of two parts of lines applies
-none_both : {R : Type 0} (first second : List (Bool × R)) → NoneApplies (first ++ second)
+pub none_both : {R : Type 0} (first second : List (Bool × R)) → NoneApplies (first ++ second)
     → NoneApplies first × NoneApplies second
 none_both [] second none = (tt, none)
 none_both (line ∷ first) second none =

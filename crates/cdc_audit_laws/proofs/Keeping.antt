@@ -2,7 +2,7 @@
 use Rattle.std.proofs.Common.{ℕ, ◌+◌, ◌<◌, ◌≤◌, Bool, true, false, map, None, List, [], ◌∷◌, ◌++◌, ◌≡◌, ◌≢◌, Option, Some, ap, Result, Ok, Err, ◌||◌, refl, sym, ap₂, ◌∙◌, subst, arith, length}
 use Rattle.std.specs.Prelude.{◌==◌, ◌&&◌, ◌-◌, not, nat_le, filter, if◌then◌else◌, unwrap_or, IfSome}
 use Rattle.std.specs.List.{AllByRecursion}
-use Rattle.std.proofs.lemmas.Bool.{and_parts, false≢true, leb-true, ne_eqb, not-true}
+use Rattle.std.proofs.lemmas.Bool.{and_parts, false≢true, leb-true, ltb-false, ne_eqb, not-true}
 use Rattle.cdc_types.specs.declared.accounts.NewAccount.{NewAccount}
 use Rattle.cdc_types.specs.declared.batches.Batch.{Batch}
 use Rattle.cdc_types.specs.declared.batches.Batch.TheVariants as batch
@@ -14,7 +14,10 @@ use Rattle.cdc_types.specs.declared.transfers.TheConstants.TransferFlags.{LINKED
 use Rattle.cdc_types.specs.Flags.{has_flag, is_linked_transfer, is_pending_request, is_plain_request, is_post_request, is_void_request}
 use Rattle.cdc_types.specs.declared.transfers.NewTransfer.{NewTransfer}
 use Rattle.cdc_types.specs.declared.transfers.Transfer.{Transfer}
+use Rattle.cdc_types.specs.declared.bounds.TheConstants.Limits.{BATCH_ITEMS}
 use Rattle.cdc_ledger.specs.declared.errors.BatchError.{BatchError}
+use Rattle.cdc_ledger.specs.declared.errors.BatchError.TheVariants.{LedgerClosed, BatchTooLarge, TimestampsExhausted}
+use Rattle.cdc_ledger.specs.BatchErrors.{batch_error_number}
 use Rattle.cdc_ledger.specs.Changes.{expiry, pushed, timed, with_account}
 use Rattle.cdc_ledger.specs.Due.{due, is_due}
 use Rattle.cdc_ledger.specs.Chains.{before_others, chains_from, chains_of, history_after, in_front, is_none_left, played, refused_in_chain}
@@ -23,7 +26,7 @@ use Rattle.cdc_ledger.specs.Kinds.{holds, stores}
 use Rattle.cdc_ledger.specs.Balances.{resolved}
 use Rattle.cdc_ledger.specs.History.{History, empty_history}
 use Rattle.cdc_ledger.specs.Sound.{IsSound}
-use Rattle.cdc_ledger.specs.Submit.{IsLegal, account_rules, accounts_from, after_batches, base, entry_of, expiries_from, kind_of, history_or, is_past_the_end, opened_by, submit, taken, transfer_rules, transfers_from}
+use Rattle.cdc_ledger.specs.Submit.{IsLegal, account_rules, accounts_from, after_batches, base, entry_of, expiries_from, kind_of, history_or, is_past_the_end, opened_by, submit, taken, transfer_rules, transfers_from, closed_if, is_too_large, items_of, refusal_of, time}
 use Rattle.cdc_ledger.specs.Verdict.{account_refused, max_timestamp, transfer_refused}
 use Rattle.cdc_ledger.proofs.AcceptedLaws.{Follows-accepted, accepted_account}
 use Rattle.cdc_ledger.proofs.BalanceLaws.{resolved_then}
@@ -31,10 +34,12 @@ use Rattle.cdc_ledger.proofs.ChainLaws.{items_from-keeps}
 use Rattle.cdc_ledger.proofs.DueOrder.{All-in_order}
 use Rattle.cdc_ledger.proofs.Elements.{AllByRecursion-both, AllByRecursion-weaker}
 use Rattle.cdc_ledger.proofs.KeptLaws.{after_last, submit_parts, within_end}
+use Rattle.cdc_ledger.proofs.LegalLaws.{answered_ok}
+use Rattle.cdc_ledger.proofs.LineLaws.{test_fails}
 use Rattle.cdc_ledger.proofs.PulseLaws.{Follows-open, HaveOwnIds, IsOpen, due_ids, due_open}
 use Rattle.cdc_ledger.proofs.SoundLaws.{IsSound-empty, IsSound-pushed, IsSound-timed, IsSound-with_account}
 use Rattle.cdc_ledger.proofs.StoredLaws.{stored-pushed_kept}
-use Rattle.cdc_audit_laws.proofs.Pulses.{Clear, IsInTurn, IsPulsing, clear-stored, clear_later, in_turn-expiry, in_turn-stored, pulsing-due, pulsing-next}
+use Rattle.cdc_audit_laws.proofs.Pulses.{Clear, IsPulsing, clear-stored, clear_later, pulsing-due, pulsing-next}
 
 -- the expiry of one transfer leaves another one open
 open_after : (h : History) (p q : Transfer) (t : ℕ) → IsSound h → h.last < t → p.id ≢ q.id → IsOpen h q
@@ -65,7 +70,7 @@ passing_all test P holds (e ∷ es) = by (test e) refl (passing_all test P holds
     by false passes more = more
 
 -- the time of each transfer that is due is up
-due_up : (h : History) (now : ℕ) → AllByRecursion (λ p. IsUp p now) (due h now)
+pub due_up : (h : History) (now : ℕ) → AllByRecursion (λ p. IsUp p now) (due h now)
 due_up h now =
     All-in_order (λ p. IsUp p now) (map (λ e. e.transfer) (filter (is_due h now) h.entries))
     (passing_all (is_due h now) (λ p. IsUp p now) (λ e is.
@@ -98,6 +103,37 @@ links_from linked (e ∷ es) = links_from (links e) es
 abbrev pub is_in_chain : History → Bool
 is_in_chain h = links_from false h.entries
 
+-- how many linked transfers these entries end with, after this number of them
+abbrev pub run_from : ℕ → List Entry → ℕ
+run_from n [] = n
+run_from n (e ∷ es) = run_from (if links e then n + 1 else 0) es
+
+abbrev pub run_of : History → ℕ
+run_of h = run_from 0 h.entries
+
+run_from-push : (n : ℕ) (es : List Entry) (e : Entry)
+    → run_from n (es ++ e ∷ []) ≡ (if links e then run_from n es + 1 else 0)
+run_from-push n [] e = refl
+run_from-push n (x ∷ es) e = run_from-push (if links x then n + 1 else 0) es e
+
+-- one more entry makes it one longer at most
+run-pushed : (h : History) (e : Entry) → run_of (pushed h e) ≤ run_of h + 1
+run-pushed h e = let is = run_from-push 0 h.entries e in by (links e) is
+  where
+    by : (b : Bool) → run_of (pushed h e) ≡ (if b then run_of h + 1 else 0) → run_of (pushed h e) ≤ run_of h + 1
+    by true is = omega (arith, is)
+    by false is = omega (arith, is)
+
+-- and outside of a chain it is 0
+pub run-none : (n : ℕ) (linked : Bool) (es : List Entry) → (linked ≡ false → n ≡ 0) → links_from linked es ≡ false
+    → run_from n es ≡ 0
+run-none n linked [] none is = none is
+run-none n linked (e ∷ es) none is = run-none (if links e then n + 1 else 0) (links e) es (by (links e)) is
+  where
+    by : (b : Bool) → b ≡ false → (if b then n + 1 else 0) ≡ 0
+    by true no_link = absurd (false≢true (sym no_link))
+    by false no_link = refl
+
 -- the timestamp of the last of these entries; t if there is none
 abbrev pub end_from : ℕ → List Entry → ℕ
 end_from t [] = t
@@ -121,7 +157,7 @@ same_flags h r t = by (is_plain_request r) (stored h r.pending_id)
     by false None = refl
     by false (Some x) = refl
 
-stores_asked : (r : NewTransfer) → stores (kind_of r) ≡ true
+pub stores_asked : (r : NewTransfer) → stores (kind_of r) ≡ true
 stores_asked r = by (is_pending_request r) (is_post_request r) (is_void_request r)
   where
     by : (pending post void : Bool)
@@ -167,14 +203,24 @@ total-chains_of linked (a ∷ rest) =
     let others = total-chains_of linked rest in
     omega (arith, more, others)
 
+-- a batch that is answered isn't too large
+not_large : (h : History) (b : Batch) (answer : BatchResults × History) → submit h b ≡ Ok answer
+    → is_too_large b ≡ false
+not_large h b answer e =
+    test_fails batch_error_number BatchTooLarge
+    ((h.closed, LedgerClosed) ∷ (is_too_large b, BatchTooLarge)
+    ∷ (is_past_the_end h (time b) (items_of h b), TimestampsExhausted) ∷ [])
+    (answered_ok (refusal_of h b) (taken h b) answer e)
+
 -- the property holds of a new ledger, and each of these keeps it: a transfer that is accepted, the expiry of an open
 -- one, an account that is accepted, a timestamp that is taken, and closing the ledger
 module _ (P : History → Type 0) (on_empty : P empty_history)
-    (on_request : (h : History) (r : NewTransfer) (t : ℕ) → IsSound h → h.last < t
-    → (is_in_chain h ≡ true → t ≡ end_from 0 h.entries + 1) → transfer_refused h r t ≡ None
-    → IsInTurn h (entry_of h r t) → IsSound (pushed h (entry_of h r t)) → P h → P (pushed h (entry_of h r t)))
-    (on_expiry : (h : History) (p : Transfer) (t : ℕ) → IsSound h → h.last < t → IsOpen h p
-    → IsUp p t → is_in_chain h ≡ false → IsInTurn h (expiry p t) → IsSound (pushed h (expiry p t)) → P h
+    (on_request : (h : History) (r : NewTransfer) (t : ℕ) → IsSound h → h.last < t → Clear h []
+    → run_of h < BATCH_ITEMS → (is_in_chain h ≡ true → t ≡ end_from 0 h.entries + 1) → transfer_refused h r t ≡ None
+    → IsSound (pushed h (entry_of h r t)) → P h → P (pushed h (entry_of h r t)))
+    (on_expiry : (h : History) (now t : ℕ) (p : Transfer) (ps : List Transfer) → IsSound h → h.last < t
+    → AllByRecursion (IsOpen h) (p ∷ ps) → IsUp p t → is_in_chain h ≡ false → IsPulsing h now t (p ∷ ps)
+    → IsSound (pushed h (expiry p t)) → P h
     → P (pushed h (expiry p t)))
     (on_account : (h : History) (a : NewAccount) (t : ℕ) → IsSound h → h.last < t → account_refused h a ≡ None → P h
     → P (with_account h (opened_by a t)))
@@ -210,15 +256,14 @@ module _ (P : History → Type 0) (on_empty : P empty_history)
 
   -- an accepted request
   keeps-request : (h : History) (r : NewTransfer) (t : ℕ) → Inner h → h.last < t → t ≤ max_timestamp
-      → (is_in_chain h ≡ true → t ≡ end_from 0 h.entries + 1) → transfer_refused h r t ≡ None
+      → run_of h < BATCH_ITEMS → (is_in_chain h ≡ true → t ≡ end_from 0 h.entries + 1) → transfer_refused h r t ≡ None
       → Inner (pushed h (entry_of h r t))
-  keeps-request h r t inner later within next none =
+  keeps-request h r t inner later within room next none =
       let sound : IsSound (pushed h (entry_of h r t)) =
       IsSound-pushed h (entry_of h r t) inner.0 (Follows-accepted h r t inner.0 later none) later within in
       let at : (filled h r t).timestamp ≡ t = at_its_time h r t in (
         sound,
-        on_request h r t inner.0 later next none (in_turn-stored h (entry_of h r t) (stores_asked r) inner.2) sound
-            inner.1,
+        on_request h r t inner.0 later inner.2 room next none sound inner.1,
         clear-stored h (entry_of h r t) inner.0 later (stores_asked r) (omega arith) inner.2,
       )
 
@@ -234,18 +279,19 @@ module _ (P : History → Type 0) (on_empty : P empty_history)
   -- a chain of requests for transfers that is taken: after each linked one the next one follows at once
   keeps-played : (h : History) (t : ℕ) (chain : List NewTransfer) → Inner h → h.last < t
       → (is_in_chain h ≡ true → t ≡ end_from 0 h.entries + 1)
-      → (is_none_left chain ≡ true → is_in_chain h ≡ false)
+      → (is_none_left chain ≡ true → is_in_chain h ≡ false) → run_of h + length chain ≤ BATCH_ITEMS
       → ((n : ℕ) → t ≤ n → n < t + length chain → n ≤ max_timestamp)
       → IfSome (played transfer_rules h t chain).1 (Past (t + length chain))
-  keeps-played h t [] inner later next ends fits =
+  keeps-played h t [] inner later next ends room fits =
       record { keeps = (inner.0, inner.1, ends refl, inner.2); before = omega arith }
-  keeps-played h t (r ∷ rest) inner later next ends fits =
+  keeps-played h t (r ∷ rest) inner later next ends room fits =
       by (refused_in_chain transfer_rules h r (is_none_left rest) t) refl (λ own none.
       keeps-played (pushed h (entry_of h r t)) (t + 1) rest
-      (keeps-request h r t inner later (fits t (omega arith) (omega arith)) next none) (omega arith)
+      (keeps-request h r t inner later (fits t (omega arith) (omega arith)) (omega arith) next none) (omega arith)
       (λ is. ap (λ n. n + 1) (sym (end_from-push 0 h.entries (entry_of h r t))))
       (λ last. links_from-push false h.entries (entry_of h r t) ∙ links_asked h r t
       ∙ sym (and_true_right (is_linked_transfer r)) ∙ ap (λ b. is_linked_transfer r && b) (sym last) ∙ own)
+      (let longer = run-pushed h (entry_of h r t) in omega arith)
       (λ n from below. fits n (omega arith) (omega arith)))
     where
       and_true_right : (b : Bool) → (b && true) ≡ b
@@ -271,13 +317,15 @@ module _ (P : History → Type 0) (on_empty : P empty_history)
 
   -- a chain, taken or not
   keeps-chain : (h : History) (t : ℕ) (chain : List NewTransfer) → Keeps h → h.last < t
+      → length chain ≤ BATCH_ITEMS
       → ((n : ℕ) → t ≤ n → n < t + length chain → n ≤ max_timestamp)
       → Past (t + length chain) (history_after transfer_rules h t chain)
-  keeps-chain h t [] keeps later fits = record { keeps = keeps; before = omega arith }
-  keeps-chain h t (r ∷ rest) keeps later fits =
+  keeps-chain h t [] keeps later room fits = record { keeps = keeps; before = omega arith }
+  keeps-chain h t (r ∷ rest) keeps later room fits =
       by (played transfer_rules h t (r ∷ rest)).1
       (keeps-played h t (r ∷ rest) (keeps.0, keeps.1, keeps.3) later (λ is. absurd (false≢true (sym keeps.2 ∙ is)))
-      (λ none. absurd (false≢true none)) fits)
+      (λ none. absurd (false≢true none))
+      (let run = run-none 0 false h.entries (λ is. refl) keeps.2 in omega arith) fits)
     where
       by : (o : Option History) → IfSome o (Past (t + length (r ∷ rest)))
           → Past (t + length (r ∷ rest)) (unwrap_or o (timed h (t + length (r ∷ rest) - 1)))
@@ -297,18 +345,23 @@ module _ (P : History → Type 0) (on_empty : P empty_history)
 
   -- chains, one after another
   keeps-chains : (h : History) (t : ℕ) (chains : List (List NewTransfer)) → Keeps h → h.last < t
-      → ((n : ℕ) → t ≤ n → n < t + total chains → n ≤ max_timestamp) → Keeps (chains_from transfer_rules h t chains).1
-  keeps-chains h t [] keeps later fits = keeps
-  keeps-chains h t (chain ∷ chains) keeps later fits =
-      let first = keeps-chain h t chain keeps later (λ n from below. fits n from (omega arith)) in
+      → total chains ≤ BATCH_ITEMS
+      → ((n : ℕ) → t ≤ n → n < t + total chains → n ≤ max_timestamp)
+      → Keeps (chains_from transfer_rules h t chains).1
+  keeps-chains h t [] keeps later room fits = keeps
+  keeps-chains h t (chain ∷ chains) keeps later room fits =
+      let first = keeps-chain h t chain keeps later (omega arith) (λ n from below. fits n from (omega arith)) in
       keeps-chains (history_after transfer_rules h t chain) (t + length chain) chains first.keeps first.before
+      (omega arith)
       (λ n from below. fits n (omega arith) (omega arith))
 
   -- requests for transfers
   keeps-transfers : (h : History) (t : ℕ) (rs : List NewTransfer) → Keeps h → h.last < t
+      → length rs ≤ BATCH_ITEMS
       → (0 < length rs → t + length rs ≤ max_timestamp + 1) → Keeps (transfers_from h t rs).1
-  keeps-transfers h t rs keeps later fits =
+  keeps-transfers h t rs keeps later room fits =
       keeps-chains h t (chains_of is_linked_transfer rs) keeps later
+      (let all = total-chains_of is_linked_transfer rs in omega arith)
       (λ n from below.
       let all = total-chains_of is_linked_transfer rs in
       let whole : t + length rs ≤ max_timestamp + 1 = fits (omega arith) in omega arith)
@@ -323,7 +376,7 @@ module _ (P : History → Type 0) (on_empty : P empty_history)
       let next : IsSound (pushed h (expiry p t)) =
       IsSound-pushed h (expiry p t) sound (Follows-open h p t sound all.0) later (omega arith) in
       keeps-expiries (pushed h (expiry p t)) now (t + 1) ps next
-      (on_expiry h p t sound later all.0 up.0 unchained (in_turn-expiry h now t p ps sound all pulsing) next has)
+      (on_expiry h now t p ps sound later all up.0 unchained pulsing next has)
       (links_from-push false h.entries (expiry p t))
       (pulsing-next h now t p ps sound later up.0.ended pulsing)
       (AllByRecursion-weaker (λ q. (p.id ≢ q.id) × IsOpen h q) (IsOpen (pushed h (expiry p t)))
@@ -344,7 +397,9 @@ module _ (P : History → Type 0) (on_empty : P empty_history)
       let parts : (is_past_the_end h now (length items) ≡ false) ×
       (taken h (batch.Transfers now items) ≡ answer) = submit_parts h (batch.Transfers now items) answer e in
       subst (λ (a : BatchResults × History). Keeps a.1) parts.1
-      (keeps-transfers h (base h now) items keeps (after_last h now) (within_end h now (length items) parts.0))
+      (keeps-transfers h (base h now) items keeps (after_last h now)
+      (ltb-false BATCH_ITEMS (length items) (not_large h (batch.Transfers now items) answer e))
+      (within_end h now (length items) parts.0))
   keeps-submit h (batch.Pulse now) answer keeps e =
       let parts : (is_past_the_end h now (length (due h now)) ≡ false) × (taken h (batch.Pulse now) ≡ answer) =
       submit_parts h (batch.Pulse now) answer e in
@@ -375,3 +430,12 @@ module _ (P : History → Type 0) (on_empty : P empty_history)
       subst P (sym legal.made)
       (on_closed before (legal.close || before.closed)
       (keeps-after_batches empty_history legal.batches (IsSound-empty, on_empty, refl, tt)).1)
+
+  -- and ends neither within a chain nor within a pulse
+  pub ended_by_legal : (h : History) → IsLegal h → (is_in_chain h ≡ false) × Clear h []
+  ended_by_legal h legal =
+      let before : History = after_batches empty_history legal.batches in
+      let keeps = keeps-after_batches empty_history legal.batches (IsSound-empty, on_empty, refl, tt) in
+      let shut : History = closed_if legal.close before in
+      subst (λ g. (is_in_chain g ≡ false) × Clear g []) (sym legal.made)
+      (keeps.2, clear_later before shut [] keeps.0 refl (omega arith) keeps.3)

@@ -34,7 +34,7 @@ use Rattle.cdc_ledger.specs.Follows.{Follows, SettlesOpen}
 use Rattle.cdc_ledger.specs.History.{History, Opened, empty_history, opened}
 use Rattle.cdc_ledger.specs.Kinds.{holds, settled_id, settles, stores}
 use Rattle.cdc_ledger.specs.Sound.{HasAccounts, IsSound}
-use Rattle.cdc_ledger.specs.Submit.{entry_of, opened_by}
+use Rattle.cdc_ledger.specs.Submit.{IsLegal, entry_of, opened_by}
 use Rattle.cdc_ledger.specs.Verdict.{max_timestamp}
 use Rattle.cdc_ledger.proofs.AcceptedLaws.{Follows-accepted}
 use Rattle.cdc_ledger.proofs.BalanceLaws.{balances-pushed, balances_later, released_credit, released_debit, same_balances, settled_by_is, settled_by_none}
@@ -59,21 +59,21 @@ use Rattle.cdc_audit.proofs.FirstLemmas.{first_of-all, passing}
 use Rattle.cdc_audit_laws.specs.Laws.{LedgersAreAccepted}
 use Rattle.cdc_audit_laws.proofs.Entries.{last_timestamp-events, pending_amount-events, pending_event-events, settled_id-shown, unresolved, unsettled, unstored}
 use Rattle.cdc_audit_laws.proofs.Following.{CanFollow, IsCredited, IsDebited, NoneApplies, none_of_both}
-use Rattle.cdc_audit_laws.proofs.Keeping.{end_from, is_in_chain, kept_by_legal, links, links_from}
+use Rattle.cdc_audit_laws.proofs.Keeping.{end_from, is_in_chain, kept_by_legal, links, links_from, stores_asked}
 use Rattle.cdc_audit_laws.proofs.Kept.{IsCreated, IsKept, IsLimited, kept-account, kept-closed, kept-empty, kept-pushed, kept-timed}
 use Rattle.cdc_audit_laws.proofs.Requests.{Enters, HasLedger, HasShape, KeepsFields, account_of, asked, enters-accepted}
 use Rattle.cdc_audit_laws.proofs.Requests.{enters-expiry, keeps_data}
-use Rattle.cdc_audit_laws.proofs.Pulses.{LetsPass, expiry_from, last_expiry}
+use Rattle.cdc_audit_laws.proofs.Pulses.{LetsPass, expiry_from, in_turn-expiry, in_turn-stored, last_expiry}
 use Rattle.cdc_audit_laws.proofs.Shown.{balances_after-credited, balances_after-debited, balances_after-other, balances_of}
 use Rattle.cdc_audit_laws.proofs.Streams.{accepted-push, none_follows, prefixes_are_accepted}
 
 -- the events of a history are accepted, and show last the balances of each account
-record IsAudited (h : History) : Type 0 where
-  accepted : is_accepted (events h) ≡ true
-  shown : (id : ℕ) → balances_after (events h) id ≡ balances h id h.last
+pub record IsAudited (h : History) : Type 0 where
+  pub accepted : is_accepted (events h) ≡ true
+  pub shown : (id : ℕ) → balances_after (events h) id ≡ balances h id h.last
 
 -- an account that is there is shown under its id
-id_found : (h : History) (id : ℕ) (o : Option Opened) → opened h id ≡ o → IsSome o
+pub id_found : (h : History) (id : ℕ) (o : Option Opened) → opened h id ≡ o → IsSome o
     → (unwrap_or o nobody).request.id ≡ id
 id_found h id None is found = cc
 id_found h id (Some x) is found = opened_id h x id is
@@ -86,10 +86,10 @@ stored_id h id x there =
     eqb-true x.transfer.id id (and_parts (stores x.kind) (x.transfer.id == id) passes.0).1
 
 -- the share of the account on a side, and of another one
-part_own : (a n : ℕ) → part a a n ≡ n
+pub part_own : (a n : ℕ) → part a a n ≡ n
 part_own a n = rw (eq-eqb a a refl) refl
 
-part_other : (side a n : ℕ) → side ≢ a → part side a n ≡ 0
+pub part_other : (side a n : ℕ) → side ≢ a → part side a n ≡ 0
 part_other side a n other = rw (ne_eqb side a other) refl
 
 -- a transfer is the same as itself
@@ -114,7 +114,7 @@ whole TwoPhaseExpired x p shown kept =
     ∙ is_same (shown_transfer x)
 
 -- the fields of an account that was opened
-abbrev fixed_of : Opened → FixedFields
+abbrev pub fixed_of : Opened → FixedFields
 fixed_of o = record {
   user_data_128 = o.request.user_data_128;
   user_data_64 = o.request.user_data_64;
@@ -204,12 +204,12 @@ not_too_late true up is = is refl
 not_too_late false up is = refl
 
 -- the events of entries end within a chain if these do, and at the same timestamp
-same_chain : (h : History) (b : Bool) (es : List Entry) → linked_from b (map (event_of h) es) ≡ links_from b es
+pub same_chain : (h : History) (b : Bool) (es : List Entry) → linked_from b (map (event_of h) es) ≡ links_from b es
 same_chain h b [] = refl
 same_chain h b (e ∷ es) = same_chain h (links e) es
 
 -- and so is the last expiry
-same_expiry : (h : History) (last : Option Entry) (es : List Entry)
+pub same_expiry : (h : History) (last : Option Entry) (es : List Entry)
     → last_expiry_from (option_map (event_of h) last) (map (event_of h) es)
     ≡ option_map (event_of h) (expiry_from last es)
 same_expiry h last [] = refl
@@ -734,7 +734,7 @@ audited-closed : (h : History) (closed : Bool) → IsAudited h → IsAudited (re
 audited-closed h closed audited = record { accepted = audited.accepted; shown = audited.shown }
 
 -- the events of a history are accepted, and its accounts and entries are as they have to be
-abbrev IsAuditable : History → Type 0
+abbrev pub IsAuditable : History → Type 0
 IsAuditable h = IsKept h × IsAudited h
 
 -- one more entry
@@ -745,19 +745,22 @@ auditable-pushed h e sound follows after next enters is = (
   audited-pushed h e sound follows after next enters is.0 is.1,
 )
 
--- so the events of every legal history are accepted, and each prefix of them
-pub ledgers_are_accepted : LedgersAreAccepted
-ledgers_are_accepted h count legal =
-    let auditable : IsAuditable h =
+-- so it is with every legal history
+pub auditable : (h : History) → IsLegal h → IsAuditable h
+auditable h legal =
     kept_by_legal IsAuditable (kept-empty, audited-empty)
-    (λ g r t sound later chained none turn next is.
+    (λ g r t sound later clear room chained none next is.
     auditable-pushed g (entry_of g r t) sound (Follows-accepted g r t sound later none) later next
-    (enters-accepted g r t sound later is.0.ledgers chained none turn) is)
-    (λ g p t sound later is_open up unchained order next is.
-    auditable-pushed g (expiry p t) sound (Follows-open g p t sound is_open) later next
-    (enters-expiry g p t is.0.ledgers is_open up unchained order) is)
+    (enters-accepted g r t sound later is.0.ledgers chained none
+    (in_turn-stored g (entry_of g r t) (stores_asked r) clear)) is)
+    (λ g now t p ps sound later all up unchained pulsing next is.
+    auditable-pushed g (expiry p t) sound (Follows-open g p t sound all.0) later next
+    (enters-expiry g p t is.0.ledgers all.0 up unchained (in_turn-expiry g now t p ps sound all pulsing)) is)
     (λ g a t sound later none is.
     (kept-account g a t sound later none is.0, audited-account g (opened_by a t) sound (omega arith) is.1))
     (λ g t sound later is. (kept-timed g t sound later is.0, audited-timed g t sound later is.1))
-    (λ g closed is. (kept-closed g closed is.0, audited-closed g closed is.1)) h legal in
-    prefixes_are_accepted (events h) count auditable.1.accepted
+    (λ g closed is. (kept-closed g closed is.0, audited-closed g closed is.1)) h legal
+
+-- so the events of every legal history are accepted, and each prefix of them
+pub ledgers_are_accepted : LedgersAreAccepted
+ledgers_are_accepted h count legal = prefixes_are_accepted (events h) count (auditable h legal).1.accepted

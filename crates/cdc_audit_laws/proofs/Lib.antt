@@ -9,4 +9,23 @@ pub mod Requests
 pub mod Kept
 pub mod Entries
 pub mod Ledgers
+pub mod Traces
+pub mod Flags
+pub mod Coming
+pub mod Plain
+pub mod Posting
+pub mod Made
+pub mod Entering
+pub mod Expiry
+pub mod Turns
+pub mod Running
+pub mod Modes
+pub mod Told
+pub mod Openings
+pub mod Walk
+pub mod Soundness
+pub mod InTurn
+pub mod Apart
 mod Examples
+mod SoundExamples
+mod TurnExamples

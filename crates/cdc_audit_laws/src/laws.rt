@@ -2,10 +2,27 @@
 
 ghost use Rattle.cdc_audit_laws.specs.Laws.{AChangeShows, AcceptedEventsRise, BalancesAreSums, LedgersAreAccepted, NoOtherBalances};
 ghost use Rattle.cdc_audit_laws.specs.Laws.{PrefixesAreAccepted, WhatIsLeftOutMovedNothing};
+ghost use Rattle.cdc_audit_laws.specs.Soundness.{AcceptedEventsAreALedgers, EventsAloneAreALedgers, LedgersCanBeTold, LedgersComeInTurn};
 
 /// Does nothing. Every stream that a ledger's events make is accepted, whole and every prefix of it.
 pub fn ledgers_are_accepted()
     ensures { LedgersAreAccepted }
+{}
+
+/// Does nothing. The converse: events that are accepted are those of a legal history, if they can be told to a ledger.
+/// Each account that they show was opened by itself. It isn't linked, and no event and no other account has its
+/// timestamp. A batch has room for each chain, and transfers expire in their turn. If no event is linked or an expiry,
+/// chains and expiries ask for nothing.
+pub fn accepted_events_are_a_ledgers()
+    ensures all { AcceptedEventsAreALedgers }
+    ensures alone { EventsAloneAreALedgers }
+{}
+
+/// Does nothing. The events of a ledger come in turn. They can be told, if their numbers are within their widths and none
+/// of their accounts is linked.
+pub fn ledgers_can_be_told()
+    ensures turn { LedgersComeInTurn }
+    ensures told { LedgersCanBeTold }
 {}
 
 /// Does nothing. Each prefix of an accepted stream is accepted. So what the other laws promise of the last event of a

@@ -1,0 +1,77 @@
+-- What a ledger opens for the accounts of events, and asks for their transfers.
+use Rattle.std.proofs.Common.{◌≡◌, ℕ, ◌<◌, ◌≤◌, false, List, ◌++◌, None}
+use Rattle.std.specs.Prelude.{nat_lt}
+use Rattle.std.proofs.lemmas.Bool.{and_parts, ltb-true, not-false}
+use Rattle.cdc_types.specs.declared.bounds.TheConstants.Limits.{TIMESTAMP}
+use Rattle.cdc_types.specs.declared.events.Event.{Event}
+use Rattle.cdc_types.specs.Flags.{is_linked_account}
+use Rattle.cdc_types.specs.Shapes.{account_refusal}
+use Rattle.cdc_ledger.specs.Fits.{NewAccountFits, NewTransferFits}
+use Rattle.cdc_ledger.specs.History.{Opened}
+use Rattle.cdc_message.specs.Widths.{EventFits}
+use Rattle.cdc_audit.specs.declared.fields.FixedFields.{FixedFields}
+use Rattle.cdc_audit.specs.EventShapes.{asked_transfer}
+use Rattle.cdc_audit.specs.Fields.{created_lines, fields_before, fields_lines}
+use Rattle.cdc_audit_laws.proofs.Following.{CanFollow, none_both}
+
+-- an account of these fields, as it was opened
+abbrev pub opening_of : ℕ × FixedFields → Opened
+opening_of a = record {
+  request = record {
+    id = a.0;
+    user_data_128 = a.1.user_data_128;
+    user_data_64 = a.1.user_data_64;
+    user_data_32 = a.1.user_data_32;
+    ledger = a.1.ledger;
+    code = a.1.code;
+    flags = a.1.flags;
+  };
+  timestamp = a.1.timestamp;
+}
+
+-- an account that a ledger can open by itself
+pub record IsOpenable (o : Opened) : Type 0 where
+  pub fields : account_refusal o.request ≡ None
+  pub fits : NewAccountFits o.request
+  pub unlinked : is_linked_account o.request ≡ false
+  pub within : o.timestamp ≤ TIMESTAMP
+
+-- an event has numbers that a request may have
+pub request_fits : (e : Event) → EventFits e → NewTransferFits (asked_transfer e)
+request_fits e fits = record {
+  id = fits.transfer.id;
+  debit_account_id = fits.debit_account.id;
+  credit_account_id = fits.credit_account.id;
+  amount = fits.transfer.amount;
+  pending_id = fits.transfer.pending_id;
+  user_data_128 = fits.transfer.user_data_128;
+  user_data_64 = fits.transfer.user_data_64;
+  user_data_32 = fits.transfer.user_data_32;
+  timeout = fits.transfer.timeout;
+  ledger = fits.ledger;
+  code = fits.transfer.code;
+  flags = fits.transfer.flags;
+}
+
+-- both accounts of an event that can follow were created before it, and after 0
+pub record AreCreated (e : Event) : Type 0 where
+  pub debit_some : 0 < e.debit_account.timestamp
+  pub debit : e.debit_account.timestamp < e.timestamp
+  pub credit_some : 0 < e.credit_account.timestamp
+  pub credit : e.credit_account.timestamp < e.timestamp
+
+pub are_created : (past : List Event) (e : Event) → CanFollow past e → AreCreated e
+are_created past e can =
+    let first = fields_lines (fields_before past e.debit_account.id) e.ledger e.debit_account in
+    let second = fields_lines (fields_before past e.credit_account.id) e.ledger e.credit_account in
+    let lines = (none_both (first ++ second) (created_lines e) can.fixed).1 in
+    let d = and_parts (nat_lt 0 e.debit_account.timestamp) (nat_lt e.debit_account.timestamp e.timestamp)
+    (not-false _ lines.0) in
+    let c = and_parts (nat_lt 0 e.credit_account.timestamp) (nat_lt e.credit_account.timestamp e.timestamp)
+    (not-false _ lines.1.0) in
+    record {
+      debit_some = ltb-true 0 e.debit_account.timestamp d.0;
+      debit = ltb-true e.debit_account.timestamp e.timestamp d.1;
+      credit_some = ltb-true 0 e.credit_account.timestamp c.0;
+      credit = ltb-true e.credit_account.timestamp e.timestamp c.1;
+    }

@@ -1,0 +1,219 @@
+-- Batches that a ledger takes one item at a time: an account, chains of transfers, pulses.
+use Rattle.std.proofs.Common.{◌≡◌, ℕ, ◌+◌, ◌-◌, ◌<◌, ◌≤◌, false, true, List, [], ◌∷◌, ◌++◌, Some, None, Ok, length, refl, sym, ap, ap₂, ◌∙◌, subst, arith}
+use Rattle.std.specs.Prelude.{◌==◌, Bool, if◌then◌else◌, nat_lt, unwrap_or}
+use Rattle.std.specs.List.{AllByRecursion}
+use Rattle.std.proofs.Math.Nat.{max-eq_left}
+use Rattle.std.proofs.lemmas.Bool.{and_right, eqb-false, eqb-true, le-ltb}
+use Rattle.cdc_types.specs.declared.batches.Batch.TheVariants as batch
+use Rattle.cdc_types.specs.declared.batches.BatchResults.TheVariants as results
+use Rattle.cdc_types.specs.declared.bounds.TheConstants.Limits.{BATCH_ITEMS, TIMESTAMP}
+use Rattle.cdc_types.specs.declared.accounts.NewAccount.{NewAccount}
+use Rattle.cdc_types.specs.declared.results.AccountResult.{AccountResult}
+use Rattle.cdc_types.specs.declared.results.AccountResult.TheVariants as account
+use Rattle.cdc_types.specs.declared.results.TransferResult.{TransferResult}
+use Rattle.cdc_types.specs.declared.results.TransferResult.TheVariants as transfer
+use Rattle.cdc_types.specs.declared.transfers.NewTransfer.{NewTransfer}
+use Rattle.cdc_types.specs.declared.transfers.Transfer.{Transfer}
+use Rattle.cdc_types.specs.Flags.{is_linked_account, is_linked_transfer}
+use Rattle.cdc_types.specs.Lines.{first_line}
+use Rattle.cdc_ledger.specs.declared.errors.BatchError.TheVariants as refusal
+use Rattle.cdc_ledger.specs.Changes.{expiry, pushed, timed, with_account}
+use Rattle.cdc_ledger.specs.Chains.{before_others, chains_from, chains_of, in_front, played}
+use Rattle.cdc_ledger.specs.Due.{due}
+use Rattle.cdc_ledger.specs.Fits.{NewAccountFits, NewTransferFits}
+use Rattle.cdc_ledger.specs.History.{History}
+use Rattle.cdc_ledger.specs.Submit.{IsLegal, answered, base, entry_of, expiries_from, is_past_the_end, refusal_at, taken, transfer_rules, transfers_from, account_rules, accounts_from, opened_by}
+use Rattle.cdc_ledger.specs.Verdict.{account_refused, max_timestamp, transfer_refused}
+use Rattle.cdc_ledger.proofs.BatchLaws.{alone_accepted}
+use Rattle.cdc_ledger.proofs.LegalLaws.{IsLegal-submit}
+use Rattle.cdc_ledger.proofs.Unlinked.{alone, items_from-unlinked}
+
+-- a batch that isn't too large isn't refused, if there are timestamps for it
+unrefused : (h : History) (now t n : ℕ) (large : Bool) → h.closed ≡ false → large ≡ false → base h now ≡ t
+    → t + n ≤ TIMESTAMP + 1 → refusal_at h large now n ≡ None
+unrefused h now t n large is_open small first within =
+    ap (λ b. first_line ((b, refusal.LedgerClosed) ∷ (large, refusal.BatchTooLarge)
+    ∷ (is_past_the_end h now n, refusal.TimestampsExhausted) ∷ [])) is_open
+    ∙ ap₂ (λ b c. first_line ((false, refusal.LedgerClosed) ∷ (b, refusal.BatchTooLarge)
+    ∷ (c, refusal.TimestampsExhausted) ∷ [])) small
+    (and_right (nat_lt 0 n) _ (ap (λ m. nat_lt max_timestamp (m + n - 1)) first
+    ∙ le-ltb max_timestamp (t + n - 1) (omega (arith, within))))
+
+-- a later timestamp is the first one of its batch
+own_time : (h : History) (t : ℕ) → h.last < t → base h t ≡ t
+own_time h t later = max-eq_left (let next : h.last + 1 ≤ t = omega (arith, later) in next)
+
+-- ---- accounts
+
+-- an account is opened by itself
+pub opens : (h : History) (t : ℕ) (a : NewAccount) → IsLegal h → h.closed ≡ false → h.last < t → t ≤ TIMESTAMP
+    → NewAccountFits a → is_linked_account a ≡ false → account_refused h a ≡ None
+    → IsLegal (with_account h (opened_by a t))
+opens h t a legal is_open later within fits unlinked none =
+    let first : base h t ≡ t = own_time h t later in
+    let done : AccountResult = account.Accepted in
+    let all : accounts_from h (base h t) (a ∷ []) ≡ (done ∷ [], with_account h (opened_by a t)) =
+    ap (λ n. accounts_from h n (a ∷ [])) first
+    ∙ items_from-unlinked account_rules h t (a ∷ []) (unlinked, tt)
+    ∙ ap (λ o. ((alone account_rules h a t o).0 ∷ [], (alone account_rules h a t o).1)) none in
+    IsLegal-submit h (with_account h (opened_by a t)) (batch.Accounts t (a ∷ [])) (results.Accounts (done ∷ []))
+    (omega (arith, within), (fits, tt)) legal
+    (ap (λ o. answered o (taken h (batch.Accounts t (a ∷ []))))
+    (unrefused h t t 1 false is_open refl first (omega (arith, within)))
+    ∙ ap (λ q. Ok (results.Accounts q.0, q.1)) all)
+
+-- ---- chains
+
+-- each of these items but the last is linked to the next one
+abbrev pub IsChain : NewTransfer → List NewTransfer → Type 0
+IsChain r [] = is_linked_transfer r ≡ false
+IsChain r (next ∷ rest) = (is_linked_transfer r ≡ true) × IsChain next rest
+
+-- the history is one within a chain of which this number of items were taken: if the rest of it is taken, from this
+-- timestamp on, the ledger's history is what that makes
+abbrev pub RunsOn : History → ℕ → ℕ → Type 0
+RunsOn h t n =
+    (r : NewTransfer) (rest : List NewTransfer) (g : History) → length rest + 1 + n ≤ BATCH_ITEMS → IsChain r rest
+    → AllByRecursion NewTransferFits (r ∷ rest) → t + length (r ∷ rest) ≤ TIMESTAMP + 1
+    → (played transfer_rules h t (r ∷ rest)).1 ≡ Some g → IsLegal g
+
+-- such a batch is one chain
+one_chain : (r : NewTransfer) (rest : List NewTransfer) → IsChain r rest
+    → chains_of is_linked_transfer (r ∷ rest) ≡ (r ∷ rest) ∷ []
+one_chain r [] last = ap (λ b. in_front b r []) last
+one_chain r (next ∷ rest) chain =
+    ap₂ (λ b chains. in_front b r chains) chain.0 (one_chain next rest chain.1)
+
+-- a chain begins
+pub runs-legal : (h : History) (t : ℕ) → IsLegal h → h.closed ≡ false → h.last < t → RunsOn h t 0
+runs-legal h t legal is_open later r rest g long chain fits within is =
+    let items : List NewTransfer = r ∷ rest in
+    let first : base h t ≡ t = own_time h t later in
+    let all : transfers_from h (base h t) items ≡ ((played transfer_rules h t items).0 ++ [], g) =
+    ap (λ n. transfers_from h n items) first
+    ∙ ap (chains_from transfer_rules h t) (one_chain r rest chain)
+    ∙ ap (λ o. ((played transfer_rules h t items).0 ++ [], unwrap_or o (timed h (t + length items - 1)))) is in
+    IsLegal-submit h g (batch.Transfers t items) (results.Transfers ((played transfer_rules h t items).0 ++ []))
+    (omega (arith, within), fits) legal
+    (ap (λ o. answered o (taken h (batch.Transfers t items)))
+    (unrefused h t t (length items) (nat_lt BATCH_ITEMS (length items)) is_open
+    (le-ltb BATCH_ITEMS (length items) (omega (arith, long))) first within)
+    ∙ ap (λ q. Ok (results.Transfers q.0, q.1)) all)
+
+-- with more items taken, fewer may come
+pub runs-more : (h : History) (t n : ℕ) → RunsOn h t 0 → RunsOn h t n
+runs-more h t n runs r rest g long chain fits within is = runs r rest g (omega (arith, long)) chain fits within is
+
+-- one item of it is taken
+pub runs-taken : (h : History) (t n : ℕ) (r : NewTransfer) → RunsOn h t n → is_linked_transfer r ≡ true
+    → transfer_refused h r t ≡ None → NewTransferFits r → RunsOn (pushed h (entry_of h r t)) (t + 1) (n + 1)
+runs-taken h t n r runs linked none fit next rest g long chain fits within is =
+    let later = played transfer_rules (pushed h (entry_of h r t)) (t + 1) (next ∷ rest) in
+    runs r (next ∷ rest) g (omega (arith, long)) (linked, chain) (fit, fits) (omega (arith, within))
+    (ap₂ (λ b o. (before_others transfer_rules (if b then Some transfer.LinkedEventChainOpen else o) (next ∷ rest)
+    later).1) (and_right (is_linked_transfer r) false refl) none
+    ∙ is)
+
+-- and the last one
+pub runs-done : (h : History) (t n : ℕ) (r : NewTransfer) → RunsOn h t n → n < BATCH_ITEMS → t ≤ TIMESTAMP
+    → is_linked_transfer r ≡ false → transfer_refused h r t ≡ None → NewTransferFits r
+    → IsLegal (pushed h (entry_of h r t))
+runs-done h t n r runs room within unlinked none fit =
+    runs r [] (pushed h (entry_of h r t)) (omega (arith, room)) unlinked (fit, tt) (omega (arith, within))
+    (ap (λ q. q.1) (alone_accepted transfer_rules h t r unlinked none))
+
+-- ---- a timestamp that nothing came of
+
+-- a request that is refused at once
+abbrev nothing : NewTransfer
+nothing = record {
+  id = 0;
+  debit_account_id = 0;
+  credit_account_id = 0;
+  amount = 0;
+  pending_id = 0;
+  user_data_128 = 0;
+  user_data_64 = 0;
+  user_data_32 = 0;
+  timeout = 0;
+  ledger = 0;
+  code = 0;
+  flags = 0;
+}
+
+nothing_fits : NewTransferFits nothing
+nothing_fits = record {
+  id = omega arith;
+  debit_account_id = omega arith;
+  credit_account_id = omega arith;
+  amount = omega arith;
+  pending_id = omega arith;
+  user_data_128 = omega arith;
+  user_data_64 = omega arith;
+  user_data_32 = omega arith;
+  timeout = omega arith;
+  ledger = omega arith;
+  code = omega arith;
+  flags = omega arith;
+}
+
+-- it takes its timestamp, and nothing else
+timed_later : (h : History) (t : ℕ) → IsLegal h → h.closed ≡ false → h.last < t → t ≤ TIMESTAMP → IsLegal (timed h t)
+timed_later h t legal is_open later within =
+    let first : base h t ≡ t = own_time h t later in
+    let why : TransferResult = transfer.IdMustNotBeZero in
+    let all : transfers_from h (base h t) (nothing ∷ []) ≡ (why ∷ [], timed h t) =
+    ap (λ n. transfers_from h n (nothing ∷ [])) first
+    ∙ items_from-unlinked transfer_rules h t (nothing ∷ []) (refl, tt) in
+    IsLegal-submit h (timed h t) (batch.Transfers t (nothing ∷ [])) (results.Transfers (why ∷ []))
+    (omega (arith, within), (nothing_fits, tt)) legal
+    (ap (λ o. answered o (taken h (batch.Transfers t (nothing ∷ []))))
+    (unrefused h t t 1 false is_open refl first (omega (arith, within)))
+    ∙ ap (λ q. Ok (results.Transfers q.0, q.1)) all)
+
+-- so the timestamp before this one can be the last one
+pub timed_before : (h : History) (t : ℕ) → IsLegal h → h.closed ≡ false → h.last < t → t ≤ TIMESTAMP
+    → IsLegal (timed h (t - 1))
+timed_before h t legal is_open later within = by (t == h.last + 1) refl
+  where
+    by : (b : Bool) → (t == h.last + 1) ≡ b → IsLegal (timed h (t - 1))
+    by true is =
+        let next = eqb-true t (h.last + 1) is in
+        subst (λ n. IsLegal (timed h n)) (let same : h.last ≡ t - 1 = omega (arith, next) in same) legal
+    by false is =
+        let other = eqb-false t (h.last + 1) is in
+        timed_later h (t - 1) legal is_open (omega (arith, other, later)) (omega (arith, within))
+
+-- ---- pulses
+
+-- the history is one within a pulse at this time: if there are timestamps for the transfers that are still due, the
+-- ledger's history is that after them
+abbrev pub Pulses : History → ℕ → Type 0
+Pulses h now = h.last + length (due h now) ≤ TIMESTAMP → IsLegal (expiries_from h (h.last + 1) (due h now))
+
+-- a pulse begins
+pub pulses-legal : (h : History) (now : ℕ) → IsLegal h → h.closed ≡ false → now ≤ h.last + 1 → now ≤ TIMESTAMP
+    → Pulses h now
+pulses-legal h now legal is_open before bound within =
+    let n = length (due h now) in
+    let first : base h now ≡ h.last + 1 = omega (arith, before) in
+    IsLegal-submit h (expiries_from h (h.last + 1) (due h now)) (batch.Pulse now) (results.Pulsed n)
+    (omega (arith, bound)) legal
+    (ap (λ o. answered o (taken h (batch.Pulse now)))
+    (unrefused h now (h.last + 1) n false is_open refl first (omega (arith, within)))
+    ∙ ap (λ m. Ok (results.Pulsed n, expiries_from h m (due h now))) first)
+
+-- the first of them expires
+pub pulses-expired : (h : History) (now t : ℕ) (p : Transfer) → Pulses h now → t ≡ h.last + 1
+    → due h now ≡ p ∷ due (pushed h (expiry p t)) now → Pulses (pushed h (expiry p t)) now
+pulses-expired h now t p pulses next first within =
+    let left = due (pushed h (expiry p t)) now in
+    let long = ap (λ (ps : List Transfer). length ps) first in
+    subst IsLegal (ap₂ (λ n ps. expiries_from h n ps) (sym next) first)
+    (pulses (omega (arith, long, within, next)))
+
+-- and no more are due
+pub pulses-done : (h : History) (now : ℕ) → Pulses h now → due h now ≡ [] → h.last ≤ TIMESTAMP → IsLegal h
+pulses-done h now pulses none within =
+    let long = ap (λ (ps : List Transfer). length ps) none in
+    subst IsLegal (ap (expiries_from h (h.last + 1)) none) (pulses (omega (arith, long, within)))

@@ -1,0 +1,300 @@
+-- Accepted events are the events of a legal history, if they can be told to a ledger.
+use Rattle.std.proofs.Common.{◌≡◌, inl, inr, ℕ, ◌<◌, ◌≤◌, ◌+◌, ◌^◌, Bool, true, false, not, List, [], ◌∷◌, ◌++◌, Option, Some, None, if◌then◌else◌, refl, sym, ap, ap₂, ◌∙◌, subst, append_assoc, arith}
+use Rattle.std.specs.Prelude.{◌==◌, nat_eq}
+use Rattle.std.specs.List.{AllByRecursion}
+use Rattle.std.specs.Map.{lookup}
+use Rattle.std.specs.Option.{option_or}
+use Rattle.std.proofs.lemmas.Bool.{eq-eqb, eqb-true, ltb-false, ne_eqb, not-false, false≢true}
+use Rattle.std.proofs.lemmas.Grind.{flat_map-append}
+use Rattle.std.proofs.lemmas.List.{append-nil}
+use Rattle.cdc_types.specs.declared.accounts.TheConstants.AccountFlags.{LINKED}
+use Rattle.cdc_types.specs.declared.bounds.TheConstants.Limits.{TIMESTAMP}
+use Rattle.cdc_types.specs.declared.events.Event.{Event}
+use Rattle.cdc_types.specs.declared.events.EventAccount.{EventAccount}
+use Rattle.cdc_types.specs.Flags.{has_flag}
+use Rattle.cdc_types.specs.Shapes.{account_refusal}
+use Rattle.cdc_ledger.specs.History.{empty_history}
+use Rattle.cdc_ledger.proofs.Elements.{AllByRecursion-both, AllByRecursion-weaker}
+use Rattle.cdc_message.specs.Widths.{AccountFits, EventFits}
+use Rattle.cdc_audit.specs.declared.fields.FixedFields.{FixedFields}
+use Rattle.cdc_audit.specs.Audits.{follows_on, is_accepted}
+use Rattle.cdc_audit.specs.EventShapes.{asked_account}
+use Rattle.cdc_audit.specs.Fields.{accounts_of, created_lines, fields_before, fields_lines, fixed_fields, same_lines}
+use Rattle.cdc_audit.specs.Known.{ends_in_chain, last_expiry}
+use Rattle.cdc_audit_laws.specs.Soundness.{AcceptedEventsAreALedgers, AreInTurn, CanBeTold, EventsAloneAreALedgers, IsAlone, IsOpenedAlone, NoneIsLeft, accounts_in, linked_run}
+use Rattle.cdc_audit_laws.proofs.Coming.{has_accounts}
+use Rattle.cdc_audit_laws.proofs.Following.{CanFollow, NoneApplies, none_both}
+use Rattle.cdc_audit_laws.proofs.Modes.{chain-push, expiry_from-push, run_from-push}
+use Rattle.cdc_audit_laws.proofs.Streams.{accepted_events_rise, first_follows}
+use Rattle.cdc_audit_laws.proofs.Told.{Admits, AllAdmit, Opens, Told, all-place_all, events_in, events_in-only, events_in-place_all, only, only-all, only-rises, place_all, place_all-opens, rises-place_all}
+use Rattle.cdc_audit_laws.proofs.Openings.{AreCreated, IsOpenable, are_created, opening_of}
+use Rattle.cdc_audit_laws.proofs.Walk.{CanTell, IsReady, told_from_empty}
+
+-- ---- the accounts of accepted events can be opened
+
+-- an account can be opened, after 0
+record IsFit (a : ℕ × FixedFields) : Type 0 where
+  openable : IsOpenable (opening_of a)
+  some : 0 < a.1.timestamp
+
+account_fits : (ledger : ℕ) (a : EventAccount) (t : ℕ) → ledger < 2 ^ 32 → AccountFits a
+    → account_refusal (asked_account ledger a) ≡ None → has_flag a.flags LINKED ≡ false → 0 < a.timestamp
+    → a.timestamp < t → t ≤ TIMESTAMP → IsFit (a.id, fixed_fields ledger a)
+account_fits ledger a t ledger_fits fits fields unlinked some earlier within = record {
+  openable = record {
+    fields = fields;
+    fits = record {
+      id = fits.id;
+      user_data_128 = fits.user_data_128;
+      user_data_64 = fits.user_data_64;
+      user_data_32 = fits.user_data_32;
+      ledger = ledger_fits;
+      code = fits.code;
+      flags = fits.flags;
+    };
+    unlinked = unlinked;
+    within = omega (arith, earlier, within);
+  };
+  some = some;
+}
+
+abbrev IsUnlinked : ℕ × FixedFields → Type 0
+IsUnlinked a = has_flag a.1.flags LINKED ≡ false
+
+all_fit : (past rest : List Event) → follows_on past rest ≡ true → AllByRecursion EventFits rest
+    → AllByRecursion IsUnlinked (accounts_in rest) → AllByRecursion IsFit (accounts_in rest)
+all_fit past [] follow fit unlinked = tt
+all_fit past (e ∷ rest) follow fit unlinked =
+    let first = first_follows past e rest follow in
+    let created : AreCreated e = are_created past e first.0 in
+    let fields = has_accounts past e first.0 in
+    let fits = fit.0 in
+    let within = ltb-false TIMESTAMP e.timestamp first.0.within in (
+      account_fits e.ledger e.debit_account e.timestamp fits.ledger fits.debit_account fields.0 unlinked.0
+          created.debit_some created.debit within,
+      (
+        account_fits e.ledger e.credit_account e.timestamp fits.ledger fits.credit_account fields.1 unlinked.1.0
+            created.credit_some created.credit within,
+        all_fit (past ++ e ∷ []) rest first.1 fit.1 unlinked.1.1,
+      ),
+    )
+
+-- ---- each account has the same fields wherever it is shown
+
+-- fields of which none differs are the same
+seven_same : (a b c d e f g h i j k l m n : ℕ) → a ≡ h → b ≡ i → c ≡ j → d ≡ k → e ≡ l → f ≡ m → g ≡ n
+    → ◌≡◌ {A = FixedFields} (record {
+      user_data_128 = a;
+      user_data_64 = b;
+      user_data_32 = c;
+      ledger = d;
+      code = e;
+      flags = f;
+      timestamp = g;
+    }) (record {
+      user_data_128 = h;
+      user_data_64 = i;
+      user_data_32 = j;
+      ledger = k;
+      code = l;
+      flags = m;
+      timestamp = n;
+    })
+seven_same a b c d e f g h i j k l m n one two three four five six seven = cc
+
+none_differs : (id : ℕ) (one other : FixedFields) → NoneApplies (same_lines id one other) → one ≡ other
+none_differs id one other none =
+    seven_same _ _ _ _ _ _ _ _ _ _ _ _ _ _ (same one.user_data_128 other.user_data_128 none.0)
+    (same one.user_data_64 other.user_data_64 none.1.0) (same one.user_data_32 other.user_data_32 none.1.1.0)
+    (same one.ledger other.ledger none.1.1.1.0) (same one.code other.code none.1.1.1.1.0)
+    (same one.flags other.flags none.1.1.1.1.1.0) (same one.timestamp other.timestamp none.1.1.1.1.1.1.0)
+  where
+    same : (m n : ℕ) → not (m == n) ≡ false → m ≡ n
+    same m n line = eqb-true m n (not-false _ line)
+
+-- the events show these fields of the account first
+abbrev IsKnown : List Event → ℕ × FixedFields → Type 0
+IsKnown es a = fields_before es a.0 ≡ Some a.1
+
+-- an account is looked up in two parts
+lookup_parts : (id : ℕ) (first second : List (ℕ × FixedFields))
+    → lookup (nat_eq id) (first ++ second) ≡ option_or (lookup (nat_eq id) first) (lookup (nat_eq id) second)
+lookup_parts id [] second = refl
+lookup_parts id (a ∷ first) second = by (id == a.0) (lookup_parts id first second)
+  where
+    by : (b : Bool) → lookup (nat_eq id) (first ++ second)
+        ≡ option_or (lookup (nat_eq id) first) (lookup (nat_eq id) second)
+        → (if b then Some a.1 else lookup (nat_eq id) (first ++ second))
+        ≡ option_or (if b then Some a.1 else lookup (nat_eq id) first) (lookup (nat_eq id) second)
+    by true later = refl
+    by false later = later
+
+all_parts : (P : ℕ × FixedFields → Type 0) (first second : List (ℕ × FixedFields)) → AllByRecursion P first
+    → AllByRecursion P second → AllByRecursion P (first ++ second)
+all_parts P [] second all others = others
+all_parts P (a ∷ first) second all others = (all.0, all_parts P first second all.1 others)
+
+-- one more event
+module _ (past : List Event) (e : Event) (can : CanFollow past e) where
+  then_known : (id : ℕ)
+      → fields_before (past ++ e ∷ []) id ≡ option_or (fields_before past id) (lookup (nat_eq id) (accounts_of e))
+  then_known id =
+      ap (lookup (nat_eq id)) (flat_map-append accounts_of past (e ∷ []))
+      ∙ lookup_parts id (accounts_in past) (accounts_of e)
+
+  -- an account that was known stays so
+  still_known : (a : ℕ × FixedFields) → IsKnown past a → IsKnown (past ++ e ∷ []) a
+  still_known a known = then_known a.0 ∙ ap (λ o. option_or o (lookup (nat_eq a.0) (accounts_of e))) known
+
+  -- an account of the event has the fields that it had before, if it had any
+  now_known : (a : EventAccount) → NoneApplies (fields_lines (fields_before past a.id) e.ledger a)
+      → lookup (nat_eq a.id) (accounts_of e) ≡ Some (fixed_fields e.ledger a)
+      → IsKnown (past ++ e ∷ []) (a.id, fixed_fields e.ledger a)
+  now_known a none found = then_known a.id ∙ by (fields_before past a.id) none
+    where
+      by : (o : Option FixedFields) → NoneApplies (fields_lines o e.ledger a)
+          → option_or o (lookup (nat_eq a.id) (accounts_of e)) ≡ Some (fixed_fields e.ledger a)
+      by None none = found
+      by (Some x) none = ap Some (sym (none_differs a.id (fixed_fields e.ledger a) x none))
+
+  known_then : AllByRecursion (IsKnown past) (accounts_in past)
+      → AllByRecursion (IsKnown (past ++ e ∷ [])) (accounts_in (past ++ e ∷ []))
+  known_then known =
+      let d = e.debit_account in
+      let c = e.credit_account in
+      let d_fields = fixed_fields e.ledger d in
+      let c_fields = fixed_fields e.ledger c in
+      let first = fields_lines (fields_before past d.id) e.ledger d in
+      let second = fields_lines (fields_before past c.id) e.ledger c in
+      let lines = none_both first second (none_both (first ++ second) (created_lines e) can.fixed).0 in
+      let d_found : lookup (nat_eq d.id) (accounts_of e) ≡ Some d_fields =
+      ap (λ b. if b then Some d_fields else if d.id == c.id then Some c_fields else None) (eq-eqb d.id d.id refl) in
+      let c_found : lookup (nat_eq c.id) (accounts_of e) ≡ Some c_fields =
+      ap₂ (λ a b. if a then Some d_fields else if b then Some c_fields else None)
+      (ne_eqb c.id d.id (λ same. can.apart (sym same))) (eq-eqb c.id c.id refl) in
+      subst (AllByRecursion (IsKnown (past ++ e ∷ []))) (sym (flat_map-append accounts_of past (e ∷ [])))
+      (all_parts (IsKnown (past ++ e ∷ [])) (accounts_in past) (accounts_of e)
+      (AllByRecursion-weaker (IsKnown past) (IsKnown (past ++ e ∷ [])) still_known (accounts_in past) known)
+      (now_known d lines.0 d_found, (now_known c lines.1 c_found, tt)))
+
+all_known : (past rest : List Event) → follows_on past rest ≡ true
+    → AllByRecursion (IsKnown past) (accounts_in past)
+    → AllByRecursion (IsKnown (past ++ rest)) (accounts_in (past ++ rest))
+all_known past [] follow known =
+    subst (λ es. AllByRecursion (IsKnown es) (accounts_in es)) (sym (append-nil past)) known
+all_known past (e ∷ rest) follow known =
+    let first = first_follows past e rest follow in
+    subst (λ es. AllByRecursion (IsKnown es) (accounts_in es)) (append_assoc past (e ∷ []) rest)
+    (all_known (past ++ e ∷ []) rest first.1 (known_then past e first.0 known))
+
+-- ---- so all can be told to a ledger
+module _ (events : List Event) (can : CanBeTold events) (accepted : is_accepted events ≡ true) where
+  abbrev shown : List (ℕ × FixedFields)
+  shown = accounts_in events
+
+  abbrev told : List Told
+  told = place_all opening_of shown (only events)
+
+  fit : AllByRecursion IsFit shown
+  fit =
+      all_fit [] events accepted can.fit
+      (AllByRecursion-weaker (IsOpenedAlone events) IsUnlinked (λ a is. is.unlinked) shown can.opened)
+
+  known : AllByRecursion (IsKnown events) shown
+  known = all_known [] events accepted tt
+
+  same_events : events_in told ≡ events
+  same_events = events_in-place_all opening_of shown (only events) ∙ events_in-only events
+
+  -- an account of one timestamp with this one is this one
+  no_other : (a : ℕ × FixedFields) → IsKnown events a
+      → (b : ℕ × FixedFields) → (b.1.timestamp ≡ a.1.timestamp → b.0 ≡ a.0) × IsKnown events b
+      → Admits (opening_of a) (inl (opening_of b))
+  no_other a a_known b b_is time =
+      let id : b.0 ≡ a.0 = b_is.0 time in
+      let found : Some b.1 ≡ Some a.1 = sym b_is.1 ∙ ap (fields_before events) id ∙ a_known in
+      let fields : b.1 ≡ a.1 = cc in
+      ap₂ (λ n f. opening_of (n, f)) id fields
+
+  admits : (a : ℕ × FixedFields) → IsOpenedAlone events a × IsKnown events a
+      → AllAdmit opening_of shown (only events) a
+  admits a is = (
+    AllByRecursion-weaker (λ b. (b.1.timestamp ≡ a.1.timestamp → b.0 ≡ a.0) × IsKnown events b)
+        (λ b. Admits (opening_of a) (inl (opening_of b))) (no_other a is.1) shown
+        (AllByRecursion-both (λ b. b.1.timestamp ≡ a.1.timestamp → b.0 ≡ a.0) (IsKnown events) shown is.0.no_other
+        known),
+    only-all (Admits (opening_of a)) events is.0.no_event,
+  )
+
+  opens : AllByRecursion (λ a. Opens (opening_of a) told) shown
+  opens =
+      place_all-opens opening_of shown (only events)
+      (AllByRecursion-weaker (λ a. IsOpenedAlone events a × IsKnown events a)
+      (AllAdmit opening_of shown (only events)) admits shown
+      (AllByRecursion-both (IsOpenedAlone events) (IsKnown events) shown can.opened known))
+
+  ready : AllByRecursion (IsReady shown empty_history told) (accounts_in (events_in told))
+  ready =
+      subst (λ es. AllByRecursion (IsReady shown empty_history told) (accounts_in es)) (sym same_events)
+      (AllByRecursion-weaker (λ a. Opens (opening_of a) told) (IsReady shown empty_history told) (λ a is. inr is) shown
+      opens)
+
+  can_tell : AllByRecursion (CanTell shown) told
+  can_tell =
+      all-place_all opening_of (CanTell shown) shown (only events)
+      (AllByRecursion-weaker (λ a. IsFit a × IsKnown events a) (λ a. CanTell shown (inl (opening_of a)))
+      (λ a is. (is.0.openable, is.1)) shown (AllByRecursion-both IsFit (IsKnown events) shown fit known))
+      (only-all (CanTell shown) events can.fit)
+
+-- so they are the events of a ledger
+pub accepted_events_are_a_ledgers : AcceptedEventsAreALedgers
+accepted_events_are_a_ledgers events can accepted =
+    let after : AllByRecursion (λ a. 0 < (opening_of a).timestamp) (accounts_in events) =
+    AllByRecursion-weaker IsFit (λ a. 0 < (opening_of a).timestamp) (λ a is. is.some) (accounts_in events)
+    (fit events can accepted) in
+    let same = same_events events can accepted in
+    let made = told_from_empty (accounts_in events) (told events can accepted)
+    (rises-place_all opening_of 0 (accounts_in events) (only events) after
+    (only-rises 0 events (accepted_events_rise events accepted)))
+    (can_tell events can accepted) (ready events can accepted)
+    (ap (follows_on []) same ∙ accepted) (subst (AreInTurn []) (sym same) can.in_turn) in
+    (made.0, made.1, made.2 ∙ same)
+
+-- ---- events that store a transfer each, without chains
+
+-- none of these events is linked or an expiry
+record HasNeither (past : List Event) : Type 0 where
+  run : linked_run past ≡ 0
+  chain : ends_in_chain past ≡ false
+  expiry : last_expiry past ≡ None
+
+neither-push : (past : List Event) (e : Event) → IsAlone e → HasNeither past → HasNeither (past ++ e ∷ [])
+neither-push past e alone neither = record {
+  run = run_from-push 0 past e ∙ ap (λ b. if b then linked_run past + 1 else 0) alone.unlinked;
+  chain = chain-push past e ∙ alone.unlinked;
+  expiry = expiry_from-push None past e ∙ ap (λ b. if b then last_expiry past else Some e) alone.stored
+      ∙ neither.expiry;
+}
+
+none_left : (past : List Event) → last_expiry past ≡ None → NoneIsLeft past
+none_left past none x y is waiting = cc
+
+-- so each comes in its turn
+alone_in_turn : (past rest : List Event) → HasNeither past → AllByRecursion IsAlone rest → AreInTurn past rest
+alone_in_turn past [] neither alone = (neither.chain, none_left past neither.expiry)
+alone_in_turn past (e ∷ rest) neither alone = (
+  record {
+    chain = let none = neither.run in omega (arith, none);
+    first = λ is. absurd (false≢true (sym is ∙ alone.0.stored));
+    none_left = λ is. none_left past neither.expiry;
+  },
+  alone_in_turn (past ++ e ∷ []) rest (neither-push past e alone.0 neither) alone.1,
+)
+
+pub events_alone_are_a_ledgers : EventsAloneAreALedgers
+events_alone_are_a_ledgers events alone opened accepted =
+    accepted_events_are_a_ledgers events (record {
+      fit = AllByRecursion-weaker IsAlone EventFits (λ e is. is.fits) events alone;
+      opened = opened;
+      in_turn = alone_in_turn [] events (record { run = refl; chain = refl; expiry = refl }) alone;
+    }) accepted

@@ -1,0 +1,461 @@
+-- A ledger that is told accounts and events in the order of their timestamps.
+use Rattle.std.proofs.Common.{◌≡◌, ◌⊎◌, inl, inr, ℕ, ◌+◌, ◌-◌, ◌<◌, ◌≤◌, Bool, true, false, List, [], ◌∷◌, ◌++◌, Option, Some, None, is_some, refl, sym, ap, ap₂, ◌∙◌, subst, append_assoc, arith}
+use Rattle.std.specs.Prelude.{◌==◌, ◌&&◌, nat_eq, if◌then◌else◌}
+use Rattle.std.specs.List.{AllByRecursion}
+use Rattle.std.specs.Map.{lookup}
+use Rattle.std.specs.Option.{option_or}
+use Rattle.std.proofs.lemmas.Bool.{eq-eqb, false≢true, ltb-false}
+use Rattle.std.proofs.lemmas.List.{append-nil}
+use Rattle.cdc_types.specs.declared.bounds.TheConstants.Limits.{TIMESTAMP}
+use Rattle.cdc_types.specs.declared.events.Entry.{Entry}
+use Rattle.cdc_types.specs.declared.events.Event.{Event}
+use Rattle.cdc_types.specs.declared.transfers.NewTransfer.{NewTransfer}
+use Rattle.cdc_types.specs.declared.transfers.TheConstants.TransferFlags.{LINKED}
+use Rattle.cdc_types.specs.declared.transfers.Transfer.{Transfer}
+use Rattle.cdc_types.specs.Flags.{has_flag, is_linked_transfer}
+use Rattle.cdc_types.specs.Lines.{first_line}
+use Rattle.cdc_types.specs.Shapes.{account_shape_lines}
+use Rattle.cdc_types.specs.Timestamps.{last_timestamp}
+use Rattle.cdc_types.proofs.Rising.{last_timestamp_from-push}
+use Rattle.cdc_ledger.specs.Balances.{balances}
+use Rattle.cdc_ledger.specs.Changes.{pushed, timed, with_account}
+use Rattle.cdc_ledger.specs.Due.{due}
+use Rattle.cdc_ledger.specs.Events.{events}
+use Rattle.cdc_ledger.specs.Filling.{expires_at as expires_at_one}
+use Rattle.cdc_ledger.specs.Fits.{NewTransferFits}
+use Rattle.cdc_ledger.specs.Follows.{Follows}
+use Rattle.cdc_ledger.specs.History.{History, Opened, empty_history, opened}
+use Rattle.cdc_ledger.specs.Kinds.{stores}
+use Rattle.cdc_ledger.specs.Sound.{IsSound}
+use Rattle.cdc_ledger.specs.Submit.{IsLegal}
+use Rattle.cdc_ledger.specs.Verdict.{account_refused, known_account_lines}
+use Rattle.cdc_ledger.proofs.BalanceLaws.{balances_later}
+use Rattle.cdc_ledger.proofs.Elements.{AllByRecursion-weaker, AllByRecursion_push}
+use Rattle.cdc_ledger.proofs.EventLaws.{events-with_account}
+use Rattle.cdc_ledger.proofs.LegalLaws.{IsLegal-empty}
+use Rattle.cdc_ledger.proofs.LineLaws.{first_line-append_none}
+use Rattle.cdc_ledger.proofs.OpenedLaws.{opened-with_account, opened-with_account_same, opened_id}
+use Rattle.cdc_ledger.proofs.SoundLaws.{IsSound-empty, IsSound-timed, IsSound-with_account}
+use Rattle.cdc_ledger.proofs.StoredLaws.{find_all}
+use Rattle.cdc_message.specs.Widths.{EventFits}
+use Rattle.cdc_audit.specs.declared.fields.FixedFields.{FixedFields}
+use Rattle.cdc_audit.specs.Audits.{follows_on}
+use Rattle.cdc_audit.specs.EventShapes.{asked_transfer}
+use Rattle.cdc_audit.specs.Known.{balances_after, ends_in_chain, is_linked, last_expiry}
+use Rattle.cdc_audit.specs.Settling.{expires_at}
+use Rattle.cdc_audit_laws.specs.Soundness.{AreInTurn, accounts_in, linked_run}
+use Rattle.cdc_audit_laws.proofs.Coming.{Comes}
+use Rattle.cdc_audit_laws.proofs.Entering.{entry_is, own, own_follows, shows_own, unrefused}
+use Rattle.cdc_audit_laws.proofs.Expiry.{expired, expiry_follows, expiry_is, is_up, shows_expired}
+use Rattle.cdc_audit_laws.proofs.Following.{CanFollow}
+use Rattle.cdc_audit_laws.proofs.Ledgers.{fixed_of}
+use Rattle.cdc_audit_laws.proofs.Made.{IsShownBy, entry_with, events_then, shown_then, sound_then}
+use Rattle.cdc_audit_laws.proofs.Modes.{GoesOn, Mode, chain-push, chain_goes_on, chain_next, expiry-push, pulse_goes_on, pulse_left, pulse_next, run-push, stores_or_not}
+use Rattle.cdc_audit_laws.proofs.Openings.{IsOpenable, are_created, opening_of, request_fits}
+use Rattle.cdc_audit_laws.proofs.Running.{opens, Pulses, RunsOn, pulses-done, pulses-expired, pulses-legal, runs-done, runs-legal, runs-more, runs-taken, timed_before}
+use Rattle.cdc_audit_laws.proofs.Streams.{first_follows}
+use Rattle.cdc_audit_laws.proofs.Told.{Opens, Rises, Told, events_in, events_later, opens_later}
+use Rattle.cdc_audit_laws.proofs.Turns.{next_due}
+
+module _ (all : List (ℕ × FixedFields)) where
+  -- the account is the one that these show
+  abbrev pub IsShown : Opened → Type 0
+  IsShown o = lookup (nat_eq o.request.id) all ≡ Some (fixed_of o)
+
+  -- of two such accounts of one id each is the other
+  same_shown : (o p : Opened) → IsShown o → IsShown p → o.request.id ≡ p.request.id → o ≡ p
+  same_shown o p o_is p_is same =
+      let found : Some (fixed_of o) ≡ Some (fixed_of p) =
+      sym o_is ∙ ap (λ n. lookup (nat_eq n) all) same ∙ p_is in
+      let fields : fixed_of o ≡ fixed_of p = cc in
+      ap₂ (λ n f. opening_of (n, f)) same fields
+
+  -- what can be told
+  abbrev pub CanTell : Told → Type 0
+  CanTell (inl o) = IsOpenable o × IsShown o
+  CanTell (inr e) = EventFits e
+
+  -- an account of a history, up to this timestamp
+  abbrev IsPast : ℕ → Opened → Type 0
+  IsPast t o = IsShown o × (o.timestamp ≤ t)
+
+  past_later : (s t : ℕ) (os : List Opened) → s ≤ t → AllByRecursion (IsPast s) os → AllByRecursion (IsPast t) os
+  past_later s t os later past =
+      AllByRecursion-weaker (IsPast s) (IsPast t) (λ o is. (is.0, omega (arith, is.1, later))) os past
+
+  -- an account is opened, or will be
+  abbrev pub IsReady : History → List Told → ℕ × FixedFields → Type 0
+  IsReady h rest a = (opened h a.0 ≡ Some (opening_of a)) ⊎ Opens (opening_of a) rest
+
+  -- a history that has told these events too
+  abbrev HasTold : History → List Told → Type 0
+  HasTold h rest = (g : History) × IsLegal g × (events g ≡ events h ++ events_in rest)
+
+  -- what is known of a history, and of what is yet to be told
+  record Goes (h : History) (rest : List Told) : Type 0 where
+    sound : IsSound h
+    shown : (id : ℕ) → balances_after (events h) id ≡ balances h id h.last
+    is_open : h.closed ≡ false
+    rises : Rises h.last rest
+    told : AllByRecursion CanTell rest
+    past : AllByRecursion (IsPast h.last) h.accounts
+    ready : AllByRecursion (IsReady h rest) (accounts_in (events_in rest))
+    follow : follows_on (events h) (events_in rest) ≡ true
+    turn : AreInTurn (events h) (events_in rest)
+    mode : Mode h
+
+  -- ---- an account is opened
+  module _ (h : History) (o : Opened) (rest : List Told) (goes : Goes h (inl o ∷ rest)) where
+    abbrev with_one : History
+    with_one = with_account h o
+
+    is_new : opened h o.request.id ≡ None
+    is_new = by (opened h o.request.id) refl
+      where
+        by : (found : Option Opened) → opened h o.request.id ≡ found → opened h o.request.id ≡ None
+        by None is = is
+        by (Some x) is =
+            let has : IsPast h.last x =
+            (find_all (λ (y : Opened). y.request.id == o.request.id) (IsPast h.last) h.accounts x goes.past is).1 in
+            let same : x ≡ o = same_shown x o has.0 goes.told.0.1 (opened_id h x o.request.id is) in
+            let time : x.timestamp ≡ o.timestamp = ap (λ (y : Opened). y.timestamp) same in
+            let later : h.last < o.timestamp = goes.rises.0 in
+            absurd (let no : ⊥ = omega (arith, time, has.1, later) in no)
+
+    unrefused_one : account_refused h o.request ≡ None
+    unrefused_one =
+        first_line-append_none (account_shape_lines o.request) (known_account_lines (opened h o.request.id) o.request)
+        goes.told.0.0.fields
+        ∙ ap (λ x. first_line (known_account_lines x o.request)) is_new
+
+    -- no chain and no pulse is on its way, since its next item would be an event before the account is opened
+    too_late : GoesOn h (events_in rest) → ⊥
+    too_late on =
+        let after : o.timestamp < on.first.timestamp =
+        events_later o.timestamp rest on.first on.rest goes.rises.1 on.split in
+        let before : h.last < o.timestamp = goes.rises.0 in
+        omega (arith, after, before, on.next)
+
+    legal : IsLegal h
+    legal = by goes.mode
+      where
+        by : Mode h → IsLegal h
+        by (inl is) = is
+        by (inr (inl chain)) = absurd (too_late (chain_goes_on h (events_in rest) chain goes.follow goes.turn))
+        by (inr (inr pulse)) =
+            absurd (too_late (pulse_goes_on h (events_in rest) goes.sound pulse goes.follow goes.turn))
+
+    legal_then : IsLegal with_one
+    legal_then =
+        opens h o.timestamp o.request legal goes.is_open goes.rises.0 goes.told.0.0.within goes.told.0.0.fits
+        goes.told.0.0.unlinked unrefused_one
+
+    -- it is found
+    found_then : opened with_one o.request.id ≡ Some o
+    found_then =
+        opened-with_account h o o.request.id
+        ∙ ap₂ (λ x b. option_or x (if b then Some o else None)) is_new (eq-eqb o.request.id o.request.id refl)
+
+    ready_then : (a : ℕ × FixedFields) → IsReady h (inl o ∷ rest) a → IsReady with_one rest a
+    ready_then a (inl there) =
+        inl (opened-with_account_same h o a.0 (ap is_some there) ∙ there)
+    ready_then a (inr (inl same)) =
+        inl (ap (λ (x : Opened). opened with_one x.request.id) (sym same) ∙ found_then ∙ ap Some same)
+    ready_then a (inr (inr later)) = inr later
+
+    same_events : events with_one ≡ events h
+    same_events = events-with_account h o goes.sound.known
+
+    goes_then : Goes with_one rest
+    goes_then = record {
+      sound =
+          let later : h.last < o.timestamp = goes.rises.0 in
+          IsSound-with_account h o goes.sound is_new (omega (arith, later)) goes.told.0.0.within;
+      shown = λ id.
+          let later : h.last < o.timestamp = goes.rises.0 in
+          ap (λ es. balances_after es id) same_events ∙ goes.shown id
+          ∙ sym (balances_later h id h.last o.timestamp goes.sound.past (omega (arith, later)));
+      mode = inl legal_then;
+      is_open = goes.is_open;
+      rises = goes.rises.1;
+      told = goes.told.1;
+      past =
+          let later : h.last < o.timestamp = goes.rises.0 in
+          AllByRecursion_push (IsPast o.timestamp) h.accounts o
+          (past_later h.last o.timestamp h.accounts (omega (arith, later)) goes.past)
+          (goes.told.0.1, omega arith);
+      ready = AllByRecursion-weaker (IsReady h (inl o ∷ rest)) (IsReady with_one rest) ready_then
+          (accounts_in (events_in rest)) goes.ready;
+      follow = subst (λ es. follows_on es (events_in rest) ≡ true) (sym same_events) goes.follow;
+      turn = subst (λ es. AreInTurn es (events_in rest)) (sym same_events) goes.turn;
+    }
+
+  -- ---- an event happens
+  module _ (h : History) (e : Event) (rest : List Told) (goes : Goes h (inr e ∷ rest)) where
+    first : CanFollow (events h) e × (follows_on (events h ++ e ∷ []) (events_in rest) ≡ true)
+    first = first_follows (events h) e (events_in rest) goes.follow
+
+    in_time : e.timestamp ≤ TIMESTAMP
+    in_time = ltb-false TIMESTAMP e.timestamp first.0.within
+
+    -- its accounts were opened before it
+    before : (a : ℕ × FixedFields) → a.1.timestamp < e.timestamp → IsReady h (inr e ∷ rest) a
+        → opened h a.0 ≡ Some (opening_of a)
+    before a earlier (inl there) = there
+    before a earlier (inr later) =
+        let after : e.timestamp < a.1.timestamp = opens_later e.timestamp (opening_of a) rest goes.rises.1 later in
+        absurd (let no : ⊥ = omega (arith, earlier, after) in no)
+
+    comes : Comes h e
+    comes =
+        let created = are_created (events h) e first.0 in
+        record {
+          sound = goes.sound;
+          shown = goes.shown;
+          later = goes.rises.0;
+          can = first.0;
+          debit = before _ created.debit goes.ready.0;
+          credit = before _ created.credit goes.ready.1.0;
+        }
+
+    -- the history with its entry
+    module _ (y : Transfer) (is : IsShownBy e y) (follows : Follows h (entry_with e y))
+        (mode : Mode (pushed h (entry_with e y))) where
+      same_then : events (pushed h (entry_with e y)) ≡ events h ++ e ∷ []
+      same_then = events_then h e comes y is follows
+
+      goes_with : Goes (pushed h (entry_with e y)) rest
+      goes_with = record {
+        sound = sound_then h e comes y is follows;
+        shown = shown_then h e comes y is follows;
+        is_open = goes.is_open;
+        rises = goes.rises.1;
+        told = goes.told.1;
+        past =
+            let later : h.last < e.timestamp = goes.rises.0 in
+            past_later h.last e.timestamp h.accounts (omega (arith, later)) goes.past;
+        ready = goes.ready.1.1;
+        follow = subst (λ es. follows_on es (events_in rest) ≡ true) (sym same_then) first.1;
+        turn = subst (λ es. AreInTurn es (events_in rest)) (sym same_then) goes.turn.1;
+        mode = mode;
+      }
+
+    -- a transfer that is stored
+    module _ (storing : stores e.kind ≡ true) where
+      abbrev request : NewTransfer
+      request = asked_transfer e
+
+      abbrev with_own : History
+      with_own = pushed h (entry_with e (own h e comes storing))
+
+      same_own : events with_own ≡ events h ++ e ∷ []
+      same_own =
+          events_then h e comes (own h e comes storing) (shows_own h e comes storing) (own_follows h e comes storing)
+
+      -- a chain is on its way, or begins
+      runs : RunsOn h e.timestamp (linked_run (events h))
+      runs = by goes.mode
+        where
+          by : Mode h → RunsOn h e.timestamp (linked_run (events h))
+          by (inl legal) =
+              runs-more h e.timestamp (linked_run (events h))
+              (runs-legal h e.timestamp legal goes.is_open goes.rises.0)
+          by (inr (inl chain)) =
+              let next = chain_next h e chain first.0 in
+              subst (λ t. RunsOn h t (linked_run (events h))) (sym next.1) chain.runs
+          by (inr (inr pulse)) =
+              let next = pulse_next h e goes.sound pulse first.0 goes.turn.0 in
+              absurd (false≢true (sym next.storing ∙ storing))
+
+      fit : NewTransferFits request
+      fit = request_fits e goes.told.0
+
+      linked_is : is_linked_transfer request ≡ is_linked e
+      linked_is = ap (λ b. b && has_flag e.transfer.flags LINKED) (sym storing)
+
+      -- it ends the chain, or goes on with it
+      own_mode : Mode with_own
+      own_mode = by (is_linked e) refl
+        where
+          by : (b : Bool) → is_linked e ≡ b → Mode with_own
+          by false is =
+              inl (subst (λ (x : Entry). IsLegal (pushed h x)) (entry_is h e comes storing)
+              (runs-done h e.timestamp (linked_run (events h)) request runs goes.turn.0.chain in_time (linked_is ∙ is)
+              (unrefused h e comes storing) fit))
+          by true is =
+              inr (inl (record {
+                runs =
+                    subst (RunsOn with_own (e.timestamp + 1))
+                    (sym (ap linked_run same_own ∙ run-push (events h) e is))
+                    (subst (λ (x : Entry). RunsOn (pushed h x) (e.timestamp + 1) (linked_run (events h) + 1))
+                    (entry_is h e comes storing)
+                    (runs-taken h e.timestamp (linked_run (events h)) request runs (linked_is ∙ is)
+                    (unrefused h e comes storing) fit));
+                chained = ap ends_in_chain same_own ∙ chain-push (events h) e ∙ is;
+                at_end = ap last_timestamp same_own ∙ last_timestamp_from-push 0 (events h) e;
+              }))
+
+      goes_own : Goes with_own rest
+      goes_own =
+          goes_with (own h e comes storing) (shows_own h e comes storing) (own_follows h e comes storing) own_mode
+
+    -- an expiry, within a pulse at its expiry time
+    module _ (storing : stores e.kind ≡ false) (pulses : Pulses h (expires_at e.transfer))
+        (next : e.timestamp ≡ h.last + 1) where
+      abbrev now : ℕ
+      now = expires_at e.transfer
+
+      abbrev gone : Transfer
+      gone = expired h e comes storing
+
+      abbrev with_gone : History
+      with_gone = pushed h (entry_with e gone)
+
+      same_gone : events with_gone ≡ events h ++ e ∷ []
+      same_gone = events_then h e comes gone (shows_expired h e comes storing) (expiry_follows h e comes storing)
+
+      up : expires_at_one gone ≤ now
+      up =
+          let same = ap expires_at (shows_expired h e comes storing).shown in
+          omega (arith, same)
+
+      pulses_then : Pulses with_gone now
+      pulses_then =
+          subst (λ (x : Entry). Pulses (pushed h x) now) (expiry_is h e comes storing)
+          (pulses-expired h now e.timestamp gone pulses next
+          (next_due h e comes storing (goes.turn.0.first storing) now up e.timestamp goes.rises.0))
+
+      gone_mode : Mode with_gone
+      gone_mode = by (due with_gone now) refl
+        where
+          by : (ps : List Transfer) → due with_gone now ≡ ps → Mode with_gone
+          by [] is = inl (pulses-done with_gone now pulses_then is in_time)
+          by (p ∷ ps) is =
+              inr (inr (record {
+                now = now;
+                next = p;
+                others = ps;
+                left = is;
+                pulses = pulses_then;
+                last = e;
+                last_is = ap last_expiry same_gone ∙ expiry-push (events h) e storing;
+                time = refl;
+                at_end = refl;
+              }))
+
+      goes_gone : Goes with_gone rest
+      goes_gone = goes_with gone (shows_expired h e comes storing) (expiry_follows h e comes storing) gone_mode
+
+  -- before a pulse begins, the timestamp before it is taken
+  module _ (h : History) (e : Event) (rest : List Told) (goes : Goes h (inr e ∷ rest)) (legal : IsLegal h) where
+    abbrev paused : History
+    paused = timed h (e.timestamp - 1)
+
+    goes_paused : Goes paused (inr e ∷ rest)
+    goes_paused =
+        let later : h.last < e.timestamp = goes.rises.0 in
+        let within = in_time h e rest goes in
+        record {
+          sound = IsSound-timed h (e.timestamp - 1) goes.sound (omega (arith, later)) (omega (arith, within));
+          shown = λ id. goes.shown id
+              ∙ sym (balances_later h id h.last (e.timestamp - 1) goes.sound.past (omega (arith, later)));
+          is_open = goes.is_open;
+          rises = (omega (arith, later), goes.rises.1);
+          told = goes.told;
+          past = past_later h.last (e.timestamp - 1) h.accounts (omega (arith, later)) goes.past;
+          ready = goes.ready;
+          follow = goes.follow;
+          turn = goes.turn;
+          mode = inl (timed_before h e.timestamp legal goes.is_open later within);
+        }
+
+    pulses_paused : stores e.kind ≡ false → Pulses paused (expires_at e.transfer)
+    pulses_paused storing =
+        let later : h.last < e.timestamp = goes.rises.0 in
+        let within = in_time h e rest goes in
+        let one = comes h e rest goes in
+        let same = ap expires_at (shows_expired h e one storing).shown in
+        let up = is_up h e one storing in
+        pulses-legal paused (expires_at e.transfer) (timed_before h e.timestamp legal goes.is_open later within)
+        goes.is_open (omega (arith, same, up, later)) (omega (arith, same, up, within))
+
+  -- one event more
+  record Steps (h : History) (e : Event) (rest : List Told) : Type 0 where
+    after : History
+    goes : Goes after rest
+    events_are : events after ≡ events h ++ e ∷ []
+
+  steps : (h : History) (e : Event) (rest : List Told) → Goes h (inr e ∷ rest) → Steps h e rest
+  steps h e rest goes = by (stores_or_not (stores e.kind))
+    where
+      expires : stores e.kind ≡ false → Mode h → Steps h e rest
+      expires storing (inl legal) =
+          let later : h.last < e.timestamp = goes.rises.0 in
+          let start = goes_paused h e rest goes legal in
+          let pulses = pulses_paused h e rest goes legal storing in
+          let next : e.timestamp ≡ e.timestamp - 1 + 1 = omega (arith, later) in
+          record {
+            after = with_gone (paused h e rest goes legal) e rest start storing pulses next;
+            goes = goes_gone (paused h e rest goes legal) e rest start storing pulses next;
+            events_are = same_gone (paused h e rest goes legal) e rest start storing pulses next;
+          }
+      expires storing (inr (inl chain)) =
+          absurd (false≢true (sym storing ∙ (chain_next h e chain (first h e rest goes).0).0))
+      expires storing (inr (inr pulse)) =
+          let on = pulse_next h e goes.sound pulse (first h e rest goes).0 goes.turn.0 in
+          let pulses = subst (Pulses h) (sym on.time) pulse.pulses in
+          record {
+            after = with_gone h e rest goes storing pulses on.next;
+            goes = goes_gone h e rest goes storing pulses on.next;
+            events_are = same_gone h e rest goes storing pulses on.next;
+          }
+
+      by : ((stores e.kind ≡ true) ⊎ (stores e.kind ≡ false)) → Steps h e rest
+      by (inl storing) = record {
+        after = with_own h e rest goes storing;
+        goes = goes_own h e rest goes storing;
+        events_are = same_own h e rest goes storing;
+      }
+      by (inr storing) = expires storing goes.mode
+
+  -- at the end no batch is on its way
+  done : (h : History) → Goes h [] → IsLegal h
+  done h goes = by goes.mode
+    where
+      by : Mode h → IsLegal h
+      by (inl legal) = legal
+      by (inr (inl chain)) = absurd (false≢true (sym goes.turn.0 ∙ chain.chained))
+      by (inr (inr pulse)) = absurd (pulse_left h goes.sound pulse goes.turn.1)
+
+  -- so all of it is told
+  tells : (rest : List Told) (h : History) → Goes h rest → HasTold h rest
+  tells [] h goes = (h, done h goes, sym (append-nil (events h)))
+  tells (inl o ∷ rest) h goes =
+      let later = tells rest (with_account h o) (goes_then h o rest goes) in
+      (later.0, later.1, later.2 ∙ ap (λ es. es ++ events_in rest) (same_events h o rest goes))
+  tells (inr e ∷ rest) h goes =
+      let step = steps h e rest goes in
+      let later = tells rest step.after step.goes in (
+        later.0,
+        later.1,
+        later.2 ∙ ap (λ es. es ++ events_in rest) step.events_are ∙ append_assoc (events h) (e ∷ []) (events_in rest),
+      )
+
+  -- from a new ledger on
+  pub told_from_empty : (told : List Told) → Rises 0 told → AllByRecursion CanTell told
+      → AllByRecursion (IsReady empty_history told) (accounts_in (events_in told))
+      → follows_on [] (events_in told) ≡ true → AreInTurn [] (events_in told)
+      → (g : History) × IsLegal g × (events g ≡ events_in told)
+  told_from_empty told rises can ready follow turn =
+      tells told empty_history (record {
+        sound = IsSound-empty;
+        shown = λ id. refl;
+        is_open = refl;
+        rises = rises;
+        told = can;
+        past = tt;
+        ready = ready;
+        follow = follow;
+        turn = turn;
+        mode = inl IsLegal-empty;
+      })

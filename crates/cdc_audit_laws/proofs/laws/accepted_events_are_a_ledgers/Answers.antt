@@ -1,0 +1,8 @@
+use Rattle.cdc_audit_laws.proofs.Soundness.{accepted_events_are_a_ledgers, events_alone_are_a_ledgers}
+use Rattle.cdc_audit_laws.proofs.laws.accepted_events_are_a_ledgers.Goals as goal
+
+pub returns-clause-all : goal.returns-clause-all
+returns-clause-all c = accepted_events_are_a_ledgers
+
+pub returns-clause-alone : goal.returns-clause-alone
+returns-clause-alone c = events_alone_are_a_ledgers
