@@ -1,8 +1,8 @@
 -- The converse law at work in short streams: one that is a ledger's, and some that are accepted and aren't.
 use Rattle.std.specs.Prelude.{ℕ, ◌<◌, ◌≡◌, ◌≢◌, ◌==◌, ◌&&◌, true, false, not, nat_lt, List, [], ◌∷◌}
-use Rattle.std.proofs.Common.{refl, sym, ap, ◌∙◌, arith}
+use Rattle.std.proofs.Common.{refl, sym, ap, ◌∙◌, subst, arith}
 use Rattle.std.specs.List.{AllByRecursion, list_any}
-use Rattle.std.proofs.lemmas.Bool.{eq-eqb, eqb-false, eqb-true, ltb-true, not-false, or_parts}
+use Rattle.std.proofs.lemmas.Bool.{eq-eqb, eqb-false, eqb-true, ltb-true, not-false, or_parts, true≢false}
 use Rattle.cdc_types.specs.declared.accounts.TheConstants.AccountFlags.{LINKED}
 use Rattle.cdc_types.specs.declared.events.Event.{Event}
 use Rattle.cdc_types.specs.declared.events.EventAccount.{EventAccount}
@@ -16,7 +16,9 @@ use Rattle.cdc_message.specs.Widths.{AccountFits, EventFits}
 use Rattle.cdc_audit.specs.declared.fields.FixedFields.{FixedFields}
 use Rattle.cdc_audit.specs.Audits.{follows_on, is_accepted}
 use Rattle.cdc_audit.specs.Rules.{refusal}
-use Rattle.cdc_audit_laws.specs.Soundness.{IsAlone, IsOpenedAlone, accounts_in}
+use Rattle.cdc_audit_laws.specs.Soundness.{AreInTurn, CanBeTold, IsAlone, IsOpenedAlone, accounts_in}
+use Rattle.cdc_audit_laws.proofs.Apart.{ledgers_can_be_told}
+use Rattle.cdc_audit_laws.proofs.InTurn.{ledgers_come_in_turn}
 use Rattle.cdc_audit_laws.proofs.Soundness.{events_alone_are_a_ledgers}
 
 -- an account, created at this time, and its balances
@@ -263,25 +265,61 @@ each_opened = (
 is_a_ledgers : (h : History) × IsLegal h × (events_of h ≡ stream)
 is_a_ledgers = events_alone_are_a_ledgers stream each_alone each_opened accepted
 
--- ---- accepted, and no ledger's, since the premises are missing
+-- ---- accepted, and no ledger's: each lacks one of the premises
 
--- two accounts that were created at once
+-- two accounts that were created at one timestamp
 abbrev at_once : Event
 at_once = event SinglePhase 3 7 0 10 0 0 3 (account 1 1 0 10 0 0) (account 2 1 0 0 0 10)
 
-created_at_once : is_accepted (at_once ∷ []) ≡ true
+abbrev created_at_once : List Event
+created_at_once = at_once ∷ []
+
+at_once_accepted : is_accepted created_at_once ≡ true
 unfolding follows_on refusal
-created_at_once = refl
+at_once_accepted = refl
+
+at_once_fits : EventFits at_once
+at_once_fits =
+    event_fits SinglePhase 3 7 0 10 0 0 3 (account 1 1 0 10 0 0) (account 2 1 0 0 0 10) refl refl refl refl refl refl
+    refl (account_fits 1 1 0 10 0 0 refl refl refl refl refl refl)
+    (account_fits 2 1 0 0 0 10 refl refl refl refl refl refl)
+
+-- what a ledger has told can be told
+told_by : (h : History) (es : List Event) → IsLegal h → events_of h ≡ es → AllByRecursion EventFits es
+    → AllByRecursion (λ a. has_flag a.1.flags LINKED ≡ false) (accounts_in es) → CanBeTold es
+told_by h es legal same fit unlinked =
+    subst CanBeTold same (ledgers_can_be_told h legal (subst (AllByRecursion EventFits) (sym same) fit)
+    (subst (λ xs. AllByRecursion (λ a. has_flag a.1.flags LINKED ≡ false) (accounts_in xs)) (sym same) unlinked))
+
+at_once_no_ledgers : (h : History) → IsLegal h → events_of h ≡ created_at_once → ⊥
+at_once_no_ledgers h legal same =
+    let told = told_by h created_at_once legal same (at_once_fits, tt) (refl, (refl, tt)) in
+    let one : 2 ≡ 1 = told.opened.0.no_other.1.0 refl in
+    omega (arith, one)
 
 -- an account that was created at the timestamp of an event
 abbrev by_new_one : Event
 by_new_one = event SinglePhase 5 8 0 1 0 0 5 (account 3 3 0 1 0 0) (account 1 1 0 10 0 1)
 
-created_with_event : is_accepted (paid ∷ by_new_one ∷ []) ≡ true
-unfolding follows_on refusal
-created_with_event = refl
+abbrev created_with_event : List Event
+created_with_event = paid ∷ by_new_one ∷ []
 
--- an expiry at 2 seconds and more, though an open transfer expired at 1 second and never was recorded as expired
+with_event_accepted : is_accepted created_with_event ≡ true
+unfolding follows_on refusal
+with_event_accepted = refl
+
+by_new_one_fits : EventFits by_new_one
+by_new_one_fits =
+    event_fits SinglePhase 5 8 0 1 0 0 5 (account 3 3 0 1 0 0) (account 1 1 0 10 0 1) refl refl refl refl refl refl refl
+    (account_fits 3 3 0 1 0 0 refl refl refl refl refl refl) (account_fits 1 1 0 10 0 1 refl refl refl refl refl refl)
+
+with_event_no_ledgers : (h : History) → IsLegal h → events_of h ≡ created_with_event → ⊥
+with_event_no_ledgers h legal same =
+    let told = told_by h created_with_event legal same (paid_fits, (by_new_one_fits, tt))
+    (refl, (refl, (refl, (refl, tt)))) in
+    told.opened.1.1.0.no_event.0 refl
+
+-- an expiry while another transfer, which expired a second earlier, is still open
 abbrev soon : Event
 soon = event TwoPhasePending 4 8 0 5 1 2 4 (account 1 1 5 0 0 0) (account 2 2 0 0 5 0)
 
@@ -291,6 +329,14 @@ later = event TwoPhasePending 5 9 0 7 2 2 5 (account 1 1 12 0 0 0) (account 2 2 
 abbrev expired : Event
 expired = event TwoPhaseExpired 2000000005 9 0 7 2 2 5 (account 1 1 5 0 0 0) (account 2 2 0 0 5 0)
 
-not_first : is_accepted (soon ∷ later ∷ expired ∷ []) ≡ true
+abbrev out_of_turn : List Event
+out_of_turn = soon ∷ later ∷ expired ∷ []
+
+out_of_turn_accepted : is_accepted out_of_turn ≡ true
 unfolding follows_on refusal
-not_first = refl
+out_of_turn_accepted = refl
+
+out_of_turn_no_ledgers : (h : History) → IsLegal h → events_of h ≡ out_of_turn → ⊥
+out_of_turn_no_ledgers h legal same =
+    let turn : AreInTurn [] out_of_turn = subst (AreInTurn []) same (ledgers_come_in_turn h legal) in
+    true≢false (turn.1.1.0.first refl soon (record { is_open = refl; timed = refl }))

@@ -21,8 +21,8 @@ use Rattle.cdc_audit_laws.specs.Soundness.{AreInTurn, CanBeTold, ComesInTurn, Is
 use Rattle.cdc_audit_laws.proofs.Soundness.{accepted_events_are_a_ledgers}
 use Rattle.cdc_audit_laws.proofs.SoundExamples.{account, account_fits, event, event_fits, opened_alone}
 
--- account 1 holds 5 for account 2 at 4, for 2 seconds; it pays 1 and 2 in a chain, at 6 and 7; it holds 7 at 1000000004,
--- for 1 second; both expire by a pulse at 2000000010; and it pays 1
+-- account 1 holds 5 for account 2 at 4, for 2 seconds. It pays 1 and 2 in a chain, at 6 and 7. It holds 7 at
+-- 1000000004, for 1 second. Both expire by a pulse, at 2000000010 and 2000000011. Then it pays 1
 abbrev held_long : Event
 held_long = event TwoPhasePending 4 8 0 5 2 2 4 (account 1 1 5 0 0 0) (account 2 2 0 0 5 0)
 
@@ -181,7 +181,16 @@ long_in_turn = (
 
 long_can_be_told : CanBeTold long_stream
 long_can_be_told = record {
-  fit = (held_long_fits, (linked_one_fits, (last_one_fits, (held_briefly_fits, (first_gone_fits, (second_gone_fits, (paid_after_fits, tt)))))));
+  fit = (
+    held_long_fits,
+    (
+      linked_one_fits,
+      (
+        last_one_fits,
+        (held_briefly_fits, (first_gone_fits, (second_gone_fits, (paid_after_fits, tt)))),
+      ),
+    ),
+  );
   opened = (
     opened_alone long_stream _ refl refl refl,
     (
