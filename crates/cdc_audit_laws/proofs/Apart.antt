@@ -1,12 +1,10 @@
--- No account of a ledger has the timestamp of another one or of an entry; so a ledger's events can be told.
-use Rattle.std.proofs.Common.{◌≡◌, ◌≢◌, ℕ, ◌<◌, ◌≤◌, false, List, [], ◌∷◌, ◌++◌, Option, Some, None, map, refl, arith}
+-- No account of a ledger has the timestamp of another one or of an entry: so the premises of the law hold of its events.
+use Rattle.std.proofs.Common.{◌≡◌, ◌≢◌, ℕ, ◌<◌, ◌≤◌, List, [], ◌∷◌, ◌++◌, Option, Some, None, map, refl, arith}
 use Rattle.std.specs.Prelude.{◌==◌, IsSome, unwrap_or}
 use Rattle.std.specs.List.{AllByRecursion, flat_map}
 use Rattle.cdc_types.specs.declared.accounts.Balances.{Balances}
-use Rattle.cdc_types.specs.declared.accounts.TheConstants.AccountFlags.{LINKED}
 use Rattle.cdc_types.specs.declared.events.Entry.{Entry}
 use Rattle.cdc_types.specs.declared.events.Event.{Event}
-use Rattle.cdc_types.specs.Flags.{has_flag}
 use Rattle.cdc_ledger.specs.Balances.{balances}
 use Rattle.cdc_ledger.specs.Changes.{expiry, pushed, timed, with_account}
 use Rattle.cdc_ledger.specs.Events.{event_of, events, nobody, shown_account}
@@ -18,8 +16,8 @@ use Rattle.cdc_ledger.proofs.KeptLaws.{IsSound-from_legal}
 use Rattle.cdc_ledger.proofs.StoredLaws.{find_all}
 use Rattle.cdc_audit.specs.declared.fields.FixedFields.{FixedFields}
 use Rattle.cdc_audit.specs.Fields.{accounts_of, fixed_fields}
-use Rattle.cdc_audit_laws.specs.Soundness.{IsOpenedAlone, LedgersCanBeTold, accounts_in}
-use Rattle.cdc_audit_laws.proofs.InTurn.{ledgers_come_in_turn}
+use Rattle.cdc_audit_laws.specs.Soundness.{IsOpenedAlone, IsUnlinked, LedgersEventsCanBeMade, accounts_in}
+use Rattle.cdc_audit_laws.proofs.Whole.{ledgers_events_are_whole}
 use Rattle.cdc_audit_laws.proofs.Keeping.{kept_by_legal}
 use Rattle.cdc_audit_laws.proofs.Requests.{account_of}
 
@@ -144,18 +142,17 @@ shown_apart h sound apart =
     }) (AllByRecursion-both (IsFromEntries h.entries) (IsFromOthers h.accounts) h.accounts apart.entries apart.others)
     h.entries sound.known
 
--- so the events of a ledger can be told
-pub ledgers_can_be_told : LedgersCanBeTold
-ledgers_can_be_told h legal fit unlinked =
+-- so a ledger can make its events
+pub ledgers_events_can_be_made : LedgersEventsCanBeMade
+ledgers_events_can_be_made h legal fit unlinked =
     let sound = IsSound-from_legal h legal in
     record {
       fit = fit;
       opened =
-          AllByRecursion-weaker (λ a. (has_flag a.1.flags LINKED ≡ false) × IsShownApart (events h) a)
-          (IsOpenedAlone (events h))
+          AllByRecursion-weaker (λ a. IsUnlinked a × IsShownApart (events h) a) (IsOpenedAlone (events h))
           (λ a is. record { unlinked = is.0; no_event = is.1.no_event; no_other = is.1.no_other })
           (accounts_in (events h))
-          (AllByRecursion-both (λ a. has_flag a.1.flags LINKED ≡ false) (IsShownApart (events h))
-          (accounts_in (events h)) unlinked (shown_apart h sound (apart_by_legal h legal)));
-      in_turn = ledgers_come_in_turn h legal;
+          (AllByRecursion-both IsUnlinked (IsShownApart (events h)) (accounts_in (events h)) unlinked
+          (shown_apart h sound (apart_by_legal h legal)));
+      room = (ledgers_events_are_whole h legal).0;
     }

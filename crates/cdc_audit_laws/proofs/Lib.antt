@@ -17,14 +17,15 @@ pub mod Posting
 pub mod Made
 pub mod Entering
 pub mod Expiry
+pub mod Soonest
 pub mod Turns
 pub mod Running
 pub mod Modes
-pub mod Told
+pub mod Plan
 pub mod Openings
 pub mod Walk
 pub mod Soundness
-pub mod InTurn
+pub mod Whole
 pub mod Apart
 mod Examples
 mod SoundExamples

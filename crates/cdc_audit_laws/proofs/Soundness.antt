@@ -1,10 +1,10 @@
--- Accepted events are the events of a legal history, if they can be told to a ledger.
-use Rattle.std.proofs.Common.{◌≡◌, inl, inr, ℕ, ◌<◌, ◌≤◌, ◌+◌, ◌^◌, Bool, true, false, not, List, [], ◌∷◌, ◌++◌, Option, Some, None, if◌then◌else◌, refl, sym, ap, ap₂, ◌∙◌, subst, append_assoc, arith}
+-- Accepted events are the events of a legal history, if a ledger can make them.
+use Rattle.std.proofs.Common.{◌≡◌, inl, inr, ℕ, ◌<◌, ◌≤◌, ◌^◌, Bool, true, false, not, List, [], ◌∷◌, ◌++◌, Option, Some, None, if◌then◌else◌, refl, sym, ap, ap₂, ◌∙◌, subst, append_assoc, arith}
 use Rattle.std.specs.Prelude.{◌==◌, nat_eq}
 use Rattle.std.specs.List.{AllByRecursion}
 use Rattle.std.specs.Map.{lookup}
 use Rattle.std.specs.Option.{option_or}
-use Rattle.std.proofs.lemmas.Bool.{eq-eqb, eqb-true, ltb-false, ne_eqb, not-false, false≢true}
+use Rattle.std.proofs.lemmas.Bool.{eq-eqb, eqb-true, ltb-false, ne_eqb, not-false}
 use Rattle.std.proofs.lemmas.Grind.{flat_map-append}
 use Rattle.std.proofs.lemmas.List.{append-nil}
 use Rattle.cdc_types.specs.declared.accounts.TheConstants.AccountFlags.{LINKED}
@@ -20,15 +20,14 @@ use Rattle.cdc_audit.specs.declared.fields.FixedFields.{FixedFields}
 use Rattle.cdc_audit.specs.Audits.{follows_on, is_accepted}
 use Rattle.cdc_audit.specs.EventShapes.{asked_account}
 use Rattle.cdc_audit.specs.Fields.{accounts_of, created_lines, fields_before, fields_lines, fixed_fields, same_lines}
-use Rattle.cdc_audit.specs.Known.{ends_in_chain, last_expiry}
-use Rattle.cdc_audit_laws.specs.Soundness.{AcceptedEventsAreALedgers, AreInTurn, CanBeTold, EventsAloneAreALedgers, IsAlone, IsOpenedAlone, NoneIsLeft, accounts_in, linked_run}
+use Rattle.cdc_audit.specs.Known.{last_expiry_from, linked_from}
+use Rattle.cdc_audit_laws.specs.Soundness.{AcceptedEventsAreALedgers, AcceptedEventsStartAsALedgers, CanBeMade, EventsAloneAreALedgers, HaveRoom, IsAlone, IsOpenedAlone, IsUnlinked, accounts_in}
 use Rattle.cdc_audit_laws.proofs.Coming.{has_accounts}
 use Rattle.cdc_audit_laws.proofs.Following.{CanFollow, NoneApplies, none_both}
-use Rattle.cdc_audit_laws.proofs.Modes.{chain-push, expiry_from-push, run_from-push}
 use Rattle.cdc_audit_laws.proofs.Streams.{accepted_events_rise, first_follows}
-use Rattle.cdc_audit_laws.proofs.Told.{Admits, AllAdmit, Opens, Told, all-place_all, events_in, events_in-only, events_in-place_all, only, only-all, only-rises, place_all, place_all-opens, rises-place_all}
+use Rattle.cdc_audit_laws.proofs.Plan.{Admits, AllAdmit, Opens, Planned, all-place_all, events_in, events_in-only, events_in-place_all, only, only-all, only-rises, place_all, place_all-opens, rises-place_all}
 use Rattle.cdc_audit_laws.proofs.Openings.{AreCreated, IsOpenable, are_created, opening_of}
-use Rattle.cdc_audit_laws.proofs.Walk.{CanTell, IsReady, told_from_empty}
+use Rattle.cdc_audit_laws.proofs.Walk.{CanMake, IsReady, Reaches, made_from_empty, part_legal, whole_legal}
 
 -- ---- the accounts of accepted events can be opened
 
@@ -57,9 +56,6 @@ account_fits ledger a t ledger_fits fits fields unlinked some earlier within = r
   };
   some = some;
 }
-
-abbrev IsUnlinked : ℕ × FixedFields → Type 0
-IsUnlinked a = has_flag a.1.flags LINKED ≡ false
 
 all_fit : (past rest : List Event) → follows_on past rest ≡ true → AllByRecursion EventFits rest
     → AllByRecursion IsUnlinked (accounts_in rest) → AllByRecursion IsFit (accounts_in rest)
@@ -187,13 +183,13 @@ all_known past (e ∷ rest) follow known =
     subst (λ es. AllByRecursion (IsKnown es) (accounts_in es)) (append_assoc past (e ∷ []) rest)
     (all_known (past ++ e ∷ []) rest first.1 (known_then past e first.0 known))
 
--- ---- so all can be told to a ledger
-module _ (events : List Event) (can : CanBeTold events) (accepted : is_accepted events ≡ true) where
+-- ---- so a ledger can make them all
+module _ (events : List Event) (can : CanBeMade events) (accepted : is_accepted events ≡ true) where
   abbrev shown : List (ℕ × FixedFields)
   shown = accounts_in events
 
-  abbrev told : List Told
-  told = place_all opening_of shown (only events)
+  abbrev plan : List Planned
+  plan = place_all opening_of shown (only events)
 
   fit : AllByRecursion IsFit shown
   fit =
@@ -203,7 +199,7 @@ module _ (events : List Event) (can : CanBeTold events) (accepted : is_accepted 
   known : AllByRecursion (IsKnown events) shown
   known = all_known [] events accepted tt
 
-  same_events : events_in told ≡ events
+  same_events : events_in plan ≡ events
   same_events = events_in-place_all opening_of shown (only events) ∙ events_in-only events
 
   -- an account of one timestamp with this one is this one
@@ -226,75 +222,77 @@ module _ (events : List Event) (can : CanBeTold events) (accepted : is_accepted 
     only-all (Admits (opening_of a)) events is.0.no_event,
   )
 
-  opens : AllByRecursion (λ a. Opens (opening_of a) told) shown
+  opens : AllByRecursion (λ a. Opens (opening_of a) plan) shown
   opens =
       place_all-opens opening_of shown (only events)
       (AllByRecursion-weaker (λ a. IsOpenedAlone events a × IsKnown events a)
       (AllAdmit opening_of shown (only events)) admits shown
       (AllByRecursion-both (IsOpenedAlone events) (IsKnown events) shown can.opened known))
 
-  ready : AllByRecursion (IsReady shown empty_history told) (accounts_in (events_in told))
+  ready : AllByRecursion (IsReady shown empty_history plan) (accounts_in (events_in plan))
   ready =
-      subst (λ es. AllByRecursion (IsReady shown empty_history told) (accounts_in es)) (sym same_events)
-      (AllByRecursion-weaker (λ a. Opens (opening_of a) told) (IsReady shown empty_history told) (λ a is. inr is) shown
+      subst (λ es. AllByRecursion (IsReady shown empty_history plan) (accounts_in es)) (sym same_events)
+      (AllByRecursion-weaker (λ a. Opens (opening_of a) plan) (IsReady shown empty_history plan) (λ a is. inr is) shown
       opens)
 
-  can_tell : AllByRecursion (CanTell shown) told
-  can_tell =
-      all-place_all opening_of (CanTell shown) shown (only events)
-      (AllByRecursion-weaker (λ a. IsFit a × IsKnown events a) (λ a. CanTell shown (inl (opening_of a)))
+  can_make : AllByRecursion (CanMake shown) plan
+  can_make =
+      all-place_all opening_of (CanMake shown) shown (only events)
+      (AllByRecursion-weaker (λ a. IsFit a × IsKnown events a) (λ a. CanMake shown (inl (opening_of a)))
       (λ a is. (is.0.openable, is.1)) shown (AllByRecursion-both IsFit (IsKnown events) shown fit known))
-      (only-all (CanTell shown) events can.fit)
+      (only-all (CanMake shown) events can.fit)
 
--- so they are the events of a ledger
+  reaches : Reaches events
+  reaches =
+      let after : AllByRecursion (λ a. 0 < (opening_of a).timestamp) shown =
+      AllByRecursion-weaker IsFit (λ a. 0 < (opening_of a).timestamp) (λ a is. is.some) shown fit in
+      subst Reaches same_events
+      (made_from_empty shown plan
+      (rises-place_all opening_of 0 shown (only events) after (only-rises 0 events (accepted_events_rise events accepted)))
+      can_make ready (ap (follows_on []) same_events ∙ accepted)
+      (subst (HaveRoom 0) (sym same_events) can.room))
+
+-- so they are the events of a ledger, if none is missing at the end
 pub accepted_events_are_a_ledgers : AcceptedEventsAreALedgers
-accepted_events_are_a_ledgers events can accepted =
-    let after : AllByRecursion (λ a. 0 < (opening_of a).timestamp) (accounts_in events) =
-    AllByRecursion-weaker IsFit (λ a. 0 < (opening_of a).timestamp) (λ a is. is.some) (accounts_in events)
-    (fit events can accepted) in
-    let same = same_events events can accepted in
-    let made = told_from_empty (accounts_in events) (told events can accepted)
-    (rises-place_all opening_of 0 (accounts_in events) (only events) after
-    (only-rises 0 events (accepted_events_rise events accepted)))
-    (can_tell events can accepted) (ready events can accepted)
-    (ap (follows_on []) same ∙ accepted) (subst (AreInTurn []) (sym same) can.in_turn) in
-    (made.0, made.1, made.2 ∙ same)
+accepted_events_are_a_ledgers events can whole accepted = whole_legal events (reaches events can accepted) whole
+
+-- and all of them but a last part are
+pub accepted_events_start_as_a_ledgers : AcceptedEventsStartAsALedgers
+accepted_events_start_as_a_ledgers events can accepted = part_legal events (reaches events can accepted)
 
 -- ---- events that store a transfer each, without chains
 
--- none of these events is linked or an expiry
-record HasNeither (past : List Event) : Type 0 where
-  run : linked_run past ≡ 0
-  chain : ends_in_chain past ≡ false
-  expiry : last_expiry past ≡ None
-
-neither-push : (past : List Event) (e : Event) → IsAlone e → HasNeither past → HasNeither (past ++ e ∷ [])
-neither-push past e alone neither = record {
-  run = run_from-push 0 past e ∙ ap (λ b. if b then linked_run past + 1 else 0) alone.unlinked;
-  chain = chain-push past e ∙ alone.unlinked;
-  expiry = expiry_from-push None past e ∙ ap (λ b. if b then last_expiry past else Some e) alone.stored
-      ∙ neither.expiry;
-}
-
-none_left : (past : List Event) → last_expiry past ≡ None → NoneIsLeft past
-none_left past none x y is waiting = cc
-
--- so each comes in its turn
-alone_in_turn : (past rest : List Event) → HasNeither past → AllByRecursion IsAlone rest → AreInTurn past rest
-alone_in_turn past [] neither alone = (neither.chain, none_left past neither.expiry)
-alone_in_turn past (e ∷ rest) neither alone = (
-  record {
-    chain = let none = neither.run in omega (arith, none);
-    first = λ is. absurd (false≢true (sym is ∙ alone.0.stored));
-    none_left = λ is. none_left past neither.expiry;
-  },
-  alone_in_turn (past ++ e ∷ []) rest (neither-push past e alone.0 neither) alone.1,
+-- none of these events is linked, so there is room
+alone_room : (events : List Event) → AllByRecursion IsAlone events → HaveRoom 0 events
+alone_room [] alone = tt
+alone_room (e ∷ events) alone = (
+  omega arith,
+  subst (λ b. HaveRoom (if b then 1 else 0) events) (sym alone.0.unlinked) (alone_room events alone.1),
 )
+
+-- and they don't end within a chain
+alone_unlinked : (events : List Event) → AllByRecursion IsAlone events → linked_from false events ≡ false
+alone_unlinked [] alone = refl
+alone_unlinked (e ∷ events) alone =
+    ap (λ b. linked_from b events) alone.0.unlinked ∙ alone_unlinked events alone.1
+
+-- none of them is an expiry
+alone_stored : (events : List Event) → AllByRecursion IsAlone events → last_expiry_from None events ≡ None
+alone_stored [] alone = refl
+alone_stored (e ∷ events) alone =
+    ap (λ b. last_expiry_from (if b then None else Some e) events) alone.0.stored ∙ alone_stored events alone.1
+
+-- nothing isn't something
+none_some : (x : Event) → ◌≡◌ {A = Option Event} None (Some x) → ⊥
+none_some x is = cc
 
 pub events_alone_are_a_ledgers : EventsAloneAreALedgers
 events_alone_are_a_ledgers events alone opened accepted =
     accepted_events_are_a_ledgers events (record {
       fit = AllByRecursion-weaker IsAlone EventFits (λ e is. is.fits) events alone;
       opened = opened;
-      in_turn = alone_in_turn [] events (record { run = refl; chain = refl; expiry = refl }) alone;
+      room = alone_room events alone;
+    }) (record {
+      chain = alone_unlinked events alone;
+      pulse = λ x y last first same. none_some x (sym (alone_stored events alone) ∙ last);
     }) accepted
