@@ -2,7 +2,7 @@
 use Rattle.std.proofs.Common.{◌≡◌, ◌⊎◌, inl, inr, ℕ, ◌+◌, ◌≤◌, Bool, true, false, not, List, [], ◌∷◌, ◌++◌, Option, Some, None, if◌then◌else◌, refl, sym, ap, ◌∙◌, subst, append_assoc, append-nil, arith}
 use Rattle.std.specs.Prelude.{◌==◌, ◌&&◌, filter, IfSome, IsSomeAnd}
 use Rattle.std.specs.List.{AllByRecursion}
-use Rattle.std.proofs.lemmas.Bool.{and_parts, eq-eqb, eqb-true, not-false, not-true}
+use Rattle.std.proofs.lemmas.Bool.{and_parts, eq-eqb, eqb-true, false≢true, not-false, not-true}
 use Rattle.cdc_types.specs.declared.events.Entry.{Entry}
 use Rattle.cdc_types.specs.declared.events.Event.{Event}
 use Rattle.cdc_types.specs.declared.transfers.Transfer.{Transfer}
@@ -22,7 +22,7 @@ use Rattle.cdc_audit.specs.Expiries.{can_expire, expiry_lines, first_due, is_soo
 use Rattle.cdc_audit.specs.Known.{ends_in_chain, is_linked, last_expiry, last_expiry_from, linked_from}
 use Rattle.cdc_audit.specs.Settling.{expires_at}
 use Rattle.cdc_audit.proofs.FirstLemmas.{first_of-all, passing}
-use Rattle.cdc_audit_laws.specs.Soundness.{AreWhole}
+use Rattle.cdc_audit_laws.specs.Soundness.{AreCutOff, AreWhole}
 use Rattle.cdc_audit_laws.proofs.Following.{CanFollow, NoneApplies}
 use Rattle.cdc_audit_laws.proofs.Keeping.{IsUp, due_up}
 use Rattle.cdc_audit_laws.proofs.Running.{Pulses, RunsOn}
@@ -221,3 +221,36 @@ pub goes_on : (h : History) (e : Event) → IsSound h → (IsInChain h ⊎ IsInP
     → e.timestamp ≡ h.last + 1
 goes_on h e sound (inl chain) can = (chain_next h e chain can).1
 goes_on h e sound (inr pulse) can = (pulse_next h e sound pulse can).next
+
+-- ---- the end
+
+-- a history has these events: a legal one, or one within a chain or a pulse
+pub record Reaches (es : List Event) : Type 0 where
+  pub last : History
+  pub sound : IsSound last
+  pub mode : Mode last
+  pub same : events last ≡ es
+
+-- if no chain and no pulse is cut off, it is legal
+pub whole_legal : (es : List Event) → Reaches es → AreWhole es → (g : History) × IsLegal g × (events g ≡ es)
+whole_legal es end whole = by end.mode
+  where
+    by : Mode end.last → (g : History) × IsLegal g × (events g ≡ es)
+    by (inl legal) = (end.last, legal, end.same)
+    by (inr (inl chain)) =
+        absurd (false≢true (sym whole.chain ∙ sym (ap ends_in_chain end.same) ∙ chain.chained))
+    by (inr (inr pulse)) = absurd (pulse_left end.last end.sound pulse (subst AreWhole (sym end.same) whole))
+
+-- and if one may be, a legal history has all of the events but that last part
+pub part_legal : (es : List Event) → Reaches es
+    → (g : History) × (part : List Event) × IsLegal g × (events g ++ part ≡ es) × AreCutOff part
+part_legal es end = by end.mode
+  where
+    by : Mode end.last → (g : History) × (part : List Event) × IsLegal g × (events g ++ part ≡ es) × AreCutOff part
+    by (inl legal) = (end.last, [], legal, append-nil (events end.last) ∙ end.same, inl tt)
+    by (inr (inl chain)) =
+        let from = chain.start in
+        (from.start, from.part, from.legal, from.split ∙ end.same, inl from.all)
+    by (inr (inr pulse)) =
+        let from = pulse.start in
+        (from.start, from.part, from.legal, from.split ∙ end.same, inr (pulse.now, from.all))

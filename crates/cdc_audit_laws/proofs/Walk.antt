@@ -44,56 +44,21 @@ use Rattle.cdc_audit.specs.EventShapes.{asked_transfer}
 use Rattle.cdc_audit.specs.Known.{balances_after, ends_in_chain, is_linked, last_expiry}
 use Rattle.cdc_audit.specs.Expiries.{can_expire, is_sooner}
 use Rattle.cdc_audit.specs.Settling.{expires_at}
-use Rattle.cdc_audit_laws.specs.Soundness.{AreCutOff, AreWhole, HaveRoom, accounts_in}
+use Rattle.cdc_audit_laws.specs.Soundness.{HaveRoom, accounts_in}
 use Rattle.cdc_audit_laws.proofs.Coming.{Comes}
 use Rattle.cdc_audit_laws.proofs.Entering.{entry_is, own, own_follows, shows_own, unrefused}
 use Rattle.cdc_audit_laws.proofs.Expiry.{expired, expiry_follows, expiry_is, is_up, shows_expired}
 use Rattle.cdc_audit_laws.proofs.Following.{CanFollow}
 use Rattle.cdc_audit_laws.proofs.Ledgers.{fixed_of}
 use Rattle.cdc_audit_laws.proofs.Made.{IsShownBy, entry_with, events_then, shown_then, sound_then}
-use Rattle.cdc_audit_laws.proofs.Modes.{IsInChain, IsInPulse, IsOfChain, IsOfPulse, Mode, StartsLegal, chain-push, chain_next, expiry-push, goes_on}
-use Rattle.cdc_audit_laws.proofs.Modes.{linked_run, pulse_left, pulse_next, run-push, run_from-push, starts, starts-push, stores_or_not}
+use Rattle.cdc_audit_laws.proofs.Modes.{IsInChain, IsInPulse, IsOfChain, IsOfPulse, Mode, Reaches, StartsLegal, chain-push, chain_next, expiry-push, goes_on}
+use Rattle.cdc_audit_laws.proofs.Modes.{linked_run, pulse_next, run-push, run_from-push, starts, starts-push, stores_or_not}
 use Rattle.cdc_audit_laws.proofs.Openings.{IsOpenable, are_created, opening_of, request_fits}
 use Rattle.cdc_audit_laws.proofs.Running.{opens, Pulses, RunsOn, pulses-done, pulses-expired, pulses-legal, runs-done, runs-legal, runs-more, runs-taken, timed_before}
 use Rattle.cdc_audit_laws.proofs.Streams.{first_follows}
 use Rattle.cdc_audit_laws.proofs.Plan.{Opens, Rises, Planned, events_in, events_later, opens_later}
 use Rattle.cdc_audit_laws.proofs.Soonest.{AllThatExpire, expire_then, no_earlier, none_before_expiry}
 use Rattle.cdc_audit_laws.proofs.Turns.{its_time, next_due}
-
--- ---- the end
-
--- a history has these events: a legal one, or one within a chain or a pulse
-pub record Reaches (es : List Event) : Type 0 where
-  pub last : History
-  pub sound : IsSound last
-  pub mode : Mode last
-  pub same : events last ≡ es
-
--- if no chain and no pulse is cut off, it is legal
-pub whole_legal : (es : List Event) → Reaches es → AreWhole es → (g : History) × IsLegal g × (events g ≡ es)
-whole_legal es end whole = by end.mode
-  where
-    by : Mode end.last → (g : History) × IsLegal g × (events g ≡ es)
-    by (inl legal) = (end.last, legal, end.same)
-    by (inr (inl chain)) =
-        absurd (false≢true (sym whole.chain ∙ sym (ap ends_in_chain end.same) ∙ chain.chained))
-    by (inr (inr pulse)) = absurd (pulse_left end.last end.sound pulse (subst AreWhole (sym end.same) whole))
-
--- and if one may be, a legal history has all of the events but that last part
-pub part_legal : (es : List Event) → Reaches es
-    → (g : History) × (part : List Event) × IsLegal g × (events g ++ part ≡ es) × AreCutOff part
-part_legal es end = by end.mode
-  where
-    by : Mode end.last → (g : History) × (part : List Event) × IsLegal g × (events g ++ part ≡ es) × AreCutOff part
-    by (inl legal) = (end.last, [], legal, append-nil (events end.last) ∙ end.same, inl tt)
-    by (inr (inl chain)) =
-        let from = chain.start in
-        (from.start, from.part, from.legal, from.split ∙ end.same, inl from.all)
-    by (inr (inr pulse)) =
-        let from = pulse.start in
-        (from.start, from.part, from.legal, from.split ∙ end.same, inr (pulse.now, from.all))
-
--- ---- the plan
 
 module _ (all : List (ℕ × FixedFields)) where
   -- the account is the one that these show
