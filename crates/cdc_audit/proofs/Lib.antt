@@ -1,5 +1,7 @@
+pub mod ApartLemmas
 pub mod KnownLemmas
 pub mod StandLemmas
 pub mod AuditLemmas
 pub mod TextLemmas
 mod Examples
+mod ApartExamples

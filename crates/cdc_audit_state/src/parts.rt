@@ -21,6 +21,7 @@ pub(crate) struct Parts {
     pub(crate) transfers: IndexMap<u128, Stored>,
     pub(crate) open_ones: IndexMap<u128, Event>,
     pub(crate) fields: IndexMap<u128, FixedFields>,
+    pub(crate) times: Vec<u64>,
 }
 
 impl Model for Parts {
@@ -34,6 +35,7 @@ impl Model for Parts {
       transfers = p.transfers.entries;
       open_ones = p.open_ones.entries;
       fixed = p.fields.entries;
+      times = p.times.items;
     } };
 }
 
@@ -47,6 +49,7 @@ impl Parts {
             transfers: IndexMap::new(alloc),
             open_ones: IndexMap::new(alloc),
             fields: IndexMap::new(alloc),
+            times: Vec::new(alloc),
         }
     }
 
@@ -74,6 +77,7 @@ impl Parts {
                     return Err(AllocError);
                 }
             }
+            Row::Time(timestamp) => self.times.push(timestamp)?,
         }
         Ok(())
     }
