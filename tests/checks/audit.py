@@ -9,8 +9,8 @@ Then one event is left out, doubled, swapped with the next one or changed in one
 just what a small model of the rules does, at the same line and by the same rule, which reads JSON by Python's own parser. A
 double, a swap, another balance, and another amount that is moved or held have to be refused; so has what follows an event that is
 left out, if its amount isn't 0 and one of its accounts appears again. What no rule finds is counted by kind and printed. Random
-scripts of pending transfers that expire, many of them at once, do the same with two expiries exchanged. States that are saved
-are tried by audit_states.py.
+scripts of pending transfers that expire, many of them at once, do the same with two expiries exchanged, and with one left out.
+States that are saved are tried by audit_states.py.
 
 The last line is `audit: N passed, M failed`; the status is 1 if one failed.
 """
@@ -146,6 +146,7 @@ class Audit:
     def __init__(self):
         self.count, self.last, self.linked, self.expired = 0, 0, False, None
         self.balances, self.stored, self.pending, self.settled, self.fixed = {}, set(), {}, set(), {}
+        self.open = {}
 
     def refusal(self, body):
         """Why an event is refused, as the rule and its sentence, or None."""
@@ -173,10 +174,10 @@ class Audit:
             why = self.other_transfer(body, self.pending[of])
             if why:
                 return why
-            why = self.other_order(body)
-            if why:
-                return why
             released = int(self.pending[of]["transfer"]["amount"])
+        why = self.other_order(body)
+        if why:
+            return why
         if self.linked and (kind not in STORES or timestamp != self.last + 1):
             return f"chains: event {timestamp} isn't the next of the chain at {self.last}"
         for account in (debit, credit):
@@ -233,15 +234,18 @@ class Audit:
         return None
 
     def other_order(self, body):
-        """The sentence on an expiry that doesn't come after the last one before it, or None."""
-        if body["type"] in STORES or self.expired is None:
+        """The sentence on an event by the open pending transfer that is first to expire, or None."""
+        if not self.open:
             return None
-        id, last = settled_id(body), settled_id(self.expired)
-        one, other = ((expires_at(it), int(it["transfer"]["timestamp"])) for it in (body, self.expired))
-        if one < other:
-            return f"expiries: pending transfer {id} expires after pending transfer {last}, and is first to expire"
-        if one[0] == other[0] and int(body["timestamp"]) != int(self.expired["timestamp"]) + 1:
-            return f"expiries: pending transfer {id} expires with pending transfer {last}, and not right after it"
+        end, stored, first = min(self.open.values())
+        expiry = body["type"] not in STORES
+        if expiry and (end, stored) < (expires_at(body), int(body["transfer"]["timestamp"])):
+            id = settled_id(body)
+            return f"expiries: pending transfer {id} expires before pending transfer {first}, which is first to expire"
+        if self.expired is not None and end == expires_at(self.expired):
+            if not expiry or int(body["timestamp"]) != int(self.expired["timestamp"]) + 1:
+                last = settled_id(self.expired)
+                return f"expiries: pending transfer {first} expires with pending transfer {last}, and not right after it"
         return None
 
     def take(self, body):
@@ -253,9 +257,13 @@ class Audit:
         if body["type"] in STORES:
             self.stored.add(int(body["transfer"]["id"]))
         if body["type"] in HOLDS:
-            self.pending[int(body["transfer"]["id"])] = body
+            id, stored = int(body["transfer"]["id"]), int(body["transfer"]["timestamp"])
+            self.pending[id] = body
+            if int(body["transfer"]["timeout"]):
+                self.open[id] = (expires_at(body), stored, id)
         if body["type"] in SETTLES:
             self.settled.add(settled_id(body))
+            self.open.pop(settled_id(body), None)
         for side in SIDES:
             account = body[side]
             self.fixed.setdefault(int(account["id"]), fixed_of(body, side))
@@ -476,27 +484,28 @@ def rows_of_times():
     one, other = expiry(up, TIMED, 5), expiry(up + 1, THREE, 0)
     yield "two expiries", [PAID, TIMED, THREE, one, other], f"accepted 5 last {up + 1}\n", 0
     yield "two expiries apart", [PAID, TIMED, THREE, one, expiry(up + 9, THREE, 0)], f"accepted 5 last {up + 9}\n", 0
-    one, other = expiry(up, THREE, 10), expiry(up + 1, TIMED, 0)
-    yield "two expiries in the wrong order", [PAID, TIMED, THREE, one, other], (
-        fifth + "pending transfer 2 expires after pending transfer 3, and is first to expire\n"
+    late = "pending transfer 3 expires before pending transfer 2, which is first to expire\n"
+    yield "an expiry before the first one", [PAID, TIMED, THREE, expiry(up, THREE, 10)], (
+        "accepted 3 last 30\nrefused: line 4: expiries: " + late
     ), 1
+    free = with_transfer(THREE, timeout=0)
+    yield "an expiry, and one without a timeout", [PAID, TIMED, free, expiry(up, TIMED, 5)], f"accepted 4 last {up}\n", 0
+    balances = {"debit_account": account(1, 5, 30, 0, 0), "credit_account": account(2, 0, 0, 5, 30)}
+    void = with_transfer({**at(40, VOID), **balances}, id="4")
+    yield "an expiry after the first one is voided", [PAID, TIMED, THREE, void, expiry(up, THREE, 0)], f"accepted 5 last {up}\n", 0
     both = [PAID, LONG, LATE]
     one, other = expiry(UP_BOTH, LONG, 5), expiry(UP_BOTH + 1, LATE, 0)
     yield "two expiries of one time", [*both, one, other], f"accepted 5 last {UP_BOTH + 1}\n", 0
     fifth = f"accepted 4 last {UP_BOTH}\nrefused: line 5: expiries: "
-    yield "two expiries of one time apart", [*both, one, expiry(UP_BOTH + 2, LATE, 0)], (
-        fifth + "pending transfer 3 expires with pending transfer 2, and not right after it\n"
-    ), 1
+    apart = fifth + "pending transfer 3 expires with pending transfer 2, and not right after it\n"
+    yield "two expiries of one time apart", [*both, one, expiry(UP_BOTH + 2, LATE, 0)], apart, 1
     paid = event(UP_BOTH + 1, 4, SINGLE, 1, (1, 5, 31, 0, 0), (2, 0, 0, 5, 31))
     balances = {"debit_account": account(1, 0, 31, 0, 0), "credit_account": account(2, 0, 0, 0, 31)}
     between = [*both, one, paid, {**expiry(UP_BOTH + 2, LATE, 0), **balances}]
-    yield "an event between two expiries of one time", between, (
-        f"accepted 5 last {UP_BOTH + 1}\nrefused: line 6: expiries: "
-        "pending transfer 3 expires with pending transfer 2, and not right after it\n"
-    ), 1
-    one, other = expiry(UP_BOTH, LATE, 10), expiry(UP_BOTH + 1, LONG, 0)
-    yield "two expiries of one time in the wrong order", [*both, one, other], (
-        fifth + "pending transfer 2 expires after pending transfer 3, and is first to expire\n"
+    yield "an event between two expiries of one time", between, apart, 1
+    yield "one of two expiries of one time alone", [*both, one, at(9 * UP_BOTH, paid)], apart, 1
+    yield "the second of two expiries of one time", [*both, expiry(UP_BOTH, LATE, 10)], (
+        f"accepted 3 last {UP}\nrefused: line 4: expiries: " + late
     ), 1
     yield "the greatest timestamp", [at(GREATEST, PAID)], f"accepted 1 last {GREATEST}\n", 0
     yield "a greater timestamp", [at(GREATEST + 1, PAID)], (
@@ -579,7 +588,7 @@ def json_rows():
     yield [PAID, PAID], {"rule": "timestamps", "timestamp": "10", "last": "10"}
     yield [at(GREATEST + 1, PAID)], {"rule": "timestamps", "timestamp": str(GREATEST + 1)}
     pending, up = [PAID, TIMED, THREE], 30 + 2 * SECOND
-    yield [*pending, expiry(up, THREE, 10), expiry(up + 1, TIMED, 0)], {"rule": "expiries", "transfer": "2", "after": "3"}
+    yield [*pending, expiry(up, THREE, 10)], {"rule": "expiries", "transfer": "3", "after": "2"}
     apart = [PAID, LONG, LATE, expiry(UP_BOTH, LONG, 5), expiry(UP_BOTH + 2, LATE, 0)]
     yield apart, {"rule": "expiries", "transfer": "3", "after": "2"}
     yield [one], {"rule": "accounts", "account": "1"}
@@ -700,6 +709,21 @@ def exchanged(bodies):
         yield "exchanged", [*bodies[:place], first, second, *bodies[place + 2 :]], True
 
 
+def kept(bodies):
+    """The streams in which a pending transfer never expires, while a later one does, with the balances that follow."""
+    places = [place for place, it in enumerate(bodies) if it["type"] == EXPIRED]
+    for place in places[:-1]:
+        amount, rest = int(bodies[place]["transfer"]["amount"]), []
+        for body in bodies[place + 1 :]:
+            debit, credit = body["debit_account"], body["credit_account"]
+            rest.append({
+                **body,
+                "debit_account": {**debit, "debits_pending": str(int(debit["debits_pending"]) + amount)},
+                "credit_account": {**credit, "credits_pending": str(int(credit["credits_pending"]) + amount)},
+            })
+        yield "kept", [*bodies[:place], *rest], True
+
+
 def mutants(rng, bodies):
     """Changed streams: the kind, the stream, and whether it has to be refused."""
     for kind in ("dropped", "doubled", "swapped", "changed", "changed", "changed"):
@@ -729,7 +753,8 @@ def random_stream(seed):
         if status or found[:2] != (0, text):
             wrong.append(f"seed {seed}: {found!r}, not {text!r}")
     changes = list(mutants(rng, bodies)) if bodies else []
-    changes += rng.sample(list(exchanged(expiries)), min(1, len(list(exchanged(expiries)))))
+    for others in (list(exchanged(expiries)), list(kept(expiries))):
+        changes += rng.sample(others, min(1, len(others)))
     for kind, stream, must in changes:
         text, status = audited(stream)
         found = run([], text_of(stream))

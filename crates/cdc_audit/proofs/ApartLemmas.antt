@@ -19,7 +19,8 @@ use Rattle.cdc_types.specs.Timestamps.{RiseFrom}
 use Rattle.cdc_audit.specs.declared.fields.FixedFields.{FixedFields}
 use Rattle.cdc_audit.specs.Apart.{account_at, accounts_before, has_time, times_of, with_shown}
 use Rattle.cdc_audit.specs.Fields.{accounts_of, fields_before}
-use Rattle.cdc_audit.specs.Standing.{AreInOrder, IsIndexOf, fields_under, with_accounts}
+use Rattle.cdc_audit.specs.Standing.{AreInOrder, IsTimeIndex, fields_under, with_accounts}
+use Rattle.cdc_audit.proofs.OpenLemmas.{lookup-append}
 
 -- ---- timestamps that rise
 
@@ -78,18 +79,6 @@ pub times_of-push : (past : List Event) (e : Event) → times_of (past ++ e ∷ 
 times_of-push past e = map-append (λ (x : Event). x.timestamp) past (e ∷ [])
 
 -- ---- accounts by their ids
-
--- a key in two lists of entries, one after the other
-lookup-append : {V : Type 0} (id : ℕ) (xs ys : List (ℕ × V))
-    → lookup (nat_eq id) (xs ++ ys) ≡ option_or (lookup (nat_eq id) xs) (lookup (nat_eq id) ys)
-lookup-append id [] ys = refl
-lookup-append {V = V} id (x ∷ xs) ys = by (nat_eq id x.0) (lookup-append id xs ys)
-  where
-    by : (b : Bool) → lookup (nat_eq id) (xs ++ ys) ≡ option_or (lookup (nat_eq id) xs) (lookup (nat_eq id) ys)
-        → cond b (Some x.1) (lookup (nat_eq id) (xs ++ ys))
-        ≡ option_or (cond b (Some x.1) (lookup (nat_eq id) xs)) (lookup (nat_eq id) ys)
-    by true rest = refl
-    by false rest = rest
 
 or_none : {V : Type 0} (o : Option V) → option_or o None ≡ o
 or_none None = refl
@@ -184,7 +173,7 @@ account_at-one a t = by (a.1.timestamp == t)
 pub index-push : (old new : List (ℕ × ℕ)) (fs : List (ℕ × FixedFields)) (a : ℕ × FixedFields)
     → ((t : ℕ) → lookup (nat_eq t) new
     ≡ option_or (lookup (nat_eq t) old) (cond (a.1.timestamp == t) (Some a.0) None))
-    → IsIndexOf old fs → IsIndexOf new (fs ++ a ∷ [])
+    → IsTimeIndex old fs → IsTimeIndex new (fs ++ a ∷ [])
 index-push old new fs a adds index t =
     adds t ∙ ap (λ o. option_or o (cond (a.1.timestamp == t) (Some a.0) None)) (index t)
     ∙ ap (option_or (account_at fs t)) (sym (account_at-one a t)) ∙ sym (account_at-append fs (a ∷ []) t)

@@ -262,11 +262,12 @@ accepted-expiries : is_accepted (moved ∷ held_long ∷ held_last ∷ expired_l
 unfolding refusal follows_on
 accepted-expiries = refl
 
-expires_late : refusal (moved ∷ held_long ∷ held_last ∷ record expired_last {
+-- the five can't expire before the seven
+expires_late : refusal (moved ∷ held_long ∷ held_last ∷ []) (record expired_last {
   timestamp = 2000002000;
   debit_account = debited 1 7 5;
   credit_account = credited 2 7 5;
-} ∷ []) (record expired_long { timestamp = 2000002001 }) ≡ Some (ExpiresLate 11 12)
+}) ≡ Some (ExpiresLate 12 11)
 unfolding refusal
 expires_late = refl
 
@@ -274,6 +275,22 @@ expires_apart : refusal (moved ∷ held_long ∷ held_last ∷ expired_long ∷ 
     (record expired_last { timestamp = 2000002002 }) ≡ Some (ExpiresApart 12 11)
 unfolding refusal
 expires_apart = refl
+
+-- nor can they stay once the seven expired
+expires_never : refusal (moved ∷ held_long ∷ held_last ∷ expired_long ∷ [])
+    (event 2000002001 SinglePhase 13 0 1 5 6) ≡ Some (ExpiresApart 12 11)
+unfolding refusal
+expires_never = refl
+
+-- they can be posted before their time is up, and then the seven may expire when they like
+accepted-posted : is_accepted (moved ∷ held_long ∷ held_last ∷ event 1000002001 TwoPhasePosted 13 12 5 7 10
+    ∷ record expired_long {
+      timestamp = 2000002005;
+      debit_account = debited 1 0 10;
+      credit_account = credited 2 0 10;
+    } ∷ []) ≡ true
+unfolding refusal follows_on
+accepted-posted = refl
 
 -- a post has no user data, and its pending transfer has
 drops_data : refusal
@@ -397,7 +414,7 @@ unfolding refusal_text digits
 text-amount = refl
 
 text-expires_late : refusal_text (ExpiresLate 7 8)
-    ≡ codes "expiries: pending transfer 7 expires after pending transfer 8, and is first to expire"
+    ≡ codes "expiries: pending transfer 7 expires before pending transfer 8, which is first to expire"
 unfolding refusal_text digits
 text-expires_late = refl
 

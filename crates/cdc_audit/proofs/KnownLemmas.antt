@@ -1,9 +1,8 @@
 -- What the events show of a transfer after one more event, and what an auditor knows of it then.
 use Rattle.std.proofs.Common.{◌≡◌, ℕ, Bool, true, false, cond, List, [], ◌∷◌, ◌++◌, Option, Some, None, refl, sym, ap, ap₂, ◌∙◌, inl, inr}
-use Rattle.std.specs.Prelude.{◌==◌, ◌&&◌, ◌||◌, not, nat_eq, is_none, is_some, unwrap_or, find, option_map}
-use Rattle.std.specs.List.{flat_map}
+use Rattle.std.specs.Prelude.{◌==◌, ◌&&◌, ◌||◌, nat_eq, is_none, is_some, unwrap_or, find, option_map}
+use Rattle.std.specs.List.{AllByRecursion}
 use Rattle.std.specs.Option.{option_or}
-use Rattle.std.proofs.lemmas.Grind.{flat_map-append}
 use Rattle.std.proofs.lemmas.Bool.{ne_eqb}
 use Rattle.std.proofs.lemmas.Bool.Decides.{eqb_tells}
 use Rattle.std.proofs.lemmas.List.Folds.{find-append, list_any-append}
@@ -12,15 +11,14 @@ use Rattle.cdc_types.specs.declared.events.Event.{Event}
 use Rattle.cdc_types.specs.declared.events.EventKind.{EventKind}
 use Rattle.cdc_types.specs.declared.events.EventKind.TheVariants as kind
 use Rattle.cdc_ledger.specs.Kinds.{holds, settles, stores}
+use Rattle.cdc_ledger.proofs.Elements.{AllByRecursion-weaker, AllByRecursion_push}
 use Rattle.cdc_audit.specs.declared.checks.Stored.{Stored}
 use Rattle.cdc_audit.specs.declared.checks.Stored.TheVariants.{Plain, Pending, Settled}
 use Rattle.cdc_audit.specs.Checks.{amount_in, stored_by, was_settled}
-use Rattle.cdc_audit.specs.declared.checks.Facts.{Facts}
-use Rattle.cdc_audit.specs.declared.fields.FixedFields.{FixedFields}
-use Rattle.cdc_audit.specs.Fields.{accounts_of, fields_before, fixed_fields}
 use Rattle.cdc_audit.specs.Known.{expiry_or, is_linked, is_settled, is_stored, last_expiry_from, linked_from, open_event}
 use Rattle.cdc_audit.specs.Known.{pending_amount, pending_event, settled_id}
-use Rattle.cdc_audit.specs.Standing.{IsKnownOf, KeepsAccounts, fields_under, open_then, open_under, stored_under, with_own, with_settled}
+use Rattle.cdc_audit.specs.Standing.{IsKnownOf, IsOnce, open_under, stored_under, with_held, with_open, with_own, with_settled, without_settled}
+use Rattle.cdc_audit.proofs.OpenLemmas.{open_under-added}
 
 or_false : (b : Bool) → (b || false) ≡ b
 or_false true = refl
@@ -264,28 +262,78 @@ open-step false false true before e new = refl
 open-step false false false None e new = refl
 open-step false false false (Some x) e new = refl
 
+-- a kind of event that holds its amount stores a transfer
+stores_if : (k : EventKind) → holds k ≡ true → stores k ≡ true
+stores_if kind.SinglePhase is = cc
+stores_if kind.TwoPhasePending is = refl
+stores_if kind.TwoPhasePosted is = cc
+stores_if kind.TwoPhaseVoided is = cc
+stores_if kind.TwoPhaseExpired is = cc
+
+-- no pending transfer was stored under the id of one that an accepted event stores, and none was settled
+pub none_held : (transfers : List (ℕ × Stored)) (past : List Event) (e : Event)
+    → ((id : ℕ) → IsKnownOf (stored_under transfers id) past id)
+    → (stores e.kind && is_some (cond (stores e.kind) (stored_under transfers e.transfer.id) None)) ≡ false
+    → holds e.kind ≡ true
+    → (is_settled past e.transfer.id ≡ false) × (pending_event past e.transfer.id ≡ None)
+none_held transfers past e knows new is =
+    let none = unknown (stores e.kind) (stored_under transfers e.transfer.id) new (stores_if e.kind is) in
+    let was = knows e.transfer.id in
+    (was.settled ∙ ap was_settled none, no_event (pending_event past e.transfer.id) (was.amount ∙ ap amount_in none))
+
+-- what is kept under an id after an event that an auditor accepts
+open_under-held : (events : List (ℕ × Event)) (e : Event) (id : ℕ)
+    → (holds e.kind ≡ true → open_under events e.transfer.id ≡ None)
+    → open_under (with_held events e) id
+    ≡ cond (holds e.kind && (e.transfer.id == id)) (Some e) (open_under events id)
+open_under-held events e id new = by (holds e.kind) new
+  where
+    by : (b : Bool) → (b ≡ true → open_under events e.transfer.id ≡ None)
+        → open_under (cond b (with_open events e) events) id
+        ≡ cond (b && (e.transfer.id == id)) (Some e) (open_under events id)
+    by false new = refl
+    by true new =
+        let none = new refl in
+        ap (λ o. open_under (cond (is_some o) events (events ++ (e.transfer.id, e) ∷ [])) id) none
+        ∙ open_under-added events e e.transfer.id id none
+
 -- the open pending transfer of an id after an event that an auditor accepts
 pub open_one-step : (transfers : List (ℕ × Stored)) (events : List (ℕ × Event)) (past : List Event) (e : Event)
     → ((id : ℕ) → IsKnownOf (stored_under transfers id) past id)
     → ((id : ℕ) → open_under events id ≡ open_event past id)
     → (stores e.kind && is_some (cond (stores e.kind) (stored_under transfers e.transfer.id) None)) ≡ false
-    → (id : ℕ) → open_then events e id ≡ open_event (past ++ e ∷ []) id
+    → (id : ℕ) → without_settled (with_held events e) e id ≡ open_event (past ++ e ∷ []) id
 open_one-step transfers events past e knows opened new id =
     let held : Bool = holds e.kind && (e.transfer.id == id) in
     let settled : Bool = settles e.kind && (settled_id e == id) in
-    ap (λ o. cond settled None (cond held (Some e) o)) (opened id)
+    ap (cond settled None)
+    (open_under-held events e id (λ is.
+    let none = none_held transfers past e knows new is in
+    opened e.transfer.id ∙ ap₂ (λ b o. cond b None o) none.0 none.1))
+    ∙ ap (λ o. cond settled None (cond held (Some e) o)) (opened id)
     ∙ sym (open-step settled held (is_settled past id) (pending_event past id) e (λ is.
     let both = both_true (holds e.kind) (e.transfer.id == id) is in
-    let storing = both_true (holds e.kind) (stores e.kind && (e.transfer.id == id))
-    (sym (holds_stores e.kind (e.transfer.id == id)) ∙ is) in
-    let stored : stores e.kind ≡ true = (both_true (stores e.kind) (e.transfer.id == id) storing.1).0 in
-    let none : stored_under transfers id ≡ None =
-    sym (ap (stored_under transfers) (same_id e.transfer.id id both.1))
-    ∙ unknown (stores e.kind) (stored_under transfers e.transfer.id) new stored in
-    let was = knows id in
-    (was.settled ∙ ap was_settled none, no_event (pending_event past id) (was.amount ∙ ap amount_in none))))
+    let none = none_held transfers past e knows new both.0 in
+    let same = same_id e.transfer.id id both.1 in
+    (sym (ap (is_settled past) same) ∙ none.0, sym (ap (pending_event past) same) ∙ none.1)))
     ∙ sym (ap (λ b. cond b None (pending_event (past ++ e ∷ []) id)) (is_settled-push past e id)
     ∙ ap (λ o. cond (is_settled past id || settled) None o) (pending_event-push past e id))
+
+-- each pending transfer is the first one of its id after an event that an auditor accepts
+pub once-step : (transfers : List (ℕ × Stored)) (past : List Event) (e : Event)
+    → ((id : ℕ) → IsKnownOf (stored_under transfers id) past id)
+    → (stores e.kind && is_some (cond (stores e.kind) (stored_under transfers e.transfer.id) None)) ≡ false
+    → AllByRecursion (IsOnce past) past → AllByRecursion (IsOnce (past ++ e ∷ [])) (past ++ e ∷ [])
+once-step transfers past e knows new once =
+    AllByRecursion_push (IsOnce (past ++ e ∷ [])) past e
+    (AllByRecursion-weaker (IsOnce past) (IsOnce (past ++ e ∷ []))
+    (λ p is holding. pending_event-push past e p.transfer.id
+    ∙ ap (λ o. option_or o (cond (holds e.kind && (e.transfer.id == p.transfer.id)) (Some e) None)) (is holding))
+    past once)
+    (λ holding. pending_event-push past e e.transfer.id
+    ∙ ap₂ (λ o b. option_or o (cond (b && (e.transfer.id == e.transfer.id)) (Some e) None))
+    (none_held transfers past e knows new holding).1 holding
+    ∙ ap (λ b. cond b (Some e) None) (eqb_same e.transfer.id))
 
 -- the last expiry is the last event, or the one before
 pub last_expiry_from-push : (last : Option Event) (past : List Event) (e : Event)

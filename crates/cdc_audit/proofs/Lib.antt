@@ -1,4 +1,6 @@
+pub mod OpenLemmas
 pub mod ApartLemmas
+pub mod FirstLemmas
 pub mod KnownLemmas
 pub mod StandLemmas
 pub mod AuditLemmas

@@ -37,15 +37,16 @@ use Rattle.cdc_audit.specs.Known.{last_expiry, pending_amount, settled_id}
 use Rattle.cdc_audit.specs.Rules as rules
 use Rattle.cdc_audit.specs.Rules.{chain_lines, event_lines, held, order_lines, posted, refusal, settled_event}
 use Rattle.cdc_audit.specs.EventShapes.{shape_lines}
-use Rattle.cdc_audit.specs.Expiries.{expiry_lines}
+use Rattle.cdc_audit.specs.Expiries.{expiry_lines, first_due}
 use Rattle.cdc_audit.specs.Apart.{accounts_before, apart_lines, times_before, times_known}
 use Rattle.cdc_audit.specs.Fields.{created_lines, fields_lines}
 use Rattle.cdc_audit.specs.Foreign.{audited_event}
 use Rattle.cdc_audit.specs.Limits.{limits_lines}
 use Rattle.cdc_audit.specs.Settling.{settling_lines}
-use Rattle.cdc_audit.specs.Standing.{AuditorState, IsKnownOf, AreInOrder, StandsFor, facts_of, fields_under, kept_after, open_then, open_under, stored_under, times_of_account, with_accounts, with_own, with_settled}
+use Rattle.cdc_audit.specs.Standing.{AuditorState, AreInOrder, IsFirst, IsKnownOf, StandsFor, facts_of, fields_under, kept_after, open_under, stored_under, times_of_account, with_accounts, with_held, with_own, with_settled, without_settled}
 use Rattle.cdc_audit.proofs.ApartLemmas.{accounts_before-fields, accounts_before-push, rising_in_order, times_of-push}
-use Rattle.cdc_audit.proofs.KnownLemmas.{known-step, last_expiry_from-push, linked_from-push, open_one-step}
+use Rattle.cdc_audit.proofs.FirstLemmas.{first_is}
+use Rattle.cdc_audit.proofs.KnownLemmas.{known-step, last_expiry_from-push, linked_from-push, once-step, open_one-step}
 
 -- the refusal by two parts of the lines
 pub either_is : (both one other : Option Refusal) (first second : List (Bool × Refusal)) → both ≡ option_or one other
@@ -186,17 +187,17 @@ fixed-same : (e : Event) (d d2 c c2 : Option FixedFields) (dt dt2 ct ct2 : Times
 fixed-same e d d2 c c2 dt dt2 ct ct2 p q r s = cc
 
 -- the lines by what an auditor knows are those by the events for which it stands
-same_lines : (auditor : AuditorState) (state : AuditState) (e : Event) → StandsFor auditor state
-    → lines (facts_of auditor e) e ≡ event_lines state.past e
-same_lines auditor state e stands =
-    let facts = facts_of auditor e in
+same_lines : (auditor : AuditorState) (state : AuditState) (first : Option Event) (e : Event) → StandsFor auditor state
+    → IsFirst (open_under auditor.open_ones) first → lines (facts_of auditor first e) e ≡ event_lines state.past e
+same_lines auditor state first e stands goes =
+    let facts = facts_of auditor first e in
     let past = state.past in
     let own = stands.transfers e.transfer.id in
     let other = stands.transfers (settled_id e) in
     seven-same (order_lines facts.last e) (order_lines (last_timestamp past) e) (shape_lines e)
     (fixed_lines facts e) (rules.fixed_lines past e) (transfer_lines facts e) (rules.transfer_lines past e)
-    (settling_lines facts.open_one e ++ expiry_lines facts.expired e)
-    (settling_lines (settled_event past e) e ++ expiry_lines (last_expiry past) e)
+    (settling_lines facts.open_one e ++ expiry_lines facts.first facts.expired e)
+    (settling_lines (settled_event past e) e ++ expiry_lines (first_due past) (last_expiry past) e)
     (chain_lines facts.linked facts.last e ++ limits_lines e)
     (chain_lines (ends_in_chain past) (last_timestamp past) e ++ limits_lines e)
     (balances_lines facts e) (rules.balances_lines past e)
@@ -210,8 +211,9 @@ same_lines auditor state e stands =
     (is_none (pending_amount past (settled_id e))) (ap is_none other.amount))
     (guarded (settles e.kind) was_settled (stored_under auditor.transfers (settled_id e))
     (is_settled past (settled_id e)) other.settled))
-    (ap₂ (λ o last. settling_lines (cond (settles e.kind) o None) e ++ expiry_lines last e)
-    (stands.open_ones (settled_id e)) stands.expired)
+    (ap₂ (λ o lines. settling_lines (cond (settles e.kind) o None) e ++ lines) (stands.open_ones (settled_id e))
+    (ap₂ (λ one last. expiry_lines one last e)
+    (first_is auditor.open_ones past stands.open_ones stands.once first goes) stands.expired))
     (ap₂ (λ linked last. chain_lines linked last e ++ limits_lines e) stands.linked
     (ap (λ (kept : SubscriberState). kept.last) stands.kept))
     (balances_lines-at facts e
@@ -227,12 +229,12 @@ unfolding refusal
 refusal-lines past e = refl
 
 -- an open auditor refuses an event for the reason that the audit gives
-pub answers : (auditor : AuditorState) (state : AuditState) (e : Event) (answer : Option Refusal)
-    → auditor.kept.ended ≡ false → answer ≡ first_line (lines (facts_of auditor e) e) → StandsFor auditor state
-    → answer ≡ event_refusal state e
-answers auditor state e answer open_yet is stands =
+pub answers : (auditor : AuditorState) (state : AuditState) (first : Option Event) (e : Event) (answer : Option Refusal)
+    → auditor.kept.ended ≡ false → answer ≡ first_line (lines (facts_of auditor first e) e)
+    → IsFirst (open_under auditor.open_ones) first → StandsFor auditor state → answer ≡ event_refusal state e
+answers auditor state first e answer open_yet is goes stands =
     let going : state.ended ≡ false = sym (ap (λ (kept : SubscriberState). kept.ended) stands.kept) ∙ open_yet in
-    is ∙ ap first_line (same_lines auditor state e stands) ∙ sym (refusal-lines state.past e)
+    is ∙ ap first_line (same_lines auditor state first e stands goes) ∙ sym (refusal-lines state.past e)
     ∙ sym (ap (λ ended. cond ended (Some (AfterEnd e.timestamp)) (refusal state.past e)) going)
 
 -- and an auditor that received the end refuses each event
@@ -268,20 +270,20 @@ kept-next state e going later =
     counted n most = omega arith
 
 -- after an event that it accepts, an auditor stands for the audit with this event
-pub accepts : (auditor after : AuditorState) (state : AuditState) (e : Event)
-    → auditor.kept.ended ≡ false → first_line (lines (facts_of auditor e) e) ≡ None
+pub accepts : (auditor after : AuditorState) (state : AuditState) (first : Option Event) (e : Event)
+    → auditor.kept.ended ≡ false → first_line (lines (facts_of auditor first e) e) ≡ None
     → after.kept ≡ next_state auditor.kept (item.Event e)
-    → after.transfers ≡ with_settled (with_own auditor.transfers e) e (released (facts_of auditor e) e)
-    → ((id : ℕ) → open_under after.open_ones id ≡ open_then auditor.open_ones e id)
+    → after.transfers ≡ with_settled (with_own auditor.transfers e) e (released (facts_of auditor first e) e)
+    → ((id : ℕ) → open_under after.open_ones id ≡ without_settled (with_held auditor.open_ones e) e id)
     → after.fields ≡ with_accounts auditor.fields e → after.times ≡ auditor.times ++ e.timestamp ∷ []
     → after.linked ≡ is_linked e
     → after.expired ≡ expiry_or auditor.expired e → after.foreign ≡ auditor.foreign
     → StandsFor auditor state → StandsFor after (with_event state e)
-accepts auditor after state e open_yet none kept transfers opened fields times linked expired foreign stands =
+accepts auditor after state first e open_yet none kept transfers opened fields times linked expired foreign stands =
     let going : state.ended ≡ false = sym (ap (λ (kept : SubscriberState). kept.ended) stands.kept) ∙ open_yet in
-    let facts = facts_of auditor e in
+    let facts = facts_of auditor first e in
     let parts = two_of_seven (order_lines facts.last e) (shape_lines e) (fixed_lines facts e) (transfer_lines facts e)
-    (settling_lines facts.open_one e ++ expiry_lines facts.expired e)
+    (settling_lines facts.open_one e ++ expiry_lines facts.first facts.expired e)
     (chain_lines facts.linked facts.last e ++ limits_lines e) (balances_lines facts e) none in
     let order = in_order facts.last e parts.0 in
     let free = may_be_stored facts e parts.1 in
@@ -302,6 +304,7 @@ accepts auditor after state e open_yet none kept transfers opened fields times l
       rising = RiseFrom-push 0 state.past e stands.rising (grind (arith, nat_tests));
       linked = linked ∙ sym (linked_from-push false state.past e);
       expired = expired ∙ ap (λ last. expiry_or last e) stands.expired ∙ sym (last_expiry_from-push None state.past e);
+      once = once-step auditor.transfers state.past e stands.transfers free.0 stands.once;
     }
 
 -- what holds of a result that is no error

@@ -97,5 +97,5 @@ transfer_lines facts e =
 abbrev pub lines : Facts → Event → List (Bool × Refusal)
 lines facts e =
     order_lines facts.last e ++ shape_lines e ++ fixed_lines facts e ++ transfer_lines facts e
-    ++ (settling_lines facts.open_one e ++ expiry_lines facts.expired e)
+    ++ (settling_lines facts.open_one e ++ expiry_lines facts.first facts.expired e)
     ++ (chain_lines facts.linked facts.last e ++ limits_lines e) ++ balances_lines facts e

@@ -12,7 +12,7 @@ use Rattle.cdc_audit.specs.declared.refusals.Refusal.TheVariants.{BrokenChain, N
 use Rattle.cdc_audit.specs.Known.{balances_after, ends_in_chain, is_settled, is_stored, last_expiry, open_event, pending_amount, settled_id}
 use Rattle.cdc_audit.specs.EventShapes.{shape_lines}
 use Rattle.cdc_audit.specs.Apart.{apart_lines, times_before}
-use Rattle.cdc_audit.specs.Expiries.{expiry_lines}
+use Rattle.cdc_audit.specs.Expiries.{expiry_lines, first_due}
 use Rattle.cdc_audit.specs.Fields.{created_lines, fields_before, fields_lines}
 use Rattle.cdc_audit.specs.Limits.{limits_lines}
 use Rattle.cdc_audit.specs.Settling.{settling_lines}
@@ -104,7 +104,7 @@ chain_lines linked last e =
 abbrev pub event_lines : List Event → Event → List (Bool × Refusal)
 event_lines past e =
     order_lines (last_timestamp past) e ++ shape_lines e ++ fixed_lines past e ++ transfer_lines past e
-    ++ (settling_lines (settled_event past e) e ++ expiry_lines (last_expiry past) e)
+    ++ (settling_lines (settled_event past e) e ++ expiry_lines (first_due past) (last_expiry past) e)
     ++ (chain_lines (ends_in_chain past) (last_timestamp past) e ++ limits_lines e) ++ balances_lines past e
 
 -- why an event can't follow those before it, if it can't

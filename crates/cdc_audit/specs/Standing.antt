@@ -1,6 +1,10 @@
 -- What an auditor keeps, and for which audits it stands.
-use Rattle.std.specs.Prelude.{◌≡◌, ◌<◌, ◌≤◌, ℕ, Bool, false, ◌==◌, ◌&&◌, min, fold, get_or, nat_eq, is_some, List, length, Option, Some, None, unwrap_or, if◌then◌else◌}
+use Rattle.std.specs.Prelude.{◌≡◌, ◌<◌, ◌≤◌, ℕ, Bool, true, false, ◌==◌, ◌&&◌, not, min, fold, get_or, nat_eq, is_some, List, [], ◌∷◌, ◌++◌, length, Option, Some, None, unwrap_or, if◌then◌else◌}
+use Rattle.std.specs.List.{AllByRecursion}
 use Rattle.std.specs.Map.{lookup}
+use Rattle.std.specs.declared.cmp.Ordering.{Ordering}
+use Rattle.std.specs.Ordering.{is_gt, nat_cmp, ordering_then}
+use Rattle.std.specs.BTreeSet.{BTreeSet, contains}
 use Rattle.indexmap.specs.IndexMap.{insert_entry}
 use Rattle.cdc_types.specs.declared.events.Event.{Event}
 use Rattle.cdc_types.specs.declared.events.EventAccount.{EventAccount}
@@ -13,13 +17,15 @@ use Rattle.cdc_subscriber.specs.SubscriberState.{SubscriberState}
 use Rattle.cdc_audit.specs.declared.apart.Times.{Times}
 use Rattle.cdc_audit.specs.declared.checks.Facts.{Facts}
 use Rattle.cdc_audit.specs.declared.fields.FixedFields.{FixedFields}
+use Rattle.cdc_audit.specs.declared.open_ones.Due.{Due}
 use Rattle.cdc_audit.specs.declared.checks.Stored.{Stored}
 use Rattle.cdc_audit.specs.declared.checks.Stored.TheVariants as stored
 use Rattle.cdc_audit.specs.Apart.{account_at, accounts_before, times_known, times_of, with_shown}
 use Rattle.cdc_audit.specs.Audits.{AuditState}
 use Rattle.cdc_audit.specs.Checks.{amount_in, stored_by, was_settled}
 use Rattle.cdc_audit.specs.Fields.{accounts_of, fields_before}
-use Rattle.cdc_audit.specs.Known.{ends_in_chain, is_settled, is_stored, last_expiry, open_event, pending_amount, settled_id}
+use Rattle.cdc_audit.specs.Known.{ends_in_chain, is_settled, is_stored, last_expiry, open_event, pending_amount, pending_event, settled_id}
+use Rattle.cdc_audit.specs.Settling.{expires_at}
 
 -- what an auditor keeps: whether the stream is another ledger's, what its subscriber keeps, what is known of each stored transfer, by its id, the event of each
 -- open pending one, the fields of each account that never change, the timestamps of the events, whether the last event
@@ -62,9 +68,14 @@ pub record IsKnownOf (known : Option Stored) (past : List Event) (id : ℕ) : Ty
   pub amount : pending_amount past id ≡ amount_in known
   pub settled : is_settled past id ≡ was_settled known
 
+-- an event that stored a pending transfer is the first of these that stored one of its id
+abbrev pub IsOnce : List Event → Event → Type 0
+IsOnce past e = holds e.kind ≡ true → pending_event past e.transfer.id ≡ Some e
+
 -- an auditor stands for an audit: it has the book, the last timestamp, the count and the end of the audited events,
 -- knows each of their transfers, has the events of the open pending ones and the fields of each account, in the order in
--- which they were shown, has the timestamps of the events, which rise, and knows whether they end within a chain
+-- which they were shown, has the timestamps of the events, which rise, and knows whether they end within a chain; no two
+-- of them stored a pending transfer of one id
 pub record StandsFor (auditor : AuditorState) (state : AuditState) : Type 0 where
   pub foreign : auditor.foreign ≡ state.foreign
   pub kept : auditor.kept ≡ kept_after state
@@ -76,6 +87,7 @@ pub record StandsFor (auditor : AuditorState) (state : AuditState) : Type 0 wher
   pub rising : RiseFrom 0 state.past
   pub linked : auditor.linked ≡ ends_in_chain state.past
   pub expired : auditor.expired ≡ last_expiry state.past
+  pub once : AllByRecursion (IsOnce state.past) state.past
 
 -- ---- private: the parts of an auditor's step
 
@@ -92,11 +104,64 @@ abbrev pub times_of_account : AuditorState → EventAccount → Times
 times_of_account auditor a =
     times_known (is_some (fields_under auditor.fields a.id)) auditor.times auditor.fields a.timestamp
 
--- what an auditor knows of an event
-abbrev pub facts_of : AuditorState → Event → Facts
-facts_of auditor e = record {
+-- this is when the transfer of an event, kept under this id, expires
+abbrev pub due_of : ℕ → Event → Due
+due_of id e = record { expires_at = expires_at e.transfer; timestamp = e.transfer.timestamp; id = id }
+
+-- the order of expiries: by expiry time, then by the time when the transfer was stored, then by its id
+abbrev pub due_cmp : Due → Due → Ordering
+due_cmp x y =
+    ordering_then (nat_cmp x.expires_at y.expires_at)
+    (ordering_then (nat_cmp x.timestamp y.timestamp) (nat_cmp x.id y.id))
+
+-- a transfer that may be kept expires then
+abbrev pub is_due : Option Event → Due → Bool
+is_due None due = false
+is_due (Some e) due =
+    not (e.transfer.timeout == 0) && (expires_at e.transfer == due.expires_at)
+    && (e.transfer.timestamp == due.timestamp)
+
+-- of what is kept, this expires first: of what expires at one time, what was stored first, and then the lesser id
+pub record GoesFirst (kept : ℕ → Option Event) (first : Event) : Type 0 where
+  pub id : ℕ
+  pub there : kept id ≡ Some first
+  pub timed : (first.transfer.timeout == 0) ≡ false
+  pub least : (other : ℕ) (e : Event) → kept other ≡ Some e → (e.transfer.timeout == 0) ≡ false
+      → is_gt (due_cmp (due_of id first) (due_of other e)) ≡ false
+
+-- the same, or nothing of it expires
+abbrev pub IsFirst : (ℕ → Option Event) → Option Event → Type 0
+IsFirst kept None = (id : ℕ) (e : Event) → kept id ≡ Some e → (e.transfer.timeout == 0) ≡ true
+IsFirst kept (Some first) = GoesFirst kept first
+
+-- these are the expiries of all that is kept
+abbrev pub IsIndexOf : BTreeSet Due → List (ℕ × Event) → Type 0
+IsIndexOf index events = (due : Due) → contains due_cmp index due ≡ is_due (open_under events due.id) due
+
+-- what is kept after an event that isn't kept yet
+abbrev pub with_open : List (ℕ × Event) → Event → List (ℕ × Event)
+with_open events e =
+    if is_some (open_under events e.transfer.id) then events else (events ++ (e.transfer.id, e) ∷ [])
+
+-- the same, after an event that stores a pending transfer
+abbrev pub with_held : List (ℕ × Event) → Event → List (ℕ × Event)
+with_held events e = if holds e.kind then with_open events e else events
+
+-- an event was added to what is kept, or nothing was
+abbrev pub IsAddedTo : Bool → List (ℕ × Event) → Event → List (ℕ × Event) → Type 0
+IsAddedTo true old e new = new ≡ old ++ (e.transfer.id, e) ∷ []
+IsAddedTo false old e new = new ≡ old
+
+-- the event under this id, after one that may settle a pending transfer
+abbrev pub without_settled : List (ℕ × Event) → Event → ℕ → Option Event
+without_settled events e id = if settles e.kind && (settled_id e == id) then None else open_under events id
+
+-- what an auditor knows of an event, if this is the open pending transfer that expires first
+abbrev pub facts_of : AuditorState → Option Event → Event → Facts
+facts_of auditor first e = record {
   last = auditor.kept.last;
   linked = auditor.linked;
+  first = first;
   expired = auditor.expired;
   own = stored_if (stores e.kind) auditor.transfers e.transfer.id;
   settled = stored_if (settles e.kind) auditor.transfers (settled_id e);
@@ -119,20 +184,13 @@ abbrev pub with_settled : List (ℕ × Stored) → Event → ℕ → List (ℕ �
 with_settled transfers e amount =
     if settles e.kind then insert_entry nat_eq transfers (settled_id e) (stored.Settled amount) else transfers
 
--- the event of the open pending transfer with this id, after one more event
-abbrev pub open_then : List (ℕ × Event) → Event → ℕ → Option Event
-open_then events e id =
-    if settles e.kind && (settled_id e == id) then None
-    else if holds e.kind && (e.transfer.id == id) then Some e
-    else open_under events id
-
 -- the accounts that are known, after an event shows its two
 abbrev pub with_accounts : List (ℕ × FixedFields) → Event → List (ℕ × FixedFields)
 with_accounts fields e = fold with_shown fields (accounts_of e)
 
 -- an index has the account that was created at each timestamp, if it is among these
-abbrev pub IsIndexOf : List (ℕ × ℕ) → List (ℕ × FixedFields) → Type 0
-IsIndexOf index fields = (t : ℕ) → lookup (nat_eq t) index ≡ account_at fields t
+abbrev pub IsTimeIndex : List (ℕ × ℕ) → List (ℕ × FixedFields) → Type 0
+IsTimeIndex index fields = (t : ℕ) → lookup (nat_eq t) index ≡ account_at fields t
 
 -- numbers are in order, none lower than one before it
 abbrev pub AreInOrder : List ℕ → Type 0

@@ -144,7 +144,7 @@ reason_text (NoTimeout id) = around (codes "pending transfer ") id (codes " has 
 reason_text (TooSoon id timestamp end) = time_text id (codes " expires at ") timestamp end
 reason_text (TooLate id timestamp end) = time_text id (codes " is settled at ") timestamp end
 reason_text (ExpiresLate id other) =
-    expiry_text id (codes " expires after pending transfer ") other (codes ", and is first to expire")
+    expiry_text id (codes " expires before pending transfer ") other (codes ", which is first to expire")
 reason_text (ExpiresApart id other) =
     expiry_text id (codes " expires with pending transfer ") other (codes ", and not right after it")
 reason_text (BrokenChain timestamp last) =

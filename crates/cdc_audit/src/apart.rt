@@ -9,7 +9,7 @@ ghost use Rattle.cdc_types.specs.Lines.{first_line};
 ghost use Rattle.cdc_audit.specs.Apart as spec;
 ghost use Rattle.cdc_audit.specs.Fields as shown;
 ghost use Rattle.cdc_audit.specs.Standing as standing;
-ghost use Rattle.cdc_audit.specs.Standing.{AreInOrder, IsIndexOf};
+ghost use Rattle.cdc_audit.specs.Standing.{AreInOrder, IsTimeIndex};
 
 use crate::fields::{FixedFields, fixed_fields};
 use crate::refusals::Refusal;
@@ -90,8 +90,8 @@ fn add_account(
     requires fields_fit { 1 ≤ spare fields.old }
     requires created_fit { 1 ≤ spare created.old }
     ensures fields { fields.new.entries ≡ fields.old.entries ++ (id, shown) ∷ [] }
-    ensures index { IsIndexOf created.old.entries fields.old.entries
-        → IsIndexOf created.new.entries fields.new.entries }
+    ensures index { IsTimeIndex created.old.entries fields.old.entries
+        → IsTimeIndex created.new.entries fields.new.entries }
     ensures room { spare fields.old ≤ spare fields.new + 1 }
     ensures place { spare created.old ≤ spare created.new + 1 }
 {
@@ -110,8 +110,8 @@ fn keep_account(
     requires created_fit { 1 ≤ spare created.old }
     ensures fields { fields.new.entries
         ≡ spec.with_shown fields.old.entries (account.now.id, shown.fixed_fields ledger account.now) }
-    ensures index { IsIndexOf created.old.entries fields.old.entries
-        → IsIndexOf created.new.entries fields.new.entries }
+    ensures index { IsTimeIndex created.old.entries fields.old.entries
+        → IsTimeIndex created.new.entries fields.new.entries }
     ensures room { spare fields.old ≤ spare fields.new + 1 }
     ensures place { spare created.old ≤ spare created.new + 1 }
 {
@@ -129,8 +129,8 @@ pub(crate) fn keep_accounts(
     requires fields_fit { 2 ≤ spare fields.old }
     requires created_fit { 2 ≤ spare created.old }
     ensures fields { fields.new.entries ≡ standing.with_accounts fields.old.entries event.now }
-    ensures index { IsIndexOf created.old.entries fields.old.entries
-        → IsIndexOf created.new.entries fields.new.entries }
+    ensures index { IsTimeIndex created.old.entries fields.old.entries
+        → IsTimeIndex created.new.entries fields.new.entries }
 {
     keep_account(fields, created, event.ledger, &event.debit_account);
     keep_account(fields, created, event.ledger, &event.credit_account);
@@ -141,7 +141,7 @@ pub(crate) fn index_of(
     alloc: Global,
     fields: &IndexMap<u128, FixedFields>,
 ) -> Result<IndexMap<u64, u128>, AllocError>
-    ensures { IfOk result (λ index. IsIndexOf index.entries fields.now.entries) }
+    ensures { IfOk result (λ index. IsTimeIndex index.entries fields.now.entries) }
 {
     let mut created = IndexMap::new(alloc);
     for (id, shown) in fields.iter() {

@@ -2,7 +2,8 @@
 //! one.
 
 ghost use Rattle.std.specs.Prelude.{◌≡◌, ◌≤◌, ◌+◌, ◌==◌, ℕ, true, false, nat_eq, unwrap_or, Some, None, IsSome, IfOk, OnErr};
-ghost use Rattle.std.specs.Prelude.{if◌then◌else◌};
+ghost use Rattle.std.specs.Prelude.{List, if◌then◌else◌};
+ghost use Rattle.cdc_types.specs.declared.events.Event as event;
 ghost use Rattle.indexmap.specs.IndexMap.{insert_entry, spare};
 ghost use Rattle.cdc_message.specs.declared.items.Item.TheVariants as item;
 ghost use Rattle.cdc_ledger.specs.Accounts.{no_balances};
@@ -12,7 +13,7 @@ ghost use Rattle.cdc_audit.specs.Audits.{AuditState, begins, entry_refusal, even
 ghost use Rattle.cdc_audit.specs.Apart as apart;
 ghost use Rattle.cdc_audit.specs.Checks as spec;
 ghost use Rattle.cdc_audit.specs.Standing as standing;
-ghost use Rattle.cdc_audit.specs.Standing.{AreInOrder, IsIndexOf, StandsFor, kept_after};
+ghost use Rattle.cdc_audit.specs.Standing.{AreInOrder, IsFirst, IsTimeIndex, StandsFor, kept_after};
 
 use crate::apart::{Times, has_time, index_of, keep_accounts, keep_time};
 use crate::checks::{
@@ -21,6 +22,7 @@ use crate::checks::{
 use crate::expiries::expiry_or;
 use crate::fields::FixedFields;
 use crate::foreign::audited_event;
+use crate::open_ones::OpenOnes;
 use crate::refusals::Refusal;
 use cdc_follow::Content;
 use cdc_subscriber::Subscriber;
@@ -35,8 +37,7 @@ pub struct Auditor {
     foreign: bool,
     subscriber: Subscriber,
     transfers: IndexMap<u128, Stored>,
-    /// The events that stored the open pending transfers, by these transfers' ids.
-    open_ones: IndexMap<u128, Event>,
+    open_ones: OpenOnes,
     /// The fields of each account that never change, as its first event shows them.
     fields: IndexMap<u128, FixedFields>,
     /// Which account was created at each timestamp.
@@ -66,7 +67,7 @@ impl Drop for Auditor {
 }
 
 impl Model for Auditor {
-    ghost use Rattle.cdc_audit.specs.Standing.{AuditorState, IsIndexOf};
+    ghost use Rattle.cdc_audit.specs.Standing.{AuditorState, IsTimeIndex};
 
     ghost Value = { AuditorState };
 
@@ -74,14 +75,14 @@ impl Model for Auditor {
       foreign = a.foreign;
       kept = a.subscriber;
       transfers = a.transfers.entries;
-      open_ones = a.open_ones.entries;
+      open_ones = a.open_ones;
       fields = a.fields.entries;
       times = a.times.items;
       linked = a.linked;
       expired = a.expired;
     } };
 
-    ghost invariant = { λ a. IsIndexOf a.created.entries a.fields.entries };
+    ghost invariant = { λ a. IsTimeIndex a.created.entries a.fields.entries };
 }
 
 impl Auditor {
@@ -94,7 +95,7 @@ impl Auditor {
             foreign,
             subscriber: Subscriber::new(alloc),
             transfers: IndexMap::new(alloc),
-            open_ones: IndexMap::new(alloc),
+            open_ones: OpenOnes::new(alloc),
             fields: IndexMap::new(alloc),
             created: IndexMap::new(alloc),
             times: Vec::new(alloc),
@@ -111,7 +112,7 @@ impl Auditor {
         of_another: bool,
         subscriber: Subscriber,
         transfers: IndexMap<u128, Stored>,
-        open_ones: IndexMap<u128, Event>,
+        open_ones: OpenOnes,
         fields: IndexMap<u128, FixedFields>,
         times: Vec<u64>,
         in_chain: bool,
@@ -121,7 +122,7 @@ impl Auditor {
           foreign = of_another;
           kept = subscriber;
           transfers = transfers.entries;
-          open_ones = open_ones.entries;
+          open_ones = open_ones;
           fields = fields.entries;
           times = times.items;
           linked = in_chain;
@@ -186,9 +187,9 @@ impl Auditor {
         &self.transfers
     }
 
-    /// The events that stored the open pending transfers, by these transfers' ids.
-    pub fn open_ones(&self) -> &IndexMap<u128, Event>
-        ensures { result.now.entries ≡ self.now.open_ones }
+    /// The open pending transfers.
+    pub fn open_ones(&self) -> &OpenOnes
+        ensures { result.now ≡ self.now.open_ones }
     {
         &self.open_ones
     }
@@ -236,11 +237,7 @@ impl Auditor {
     fn open_if(&self, counts: bool, id: u128) -> Option<Event>
         ensures { result ≡ standing.open_if counts self.now.open_ones id }
     {
-        if counts {
-            self.open_ones.get(&id).copied()
-        } else {
-            None
-        }
+        if counts { self.open_ones.get(id) } else { None }
     }
 
     /// The fields of an account that never change, if an event showed it.
@@ -289,11 +286,14 @@ impl Auditor {
 
     /// What is known of an event by the events before it.
     fn facts(&self, event: &Event) -> Facts
-        ensures { AreInOrder self.now.times → result ≡ standing.facts_of self.now event.now }
+        ensures facts { AreInOrder self.now.times
+            → result ≡ standing.facts_of self.now result.first event.now }
+        ensures first { IsFirst (standing.open_under self.now.open_ones) result.first }
     {
         Facts {
             last: self.subscriber.last(),
             linked: self.linked,
+            first: self.open_ones.first(),
             expired: self.expired,
             own: self.stored_if(stores(event.kind), event.transfer.id),
             settled: self.stored_if(settles(event.kind), settled_id(event)),
@@ -324,15 +324,16 @@ impl Auditor {
             return Ok(Some(why));
         }
         self.transfers.reserve(2)?;
-        self.open_ones.reserve(1)?;
         self.fields.reserve(2)?;
         self.created.reserve(2)?;
         self.times.reserve(1)?;
+        let added = add_open(&mut self.open_ones, event)?;
         if self.subscriber.take_event(event).is_err() {
+            take_back(&mut self.open_ones, added);
             return Err(AllocError);
         }
         keep(&mut self.transfers, event, released(&facts, event));
-        keep_open(&mut self.open_ones, event);
+        remove_settled(&mut self.open_ones, event);
         keep_accounts(&mut self.fields, &mut self.created, event);
         keep_time(&mut self.times, event.timestamp);
         self.linked = is_linked(event);
@@ -374,32 +375,35 @@ fn keep(transfers: &mut IndexMap<u128, Stored>, event: &Event, amount: u128)
     }
 }
 
-/// Keeps the event of the pending transfer with this id.
-fn put_open(events: &mut IndexMap<u128, Event>, id: u128, event: &Event)
-    requires { 1 ≤ spare events.old }
-    ensures { (other : ℕ) → standing.open_under events.new.entries other
-        ≡ (if id == other then Some event.now else standing.open_under events.old.entries other) }
+/// Keeps an event that stores a pending transfer, and returns whether it was added.
+fn add_open(open_ones: &mut OpenOnes, event: &Event) -> Result<bool, AllocError>
+    ensures events { IfOk result (λ added. open_ones.new ≡ standing.with_held open_ones.old event.now) }
+    ensures again { IfOk result (λ added. standing.IsAddedTo added open_ones.old event.now open_ones.new) }
+    ensures err { OnErr result (open_ones.new ≡ open_ones.old) }
 {
-    events.insert(id, *event).unwrap();
+    if holds(event.kind) {
+        open_ones.add(event)
+    } else {
+        Ok(false)
+    }
 }
 
-/// Forgets the event of the pending transfer with this id.
-fn remove_open(events: &mut IndexMap<u128, Event>, id: u128)
-    ensures { (other : ℕ) → standing.open_under events.new.entries other
-        ≡ (if id == other then None else standing.open_under events.old.entries other) }
+/// Forgets the event that was added.
+fn take_back(open_ones: &mut OpenOnes, added: bool)
+    ensures { (old : List (ℕ × event.Event)) (e : event.Event) → standing.IsAddedTo added old e open_ones.old
+        → open_ones.new ≡ old }
 {
-    let _event = events.swap_remove(&id);
+    if added {
+        open_ones.take_back();
+    }
 }
 
-/// Keeps an accepted event that stores a pending transfer, and forgets the one whose pending transfer it settles.
-fn keep_open(events: &mut IndexMap<u128, Event>, event: &Event)
-    requires { 1 ≤ spare events.old }
-    ensures { (id : ℕ) → standing.open_under events.new.entries id
-        ≡ standing.open_then events.old.entries event.now id }
+/// Forgets the event whose pending transfer an accepted event settles.
+fn remove_settled(open_ones: &mut OpenOnes, event: &Event)
+    ensures { (id : ℕ) → standing.open_under open_ones.new id
+        ≡ standing.without_settled open_ones.old event.now id }
 {
     if settles(event.kind) {
-        remove_open(events, settled_id(event));
-    } else if holds(event.kind) {
-        put_open(events, event.transfer.id, event);
+        open_ones.remove(settled_id(event));
     }
 }

@@ -34,6 +34,8 @@ pub(crate) struct Facts {
     pub(crate) last: u64,
     /// Whether that event stored a linked transfer.
     pub(crate) linked: bool,
+    /// The event of the open pending transfer that expires first.
+    pub(crate) first: Option<Event>,
     /// The last expiry before it.
     pub(crate) expired: Option<Event>,
     /// The transfer that is stored under the id of the one that the event stores.
@@ -339,7 +341,11 @@ pub(crate) fn refusal_by(facts: &Facts, event: &Event) -> Option<Refusal>
         .or(shape_refusal(event))
         .or(fixed_refusal(facts, event))
         .or(transfer_refusal(facts, event))
-        .or(settling_refusal(facts.open_one, event).or(expiry_refusal(facts.expired, event)))
+        .or(settling_refusal(facts.open_one, event).or(expiry_refusal(
+            facts.first,
+            facts.expired,
+            event,
+        )))
         .or(chain_refusal(facts.linked, facts.last, event).or(limits_refusal(event)))
         .or(balances_refusal(facts, event))
 }

@@ -1,6 +1,6 @@
 //! The rules on the order in which pending transfers expire.
 
-ghost use Rattle.std.specs.Prelude.{◌≡◌, ◌+◌, ◌==◌};
+ghost use Rattle.std.specs.Prelude.{◌≡◌, ◌∷◌, []};
 ghost use Rattle.cdc_types.specs.Lines.{first_line};
 ghost use Rattle.cdc_audit.specs.Expiries as spec;
 ghost use Rattle.cdc_audit.specs.Known as known;
@@ -29,20 +29,42 @@ fn is_sooner(one: &EventTransfer, other: &EventTransfer) -> bool
     end < other_end || (end == other_end && one.timestamp < other.timestamp)
 }
 
-/// The refusal of an event by the last expiry before it, if it is an expiry too.
-pub(crate) fn expiry_refusal(last: Option<Event>, event: &Event) -> Option<Refusal>
-    ensures { result ≡ first_line (spec.expiry_lines last event.now) }
+/// The refusal of an event by the open pending transfer that expires first: an expiry is of that one.
+fn late_refusal(first: &Event, event: &Event) -> Option<Refusal>
+    ensures { result ≡ first_line (spec.late_line first.now event.now ∷ []) }
 {
-    let Some(last) = last else {
-        return None;
-    };
-    let (transfer, before) = (&event.transfer, &last.transfer);
-    let ends_with = expires_at(before) == expires_at(transfer);
-    if !stores(event.kind) && is_sooner(transfer, before) {
-        Some(Refusal::ExpiresLate(transfer.id, before.id))
-    } else if !stores(event.kind) && ends_with && !is_next(last.timestamp, event.timestamp) {
-        Some(Refusal::ExpiresApart(transfer.id, before.id))
+    if !stores(event.kind) && is_sooner(&first.transfer, &event.transfer) {
+        Some(Refusal::ExpiresLate(event.transfer.id, first.transfer.id))
     } else {
         None
     }
+}
+
+/// The refusal of an event after the last expiry, if the open pending transfer that expires first expires with that one.
+fn apart_refusal(first: &Event, last: &Event, event: &Event) -> Option<Refusal>
+    ensures { result ≡ first_line (spec.apart_line first.now last.now event.now ∷ []) }
+{
+    let expires_with = expires_at(&first.transfer) == expires_at(&last.transfer);
+    if expires_with && !(!stores(event.kind) && is_next(last.timestamp, event.timestamp)) {
+        Some(Refusal::ExpiresApart(first.transfer.id, last.transfer.id))
+    } else {
+        None
+    }
+}
+
+/// The refusal of an event by the open pending transfer that expires first and by the last expiry before the event.
+pub(crate) fn expiry_refusal(
+    first: Option<Event>,
+    last: Option<Event>,
+    event: &Event,
+) -> Option<Refusal>
+    ensures { result ≡ first_line (spec.expiry_lines first last event.now) }
+{
+    let Some(first) = first else {
+        return None;
+    };
+    let Some(last) = last else {
+        return late_refusal(&first, event);
+    };
+    late_refusal(&first, event).or(apart_refusal(&first, &last, event))
 }

@@ -122,11 +122,10 @@ pub enum Refusal {
     /// It posts or voids the pending transfer of this id, at the second number, and that one's time was up by then, at
     /// the last number.
     TooLate(u128, u64, u128),
-    /// It is the expiry of the pending transfer of the first id, and the last expiry before it is that of the second
-    /// one, which expires later.
+    /// It is the expiry of the pending transfer of the first id, and that of the second one is open and expires sooner.
     ExpiresLate(u128, u128),
-    /// It is the expiry of the pending transfer of the first id, and the last expiry before it is that of the second
-    /// one. The time of both was up at once, and it doesn't come one nanosecond after that expiry.
+    /// The pending transfer of the first id is open, and the last expiry before the event is that of the second one. The
+    /// time of both was up at once, so the event has to be an expiry, one nanosecond after that one.
     ExpiresApart(u128, u128),
     /// It has the first timestamp, and the event before it, at the second one, stored a linked transfer: so it has to
     /// store a transfer, one nanosecond later.

@@ -72,9 +72,9 @@ fn push_reason(why: Refusal, text: &mut Vec<u8>) -> Result<(), AllocError>
         Refusal::ExpiresLate(id, other) => push_expiry(
             text,
             id,
-            " expires after pending transfer ",
+            " expires before pending transfer ",
             other,
-            ", and is first to expire",
+            ", which is first to expire",
         ),
         Refusal::ExpiresApart(id, other) => push_expiry(
             text,

@@ -100,3 +100,22 @@ unsettled_from h p t (e ∷ es) within none =
 pub unsettled : (h : History) (p : Transfer) → IsUpTo h.last h → resolved h p h.last ≡ false
     → is_settled (events h) p.id ≡ false
 unsettled h p within none = unsettled_from h p h.last h.entries within none
+
+-- and the other way round
+unresolved_from : (h : History) (p : Transfer) (t : ℕ) (es : List Entry) → AllByRecursion (λ e. e.timestamp ≤ t) es
+    → list_any (λ (e : Event). settles e.kind && (settled_id_by e.kind e.transfer == p.id)) (map (event_of h) es)
+    ≡ false
+    → list_any (λ e. nat_le e.timestamp t && resolves p e) es ≡ false
+unresolved_from h p t [] within none = refl
+unresolved_from h p t (e ∷ es) within none =
+    let parts = or_parts (settles e.kind && (settled_id_by e.kind (shown_transfer e.transfer) == p.id))
+    (list_any (λ (x : Event). settles x.kind && (settled_id_by x.kind x.transfer == p.id)) (map (event_of h) es))
+    none in
+    let first : (nat_le e.timestamp t && resolves p e) ≡ false =
+    ap (λ b. b && resolves p e) (le-leb e.timestamp t within.0) ∙ resolves_is e p
+    ∙ sym (ap (λ n. settles e.kind && (n == p.id)) (settled_id-shown e.kind e.transfer)) ∙ parts.0 in
+    or_from _ _ first (unresolved_from h p t es within.1 parts.1)
+
+pub unresolved : (h : History) (p : Transfer) → IsUpTo h.last h → is_settled (events h) p.id ≡ false
+    → resolved h p h.last ≡ false
+unresolved h p within none = unresolved_from h p h.last h.entries within none

@@ -11,7 +11,7 @@ use Rattle.cdc_ledger.specs.Kinds.{settles, stores}
 use Rattle.cdc_audit.specs.Known.{balances_after, ends_in_chain, is_settled, is_stored, last_expiry, pending_amount, settled_id}
 use Rattle.cdc_audit.specs.declared.refusals.Refusal.{Refusal}
 use Rattle.cdc_audit.specs.EventShapes.{shape_lines}
-use Rattle.cdc_audit.specs.Expiries.{expiry_lines}
+use Rattle.cdc_audit.specs.Expiries.{expiry_lines, first_due}
 use Rattle.cdc_audit.specs.Limits.{limits_lines}
 use Rattle.cdc_audit.specs.Rules.{balances_lines, chain_lines, credit_lines, debit_lines, fixed_lines, held, order_lines, posted, refusal, released, settled_event, transfer_lines}
 use Rattle.cdc_audit.specs.Settling.{settling_lines}
@@ -84,7 +84,7 @@ pub record CanFollow (past : List Event) (e : Event) : Type 0 where
   pub pending : (settles e.kind && is_none (pending_amount past (settled_id e))) ≡ false
   pub unsettled : (settles e.kind && is_settled past (settled_id e)) ≡ false
   pub settling : NoneApplies (settling_lines (settled_event past e) e)
-  pub expiry : NoneApplies (expiry_lines (last_expiry past) e)
+  pub expiry : NoneApplies (expiry_lines (first_due past) (last_expiry past) e)
   pub chain : NoneApplies (chain_lines (ends_in_chain past) (last_timestamp past) e)
   pub limits : NoneApplies (limits_lines e)
   pub debited : IsDebited past e (balances_after past e.debit_account.id)
@@ -179,9 +179,9 @@ pub unrefused : (past : List Event) (e : Event) → refusal past e ≡ None → 
 unfolding refusal
 unrefused past e none =
     let all = of_seven (order_lines (last_timestamp past) e) (shape_lines e) (fixed_lines past e)
-    (transfer_lines past e) (settling_lines (settled_event past e) e ++ expiry_lines (last_expiry past) e)
+    (transfer_lines past e) (settling_lines (settled_event past e) e ++ expiry_lines (first_due past) (last_expiry past) e)
     (chain_lines (ends_in_chain past) (last_timestamp past) e ++ limits_lines e) (balances_lines past e) none in
-    let ends = none_both (settling_lines (settled_event past e) e) (expiry_lines (last_expiry past) e) all.settling in
+    let ends = none_both (settling_lines (settled_event past e) e) (expiry_lines (first_due past) (last_expiry past) e) all.settling in
     let bounds = none_both (chain_lines (ends_in_chain past) (last_timestamp past) e) (limits_lines e) all.limits in
     let order = all.order in
     let transfer = all.transfer in
@@ -208,7 +208,7 @@ pub no_refusal : (past : List Event) (e : Event) → CanFollow past e → refusa
 unfolding refusal
 no_refusal past e can =
     seven (order_lines (last_timestamp past) e) (shape_lines e) (fixed_lines past e) (transfer_lines past e)
-    (settling_lines (settled_event past e) e ++ expiry_lines (last_expiry past) e)
+    (settling_lines (settled_event past e) e ++ expiry_lines (first_due past) (last_expiry past) e)
     (chain_lines (ends_in_chain past) (last_timestamp past) e ++ limits_lines e) (balances_lines past e) (record {
       order = (
         not_from_true _ (lt-ltb (last_timestamp past) e.timestamp can.later),
@@ -217,7 +217,7 @@ no_refusal past e can =
       shape = can.shape;
       fixed = can.fixed;
       transfer = (can.new, (can.pending, (can.unsettled, tt)));
-      settling = none_of_both (settling_lines (settled_event past e) e) (expiry_lines (last_expiry past) e) can.settling
+      settling = none_of_both (settling_lines (settled_event past e) e) (expiry_lines (first_due past) (last_expiry past) e) can.settling
           can.expiry;
       limits = none_of_both (chain_lines (ends_in_chain past) (last_timestamp past) e) (limits_lines e) can.chain
           can.limits;

@@ -34,7 +34,7 @@ use Rattle.cdc_ledger.proofs.KeptLaws.{after_last, submit_parts, within_end}
 use Rattle.cdc_ledger.proofs.PulseLaws.{Follows-open, HaveOwnIds, IsOpen, due_ids, due_open}
 use Rattle.cdc_ledger.proofs.SoundLaws.{IsSound-empty, IsSound-pushed, IsSound-timed, IsSound-with_account}
 use Rattle.cdc_ledger.proofs.StoredLaws.{stored-pushed_kept}
-use Rattle.cdc_audit_laws.proofs.Pulses.{Clear, ComesAfter, IsPulsing, clear-stored, clear_later, last_expiry, pulsing-due, pulsing-next}
+use Rattle.cdc_audit_laws.proofs.Pulses.{Clear, IsInTurn, IsPulsing, clear-stored, clear_later, in_turn-expiry, in_turn-stored, pulsing-due, pulsing-next}
 
 -- the expiry of one transfer leaves another one open
 open_after : (h : History) (p q : Transfer) (t : ℕ) → IsSound h → h.last < t → p.id ≢ q.id → IsOpen h q
@@ -172,9 +172,9 @@ total-chains_of linked (a ∷ rest) =
 module _ (P : History → Type 0) (on_empty : P empty_history)
     (on_request : (h : History) (r : NewTransfer) (t : ℕ) → IsSound h → h.last < t
     → (is_in_chain h ≡ true → t ≡ end_from 0 h.entries + 1) → transfer_refused h r t ≡ None
-    → IsSound (pushed h (entry_of h r t)) → P h → P (pushed h (entry_of h r t)))
+    → IsInTurn h (entry_of h r t) → IsSound (pushed h (entry_of h r t)) → P h → P (pushed h (entry_of h r t)))
     (on_expiry : (h : History) (p : Transfer) (t : ℕ) → IsSound h → h.last < t → IsOpen h p
-    → IsUp p t → is_in_chain h ≡ false → ComesAfter (last_expiry h) p t → IsSound (pushed h (expiry p t)) → P h
+    → IsUp p t → is_in_chain h ≡ false → IsInTurn h (expiry p t) → IsSound (pushed h (expiry p t)) → P h
     → P (pushed h (expiry p t)))
     (on_account : (h : History) (a : NewAccount) (t : ℕ) → IsSound h → h.last < t → account_refused h a ≡ None → P h
     → P (with_account h (opened_by a t)))
@@ -217,7 +217,7 @@ module _ (P : History → Type 0) (on_empty : P empty_history)
       IsSound-pushed h (entry_of h r t) inner.0 (Follows-accepted h r t inner.0 later none) later within in
       let at : (filled h r t).timestamp ≡ t = at_its_time h r t in (
         sound,
-        on_request h r t inner.0 later next none sound inner.1,
+        on_request h r t inner.0 later next none (in_turn-stored h (entry_of h r t) (stores_asked r) inner.2) sound inner.1,
         clear-stored h (entry_of h r t) inner.0 later (stores_asked r) (omega arith) inner.2,
       )
 
@@ -322,7 +322,7 @@ module _ (P : History → Type 0) (on_empty : P empty_history)
       let next : IsSound (pushed h (expiry p t)) =
       IsSound-pushed h (expiry p t) sound (Follows-open h p t sound all.0) later (omega arith) in
       keeps-expiries (pushed h (expiry p t)) now (t + 1) ps next
-      (on_expiry h p t sound later all.0 up.0 unchained pulsing.first next has)
+      (on_expiry h p t sound later all.0 up.0 unchained (in_turn-expiry h now t p ps sound all pulsing) next has)
       (links_from-push false h.entries (expiry p t))
       (pulsing-next h now t p ps sound later up.0.ended pulsing)
       (AllByRecursion-weaker (λ q. (p.id ≢ q.id) × IsOpen h q) (IsOpen (pushed h (expiry p t)))

@@ -3,8 +3,8 @@ use Rattle.std.proofs.Common.{◌≡◌, ◌≢◌, ℕ, ◌<◌, ◌≤◌, Boo
 use Rattle.std.specs.List.{AllByRecursion, flat_map}
 use Rattle.std.specs.Option.{option_map}
 use Rattle.std.specs.Map.{lookup}
-use Rattle.std.specs.Prelude.{◌==◌, ◌&&◌, nat_eq, nat_le, nat_lt, not, IsSome, if◌then◌else◌, unwrap_or}
-use Rattle.std.proofs.lemmas.Bool.{and_from, and_left, and_right, and_parts, eq-eqb, eqb-false, eqb-true, le-ltb, leb-true, lt-ltb, ne_eqb, not_from_true}
+use Rattle.std.specs.Prelude.{◌==◌, ◌&&◌, nat_eq, nat_le, nat_lt, not, filter, IfSome, IsSome, if◌then◌else◌, unwrap_or}
+use Rattle.std.proofs.lemmas.Bool.{and_from, and_left, and_right, and_parts, eq-eqb, eqb-false, eqb-true, le-ltb, leb-true, lt-ltb, ne_eqb, not-true, not_from_false, not_from_true}
 use Rattle.std.proofs.lemmas.Bool.Decides.{eqb_tells}
 use Rattle.cdc_types.specs.declared.accounts.Balances.{Balances}
 use Rattle.cdc_types.specs.declared.bounds.TheConstants.Limits.{TIMESTAMP}
@@ -38,7 +38,7 @@ use Rattle.cdc_ledger.specs.Submit.{entry_of, opened_by}
 use Rattle.cdc_ledger.specs.Verdict.{max_timestamp}
 use Rattle.cdc_ledger.proofs.AcceptedLaws.{Follows-accepted}
 use Rattle.cdc_ledger.proofs.BalanceLaws.{balances-pushed, balances_later, released_credit, released_debit, same_balances, settled_by_is, settled_by_none}
-use Rattle.cdc_ledger.proofs.Elements.{AllByRecursion-every}
+use Rattle.cdc_ledger.proofs.Elements.{AllByRecursion-every, AllByRecursion-weaker}
 use Rattle.cdc_ledger.proofs.EventLaws.{events-pushed, events-with_account}
 use Rattle.cdc_ledger.proofs.LineLaws.{test_fails}
 use Rattle.cdc_ledger.proofs.OpenedLaws.{opened_id}
@@ -55,16 +55,17 @@ use Rattle.cdc_audit.specs.Fields.{accounts_of, created_lines, fields_before, fi
 use Rattle.cdc_audit.specs.Limits.{all_credits, all_debits, limit_lines, limits_lines}
 use Rattle.cdc_audit.specs.Rules.{chain_lines, fixed_lines, released, settled_event}
 use Rattle.cdc_audit.specs.Settling.{expires_at as expires_at_shown, has_data_of, is_same_transfer, settling_lines}
-use Rattle.cdc_audit.specs.Expiries.{expiry_lines}
+use Rattle.cdc_audit.specs.Expiries.{can_expire, expiry_lines, first_due, is_sooner}
+use Rattle.cdc_audit.proofs.FirstLemmas.{first_of-all, passing}
 use Rattle.cdc_audit_laws.specs.Laws.{LedgersAreAccepted}
 use Rattle.cdc_audit_laws.proofs.Created.{own_pair, own_times}
-use Rattle.cdc_audit_laws.proofs.Entries.{last_timestamp-events, pending_amount-events, pending_event-events, settled_id-shown, unsettled, unstored}
+use Rattle.cdc_audit_laws.proofs.Entries.{last_timestamp-events, pending_amount-events, pending_event-events, settled_id-shown, unresolved, unsettled, unstored}
 use Rattle.cdc_audit_laws.proofs.Following.{CanFollow, IsCredited, IsDebited, NoneApplies, none_of_both}
 use Rattle.cdc_audit_laws.proofs.Keeping.{end_from, is_in_chain, kept_by_legal, links, links_from}
 use Rattle.cdc_audit_laws.proofs.Kept.{IsCreated, IsKept, IsLimited, kept-account, kept-closed, kept-empty, kept-pushed, kept-timed}
 use Rattle.cdc_audit_laws.proofs.Requests.{Enters, HasLedger, HasShape, KeepsFields, account_of, asked, enters-accepted}
 use Rattle.cdc_audit_laws.proofs.Requests.{enters-expiry, keeps_data}
-use Rattle.cdc_audit_laws.proofs.Pulses.{ComesAfter, expiry_from, last_expiry}
+use Rattle.cdc_audit_laws.proofs.Pulses.{LetsPass, expiry_from, last_expiry}
 use Rattle.cdc_audit_laws.proofs.Shown.{balances_after-credited, balances_after-debited, balances_after-other, balances_of}
 use Rattle.cdc_audit_laws.proofs.Streams.{accepted-push, none_follows, prefixes_are_accepted}
 
@@ -223,13 +224,22 @@ same_expiry h last (e ∷ es) =
     by true = refl
     by false = refl
 
--- a test of one time after another that is equal to it
-apart_only : (a b t s : ℕ) → (a ≡ b → t ≡ s + 1) → ((a == b) && not (t == s + 1)) ≡ false
-apart_only a b t s next = by (a == b) refl
+-- what allows it that an expiry comes right after one of the same time
+apart_none : (a b t s : ℕ) (storing : Bool) → (a ≡ b → (storing ≡ false) × (t ≡ s + 1))
+    → ((a == b) && not (not storing && (t == s + 1))) ≡ false
+apart_none a b t s storing next = by (a == b) refl
   where
-    by : (same : Bool) → (a == b) ≡ same → (same && not (t == s + 1)) ≡ false
-    by true is = not_from_true _ (eq-eqb t (s + 1) (next (eqb-true a b is)))
+    by : (same : Bool) → (a == b) ≡ same → (same && not (not storing && (t == s + 1))) ≡ false
+    by true is =
+        let both = next (eqb-true a b is) in
+        not_from_true _ (and_from _ _ (not_from_false _ both.0) (eq-eqb t (s + 1) both.1))
     by false is = refl
+
+-- what holds of each image
+all_images : (h : History) (P : Event → Type 0) (es : List Entry) → AllByRecursion (λ y. P (event_of h y)) es
+    → AllByRecursion P (map (event_of h) es)
+all_images h P [] all = tt
+all_images h P (y ∷ es) all = (all.0, all_images h P es all.1)
 
 same_end : (h : History) (t : ℕ) (es : List Entry) → last_timestamp_from t (map (event_of h) es) ≡ end_from t es
 same_end h t [] = refl
@@ -513,24 +523,54 @@ module _ (h : History) (e : Entry) (sound : IsSound h) (follows : Follows h e) (
         ),
       )
 
-  -- an expiry comes after the last one before it
-  has_order : NoneApplies (expiry_lines (last_shown (events h)) event)
+  -- an open pending transfer lets the event pass after this last expiry
+  Allows : Option Entry → Event → Type 0
+  Allows last f =
+      (stores e.kind ≡ false → is_sooner f.transfer event.transfer ≡ false)
+      × IfSome last (λ x. expires_at_shown f.transfer ≡ expires_at x.transfer
+      → (stores e.kind ≡ false) × (e.timestamp ≡ x.timestamp + 1))
+
+  -- so does the one that expires first
+  first_allows : (last : Option Entry) → AllByRecursion (LetsPass last h e) h.entries
+      → IfSome (first_due (events h)) (Allows last)
+  unfolding Allows
+  first_allows last all =
+      first_of-all (Allows last) (filter (can_expire (events h)) (events h))
+      (passing (can_expire (events h)) (Allows last) (events h)
+      (all_images h (λ f. can_expire (events h) f ≡ true → Allows last f) h.entries
+      (AllByRecursion-weaker (LetsPass last h e)
+      (λ y. can_expire (events h) (event_of h y) ≡ true → Allows last (event_of h y))
+      (λ y lets passes.
+      let both = and_parts (holds y.kind && not (y.transfer.timeout == 0))
+      (not (is_settled (events h) y.transfer.id)) passes in
+      let timed = and_parts (holds y.kind) (not (y.transfer.timeout == 0)) both.0 in
+      lets timed.0 (not-true _ timed.1) (unresolved h y.transfer sound.past (not-true _ both.1))) h.entries all)))
+
+  -- so no line on expiries applies
+  has_order : NoneApplies (expiry_lines (first_due (events h)) (last_shown (events h)) event)
+  unfolding Allows
   has_order =
-      subst (λ o. NoneApplies (expiry_lines o event)) (sym (same_expiry h None h.entries))
-      (by (stores e.kind) refl (last_expiry h) enters.order)
+      subst (λ o. NoneApplies (expiry_lines (first_due (events h)) o event)) (sym (same_expiry h None h.entries))
+      (by (first_due (events h)) (last_expiry h) (first_allows (last_expiry h) enters.order))
     where
-      by : (b : Bool) → stores e.kind ≡ b → (o : Option Entry)
-          → (stores e.kind ≡ false → ComesAfter o e.transfer e.timestamp)
-          → NoneApplies (expiry_lines (option_map (event_of h) o) event)
-      by b is None order = tt
-      by true is (Some x) order = rw is (refl, (refl, tt))
-      by false is (Some x) order =
-          let after = order is in
-          let first = after.0 in
-          rw is (
-            first,
-            (apart_only (expires_at x.transfer) (expires_at e.transfer) e.timestamp x.timestamp after.1, tt),
-          )
+      late : (f : Event) (b : Bool) → stores e.kind ≡ b
+          → (stores e.kind ≡ false → is_sooner f.transfer event.transfer ≡ false)
+          → (not b && is_sooner f.transfer event.transfer) ≡ false
+      late f true is turn = refl
+      late f false is turn = turn is
+
+      by : (first : Option Event) (last : Option Entry) → IfSome first (Allows last)
+          → NoneApplies (expiry_lines first (option_map (event_of h) last) event)
+      by None last allows = tt
+      by (Some f) None allows = (late f (stores e.kind) refl allows.0, tt)
+      by (Some f) (Some x) allows = (
+        late f (stores e.kind) refl allows.0,
+        (
+          apart_none (expires_at_shown f.transfer) (expires_at x.transfer) e.timestamp x.timestamp (stores e.kind)
+              allows.1,
+          tt,
+        ),
+      )
 
   -- after a linked transfer it stores one, one nanosecond later
   has_next : NoneApplies (chain_lines (ends_in_chain (events h)) (last_timestamp (events h)) event)
@@ -728,9 +768,9 @@ pub ledgers_are_accepted : LedgersAreAccepted
 ledgers_are_accepted h count legal =
     let auditable : IsAuditable h =
     kept_by_legal IsAuditable (kept-empty, audited-empty)
-    (λ g r t sound later chained none next is.
+    (λ g r t sound later chained none turn next is.
     auditable-pushed g (entry_of g r t) sound (Follows-accepted g r t sound later none) later next
-    (enters-accepted g r t sound later is.0.ledgers chained none) is)
+    (enters-accepted g r t sound later is.0.ledgers chained none turn) is)
     (λ g p t sound later is_open up unchained order next is.
     auditable-pushed g (expiry p t) sound (Follows-open g p t sound is_open) later next
     (enters-expiry g p t is.0.ledgers is_open up unchained order) is)

@@ -3,20 +3,22 @@
 use Rattle.std.proofs.Common.{ℕ, ◌+◌, ◌<◌, ◌≤◌, Bool, true, false, List, [], ◌∷◌, ◌++◌, ◌≡◌, Option, Some, None, map, refl, sym, ap, ◌∙◌, subst, arith}
 use Rattle.std.specs.Prelude.{◌==◌, ◌&&◌, ◌||◌, not, nat_le, nat_lt, filter, if◌then◌else◌, IfSome}
 use Rattle.std.specs.List.{AllByRecursion, list_any}
-use Rattle.std.proofs.lemmas.Bool.{and_from, and_parts, eq-eqb, false≢true, not-true, not_from_false, or_from, or_left, or_parts, or_right}
+use Rattle.std.proofs.lemmas.Bool.{and_from, and_parts, eq-eqb, eqb-true, false≢true, not-true, not_from_false, or_from, or_left, or_parts, or_right}
 use Rattle.std.proofs.lemmas.Bool.Decides.{nat_tests}
 use Rattle.cdc_types.specs.declared.events.Entry.{Entry}
 use Rattle.cdc_types.specs.declared.transfers.Transfer.{Transfer}
 use Rattle.cdc_ledger.specs.Balances.{resolved}
 use Rattle.cdc_ledger.specs.Changes.{expiry, pushed}
 use Rattle.cdc_ledger.specs.Due.{due, in_order_of_end, insert_by_end, is_due, is_sooner}
-use Rattle.cdc_ledger.specs.Filling.{expires_at}
+use Rattle.cdc_ledger.specs.Filling.{expires_at, stored}
 use Rattle.cdc_ledger.specs.History.{History}
 use Rattle.cdc_ledger.specs.Kinds.{holds, stores}
 use Rattle.cdc_ledger.specs.Sound.{IsSound}
-use Rattle.cdc_ledger.proofs.BalanceLaws.{resolved_later, resolved_then}
+use Rattle.cdc_ledger.proofs.BalanceLaws.{resolved_later, resolved_then, stores-holds}
 use Rattle.cdc_ledger.proofs.DueOrder.{All-in_order, All-insert_by_end, is_sooner-once}
-use Rattle.cdc_ledger.proofs.Elements.{AllByRecursion-weaker, AllByRecursion_push}
+use Rattle.cdc_ledger.proofs.Elements.{AllByRecursion-both, AllByRecursion-every, AllByRecursion-weaker, AllByRecursion_push}
+use Rattle.cdc_ledger.proofs.PulseLaws.{IsOpen}
+use Rattle.cdc_ledger.proofs.StoredLaws.{stored_each}
 
 -- ---- the order
 
@@ -323,3 +325,102 @@ pulsing-next h now t p ps sound after up pulsing = record {
         let parts = or_parts _ _ (sym (resolved_then h (expiry p t) y.transfer sound.past after) ∙ unsettled) in
         later holding timed parts.0 (or_from _ _ parts.1 away)) h.entries pulsing.rest)
         (λ holding. absurd (false≢true holding))
+
+-- ---- whose turn it is
+
+-- an open pending transfer with a timeout doesn't keep this entry from coming next, after this last expiry: an expiry is
+-- of none that expires later; and after an expiry of the same time the entry is an expiry, right after that one
+abbrev pub LetsPass : Option Entry → History → Entry → Entry → Type 0
+LetsPass last h e y =
+    holds y.kind ≡ true → (y.transfer.timeout == 0) ≡ false → resolved h y.transfer h.last ≡ false
+    → (stores e.kind ≡ false → IsNoSooner e.transfer y.transfer)
+    × IfSome last (λ x. expires_at y.transfer ≡ expires_at x.transfer
+    → (stores e.kind ≡ false) × (e.timestamp ≡ x.timestamp + 1))
+
+-- none does
+abbrev pub IsInTurn : History → Entry → Type 0
+IsInTurn h e = AllByRecursion (LetsPass (last_expiry h) h e) h.entries
+
+-- an entry that stores a transfer may come outside a pulse
+pub in_turn-stored : (h : History) (e : Entry) → stores e.kind ≡ true → Clear h [] → IsInTurn h e
+in_turn-stored h e storing clear = by (last_expiry h) clear
+  where
+    by : (o : Option Entry) → IfSome o (IsClear h []) → AllByRecursion (LetsPass o h e) h.entries
+    by None is =
+        AllByRecursion-every (LetsPass None h e)
+        (λ y holding timed unsettled. (λ no. absurd (false≢true (sym no ∙ storing)), tt)) h.entries
+    by (Some x) is =
+        AllByRecursion-weaker (ExpiresAfter h (expires_at x.transfer) []) (LetsPass (Some x) h e)
+        (λ y after holding timed unsettled.
+        let later = after holding timed unsettled refl in (
+          λ no. absurd (false≢true (sym no ∙ storing)),
+          λ same. absurd (omega arith),
+        )) h.entries is.others
+
+-- one of these transfers has this id
+one_of : (P : Transfer → Type 0) (id : ℕ) (ps : List Transfer) → AllByRecursion P ps → has_id id ps ≡ true
+    → (q : Transfer) × (q.id ≡ id) × P q
+one_of P id [] all has = cc
+one_of P id (p ∷ ps) all has = by (p.id == id) refl has (one_of P id ps all.1)
+  where
+    by : (b : Bool) → (p.id == id) ≡ b → (b || has_id id ps) ≡ true
+        → (has_id id ps ≡ true → (q : Transfer) × (q.id ≡ id) × P q) → (q : Transfer) × (q.id ≡ id) × P q
+    by true is has more = (p, eqb-true p.id id is, all.0)
+    by false is has more = more has
+
+-- nothing expires sooner than itself
+no_sooner_self : (a s : ℕ) → (nat_lt a a || ((a == a) && nat_lt s s)) ≡ false
+no_sooner_self a s = grind (arith, nat_tests)
+
+no_later : (a b s t : ℕ) → (nat_lt b a || ((b == a) && nat_lt t s)) ≡ false → a ≤ b
+no_later a b s t is = grind (arith, nat_tests)
+
+-- the transfer of an open one that is stored under the id of one of an entry is that entry's
+open_one : (h : History) (q : Transfer) (y : Entry) → IsOpen h q → stored h y.transfer.id ≡ Some y
+    → q.id ≡ y.transfer.id → q ≡ y.transfer
+open_one h q y is found same =
+    let there : is.pending ≡ y = some_same _ _ (sym is.there ∙ ap (stored h) same ∙ found) in
+    sym is.same ∙ ap (λ (x : Entry). x.transfer) there
+  where
+    some_same : (a b : Entry) → Some a ≡ Some b → a ≡ b
+    some_same a b both = cc
+
+-- within a pulse the first one expires
+pub in_turn-expiry : (h : History) (now t : ℕ) (p : Transfer) (ps : List Transfer) → IsSound h
+    → AllByRecursion (IsOpen h) (p ∷ ps) → IsPulsing h now t (p ∷ ps) → IsInTurn h (expiry p t)
+in_turn-expiry h now t p ps sound opened pulsing = by (last_expiry h) pulsing.first
+  where
+    all : AllByRecursion (λ q. IsOpen h q × IsNoSooner p q) (p ∷ ps)
+    all =
+        AllByRecursion-both (IsOpen h) (IsNoSooner p) (p ∷ ps) opened
+        (no_sooner_self (expires_at p) p.timestamp, pulsing.in_order.0)
+
+    first : (y : Entry) → (stores y.kind ≡ true → stored h y.transfer.id ≡ Some y) → ExpiresAfter h now (p ∷ ps) y
+        → holds y.kind ≡ true → (y.transfer.timeout == 0) ≡ false → resolved h y.transfer h.last ≡ false
+        → (b : Bool) → has_id y.transfer.id (p ∷ ps) ≡ b → IsNoSooner p y.transfer
+    first y found after holding timed unsettled true has =
+        let it = one_of (λ q. IsOpen h q × IsNoSooner p q) y.transfer.id (p ∷ ps) all has in
+        subst (IsNoSooner p) (open_one h it.0 y it.2.0 (found (stores-holds y.kind holding)) it.1) it.2.1
+    first y found after holding timed unsettled false has =
+        let later = after holding timed unsettled has in
+        let within = pulsing.ended.0 in
+        later_pair (expires_at p) (expires_at y.transfer) p.timestamp y.transfer.timestamp (omega arith)
+
+    next : (o : Option Entry) → ComesAfter o p t → (y : Entry) → IsNoSooner p y.transfer
+        → IfSome o (λ x. expires_at y.transfer ≡ expires_at x.transfer → (false ≡ false) × (t ≡ x.timestamp + 1))
+    next None comes y sooner = tt
+    next (Some x) comes y sooner = λ same.
+        let one = no_later (expires_at p) (expires_at y.transfer) p.timestamp y.transfer.timestamp sooner in
+        let other = no_later (expires_at x.transfer) (expires_at p) x.transfer.timestamp p.timestamp comes.0 in
+        (refl, comes.1 (omega arith))
+
+    by : (o : Option Entry) → ComesAfter o p t → AllByRecursion (LetsPass o h (expiry p t)) h.entries
+    by o comes =
+        AllByRecursion-weaker
+        (λ y. (stores y.kind ≡ true → stored h y.transfer.id ≡ Some y) × ExpiresAfter h now (p ∷ ps) y)
+        (LetsPass o h (expiry p t))
+        (λ y at holding timed unsettled.
+        let no_sooner = first y at.0 at.1 holding timed unsettled (has_id y.transfer.id (p ∷ ps)) refl in
+        (λ expiring. no_sooner, next o comes y no_sooner)) h.entries
+        (AllByRecursion-both (λ y. stores y.kind ≡ true → stored h y.transfer.id ≡ Some y)
+        (ExpiresAfter h now (p ∷ ps)) h.entries (stored_each h sound.once) pulsing.rest)

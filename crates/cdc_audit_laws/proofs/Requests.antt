@@ -33,7 +33,7 @@ use Rattle.cdc_ledger.proofs.StoredLaws.{stored_has}
 use Rattle.cdc_audit.specs.EventShapes.{is_of_kind}
 use Rattle.cdc_audit.specs.Settling.{is_taken_over}
 use Rattle.cdc_audit_laws.proofs.Keeping.{IsUp, end_from, is_in_chain}
-use Rattle.cdc_audit_laws.proofs.Pulses.{ComesAfter, last_expiry}
+use Rattle.cdc_audit_laws.proofs.Pulses.{IsInTurn}
 use Rattle.cdc_audit_laws.proofs.Following.{no_first_line, none_applies}
 
 -- the user data of a transfer is 0 only if that of the pending one is
@@ -107,7 +107,7 @@ pub record Enters (h : History) (e : Entry) : Type 0 where
   pub shape : stores e.kind ≡ true → HasShape e
   pub limits : settles e.kind ≡ false → KeepsLimits h e
   pub chain : is_in_chain h ≡ true → (stores e.kind ≡ true) × (e.timestamp ≡ end_from 0 h.entries + 1)
-  pub order : stores e.kind ≡ false → ComesAfter (last_expiry h) e.transfer e.timestamp
+  pub order : IsInTurn h e
 
 -- the lines on the accounts of a plain request, or on the pending transfer that a post or a void names
 abbrev own_lines : Bool → Option Entry → History → NewTransfer → ℕ → List (Bool × TransferResult)
@@ -395,8 +395,8 @@ keeps-accepted h r t none is x there =
 -- and every accepted transfer enters with what it has to have
 pub enters-accepted : (h : History) (r : NewTransfer) (t : ℕ) → IsSound h → h.last < t
     → AllByRecursion (HasLedger h) h.entries → (is_in_chain h ≡ true → t ≡ end_from 0 h.entries + 1)
-    → transfer_refused h r t ≡ None → Enters h (entry_of h r t)
-enters-accepted h r t sound later ledgers next none = by (is_plain_request r) refl
+    → transfer_refused h r t ≡ None → IsInTurn h (entry_of h r t) → Enters h (entry_of h r t)
+enters-accepted h r t sound later ledgers next none turn = by (is_plain_request r) refl
   where
     lines : (first_line (transfer_shape_lines r) ≡ None)
         × (first_line (own_lines (is_plain_request r) (stored h r.pending_id) h r t) ≡ None)
@@ -438,7 +438,7 @@ enters-accepted h r t sound later ledgers next none = by (is_plain_request r) re
                 (plain.credits flag);
           });
           chain = λ linked. (storing, next linked);
-          order = λ no. absurd (false≢true (sym no ∙ storing));
+          order = turn;
         }
     by false is =
         let settling_one : settles (kind_of r) ≡ true = settles_unless ∙ ap not is in
@@ -455,7 +455,7 @@ enters-accepted h r t sound later ledgers next none = by (is_plain_request r) re
           });
           limits = λ no. absurd (false≢true (sym no ∙ settling_one));
           chain = λ linked. (storing, next linked);
-          order = λ no. absurd (false≢true (sym no ∙ storing));
+          order = turn;
         }
       where
         named_entry : (o : Option Entry) → stored h r.pending_id ≡ o → first_line (settling_lines o h r t) ≡ None
@@ -467,7 +467,7 @@ enters-accepted h r t sound later ledgers next none = by (is_plain_request r) re
 
 -- and so does an expiry, which has the whole pending transfer
 pub enters-expiry : (h : History) (p : Transfer) (t : ℕ) → AllByRecursion (HasLedger h) h.entries → IsOpen h p
-    → IsUp p t → is_in_chain h ≡ false → ComesAfter (last_expiry h) p t → Enters h (expiry p t)
+    → IsUp p t → is_in_chain h ≡ false → IsInTurn h (expiry p t) → Enters h (expiry p t)
 enters-expiry h p t ledgers is_open up unchained order = record {
   settled = λ is x there. keeps x
       (sym is_open.same ∙ ap transfer_or (sym is_open.there ∙ there));
@@ -476,7 +476,7 @@ enters-expiry h p t ledgers is_open up unchained order = record {
   shape = λ no. cc;
   limits = λ no. cc;
   chain = λ is. absurd (false≢true (sym unchained ∙ is));
-  order = λ is. order;
+  order = order;
 }
   where
     transfer_or : Option Entry → Transfer

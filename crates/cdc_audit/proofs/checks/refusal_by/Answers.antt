@@ -16,7 +16,7 @@ returns c =
     let shape = shape_lines e in
     let fixed = fixed_lines facts e in
     let transfer = transfer_lines facts e in
-    let settling = settling_lines facts.open_one e ++ expiry_lines facts.expired e in
+    let settling = settling_lines facts.open_one e ++ expiry_lines facts.first facts.expired e in
     let limits = chain_lines facts.linked facts.last e ++ limits_lines e in
     either_is _ _ _ (order ++ shape ++ fixed ++ transfer ++ settling ++ limits) (balances_lines facts e) c.or-8.ensures
     (either_is _ _ _ (order ++ shape ++ fixed ++ transfer ++ settling) limits c.or-7.ensures
@@ -25,7 +25,7 @@ returns c =
     (either_is _ _ _ (order ++ shape) fixed c.or-2.ensures
     (either_is _ _ _ order shape c.or.ensures c.order_refusal.ensures c.shape_refusal.ensures) c.fixed_refusal.ensures)
     c.transfer_refusal.ensures)
-    (either_is _ _ _ (settling_lines facts.open_one e) (expiry_lines facts.expired e) c.or-4.ensures
+    (either_is _ _ _ (settling_lines facts.open_one e) (expiry_lines facts.first facts.expired e) c.or-4.ensures
     c.settling_refusal.ensures c.expiry_refusal.ensures))
     (either_is _ _ _ (chain_lines facts.linked facts.last e) (limits_lines e) c.or-6.ensures c.chain_refusal.ensures
     c.limits_refusal.ensures)) c.balances_refusal.ensures

@@ -5,40 +5,42 @@ use Rattle.cdc_types.specs.Lines.{first_line}
 use Rattle.cdc_audit.specs.declared.checks.Facts.{Facts}
 use Rattle.cdc_audit.specs.Checks.{lines, released}
 use Rattle.cdc_audit.specs.Known.{expiry_or}
-use Rattle.cdc_audit.specs.Standing.{AuditorState, open_then, with_accounts, with_own, with_settled}
+use Rattle.cdc_audit.specs.Standing.{AuditorState, with_accounts, with_held, with_own, with_settled, without_settled}
 use Rattle.cdc_audit.proofs.StandLemmas.{accepts, answers, times_ordered, unless_error}
 use Rattle.cdc_audit.proofs.auditor.Auditor.take_event.Goals as goal
 
 pub returns-in-Some-clause-answer : goal.returns-in-Some-clause-answer
 returns-in-Some-clause-answer c = λ state stands.
-    answers c.args.self.now state c.args.event.now _
+    answers c.args.self.now state _ c.args.event.now _
     (sym (ap (λ (a : AuditorState). a.kept.ended) c.self.view_is) ∙ (sym c.ended.ensures ∙ c.if-ended.false))
     (sym c.in-Some.is ∙ c.refusal_by.ensures
     ∙ ap (λ (facts : Facts). first_line (lines facts c.args.event.now))
-    (c.facts-facts.ensures (times_ordered c.args.self.now state stands))) stands
+    (c.facts-facts.ensures.facts (times_ordered c.args.self.now state stands)))
+    c.facts-facts.ensures.first stands
 
 pub returns-clause-answer : goal.returns-clause-answer
 returns-clause-answer c = λ state stands.
-    answers c.args.self.now state c.args.event.now None
+    answers c.args.self.now state _ c.args.event.now None
     (sym (ap (λ (a : AuditorState). a.kept.ended) c.self.view_is) ∙ (sym c.ended.ensures ∙ c.if-ended.false))
     (sym c.in_default.is ∙ c.refusal_by.ensures
     ∙ ap (λ (facts : Facts). first_line (lines facts c.args.event.now))
-    (c.facts-facts.ensures (times_ordered c.args.self.now state stands))) stands
+    (c.facts-facts.ensures.facts (times_ordered c.args.self.now state stands)))
+    c.facts-facts.ensures.first stands
 
 pub returns-clause-accepted : goal.returns-clause-accepted
 returns-clause-accepted c = λ state stands _.
     let e = c.args.event.now in
-    let facts_are = c.facts-facts.ensures (times_ordered c.args.self.now state stands) in
+    let facts_are = c.facts-facts.ensures.facts (times_ordered c.args.self.now state stands) in
     accepts c.args.self.now (record {
       foreign = c.self.inside.foreign;
       kept = c.take_event.new.self;
       transfers = c.keep.new.transfers.entries;
-      open_ones = c.keep_open.new.events.entries;
+      open_ones = c.remove_settled.new.open_ones;
       fields = c.keep_accounts.new.fields.entries;
       times = c.keep_time.new.times.items;
       linked = c.is_linked-self-inside.result;
       expired = c.expiry_or-self-inside.result;
-    }) state e
+    }) state _ e
     (sym (ap (λ (a : AuditorState). a.kept.ended) c.self.view_is) ∙ (sym c.ended.ensures ∙ c.if-ended.false))
     (sym (ap (λ (facts : Facts). first_line (lines facts e)) facts_are) ∙ sym c.refusal_by.ensures
     ∙ c.in_default.is)
@@ -49,15 +51,16 @@ returns-clause-accepted c = λ state stands _.
     (c.in_ok-reserve.ensures.entries ∙ ap (λ (a : AuditorState). a.transfers) c.self.view_is)
     ∙ ap (with_settled (with_own c.args.self.now.transfers e) e)
     (c.released.ensures ∙ ap (λ (facts : Facts). released facts e) facts_are))
-    (λ id. c.keep_open.ensures id
-    ∙ ap (λ es. open_then es e id)
-    (c.in_ok-reserve-2.ensures.entries ∙ ap (λ (a : AuditorState). a.open_ones) c.self.view_is))
+    (λ id. c.remove_settled.ensures id
+    ∙ ap (λ es. without_settled es e id)
+    (c.in_ok-added.ensures.events
+    ∙ ap (λ (a : AuditorState). with_held a.open_ones e) c.self.view_is))
     (c.keep_accounts.ensures.fields
     ∙ ap (λ fs. with_accounts fs e)
-    (c.in_ok-reserve-3.ensures.entries ∙ ap (λ (a : AuditorState). a.fields) c.self.view_is))
+    (c.in_ok-reserve-2.ensures.entries ∙ ap (λ (a : AuditorState). a.fields) c.self.view_is))
     (c.keep_time.ensures
     ∙ ap (λ ts. ts ++ e.timestamp ∷ [])
-    (c.in_ok-reserve-5.ensures.items ∙ ap (λ (a : AuditorState). a.times) c.self.view_is))
+    (c.in_ok-reserve-4.ensures.items ∙ ap (λ (a : AuditorState). a.times) c.self.view_is))
     c.is_linked-self-inside.ensures
     (c.expiry_or-self-inside.ensures ∙ ap (λ (a : AuditorState). expiry_or a.expired e) c.self.view_is)
     (ap (λ (a : AuditorState). a.foreign) c.self.view_is) stands
