@@ -80,10 +80,10 @@ unfolding refusal
 credited_at_event = refl
 
 -- the texts
-text-at_event : refusal_text (CreatedAtEvent 7 30) ≡ codes "created: account 7 has timestamp 30, which an event before it has"
+text-at_event : refusal_text (CreatedAtEvent 7 30) ≡ codes "created: account 7 at 30, as an event"
 unfolding refusal_text digits
 text-at_event = refl
 
-text-together : refusal_text (CreatedTogether 7 30 8) ≡ codes "created: account 7 has timestamp 30, which account 8 has"
+text-together : refusal_text (CreatedTogether 7 30 8) ≡ codes "created: account 7 at 30, as account 8"
 unfolding refusal_text digits
 text-together = refl

@@ -92,7 +92,7 @@ at_times before id between one other =
 
 -- an account's timestamp, which another thing has
 abbrev pub shared_text : ℕ → ℕ → List ℕ
-shared_text id timestamp = around (codes "account ") id (codes " has timestamp ") ++ decimal timestamp
+shared_text id timestamp = around (codes "account ") id (codes " at ") ++ decimal timestamp
 
 -- a pending transfer that is settled too soon or too late, and when it expires
 abbrev pub time_text : ℕ → List ℕ → ℕ → ℕ → List ℕ
@@ -130,9 +130,9 @@ reason_text (OtherTimestamp id shown timestamp) =
 reason_text (AccountShape id result) = around (codes "account ") id (codes " is invalid: ") ++ account_name result
 reason_text (AccountField mismatch) = field_text mismatch
 reason_text (CreatedLater id created timestamp) = at_times (codes "account ") id (codes " at ") created timestamp
-reason_text (CreatedAtEvent id timestamp) = shared_text id timestamp ++ codes ", which an event before it has"
+reason_text (CreatedAtEvent id timestamp) = shared_text id timestamp ++ codes ", as an event"
 reason_text (CreatedTogether id timestamp other) =
-    shared_text id timestamp ++ around (codes ", which account ") other (codes " has")
+    shared_text id timestamp ++ (codes ", as account " ++ decimal other)
 reason_text (KnownId id) = around (codes "transfer ") id (codes " came before")
 reason_text (NotPending id) = around (codes "no pending transfer ") id (codes " came before")
 reason_text (Settled id) = around (codes "pending transfer ") id (codes " ended before")

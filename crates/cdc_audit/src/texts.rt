@@ -48,11 +48,12 @@ fn push_reason(why: Refusal, text: &mut Vec<u8>) -> Result<(), AllocError>
         }
         Refusal::CreatedAtEvent(id, timestamp) => {
             push_shared(text, id, timestamp)?;
-            push(text, ", which an event before it has")
+            push(text, ", as an event")
         }
         Refusal::CreatedTogether(id, timestamp, other) => {
             push_shared(text, id, timestamp)?;
-            push_around(text, ", which account ", other, " has")
+            push(text, ", as account ")?;
+            push_number(text, other)
         }
         Refusal::KnownId(id) => push_around(text, "transfer ", id, " came before"),
         Refusal::NotPending(id) => push_around(text, "no pending transfer ", id, " came before"),
@@ -130,7 +131,7 @@ fn push_times(
 fn push_shared(text: &mut Vec<u8>, id: u128, timestamp: u64) -> Result<(), AllocError>
     ensures { OnOk result (text.new.items ≡ text.old.items ++ spec.shared_text id timestamp) }
 {
-    push_around(text, "account ", id, " has timestamp ")?;
+    push_around(text, "account ", id, " at ")?;
     push_number(text, timestamp)
 }
 
