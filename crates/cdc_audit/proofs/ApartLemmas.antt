@@ -1,12 +1,12 @@
 -- What is known of timestamps and of accounts after one more of them.
-use Rattle.std.proofs.Common.{◌≡◌, ◌≢◌, ◌⊎◌, ℕ, suc, zero, ◌<◌, ◌≤◌, Bool, true, false, cond, map, length, get_or, List, [], ◌∷◌, ◌++◌, Option, Some, None, Result, Ok, Err, refl, sym, ap, ◌∙◌, arith, inl, inr}
+use Rattle.std.proofs.Common.{◌≡◌, ◌≢◌, ℕ, suc, zero, ◌<◌, ◌≤◌, Bool, true, false, cond, map, length, get_or, List, [], ◌∷◌, ◌++◌, Option, Some, None, Result, Ok, Err, refl, sym, ap, ◌∙◌, arith, inl, inr}
 use Rattle.std.specs.Prelude.{◌==◌, ◌||◌, nat_eq, nat_cmp, is_some, fold, find, option_map}
 use Rattle.std.specs.List.{flat_map, list_any}
 use Rattle.std.specs.List.Sorted.{IsBinarySearchResult}
 use Rattle.std.specs.Map.{lookup}
 use Rattle.std.specs.Option.{option_or}
 use Rattle.std.specs.Result.{is_ok}
-use Rattle.std.proofs.lemmas.Bool.{eq-eqb, eqb-true, ne_eqb}
+use Rattle.std.proofs.lemmas.Bool.{cases_lt, eq-eqb, eqb-true, ne_eqb}
 use Rattle.std.proofs.lemmas.Bool.Decides.{eqb_tells}
 use Rattle.std.proofs.lemmas.Grind.{flat_map-append}
 use Rattle.std.proofs.lemmas.List.{map-append}
@@ -66,13 +66,10 @@ has_time-searched ts t (Ok i) found ordered =
     let at = searched ts t (Ok i) found ordered in sym (there ts t i at.0 at.1)
 has_time-searched ts t (Err i) found ordered =
     let around = searched ts t (Err i) found ordered in
-    sym (nowhere ts t (λ k within is. elim (order k i) [
+    sym (nowhere ts t (λ k within is. elim (cases_lt k i) [
       | inl before ↦ let lower = around.1 k before in omega arith
       | inr after ↦ let higher = around.2 k after within in omega arith
     ]))
-  where
-    order : (k n : ℕ) → (k < n) ⊎ (n ≤ k)
-    order k n = omega arith
 
 -- the timestamps of one more event
 pub times_of-push : (past : List Event) (e : Event) → times_of (past ++ e ∷ []) ≡ times_of past ++ e.timestamp ∷ []
@@ -117,17 +114,17 @@ shown_one fs a id = by (fields_under fs a.0) refl
         same (nat_eq id a.0) (fields_under fs id) x (λ at. ap (fields_under fs) (eqb-true id a.0 at) ∙ is)
 
 -- and after several
-shown_all : (fs as : List (ℕ × FixedFields)) (id : ℕ)
-    → fields_under (fold with_shown fs as) id ≡ option_or (fields_under fs id) (fields_under as id)
+shown_all : (fs those : List (ℕ × FixedFields)) (id : ℕ)
+    → fields_under (fold with_shown fs those) id ≡ option_or (fields_under fs id) (fields_under those id)
 shown_all fs [] id = sym (or_none (fields_under fs id))
-shown_all fs (a ∷ as) id =
-    shown_all (with_shown fs a) as id
-    ∙ ap (λ o. option_or o (fields_under as id)) (shown_one fs a id)
+shown_all fs (a ∷ those) id =
+    shown_all (with_shown fs a) those id
+    ∙ ap (λ o. option_or o (fields_under those id)) (shown_one fs a id)
     ∙ by (fields_under fs id) (nat_eq id a.0)
   where
     by : (o : Option FixedFields) (b : Bool)
-        → option_or (option_or o (cond b (Some a.1) None)) (fields_under as id)
-        ≡ option_or o (cond b (Some a.1) (fields_under as id))
+        → option_or (option_or o (cond b (Some a.1) None)) (fields_under those id)
+        ≡ option_or o (cond b (Some a.1) (fields_under those id))
     by None true = refl
     by None false = refl
     by (Some x) b = refl

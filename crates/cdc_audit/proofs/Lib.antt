@@ -1,5 +1,6 @@
 pub mod OpenLemmas
 pub mod ApartLemmas
+pub mod IndexLemmas
 pub mod FirstLemmas
 pub mod KnownLemmas
 pub mod StandLemmas

@@ -3,6 +3,7 @@ use Rattle.std.proofs.Common.{◌≡◌, ℕ, ◌+◌, Bool, true, false, cond, 
 use Rattle.std.specs.Prelude.{◌==◌, ◌&&◌, not, nat_le, nat_lt, is_none, is_some, unwrap_or, IfOk, OnOk}
 use Rattle.std.specs.Option.{option_or}
 use Rattle.std.specs.Result.{is_err}
+use Rattle.std.proofs.lemmas.Bool.{ltb-true}
 use Rattle.std.proofs.lemmas.Bool.Decides.{nat_tests}
 use Rattle.cdc_types.specs.declared.accounts.Balances.{Balances}
 use Rattle.cdc_types.specs.declared.bounds.TheConstants.Limits.{TIMESTAMP}
@@ -301,7 +302,7 @@ accepts auditor after state first e open_yet none kept transfers opened fields t
       fields = λ id. ap (λ fs. fields_under fs id) shown ∙ accounts_before-fields (state.past ++ e ∷ []) id;
       shown = shown;
       times = times ∙ ap (λ ts. ts ++ e.timestamp ∷ []) stands.times ∙ sym (times_of-push state.past e);
-      rising = RiseFrom-push 0 state.past e stands.rising (grind (arith, nat_tests));
+      rising = RiseFrom-push 0 state.past e stands.rising (ltb-true (last_timestamp state.past) e.timestamp later);
       linked = linked ∙ sym (linked_from-push false state.past e);
       expired = expired ∙ ap (λ last. expiry_or last e) stands.expired ∙ sym (last_expiry_from-push None state.past e);
       once = once-step auditor.transfers state.past e stands.transfers free.0 stands.once;

@@ -4,7 +4,7 @@ ghost use Rattle.std.specs.Prelude.{◌≡◌, ◌==◌, ◌≤◌, ◌++◌, �
 ghost use Rattle.std.specs.Map.{lookup};
 ghost use Rattle.std.specs.Option.{option_or};
 ghost use Rattle.std.specs.Vec.{vec_capacity};
-ghost use Rattle.indexmap.specs.IndexMap.{spare};
+ghost use Rattle.indexmap.specs.IndexMap.{insert_entry, spare};
 ghost use Rattle.cdc_types.specs.Lines.{first_line};
 ghost use Rattle.cdc_audit.specs.Apart as spec;
 ghost use Rattle.cdc_audit.specs.Fields as shown;
@@ -79,6 +79,15 @@ fn put_created(created: &mut IndexMap<u64, u128>, timestamp: u64, id: u128)
     }
 }
 
+/// Keeps the fields of the account with this id.
+fn put_fields(fields: &mut IndexMap<u128, FixedFields>, id: u128, shown: FixedFields)
+    requires { 1 ≤ spare fields.old }
+    ensures entries { fields.new.entries ≡ insert_entry nat_eq fields.old.entries id shown }
+    ensures room { spare fields.old ≤ spare fields.new + 1 }
+{
+    fields.insert(id, shown).unwrap();
+}
+
 /// Keeps an account that isn't known.
 fn add_account(
     fields: &mut IndexMap<u128, FixedFields>,
@@ -96,7 +105,7 @@ fn add_account(
     ensures place { spare created.old ≤ spare created.new + 1 }
 {
     put_created(created, shown.timestamp, id);
-    fields.insert(id, shown).unwrap();
+    put_fields(fields, id, shown);
 }
 
 /// Keeps an account of this ledger, unless it is known.

@@ -142,10 +142,10 @@ shown_all h (e ∷ es) known = (
 )
 
 -- what holds of accounts holds of each that is kept of them
-kept_all : (P : ℕ × FixedFields → Type 0) (fs as : List (ℕ × FixedFields)) → AllByRecursion P fs
-    → AllByRecursion P as → AllByRecursion P (fold with_shown fs as)
+kept_all : (P : ℕ × FixedFields → Type 0) (fs those : List (ℕ × FixedFields)) → AllByRecursion P fs
+    → AllByRecursion P those → AllByRecursion P (fold with_shown fs those)
 kept_all P fs [] all more = all
-kept_all P fs (a ∷ as) all more = kept_all P (with_shown fs a) as (by (is_some (lookup (nat_eq a.0) fs))) more.1
+kept_all P fs (a ∷ those) all more = kept_all P (with_shown fs a) those (by (is_some (lookup (nat_eq a.0) fs))) more.1
   where
     by : (b : Bool) → AllByRecursion P (if b then fs else (fs ++ a ∷ []))
     by true = all

@@ -229,10 +229,10 @@ pub(crate) fn push_together(
     rule: &str,
     account: u128,
     created: u64,
-    other: u128,
+    second: u128,
 ) -> Result<(), AllocError>
     ensures { OnOk result (lines.new.text.items ≡ lines.old.text.items
-        ++ json_line (rule_value line rule.now (refusal_members (Refusals.CreatedTogether account created other)))) }
+        ++ json_line (rule_value line rule.now (refusal_members (Refusals.CreatedTogether account created second)))) }
 {
     lines.push(
         alloc,
@@ -256,7 +256,7 @@ pub(crate) fn push_together(
             },
             Member {
                 name: "other",
-                value: Field::Wide(other),
+                value: Field::Wide(second),
             },
         ],
     )
