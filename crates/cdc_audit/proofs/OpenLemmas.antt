@@ -76,7 +76,9 @@ insert-new (first ∷ rest) id e none = by (id == first.0) refl (insert-new rest
     by : (b : Bool) → (id == first.0) ≡ b
         → (open_under rest id ≡ None → insert_entry nat_eq rest id e ≡ rest ++ (id, e) ∷ [])
         → insert_entry nat_eq (first ∷ rest) id e ≡ first ∷ (rest ++ (id, e) ∷ [])
-    by true is more = let no : Some first.1 ≡ None = sym (ap (λ b. cond b (Some first.1) (open_under rest id)) is) ∙ none in cc
+    by true is more =
+        let no : Some first.1 ≡ None = sym (ap (λ b. cond b (Some first.1) (open_under rest id)) is) ∙ none in
+        cc
     by false is more =
         ap (λ b. cond b ((first.0, e) ∷ rest) (first ∷ insert_entry nat_eq rest id e)) is
         ∙ ap (λ es. first ∷ es) (more (sym (ap (λ b. cond b (Some first.1) (open_under rest id)) is) ∙ none))

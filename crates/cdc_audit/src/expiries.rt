@@ -40,7 +40,7 @@ fn late_refusal(first: &Event, event: &Event) -> Option<Refusal>
     }
 }
 
-/// The refusal of an event after the last expiry, if the open pending transfer that expires first expires with that one.
+/// The refusal of an event by the open pending transfer that expires first, if that one expires with the last expiry.
 fn apart_refusal(first: &Event, last: &Event, event: &Event) -> Option<Refusal>
     ensures { result ≡ first_line (spec.apart_line first.now last.now event.now ∷ []) }
 {

@@ -99,8 +99,8 @@ impl OpenOnes {
         ensures { (front : List (ℕ × event.Event)) (last : ℕ × event.Event) → self.old ≡ front ++ last ∷ []
             → self.new ≡ front }
     {
-        if let Some((id, event)) = self.events.pop() {
-            let _removed = self.index.remove(&due_of(id, &event));
+        if let Some((id, last)) = self.events.pop() {
+            let _removed = self.index.remove(&due_of(id, &last));
         }
     }
 

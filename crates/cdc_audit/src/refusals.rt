@@ -124,8 +124,8 @@ pub enum Refusal {
     TooLate(u128, u64, u128),
     /// It is the expiry of the pending transfer of the first id, and that of the second one is open and expires sooner.
     ExpiresLate(u128, u128),
-    /// The pending transfer of the first id is open, and the last expiry before the event is that of the second one. The
-    /// time of both was up at once, so the event has to be an expiry, one nanosecond after that one.
+    /// The pending transfer of the first id is open, and the last expiry before the event is that of the second one.
+    /// The time of both was up at once, so the event has to be an expiry, one nanosecond after that one.
     ExpiresApart(u128, u128),
     /// It has the first timestamp, and the event before it, at the second one, stored a linked transfer: so it has to
     /// store a transfer, one nanosecond later.

@@ -179,9 +179,11 @@ pub unrefused : (past : List Event) (e : Event) → refusal past e ≡ None → 
 unfolding refusal
 unrefused past e none =
     let all = of_seven (order_lines (last_timestamp past) e) (shape_lines e) (fixed_lines past e)
-    (transfer_lines past e) (settling_lines (settled_event past e) e ++ expiry_lines (first_due past) (last_expiry past) e)
+    (transfer_lines past e)
+    (settling_lines (settled_event past e) e ++ expiry_lines (first_due past) (last_expiry past) e)
     (chain_lines (ends_in_chain past) (last_timestamp past) e ++ limits_lines e) (balances_lines past e) none in
-    let ends = none_both (settling_lines (settled_event past e) e) (expiry_lines (first_due past) (last_expiry past) e) all.settling in
+    let ends = none_both (settling_lines (settled_event past e) e) (expiry_lines (first_due past) (last_expiry past) e)
+    all.settling in
     let bounds = none_both (chain_lines (ends_in_chain past) (last_timestamp past) e) (limits_lines e) all.limits in
     let order = all.order in
     let transfer = all.transfer in
@@ -217,8 +219,8 @@ no_refusal past e can =
       shape = can.shape;
       fixed = can.fixed;
       transfer = (can.new, (can.pending, (can.unsettled, tt)));
-      settling = none_of_both (settling_lines (settled_event past e) e) (expiry_lines (first_due past) (last_expiry past) e) can.settling
-          can.expiry;
+      settling = none_of_both (settling_lines (settled_event past e) e)
+          (expiry_lines (first_due past) (last_expiry past) e) can.settling can.expiry;
       limits = none_of_both (chain_lines (ends_in_chain past) (last_timestamp past) e) (limits_lines e) can.chain
           can.limits;
       balances = follow_balances past e can.debited can.credited;

@@ -217,7 +217,8 @@ module _ (P : History → Type 0) (on_empty : P empty_history)
       IsSound-pushed h (entry_of h r t) inner.0 (Follows-accepted h r t inner.0 later none) later within in
       let at : (filled h r t).timestamp ≡ t = at_its_time h r t in (
         sound,
-        on_request h r t inner.0 later next none (in_turn-stored h (entry_of h r t) (stores_asked r) inner.2) sound inner.1,
+        on_request h r t inner.0 later next none (in_turn-stored h (entry_of h r t) (stores_asked r) inner.2) sound
+            inner.1,
         clear-stored h (entry_of h r t) inner.0 later (stores_asked r) (omega arith) inner.2,
       )
 

@@ -328,8 +328,8 @@ pulsing-next h now t p ps sound after up pulsing = record {
 
 -- ---- whose turn it is
 
--- an open pending transfer with a timeout doesn't keep this entry from coming next, after this last expiry: an expiry is
--- of none that expires later; and after an expiry of the same time the entry is an expiry, right after that one
+-- an open pending transfer with a timeout lets this entry come next, after this last expiry: an expiry is of none that
+-- expires later; and if the last expiry is of the same time, the entry is an expiry, right after it
 abbrev pub LetsPass : Option Entry → History → Entry → Entry → Type 0
 LetsPass last h e y =
     holds y.kind ≡ true → (y.transfer.timeout == 0) ≡ false → resolved h y.transfer h.last ≡ false
@@ -337,7 +337,7 @@ LetsPass last h e y =
     × IfSome last (λ x. expires_at y.transfer ≡ expires_at x.transfer
     → (stores e.kind ≡ false) × (e.timestamp ≡ x.timestamp + 1))
 
--- none does
+-- each open pending transfer lets the entry come next
 abbrev pub IsInTurn : History → Entry → Type 0
 IsInTurn h e = AllByRecursion (LetsPass (last_expiry h) h e) h.entries
 

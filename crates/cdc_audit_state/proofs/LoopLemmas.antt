@@ -1,6 +1,6 @@
 -- Reading line after line.
-use Rattle.std.proofs.Common.{◌≡◌, ◌≢◌, ℕ, ◌<◌, Bool, true, false, length, List, [], ◌∷◌, ◌++◌, Option, Some, None, refl, sym, ap, ◌∙◌, subst, arith}
-use Rattle.std.specs.Prelude.{◌==◌, IsSomeAnd}
+use Rattle.std.proofs.Common.{◌≡◌, ℕ, ◌<◌, Bool, true, false, length, List, [], ◌∷◌, Some, None, refl, sym, ap, ◌∙◌, arith}
+use Rattle.std.specs.Prelude.{◌==◌}
 use Rattle.std.specs.List.{AllByRecursion}
 use Rattle.cdc_audit.specs.declared.checks.Stored.TheVariants.{Plain, Pending, Settled}
 use Rattle.cdc_audit_state.specs.declared.rows.ReadRow.{ReadRow}
@@ -10,7 +10,7 @@ use Rattle.cdc_audit_state.specs.Parts.{GivesParts, PartsState, no_parts, parts_
 use Rattle.cdc_audit_state.specs.Reading.{first_of}
 use Rattle.cdc_audit_state.specs.Rows.{GivesRow}
 use Rattle.cdc_audit_state.specs.Saveable.{RowFits}
-use Rattle.cdc_audit_state.specs.States.{row_line, rows_text}
+use Rattle.cdc_audit_state.specs.States.{rows_text}
 use Rattle.cdc_audit_state.proofs.PartLemmas.{on}
 use Rattle.cdc_audit_state.proofs.RowLemmas.{first_row, row_first}
 

@@ -1,8 +1,8 @@
 -- What the lines of a state that can be saved contain.
-use Rattle.std.proofs.Common.{◌≡◌, ◌≢◌, ℕ, Bool, true, false, cond, length, List, [], ◌∷◌, ◌++◌, Option, Some, None, refl, sym, ap, ◌∙◌, subst, append_assoc, append-nil}
-use Rattle.std.specs.Prelude.{◌==◌, ◌&&◌, fold, map, nat_eq, not}
-use Rattle.std.specs.List.{AllByRecursion, IsDistinct, flat_map}
-use Rattle.std.specs.Map.{keys_of}
+use Rattle.std.proofs.Common.{◌≡◌, ℕ, Bool, true, false, cond, List, [], ◌∷◌, ◌++◌, Option, Some, None, refl, sym, ap, ◌∙◌, subst, append_assoc, append-nil}
+use Rattle.std.specs.Prelude.{◌==◌, fold, is_some, map, nat_eq, not}
+use Rattle.std.specs.List.{AllByRecursion, flat_map}
+use Rattle.std.specs.Map.{keys_of, lookup}
 use Rattle.std.proofs.lemmas.Bool.{and_parts}
 use Rattle.std.proofs.lemmas.Map.Keys.{IsDistinct-head, IsDistinct-tail}
 use Rattle.indexmap.specs.IndexMap.{insert_entry}
@@ -13,9 +13,9 @@ use Rattle.cdc_subscriber.specs.Lines.{account_line}
 use Rattle.cdc_subscriber.proofs.BookLemmas.{eqb_swap, neither}
 use Rattle.cdc_audit.specs.declared.checks.Stored.{Stored}
 use Rattle.cdc_audit.specs.declared.fields.FixedFields.{FixedFields}
-use Rattle.cdc_audit.specs.Standing.{AuditorState}
+use Rattle.cdc_audit.specs.Standing.{AuditorState, open_under, with_open}
 use Rattle.cdc_audit_state.specs.declared.rows.Row.{Row}
-use Rattle.cdc_audit_state.specs.declared.rows.Row.TheVariants.{Account, Expired, Transfer, Open, Fields, Time}
+use Rattle.cdc_audit_state.specs.declared.rows.Row.TheVariants.{Account, Time}
 use Rattle.cdc_audit_state.specs.Parts.{PartsState, no_parts, parts_of, with_account, with_row}
 use Rattle.cdc_audit_state.specs.Saveable.{AreDistinct, CanBeSaved, IsByItsId}
 use Rattle.cdc_audit_state.specs.States.{expiry_rows, fields_rows, known_rows, open_rows, row_line, rows_text, time_rows, transfer_rows}
@@ -31,20 +31,33 @@ accounts_text (entry ∷ rest) = ap (λ text. account_line entry ++ text) (accou
 
 -- ---- keys that come last
 
--- a key that differs from those before it is inserted last
-inserted_last : {V : Type 0} (k : ℕ) (v : V) (done left : List (ℕ × V)) → AreDistinct (done ++ (k, v) ∷ left)
-    → insert_entry nat_eq done k v ≡ done ++ (k, v) ∷ []
-inserted_last k v [] left distinct = refl
-inserted_last k v (e ∷ done) left distinct =
-    let other = eqb_swap e.0 k (apart done (IsDistinct-head nat_eq e.0 (keys_of (done ++ (k, v) ∷ left)) distinct)) in
-    ap (λ b. cond b ((e.0, v) ∷ done) (e ∷ insert_entry nat_eq done k v)) other
-    ∙ ap (λ es. e ∷ es)
-    (inserted_last k v done left (IsDistinct-tail nat_eq e.0 (keys_of (done ++ (k, v) ∷ left)) distinct))
+-- a key isn't among those before it
+key_apart : {V : Type 0} (k : ℕ) (v : V) (e : ℕ × V) (done left : List (ℕ × V))
+    → AreDistinct ((e ∷ done) ++ (k, v) ∷ left) → (k == e.0) ≡ false
+key_apart k v e done left distinct =
+    eqb_swap e.0 k (apart done (IsDistinct-head nat_eq e.0 (keys_of (done ++ (k, v) ∷ left)) distinct))
   where
     apart : (es : List _) → AllByRecursion (λ key. nat_eq e.0 key ≡ false) (keys_of (es ++ (k, v) ∷ left))
         → nat_eq e.0 k ≡ false
     apart [] all = all.0
     apart (x ∷ es) all = apart es all.1
+
+-- so it isn't found among them
+not_there : {V : Type 0} (k : ℕ) (v : V) (done left : List (ℕ × V)) → AreDistinct (done ++ (k, v) ∷ left)
+    → lookup (nat_eq k) done ≡ None
+not_there k v [] left distinct = refl
+not_there k v (e ∷ done) left distinct =
+    ap (λ b. cond b (Some e.1) (lookup (nat_eq k) done)) (key_apart k v e done left distinct)
+    ∙ not_there k v done left (IsDistinct-tail nat_eq e.0 (keys_of (done ++ (k, v) ∷ left)) distinct)
+
+-- a key that differs from those before it is inserted last
+inserted_last : {V : Type 0} (k : ℕ) (v : V) (done left : List (ℕ × V)) → AreDistinct (done ++ (k, v) ∷ left)
+    → insert_entry nat_eq done k v ≡ done ++ (k, v) ∷ []
+inserted_last k v [] left distinct = refl
+inserted_last k v (e ∷ done) left distinct =
+    ap (λ b. cond b ((e.0, v) ∷ done) (e ∷ insert_entry nat_eq done k v)) (key_apart k v e done left distinct)
+    ∙ ap (λ es. e ∷ es)
+    (inserted_last k v done left (IsDistinct-tail nat_eq e.0 (keys_of (done ++ (k, v) ∷ left)) distinct))
 
 -- the same of an account
 not_true : (b : Bool) → not b ≡ true → b ≡ false
@@ -110,10 +123,12 @@ open_on [] parts more distinct all =
 open_on (e ∷ left) parts more distinct all =
     let whole : (parts.open_ones ++ e ∷ []) ++ left ≡ parts.open_ones ++ e ∷ left =
     append_assoc parts.open_ones (e ∷ []) left in
-    ap (λ id. on (record parts { open_ones = insert_entry nat_eq parts.open_ones id e.1 }) (open_rows left ++ more))
+    let grown : with_open parts.open_ones e.1 ≡ parts.open_ones ++ e ∷ [] =
+    ap (λ id. cond (is_some (open_under parts.open_ones id)) parts.open_ones (parts.open_ones ++ (id, e.1) ∷ []))
     (sym all.0)
-    ∙ ap (λ es. on (record parts { open_ones = es }) (open_rows left ++ more))
-    (inserted_last e.0 e.1 parts.open_ones left distinct)
+    ∙ ap (λ o. cond (is_some o) parts.open_ones (parts.open_ones ++ e ∷ []))
+    (not_there e.0 e.1 parts.open_ones left distinct) in
+    ap (λ es. on (record parts { open_ones = es }) (open_rows left ++ more)) grown
     ∙ open_on left (record parts { open_ones = parts.open_ones ++ e ∷ [] }) more
     (subst AreDistinct (sym whole) distinct) all.1
     ∙ ap (λ es. on (record parts { open_ones = es }) more) whole

@@ -1,16 +1,16 @@
 -- The lines of a state's text, by their first bytes.
-use Rattle.std.proofs.Common.{◌≡◌, ◌≢◌, ℕ, ◌<◌, ◌^◌, List, [], ◌∷◌, ◌++◌, length, drop, Bool, true, false, Option, Some, None, refl, sym, ap, ◌∙◌, append_assoc, arith}
+use Rattle.std.proofs.Common.{◌≡◌, ◌≢◌, ℕ, ◌<◌, ◌^◌, List, [], ◌∷◌, ◌++◌, drop, Bool, true, false, Option, refl, sym, ap, ◌∙◌, append_assoc, arith}
 use Rattle.std.specs.Prelude.{◌&&◌, codes, nat_le, IsSomeAnd}
 use Rattle.std.specs.List.{join_with_byte, list_all}
 use Rattle.std.proofs.lemmas.List.Folds.{list_all-append}
-use Rattle.std.proofs.lemmas.Bool.{and_parts, false≢true}
+use Rattle.std.proofs.lemmas.Bool.{and_parts}
 use Rattle.cdc_types.specs.declared.events.Event.{Event}
 use Rattle.cdc_message.specs.Bodies.{body, in_quotes, member_text, narrow_member, wide_member}
 use Rattle.cdc_message.specs.Headers.{headers_of_event}
 use Rattle.cdc_message.specs.Widths.{EventFits}
 use Rattle.cdc_subscriber.specs.declared.book.BookEntry.{BookEntry}
 use Rattle.cdc_subscriber.specs.Lines.{spaced}
-use Rattle.cdc_follow.specs.Saved.{EntryFits, is_in_line}
+use Rattle.cdc_follow.specs.Saved.{is_in_line}
 use Rattle.cdc_queues.specs.Lines.{headers_text, message_line, message_members, seconds_of}
 use Rattle.cdc_queues.proofs.Neat.{neat_message}
 use Rattle.cdc_audit.specs.declared.checks.Stored.{Stored}

@@ -7,6 +7,7 @@ use Rattle.cdc_subscriber.specs.declared.book.BookEntry.{BookEntry}
 use Rattle.cdc_subscriber.specs.Book.{ids_of, is_among}
 use Rattle.cdc_audit.specs.declared.checks.Stored.{Stored}
 use Rattle.cdc_audit.specs.declared.fields.FixedFields.{FixedFields}
+use Rattle.cdc_audit.specs.Standing.{with_open}
 use Rattle.cdc_audit_state.specs.declared.rows.Row.{Row}
 use Rattle.cdc_audit_state.specs.declared.rows.Row.TheVariants.{Account, Expired, Transfer, Open, Fields, Time}
 use Rattle.cdc_audit_state.specs.Saveable.{RowFits}
@@ -34,7 +35,7 @@ abbrev pub with_row : PartsState → Row → PartsState
 with_row parts (Account entry) = record parts { accounts = with_account parts.accounts entry }
 with_row parts (Expired e) = record parts { expired = Some e }
 with_row parts (Transfer id stored) = record parts { transfers = insert_entry nat_eq parts.transfers id stored }
-with_row parts (Open e) = record parts { open_ones = insert_entry nat_eq parts.open_ones e.transfer.id e }
+with_row parts (Open e) = record parts { open_ones = with_open parts.open_ones e }
 with_row parts (Fields id fields) = record parts { fixed = insert_entry nat_eq parts.fixed id fields }
 with_row parts (Time timestamp) = record parts { times = parts.times ++ timestamp ∷ [] }
 

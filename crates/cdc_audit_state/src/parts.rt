@@ -6,7 +6,7 @@ ghost use Rattle.cdc_audit_state.specs.Parts.{GivesParts, no_parts, with_row};
 ghost use Rattle.cdc_audit_state.specs.States.{rows_text};
 
 use crate::rows::{Row, read_row};
-use cdc_audit::{FixedFields, Stored};
+use cdc_audit::{FixedFields, OpenOnes, Stored};
 use cdc_subscriber::Book;
 use cdc_types::Event;
 use indexmap::IndexMap;
@@ -19,7 +19,7 @@ pub(crate) struct Parts {
     pub(crate) book: Book,
     pub(crate) expired: Option<Event>,
     pub(crate) transfers: IndexMap<u128, Stored>,
-    pub(crate) open_ones: IndexMap<u128, Event>,
+    pub(crate) open_ones: OpenOnes,
     pub(crate) fields: IndexMap<u128, FixedFields>,
     pub(crate) times: Vec<u64>,
 }
@@ -33,7 +33,7 @@ impl Model for Parts {
       accounts = p.book;
       expired = p.expired;
       transfers = p.transfers.entries;
-      open_ones = p.open_ones.entries;
+      open_ones = p.open_ones;
       fixed = p.fields.entries;
       times = p.times.items;
     } };
@@ -47,7 +47,7 @@ impl Parts {
             book: Book::new(alloc),
             expired: None,
             transfers: IndexMap::new(alloc),
-            open_ones: IndexMap::new(alloc),
+            open_ones: OpenOnes::new(alloc),
             fields: IndexMap::new(alloc),
             times: Vec::new(alloc),
         }
@@ -68,9 +68,7 @@ impl Parts {
                 }
             }
             Row::Open(event) => {
-                if self.open_ones.insert(event.transfer.id, event).is_err() {
-                    return Err(AllocError);
-                }
+                let _added = self.open_ones.add(&event)?;
             }
             Row::Fields(id, fields) => {
                 if self.fields.insert(id, fields).is_err() {

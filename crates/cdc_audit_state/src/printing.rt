@@ -69,7 +69,7 @@ fn push_known(alloc: Global, text: &mut Vec<u8>, auditor: &Auditor) -> Result<()
 {
     push_expiry(alloc, text, auditor.last_expiry())?;
     push_transfers(text, auditor.transfers())?;
-    push_open(alloc, text, auditor.open_ones())?;
+    push_open(alloc, text, auditor.open_ones().events())?;
     push_all_fields(text, auditor.fields())?;
     push_times(text, auditor.times())
 }
