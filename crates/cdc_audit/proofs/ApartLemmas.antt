@@ -1,6 +1,6 @@
 -- What is known of timestamps and of accounts after one more of them.
-use Rattle.std.proofs.Common.{◌≡◌, ◌≢◌, ℕ, suc, zero, ◌<◌, ◌≤◌, Bool, true, false, cond, map, length, get_or, List, [], ◌∷◌, ◌++◌, Option, Some, None, Result, Ok, Err, refl, sym, ap, ◌∙◌, arith, inl, inr}
-use Rattle.std.specs.Prelude.{◌==◌, ◌||◌, nat_eq, nat_cmp, is_some, fold, find, option_map}
+use Rattle.std.proofs.Common.{◌≡◌, ◌≢◌, nat_cmp, ℕ, suc, zero, ◌<◌, ◌≤◌, Bool, true, false, cond, map, length, get_or, List, [], ◌∷◌, ◌++◌, Option, Some, None, Result, Ok, Err, refl, sym, ap, ◌∙◌, arith, inl, inr}
+use Rattle.std.specs.Prelude.{◌==◌, ◌||◌, nat_eq, is_some, fold, find, option_map}
 use Rattle.std.specs.List.{flat_map, list_any}
 use Rattle.std.specs.List.Sorted.{IsBinarySearchResult}
 use Rattle.std.specs.Map.{lookup}
@@ -85,12 +85,13 @@ or_none (Some x) = refl
 pub insert-new : {V : Type 0} (es : List (ℕ × V)) (k : ℕ) (v : V) → lookup (nat_eq k) es ≡ None
     → insert_entry nat_eq es k v ≡ es ++ (k, v) ∷ []
 insert-new [] k v none = refl
-insert-new {V = V} (e ∷ es) k v none = by (nat_eq k e.0) none
+insert-new {V = V} (e ∷ es) k v none = by (nat_eq k e.0) none (insert-new es k v)
   where
     by : (b : Bool) → cond b (Some e.1) (lookup (nat_eq k) es) ≡ None
+        → (lookup (nat_eq k) es ≡ None → insert_entry nat_eq es k v ≡ es ++ (k, v) ∷ [])
         → cond b ((e.0, v) ∷ es) (e ∷ insert_entry nat_eq es k v) ≡ e ∷ es ++ (k, v) ∷ []
-    by true is = cc
-    by false is = ap (λ more. e ∷ more) (insert-new es k v is)
+    by true is rest = cc
+    by false is rest = ap (λ more. e ∷ more) (rest is)
 
 no_more : {V : Type 0} (o : Option V) → is_some o ≡ false → o ≡ None
 no_more None is = refl

@@ -13,8 +13,9 @@ pub record Indexed (all left : List (ℕ × FixedFields)) (index : List (ℕ × 
   pub parted : all ≡ done ++ left
   pub has : IsTimeIndex index done
 
-pub indexed_none : (all : List (ℕ × FixedFields)) (index : List (ℕ × ℕ)) → index ≡ [] → Indexed all all index
-indexed_none all index none = record { done = []; parted = refl; has = λ t. ap (lookup (nat_eq t)) none }
+pub indexed_none : (all left : List (ℕ × FixedFields)) (index : List (ℕ × ℕ)) → all ≡ left → index ≡ []
+    → Indexed all left index
+indexed_none all left index is none = record { done = []; parted = is; has = λ t. ap (lookup (nat_eq t)) none }
 
 -- one more account
 pub indexed_more : (all left rest : List (ℕ × FixedFields)) (a : ℕ × FixedFields) (old mid new : List (ℕ × ℕ))

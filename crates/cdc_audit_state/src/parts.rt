@@ -75,7 +75,11 @@ impl Parts {
                     return Err(AllocError);
                 }
             }
-            Row::Time(timestamp) => self.times.push(timestamp)?,
+            Row::Time(timestamp) => {
+                if self.times.push(timestamp).is_err() {
+                    return Err(AllocError);
+                }
+            }
         }
         Ok(())
     }

@@ -1,8 +1,11 @@
+use Rattle.std.proofs.Common.{rules}
 use Rattle.cdc_audit.proofs.IndexLemmas.{indexed_all, indexed_more, indexed_none}
 use Rattle.cdc_audit.proofs.apart.index_of.Goals as goal
 
 pub loop-id-init : goal.loop-id-init
-loop-id-init c = indexed_none c.args.fields.now.entries _ c.new-created.ensures.empty
+loop-id-init c =
+    indexed_none c.args.fields.now.entries c.into_iter-id-iterator.result c.new-created.result.entries (search rules)
+    c.new-created.ensures.empty
 
 pub loop-id-preserved : goal.loop-id-preserved
 loop-id-preserved c =

@@ -1,11 +1,11 @@
-use Rattle.std.proofs.Common.{None, [], ◌∷◌, ◌++◌, ap, sym, ◌∙◌}
+use Rattle.std.proofs.Common.{None, [], ◌∷◌, ◌++◌, ap, sym, subst, ◌∙◌}
 use Rattle.cdc_message.specs.declared.items.Item.TheVariants as item
 use Rattle.cdc_subscriber.specs.Steps.{next_state}
 use Rattle.cdc_types.specs.Lines.{first_line}
 use Rattle.cdc_audit.specs.declared.checks.Facts.{Facts}
 use Rattle.cdc_audit.specs.Checks.{lines, released}
 use Rattle.cdc_audit.specs.Known.{expiry_or}
-use Rattle.cdc_audit.specs.Standing.{AuditorState, with_accounts, with_held, with_own, with_settled, without_settled}
+use Rattle.cdc_audit.specs.Standing.{AuditorState, IsTimeIndex, with_accounts, with_held, with_own, with_settled, without_settled}
 use Rattle.cdc_audit.proofs.StandLemmas.{accepts, answers, times_ordered, unless_error}
 use Rattle.cdc_audit.proofs.auditor.Auditor.take_event.Goals as goal
 
@@ -64,3 +64,9 @@ returns-clause-accepted c = λ state stands _.
     c.is_linked-self-inside.ensures
     (c.expiry_or-self-inside.ensures ∙ ap (λ (a : AuditorState). expiry_or a.expired e) c.self.view_is)
     (ap (λ (a : AuditorState). a.foreign) c.self.view_is) stands
+
+pub invariant_of-self-2 : goal.invariant_of-self-2
+invariant_of-self-2 c =
+    c.keep_accounts.ensures.index (subst (λ index. IsTimeIndex index c.reserve-2.new.self.entries)
+    (sym c.in_ok-reserve-3.ensures.entries)
+    (subst (IsTimeIndex c.self.inside.created.entries) (sym c.in_ok-reserve-2.ensures.entries) c.self.invariant))
