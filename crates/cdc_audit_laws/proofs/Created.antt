@@ -17,7 +17,7 @@ use Rattle.cdc_ledger.proofs.Elements.{AllByRecursion-weaker, AllByRecursion_pus
 use Rattle.cdc_ledger.proofs.OpenedLaws.{opened-with_account, opened_id}
 use Rattle.cdc_audit.specs.declared.fields.FixedFields.{FixedFields}
 use Rattle.cdc_audit.specs.Apart.{account_at, accounts_before, has_time, times_known, times_lines, times_of, with_shown}
-use Rattle.cdc_audit.specs.Fields.{accounts_of, fields_before}
+use Rattle.cdc_audit.specs.Fields.{accounts_of, fields_before, fixed_fields}
 use Rattle.cdc_audit.specs.Standing.{fields_under}
 use Rattle.cdc_audit.proofs.ApartLemmas.{accounts_before-fields}
 use Rattle.cdc_audit_laws.proofs.Following.{NoneApplies}
@@ -137,8 +137,13 @@ shown_all : (h : History) (es : List Entry) → AllByRecursion (HasAccounts h) e
     → AllByRecursion (IsShown h) (flat_map accounts_of (map (event_of h) es))
 shown_all h [] known = tt
 shown_all h (e ∷ es) known = (
-  shown_one h e.transfer.debit_account_id _ known.0.0 refl,
-  (shown_one h e.transfer.credit_account_id _ known.0.1 refl, shown_all h es known.1),
+  shown_one h e.transfer.debit_account_id
+      (fixed_fields e.transfer.ledger (event_of h e).debit_account) known.0.0 refl,
+  (
+    shown_one h e.transfer.credit_account_id
+        (fixed_fields e.transfer.ledger (event_of h e).credit_account) known.0.1 refl,
+    shown_all h es known.1,
+  ),
 )
 
 -- what holds of accounts holds of each that is kept of them
@@ -155,16 +160,18 @@ kept_all P fs (a ∷ those) all more = kept_all P (with_shown fs a) those (by (i
 none_at : (h : History) → AreOwn h → (i : ℕ) → IsSome (opened h i) → (fs : List (ℕ × FixedFields))
     → AllByRecursion (IsShown h) fs → fields_under fs i ≡ None → account_at fs (account_of h i).timestamp ≡ None
 none_at h own i there [] all none = refl
-none_at h own i there (a ∷ fs) all none = by (nat_eq i a.0) refl none
+none_at h own i there (a ∷ fs) all none =
+    by (nat_eq i a.0) refl none (none_at h own i there fs all.1)
   where
     by : (b : Bool) → nat_eq i a.0 ≡ b → (if b then Some a.1 else fields_under fs i) ≡ None
+        → (fields_under fs i ≡ None → account_at fs (account_of h i).timestamp ≡ None)
         → account_at (a ∷ fs) (account_of h i).timestamp ≡ None
-    by true is found = cc
-    by false is found =
+    by true is found rest = cc
+    by false is found rest =
         let other : i ≢ a.0 = λ same. absurd_eq (sym is ∙ eq-eqb i a.0 same) in
         let differs : a.1.timestamp ≢ (account_of h i).timestamp =
         λ same. apart_of h own i a.0 there all.0.0 other (sym same ∙ all.0.1) in
-        rw (ne_eqb a.1.timestamp (account_of h i).timestamp differs) (none_at h own i there fs all.1 found)
+        rw (ne_eqb a.1.timestamp (account_of h i).timestamp differs) (rest found)
       where
         absurd_eq : false ≡ true → ⊥
         absurd_eq is = cc
