@@ -25,9 +25,10 @@ pub mod Modes
 pub mod Plan
 pub mod Openings
 pub mod Walk
+pub mod Known
+pub mod Alone
 pub mod Soundness
 pub mod Whole
-pub mod Apart
 mod Examples
 mod SoundExamples
 mod TurnExamples

@@ -1,12 +1,7 @@
 -- Accepted events are the events of a legal history, if a ledger can make them.
-use Rattle.std.proofs.Common.{◌≡◌, inl, inr, ℕ, ◌<◌, ◌≤◌, ◌^◌, Bool, true, false, not, List, [], ◌∷◌, ◌++◌, Option, Some, None, if◌then◌else◌, refl, sym, ap, ap₂, ◌∙◌, subst, append_assoc, arith}
-use Rattle.std.specs.Prelude.{◌==◌, nat_eq}
+use Rattle.std.proofs.Common.{◌≡◌, inl, inr, ℕ, ◌<◌, ◌≤◌, ◌^◌, true, false, List, [], ◌∷◌, ◌++◌, Option, Some, None, if◌then◌else◌, refl, sym, ap, ap₂, ◌∙◌, subst, arith}
 use Rattle.std.specs.List.{AllByRecursion}
-use Rattle.std.specs.Map.{lookup}
-use Rattle.std.specs.Option.{option_or}
-use Rattle.std.proofs.lemmas.Bool.{eq-eqb, eqb-true, ltb-false, ne_eqb, not-false}
-use Rattle.std.proofs.lemmas.Grind.{flat_map-append}
-use Rattle.std.proofs.lemmas.List.{append-nil}
+use Rattle.std.proofs.lemmas.Bool.{ltb-false}
 use Rattle.cdc_types.specs.declared.accounts.TheConstants.AccountFlags.{LINKED}
 use Rattle.cdc_types.specs.declared.bounds.TheConstants.Limits.{TIMESTAMP}
 use Rattle.cdc_types.specs.declared.events.Event.{Event}
@@ -19,12 +14,13 @@ use Rattle.cdc_message.specs.Widths.{AccountFits, EventFits}
 use Rattle.cdc_audit.specs.declared.fields.FixedFields.{FixedFields}
 use Rattle.cdc_audit.specs.Audits.{follows_on, is_accepted}
 use Rattle.cdc_audit.specs.EventShapes.{asked_account}
-use Rattle.cdc_audit.specs.Fields.{accounts_of, created_lines, fields_before, fields_lines, fixed_fields, same_lines}
+use Rattle.cdc_audit.specs.Fields.{fields_before, fixed_fields}
 use Rattle.cdc_audit.specs.Known.{last_expiry_from, linked_from}
-use Rattle.cdc_audit_laws.specs.Soundness.{AcceptedEventsAreALedgers, AcceptedEventsStartAsALedgers, CanBeMade, EventsAloneAreALedgers, HaveRoom, IsAlone, IsOpenedAlone, IsUnlinked, accounts_in}
+use Rattle.cdc_audit_laws.specs.Soundness.{AcceptedEventsAreALedgers, AcceptedEventsStartAsALedgers, CanBeMade, EventsAloneAreALedgers, HaveRoom, IsAlone, IsUnlinked, accounts_in}
 use Rattle.cdc_audit_laws.proofs.Coming.{has_accounts}
-use Rattle.cdc_audit_laws.proofs.Following.{CanFollow, NoneApplies, none_both}
 use Rattle.cdc_audit_laws.proofs.Streams.{accepted_events_rise, first_follows}
+use Rattle.cdc_audit_laws.proofs.Alone.{AreAlone, all_alone, alone-nil}
+use Rattle.cdc_audit_laws.proofs.Known.{IsKnown, all_known}
 use Rattle.cdc_audit_laws.proofs.Plan.{Admits, AllAdmit, Opens, Planned, all-place_all, events_in, events_in-only, events_in-place_all, only, only-all, only-rises, place_all, place_all-opens, rises-place_all}
 use Rattle.cdc_audit_laws.proofs.Openings.{AreCreated, IsOpenable, are_created, opening_of}
 use Rattle.cdc_audit_laws.proofs.Modes.{Reaches, part_legal, whole_legal}
@@ -76,114 +72,6 @@ all_fit past (e ∷ rest) follow fit unlinked =
       ),
     )
 
--- ---- each account has the same fields wherever it is shown
-
--- fields of which none differs are the same
-seven_same : (a b c d e f g h i j k l m n : ℕ) → a ≡ h → b ≡ i → c ≡ j → d ≡ k → e ≡ l → f ≡ m → g ≡ n
-    → ◌≡◌ {A = FixedFields} (record {
-      user_data_128 = a;
-      user_data_64 = b;
-      user_data_32 = c;
-      ledger = d;
-      code = e;
-      flags = f;
-      timestamp = g;
-    }) (record {
-      user_data_128 = h;
-      user_data_64 = i;
-      user_data_32 = j;
-      ledger = k;
-      code = l;
-      flags = m;
-      timestamp = n;
-    })
-seven_same a b c d e f g h i j k l m n one two three four five six seven = cc
-
-none_differs : (id : ℕ) (one other : FixedFields) → NoneApplies (same_lines id one other) → one ≡ other
-none_differs id one other none =
-    seven_same _ _ _ _ _ _ _ _ _ _ _ _ _ _ (same one.user_data_128 other.user_data_128 none.0)
-    (same one.user_data_64 other.user_data_64 none.1.0) (same one.user_data_32 other.user_data_32 none.1.1.0)
-    (same one.ledger other.ledger none.1.1.1.0) (same one.code other.code none.1.1.1.1.0)
-    (same one.flags other.flags none.1.1.1.1.1.0) (same one.timestamp other.timestamp none.1.1.1.1.1.1.0)
-  where
-    same : (m n : ℕ) → not (m == n) ≡ false → m ≡ n
-    same m n line = eqb-true m n (not-false _ line)
-
--- the events show these fields of the account first
-abbrev IsKnown : List Event → ℕ × FixedFields → Type 0
-IsKnown es a = fields_before es a.0 ≡ Some a.1
-
--- an account is looked up in two parts
-lookup_parts : (id : ℕ) (first second : List (ℕ × FixedFields))
-    → lookup (nat_eq id) (first ++ second) ≡ option_or (lookup (nat_eq id) first) (lookup (nat_eq id) second)
-lookup_parts id [] second = refl
-lookup_parts id (a ∷ first) second = by (id == a.0) (lookup_parts id first second)
-  where
-    by : (b : Bool) → lookup (nat_eq id) (first ++ second)
-        ≡ option_or (lookup (nat_eq id) first) (lookup (nat_eq id) second)
-        → (if b then Some a.1 else lookup (nat_eq id) (first ++ second))
-        ≡ option_or (if b then Some a.1 else lookup (nat_eq id) first) (lookup (nat_eq id) second)
-    by true later = refl
-    by false later = later
-
-all_parts : (P : ℕ × FixedFields → Type 0) (first second : List (ℕ × FixedFields)) → AllByRecursion P first
-    → AllByRecursion P second → AllByRecursion P (first ++ second)
-all_parts P [] second all others = others
-all_parts P (a ∷ first) second all others = (all.0, all_parts P first second all.1 others)
-
--- one more event
-module _ (past : List Event) (e : Event) (can : CanFollow past e) where
-  then_known : (id : ℕ)
-      → fields_before (past ++ e ∷ []) id ≡ option_or (fields_before past id) (lookup (nat_eq id) (accounts_of e))
-  then_known id =
-      ap (lookup (nat_eq id)) (flat_map-append accounts_of past (e ∷ []))
-      ∙ lookup_parts id (accounts_in past) (accounts_of e)
-
-  -- an account that was known stays so
-  still_known : (a : ℕ × FixedFields) → IsKnown past a → IsKnown (past ++ e ∷ []) a
-  still_known a known = then_known a.0 ∙ ap (λ o. option_or o (lookup (nat_eq a.0) (accounts_of e))) known
-
-  -- an account of the event has the fields that it had before, if it had any
-  now_known : (a : EventAccount) → NoneApplies (fields_lines (fields_before past a.id) e.ledger a)
-      → lookup (nat_eq a.id) (accounts_of e) ≡ Some (fixed_fields e.ledger a)
-      → IsKnown (past ++ e ∷ []) (a.id, fixed_fields e.ledger a)
-  now_known a none found = then_known a.id ∙ by (fields_before past a.id) none
-    where
-      by : (o : Option FixedFields) → NoneApplies (fields_lines o e.ledger a)
-          → option_or o (lookup (nat_eq a.id) (accounts_of e)) ≡ Some (fixed_fields e.ledger a)
-      by None none = found
-      by (Some x) none = ap Some (sym (none_differs a.id (fixed_fields e.ledger a) x none))
-
-  known_then : AllByRecursion (IsKnown past) (accounts_in past)
-      → AllByRecursion (IsKnown (past ++ e ∷ [])) (accounts_in (past ++ e ∷ []))
-  known_then known =
-      let d = e.debit_account in
-      let c = e.credit_account in
-      let d_fields = fixed_fields e.ledger d in
-      let c_fields = fixed_fields e.ledger c in
-      let first = fields_lines (fields_before past d.id) e.ledger d in
-      let second = fields_lines (fields_before past c.id) e.ledger c in
-      let lines = none_both first second (none_both (first ++ second) (created_lines e) can.fixed).0 in
-      let d_found : lookup (nat_eq d.id) (accounts_of e) ≡ Some d_fields =
-      ap (λ b. if b then Some d_fields else if d.id == c.id then Some c_fields else None) (eq-eqb d.id d.id refl) in
-      let c_found : lookup (nat_eq c.id) (accounts_of e) ≡ Some c_fields =
-      ap₂ (λ a b. if a then Some d_fields else if b then Some c_fields else None)
-      (ne_eqb c.id d.id (λ same. can.apart (sym same))) (eq-eqb c.id c.id refl) in
-      subst (AllByRecursion (IsKnown (past ++ e ∷ []))) (sym (flat_map-append accounts_of past (e ∷ [])))
-      (all_parts (IsKnown (past ++ e ∷ [])) (accounts_in past) (accounts_of e)
-      (AllByRecursion-weaker (IsKnown past) (IsKnown (past ++ e ∷ [])) still_known (accounts_in past) known)
-      (now_known d lines.0 d_found, (now_known c lines.1 c_found, tt)))
-
-all_known : (past rest : List Event) → follows_on past rest ≡ true
-    → AllByRecursion (IsKnown past) (accounts_in past)
-    → AllByRecursion (IsKnown (past ++ rest)) (accounts_in (past ++ rest))
-all_known past [] follow known =
-    subst (λ es. AllByRecursion (IsKnown es) (accounts_in es)) (sym (append-nil past)) known
-all_known past (e ∷ rest) follow known =
-    let first = first_follows past e rest follow in
-    subst (λ es. AllByRecursion (IsKnown es) (accounts_in es)) (append_assoc past (e ∷ []) rest)
-    (all_known (past ++ e ∷ []) rest first.1 (known_then past e first.0 known))
-
 -- ---- so a ledger can make them all
 module _ (events : List Event) (can : CanBeMade events) (accepted : is_accepted events ≡ true) where
   abbrev shown : List (ℕ × FixedFields)
@@ -193,9 +81,7 @@ module _ (events : List Event) (can : CanBeMade events) (accepted : is_accepted 
   plan = place_all opening_of shown (only events)
 
   fit : AllByRecursion IsFit shown
-  fit =
-      all_fit [] events accepted can.fit
-      (AllByRecursion-weaker (IsOpenedAlone events) IsUnlinked (λ a is. is.unlinked) shown can.opened)
+  fit = all_fit [] events accepted can.fit can.unlinked
 
   known : AllByRecursion (IsKnown events) shown
   known = all_known [] events accepted tt
@@ -203,32 +89,29 @@ module _ (events : List Event) (can : CanBeMade events) (accepted : is_accepted 
   same_events : events_in plan ≡ events
   same_events = events_in-place_all opening_of shown (only events) ∙ events_in-only events
 
+  each_alone : AreAlone events
+  each_alone = all_alone [] events accepted alone-nil
+
   -- an account of one timestamp with this one is this one
-  no_other : (a : ℕ × FixedFields) → IsKnown events a
-      → (b : ℕ × FixedFields) → (b.1.timestamp ≡ a.1.timestamp → b.0 ≡ a.0) × IsKnown events b
+  no_other : (a : ℕ × FixedFields) → IsKnown events a → (b : ℕ × FixedFields) → IsKnown events b
       → Admits (opening_of a) (inl (opening_of b))
-  no_other a a_known b b_is time =
-      let id : b.0 ≡ a.0 = b_is.0 time in
-      let found : Some b.1 ≡ Some a.1 = sym b_is.1 ∙ ap (fields_before events) id ∙ a_known in
+  no_other a a_known b b_known time =
+      let id : b.0 ≡ a.0 = each_alone.no_other b.0 a.0 b.1 a.1 b_known a_known time in
+      let found : Some b.1 ≡ Some a.1 = sym b_known ∙ ap (fields_before events) id ∙ a_known in
       let fields : b.1 ≡ a.1 = cc in
       ap₂ (λ n f. opening_of (n, f)) id fields
 
-  admits : (a : ℕ × FixedFields) → IsOpenedAlone events a × IsKnown events a
-      → AllAdmit opening_of shown (only events) a
-  admits a is = (
-    AllByRecursion-weaker (λ b. (b.1.timestamp ≡ a.1.timestamp → b.0 ≡ a.0) × IsKnown events b)
-        (λ b. Admits (opening_of a) (inl (opening_of b))) (no_other a is.1) shown
-        (AllByRecursion-both (λ b. b.1.timestamp ≡ a.1.timestamp → b.0 ≡ a.0) (IsKnown events) shown is.0.no_other
-        known),
-    only-all (Admits (opening_of a)) events is.0.no_event,
+  admits : (a : ℕ × FixedFields) → IsKnown events a → AllAdmit opening_of shown (only events) a
+  admits a a_known = (
+    AllByRecursion-weaker (IsKnown events) (λ b. Admits (opening_of a) (inl (opening_of b))) (no_other a a_known) shown
+        known,
+    only-all (Admits (opening_of a)) events (each_alone.no_event a.0 a.1 a_known),
   )
 
   opens : AllByRecursion (λ a. Opens (opening_of a) plan) shown
   opens =
       place_all-opens opening_of shown (only events)
-      (AllByRecursion-weaker (λ a. IsOpenedAlone events a × IsKnown events a)
-      (AllAdmit opening_of shown (only events)) admits shown
-      (AllByRecursion-both (IsOpenedAlone events) (IsKnown events) shown can.opened known))
+      (AllByRecursion-weaker (IsKnown events) (AllAdmit opening_of shown (only events)) admits shown known)
 
   ready : AllByRecursion (IsReady shown empty_history plan) (accounts_in (events_in plan))
   ready =
@@ -288,10 +171,10 @@ none_some : (x : Event) → ◌≡◌ {A = Option Event} None (Some x) → ⊥
 none_some x is = cc
 
 pub events_alone_are_a_ledgers : EventsAloneAreALedgers
-events_alone_are_a_ledgers events alone opened accepted =
+events_alone_are_a_ledgers events alone unlinked accepted =
     accepted_events_are_a_ledgers events (record {
       fit = AllByRecursion-weaker IsAlone EventFits (λ e is. is.fits) events alone;
-      opened = opened;
+      unlinked = unlinked;
       room = alone_room events alone;
     }) (record {
       chain = alone_unlinked events alone;

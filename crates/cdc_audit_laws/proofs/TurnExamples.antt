@@ -11,7 +11,7 @@ use Rattle.cdc_audit.specs.Audits.{follows_on, is_accepted}
 use Rattle.cdc_audit.specs.Rules.{refusal}
 use Rattle.cdc_audit_laws.specs.Soundness.{AreWhole, CanBeMade}
 use Rattle.cdc_audit_laws.proofs.Soundness.{accepted_events_are_a_ledgers}
-use Rattle.cdc_audit_laws.proofs.SoundExamples.{account, account_fits, event, event_fits, opened_alone}
+use Rattle.cdc_audit_laws.proofs.SoundExamples.{account, account_fits, event, event_fits}
 
 -- account 1 holds 5 for account 2 at 4, for 2 seconds. It pays 1 and 2 in a chain, at 6 and 7. It holds 7 at
 -- 1000000004, for 1 second. Both expire by a pulse, at 2000000010 and 2000000011. Then it pays 1
@@ -102,47 +102,11 @@ long_can_be_made = record {
       ),
     ),
   );
-  opened = (
-    opened_alone long_stream _ refl refl refl,
+  unlinked = (
+    refl,
     (
-      opened_alone long_stream _ refl refl refl,
-      (
-        opened_alone long_stream _ refl refl refl,
-        (
-          opened_alone long_stream _ refl refl refl,
-          (
-            opened_alone long_stream _ refl refl refl,
-            (
-              opened_alone long_stream _ refl refl refl,
-              (
-                opened_alone long_stream _ refl refl refl,
-                (
-                  opened_alone long_stream _ refl refl refl,
-                  (
-                    opened_alone long_stream _ refl refl refl,
-                    (
-                      opened_alone long_stream _ refl refl refl,
-                      (
-                        opened_alone long_stream _ refl refl refl,
-                        (
-                          opened_alone long_stream _ refl refl refl,
-                          (
-                            opened_alone long_stream _ refl refl refl,
-                            (
-                              opened_alone long_stream _ refl refl refl,
-                              tt,
-                            ),
-                          ),
-                        ),
-                      ),
-                    ),
-                  ),
-                ),
-              ),
-            ),
-          ),
-        ),
-      ),
+      refl,
+      (refl, (refl, (refl, (refl, (refl, (refl, (refl, (refl, (refl, (refl, (refl, (refl, tt)))))))))))),
     ),
   );
   room = (omega arith, (omega arith, (omega arith, (omega arith, (omega arith, (omega arith, (omega arith, tt)))))));

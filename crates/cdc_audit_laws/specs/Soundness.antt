@@ -27,12 +27,6 @@ accounts_in events = flat_map accounts_of events
 abbrev pub IsUnlinked : ℕ × FixedFields → Type 0
 IsUnlinked a = has_flag a.1.flags LINKED ≡ false
 
--- this account isn't linked to the next one. No event has its timestamp, and no other account of these
-pub record IsOpenedAlone (events : List Event) (a : ℕ × FixedFields) : Type 0 where
-  pub unlinked : IsUnlinked a
-  pub no_event : AllByRecursion (λ e. e.timestamp ≢ a.1.timestamp) events
-  pub no_other : AllByRecursion (λ b. b.1.timestamp ≡ a.1.timestamp → b.0 ≡ a.0) (accounts_in events)
-
 -- ---- chains and pulses
 
 -- a batch has room for each chain of these events, of which this number of linked transfers came before them
@@ -56,10 +50,10 @@ AreCutOff events =
 -- ---- the laws
 
 -- a ledger can make these events: their numbers are within their widths, as those of all events are that were read;
--- each of their accounts was opened by itself, and a batch has room for each chain
+-- none of their accounts is linked to the next one, and a batch has room for each chain
 pub record CanBeMade (events : List Event) : Type 0 where
   pub fit : AllByRecursion EventFits events
-  pub opened : AllByRecursion (IsOpenedAlone events) (accounts_in events)
+  pub unlinked : AllByRecursion IsUnlinked (accounts_in events)
   pub room : HaveRoom 0 events
 
 -- if such events are accepted, and no chain and no pulse is cut off, they are the events of a legal history
@@ -81,14 +75,9 @@ pub record IsAlone (e : Event) : Type 0 where
 -- for events that store a transfer each, without chains, only the premise on accounts is left
 abbrev pub EventsAloneAreALedgers : Type 0
 EventsAloneAreALedgers = (events : List Event) → AllByRecursion IsAlone events
-    → AllByRecursion (IsOpenedAlone events) (accounts_in events) → is_accepted events ≡ true
+    → AllByRecursion IsUnlinked (accounts_in events) → is_accepted events ≡ true
     → (h : History) × IsLegal h × (events_of h ≡ events)
 
 -- a ledger's events have no chain and no pulse that is cut off, and a batch has room for each chain
 abbrev pub LedgersEventsAreWhole : Type 0
 LedgersEventsAreWhole = (h : History) → IsLegal h → HaveRoom 0 (events_of h) × AreWhole (events_of h)
-
--- so a ledger can make them, if their numbers are within their widths and none of their accounts is linked
-abbrev pub LedgersEventsCanBeMade : Type 0
-LedgersEventsCanBeMade = (h : History) → IsLegal h → AllByRecursion EventFits (events_of h)
-    → AllByRecursion IsUnlinked (accounts_in (events_of h)) → CanBeMade (events_of h)
