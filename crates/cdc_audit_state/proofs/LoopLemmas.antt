@@ -5,7 +5,7 @@ use Rattle.std.specs.List.{AllByRecursion}
 use Rattle.cdc_audit.specs.declared.checks.Stored.TheVariants.{Plain, Pending, Settled}
 use Rattle.cdc_audit_state.specs.declared.rows.ReadRow.{ReadRow}
 use Rattle.cdc_audit_state.specs.declared.rows.Row.{Row}
-use Rattle.cdc_audit_state.specs.declared.rows.Row.TheVariants.{Account, Expired, Transfer, Open, Fields}
+use Rattle.cdc_audit_state.specs.declared.rows.Row.TheVariants.{Account, Expired, Transfer, Open, Fields, Time}
 use Rattle.cdc_audit_state.specs.Parts.{GivesParts, PartsState, no_parts, parts_of, with_row}
 use Rattle.cdc_audit_state.specs.Reading.{first_of}
 use Rattle.cdc_audit_state.specs.Rows.{GivesRow}
@@ -39,6 +39,7 @@ some_byte (Transfer id (Pending amount)) = omega arith
 some_byte (Transfer id (Settled amount)) = omega arith
 some_byte (Open e) = omega arith
 some_byte (Fields id fields) = omega arith
+some_byte (Time timestamp) = omega arith
 
 none_left : (rest : List ℕ) (left : List Row) → rest ≡ [] → rest ≡ rows_text left → left ≡ []
 none_left rest [] none lines = refl

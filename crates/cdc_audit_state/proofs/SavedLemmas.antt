@@ -74,6 +74,7 @@ auditor_of front parts = record {
   transfers = parts.transfers;
   open_ones = parts.open_ones;
   fields = parts.fixed;
+  times = parts.times;
   linked = front.linked;
   expired = parts.expired;
 }
@@ -90,6 +91,7 @@ same_auditor : (state : AuditorState) (front : Front) (lines : List ℕ) → IsF
       transfers = state.transfers;
       open_ones = state.open_ones;
       fixed = state.fields;
+      times = state.times;
     })
     ≡ state
 same_auditor state front lines is open_yet = λ i. record {
@@ -104,6 +106,7 @@ same_auditor state front lines is open_yet = λ i. record {
   transfers = state.transfers;
   open_ones = state.open_ones;
   fields = state.fields;
+  times = state.times;
   linked = is.linked i;
   expired = state.expired;
 }

@@ -19,11 +19,12 @@ use Rattle.cdc_types.specs.Timestamps.{last_timestamp_from}
 use Rattle.cdc_audit.specs.declared.checks.Stored.{Stored}
 use Rattle.cdc_audit.specs.declared.checks.Stored.TheVariants.{Plain, Pending, Settled}
 use Rattle.cdc_audit.specs.declared.fields.FixedFields.{FixedFields}
+use Rattle.cdc_audit.specs.Apart.{times_of}
 use Rattle.cdc_audit.specs.Fields.{accounts_of, fields_before, fixed_fields}
 use Rattle.cdc_audit.specs.Known.{expiry_or, is_settled, is_stored, last_expiry_from, open_event, pending_amount, pending_event}
 use Rattle.cdc_audit.specs.Standing.{IsKnownOf, stored_under}
 use Rattle.cdc_audit_state.specs.declared.rows.Row.{Row}
-use Rattle.cdc_audit_state.specs.declared.rows.Row.TheVariants.{Transfer, Open, Fields}
+use Rattle.cdc_audit_state.specs.declared.rows.Row.TheVariants.{Transfer, Open, Fields, Time}
 use Rattle.cdc_audit_state.specs.Laws.{AuditsCanBeSaved}
 use Rattle.cdc_audit_state.specs.Saveable.{AreDistinct, FieldsFit, IsByItsId, RowFits, StoredFits}
 use Rattle.cdc_audit_state.specs.States.{expiry_rows}
@@ -260,6 +261,11 @@ transfer_fits transfers past fit known k v is =
     by (Pending amount) it = amount_fits past k amount fit it.amount
     by (Settled amount) it = amount_fits past k amount fit it.amount
 
+-- the timestamps of events
+times_fit : (past : List Event) → AllByRecursion EventFits past → AllByRecursion (λ t. t < 2 ^ 64) (times_of past)
+times_fit [] fit = tt
+times_fit (e ∷ past) fit = (fit.0.timestamp, times_fit past fit.1)
+
 -- ---- the lines
 
 mapped : {V : Type 0} (row : V → Row) (es : List V) (more : List Row) → AllByRecursion (λ e. RowFits (row e)) es
@@ -306,7 +312,8 @@ can_be_saved auditor state stands fit transfers open_ones fields =
       rows = with_expiry auditor.expired _ (subst MayFit (sym stands.expired) (expiry_fits None past tt fit))
           (mapped (λ (t : ℕ × Stored). Transfer t.0 t.1) auditor.transfers _ stored
           (mapped (λ (o : ℕ × Event). Open o.1) auditor.open_ones _ (firsts auditor.open_ones opened)
-          (mapped_last (λ (f : ℕ × FixedFields). Fields f.0 f.1) auditor.fields shown)));
+          (mapped (λ (f : ℕ × FixedFields). Fields f.0 f.1) auditor.fields _ shown
+          (mapped_last Time auditor.times (subst (AllByRecursion (λ t. t < 2 ^ 64)) (sym stands.times) (times_fit past fit))))));
       transfers = transfers;
       open_ones = open_ones;
       by_ids = seconds auditor.open_ones opened;
