@@ -1,10 +1,9 @@
 -- What a ledger opens for the accounts of events, and asks for their transfers.
-use Rattle.std.proofs.Common.{◌≡◌, ℕ, ◌<◌, ◌≤◌, false, List, None}
+use Rattle.std.proofs.Common.{◌≡◌, ℕ, ◌<◌, ◌≤◌, List, None}
 use Rattle.std.specs.Prelude.{nat_lt}
 use Rattle.std.proofs.lemmas.Bool.{and_parts, ltb-true, not-false}
 use Rattle.cdc_types.specs.declared.bounds.TheConstants.Limits.{TIMESTAMP}
 use Rattle.cdc_types.specs.declared.events.Event.{Event}
-use Rattle.cdc_types.specs.Flags.{is_linked_account}
 use Rattle.cdc_types.specs.Shapes.{account_refusal}
 use Rattle.cdc_ledger.specs.Fits.{NewAccountFits, NewTransferFits}
 use Rattle.cdc_ledger.specs.History.{Opened}
@@ -29,11 +28,10 @@ opening_of a = record {
   timestamp = a.1.timestamp;
 }
 
--- an account that a ledger can open by itself
+-- an account that a ledger can open
 pub record IsOpenable (o : Opened) : Type 0 where
   pub fields : account_refusal o.request ≡ None
   pub fits : NewAccountFits o.request
-  pub unlinked : is_linked_account o.request ≡ false
   pub within : o.timestamp ≤ TIMESTAMP
 
 -- an event has numbers that a request may have

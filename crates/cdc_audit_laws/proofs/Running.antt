@@ -1,4 +1,4 @@
--- Batches that a ledger takes one item at a time: an account, chains of transfers, pulses.
+-- Batches that a ledger takes one item at a time: chains of accounts, chains of transfers, pulses.
 use Rattle.std.proofs.Common.{◌≡◌, ℕ, ◌+◌, ◌-◌, ◌<◌, ◌≤◌, false, true, List, [], ◌∷◌, ◌++◌, Some, None, Ok, length, refl, sym, ap, ap₂, ◌∙◌, subst, arith}
 use Rattle.std.specs.Prelude.{◌==◌, Bool, if◌then◌else◌, nat_lt, unwrap_or}
 use Rattle.std.specs.List.{AllByRecursion}
@@ -8,8 +8,6 @@ use Rattle.cdc_types.specs.declared.batches.Batch.TheVariants as batch
 use Rattle.cdc_types.specs.declared.batches.BatchResults.TheVariants as results
 use Rattle.cdc_types.specs.declared.bounds.TheConstants.Limits.{BATCH_ITEMS, TIMESTAMP}
 use Rattle.cdc_types.specs.declared.accounts.NewAccount.{NewAccount}
-use Rattle.cdc_types.specs.declared.results.AccountResult.{AccountResult}
-use Rattle.cdc_types.specs.declared.results.AccountResult.TheVariants as account
 use Rattle.cdc_types.specs.declared.results.TransferResult.{TransferResult}
 use Rattle.cdc_types.specs.declared.results.TransferResult.TheVariants as transfer
 use Rattle.cdc_types.specs.declared.transfers.NewTransfer.{NewTransfer}
@@ -17,16 +15,16 @@ use Rattle.cdc_types.specs.declared.transfers.Transfer.{Transfer}
 use Rattle.cdc_types.specs.Flags.{is_linked_account, is_linked_transfer}
 use Rattle.cdc_types.specs.Lines.{first_line}
 use Rattle.cdc_ledger.specs.declared.errors.BatchError.TheVariants as refusal
-use Rattle.cdc_ledger.specs.Changes.{expiry, pushed, timed, with_account}
-use Rattle.cdc_ledger.specs.Chains.{before_others, chains_from, chains_of, in_front, played}
+use Rattle.cdc_ledger.specs.Changes.{expiry, pushed, timed}
+use Rattle.cdc_ledger.specs.Chains.{Rules, before_others, chains_from, chains_of, in_front, played}
 use Rattle.cdc_ledger.specs.Due.{due}
 use Rattle.cdc_ledger.specs.Fits.{NewAccountFits, NewTransferFits}
 use Rattle.cdc_ledger.specs.History.{History}
-use Rattle.cdc_ledger.specs.Submit.{IsLegal, answered, base, entry_of, expiries_from, is_past_the_end, refusal_at, taken, transfer_rules, transfers_from, account_rules, accounts_from, opened_by}
-use Rattle.cdc_ledger.specs.Verdict.{account_refused, max_timestamp, transfer_refused}
+use Rattle.cdc_ledger.specs.Submit.{IsLegal, answered, base, expiries_from, is_past_the_end, refusal_at, taken, transfer_rules, transfers_from, account_rules, accounts_from}
+use Rattle.cdc_ledger.specs.Verdict.{max_timestamp}
 use Rattle.cdc_ledger.proofs.BatchLaws.{alone_accepted}
 use Rattle.cdc_ledger.proofs.LegalLaws.{IsLegal-submit}
-use Rattle.cdc_ledger.proofs.Unlinked.{alone, items_from-unlinked}
+use Rattle.cdc_ledger.proofs.Unlinked.{items_from-unlinked}
 
 -- a batch that isn't too large isn't refused, if there are timestamps for it
 unrefused : (h : History) (now t n : ℕ) (large : Bool) → h.closed ≡ false → large ≡ false → base h now ≡ t
@@ -43,46 +41,56 @@ unrefused h now t n large is_open small first within =
 own_time : (h : History) (t : ℕ) → h.last < t → base h t ≡ t
 own_time h t later = max-eq_left (let next : h.last + 1 ≤ t = omega (arith, later) in next)
 
--- ---- accounts
-
--- an account is opened by itself
-pub opens : (h : History) (t : ℕ) (a : NewAccount) → IsLegal h → h.closed ≡ false → h.last < t → t ≤ TIMESTAMP
-    → NewAccountFits a → is_linked_account a ≡ false → account_refused h a ≡ None
-    → IsLegal (with_account h (opened_by a t))
-opens h t a legal is_open later within fits unlinked none =
-    let first : base h t ≡ t = own_time h t later in
-    let done : AccountResult = account.Accepted in
-    let all : accounts_from h (base h t) (a ∷ []) ≡ (done ∷ [], with_account h (opened_by a t)) =
-    ap (λ n. accounts_from h n (a ∷ [])) first
-    ∙ items_from-unlinked account_rules h t (a ∷ []) (unlinked, tt)
-    ∙ ap (λ o. ((alone account_rules h a t o).0 ∷ [], (alone account_rules h a t o).1)) none in
-    IsLegal-submit h (with_account h (opened_by a t)) (batch.Accounts t (a ∷ [])) (results.Accounts (done ∷ []))
-    (omega (arith, within), (fits, tt)) legal
-    (ap (λ o. answered o (taken h (batch.Accounts t (a ∷ []))))
-    (unrefused h t t 1 false is_open refl first (omega (arith, within)))
-    ∙ ap (λ q. Ok (results.Accounts q.0, q.1)) all)
-
 -- ---- chains
 
 -- each of these items but the last is linked to the next one
-abbrev pub IsChain : NewTransfer → List NewTransfer → Type 0
-IsChain r [] = is_linked_transfer r ≡ false
-IsChain r (next ∷ rest) = (is_linked_transfer r ≡ true) × IsChain next rest
-
--- the history is one within a chain of which this number of items were taken: if the rest of it is taken, from this
--- timestamp on, the ledger's history is what that makes
-abbrev pub RunsOn : History → ℕ → ℕ → Type 0
-RunsOn h t n =
-    (r : NewTransfer) (rest : List NewTransfer) (g : History) → length rest + 1 + n ≤ BATCH_ITEMS → IsChain r rest
-    → AllByRecursion NewTransferFits (r ∷ rest) → t + length (r ∷ rest) ≤ TIMESTAMP + 1
-    → (played transfer_rules h t (r ∷ rest)).1 ≡ Some g → IsLegal g
+abbrev pub IsChain : {A : Type 0} → (A → Bool) → A → List A → Type 0
+IsChain linked r [] = linked r ≡ false
+IsChain linked r (next ∷ rest) = (linked r ≡ true) × IsChain linked next rest
 
 -- such a batch is one chain
-one_chain : (r : NewTransfer) (rest : List NewTransfer) → IsChain r rest
-    → chains_of is_linked_transfer (r ∷ rest) ≡ (r ∷ rest) ∷ []
-one_chain r [] last = ap (λ b. in_front b r []) last
-one_chain r (next ∷ rest) chain =
-    ap₂ (λ b chains. in_front b r chains) chain.0 (one_chain next rest chain.1)
+one_chain : {A : Type 0} (linked : A → Bool) (r : A) (rest : List A) → IsChain linked r rest
+    → chains_of linked (r ∷ rest) ≡ (r ∷ rest) ∷ []
+one_chain linked r [] last = ap (λ b. in_front b r []) last
+one_chain linked r (next ∷ rest) chain =
+    ap₂ (λ b chains. in_front b r chains) chain.0 (one_chain linked next rest chain.1)
+
+module _ {A R : Type 0} (rules : Rules A R) (Fits : A → Type 0) where
+  -- the history is one within a chain of which this number of items were taken: if the rest of it is taken, from this
+  -- timestamp on, the ledger's history is what that makes
+  abbrev pub RunsBy : History → ℕ → ℕ → Type 0
+  RunsBy h t n =
+      (r : A) (rest : List A) (g : History) → length rest + 1 + n ≤ BATCH_ITEMS → IsChain rules.linked r rest
+      → AllByRecursion Fits (r ∷ rest) → t + length (r ∷ rest) ≤ TIMESTAMP + 1
+      → (played rules h t (r ∷ rest)).1 ≡ Some g → IsLegal g
+
+  -- with more items taken, fewer may come
+  pub runs-more : (h : History) (t n : ℕ) → RunsBy h t 0 → RunsBy h t n
+  runs-more h t n runs r rest g long chain fits within is = runs r rest g (omega (arith, long)) chain fits within is
+
+  -- one item of it is taken
+  pub runs-taken : (h : History) (t n : ℕ) (r : A) → RunsBy h t n → rules.linked r ≡ true
+      → rules.refused h r t ≡ None → Fits r → RunsBy (rules.taken h r t) (t + 1) (n + 1)
+  runs-taken h t n r runs linked none fit next rest g long chain fits within is =
+      let later = played rules (rules.taken h r t) (t + 1) (next ∷ rest) in
+      runs r (next ∷ rest) g (omega (arith, long)) (linked, chain) (fit, fits) (omega (arith, within))
+      (ap₂ (λ b o. (before_others rules (if b then Some rules.unfinished else o) (next ∷ rest) later).1)
+      (and_right (rules.linked r) false refl) none
+      ∙ is)
+
+  -- and the last one
+  pub runs-done : (h : History) (t n : ℕ) (r : A) → RunsBy h t n → n < BATCH_ITEMS → t ≤ TIMESTAMP
+      → rules.linked r ≡ false → rules.refused h r t ≡ None → Fits r → IsLegal (rules.taken h r t)
+  runs-done h t n r runs room within unlinked none fit =
+      runs r [] (rules.taken h r t) (omega (arith, room)) unlinked (fit, tt) (omega (arith, within))
+      (ap (λ q. q.1) (alone_accepted rules h t r unlinked none))
+
+-- of transfers, and of accounts
+abbrev pub RunsOn : History → ℕ → ℕ → Type 0
+RunsOn = RunsBy transfer_rules NewTransferFits
+
+abbrev pub AccountsRunOn : History → ℕ → ℕ → Type 0
+AccountsRunOn = RunsBy account_rules NewAccountFits
 
 -- a chain begins
 pub runs-legal : (h : History) (t : ℕ) → IsLegal h → h.closed ≡ false → h.last < t → RunsOn h t 0
@@ -91,7 +99,7 @@ runs-legal h t legal is_open later r rest g long chain fits within is =
     let first : base h t ≡ t = own_time h t later in
     let all : transfers_from h (base h t) items ≡ ((played transfer_rules h t items).0 ++ [], g) =
     ap (λ n. transfers_from h n items) first
-    ∙ ap (chains_from transfer_rules h t) (one_chain r rest chain)
+    ∙ ap (chains_from transfer_rules h t) (one_chain is_linked_transfer r rest chain)
     ∙ ap (λ o. ((played transfer_rules h t items).0 ++ [], unwrap_or o (timed h (t + length items - 1)))) is in
     IsLegal-submit h g (batch.Transfers t items) (results.Transfers ((played transfer_rules h t items).0 ++ []))
     (omega (arith, within), fits) legal
@@ -100,27 +108,21 @@ runs-legal h t legal is_open later r rest g long chain fits within is =
     (le-ltb BATCH_ITEMS (length items) (omega (arith, long))) first within)
     ∙ ap (λ q. Ok (results.Transfers q.0, q.1)) all)
 
--- with more items taken, fewer may come
-pub runs-more : (h : History) (t n : ℕ) → RunsOn h t 0 → RunsOn h t n
-runs-more h t n runs r rest g long chain fits within is = runs r rest g (omega (arith, long)) chain fits within is
-
--- one item of it is taken
-pub runs-taken : (h : History) (t n : ℕ) (r : NewTransfer) → RunsOn h t n → is_linked_transfer r ≡ true
-    → transfer_refused h r t ≡ None → NewTransferFits r → RunsOn (pushed h (entry_of h r t)) (t + 1) (n + 1)
-runs-taken h t n r runs linked none fit next rest g long chain fits within is =
-    let later = played transfer_rules (pushed h (entry_of h r t)) (t + 1) (next ∷ rest) in
-    runs r (next ∷ rest) g (omega (arith, long)) (linked, chain) (fit, fits) (omega (arith, within))
-    (ap₂ (λ b o. (before_others transfer_rules (if b then Some transfer.LinkedEventChainOpen else o) (next ∷ rest)
-    later).1) (and_right (is_linked_transfer r) false refl) none
-    ∙ is)
-
--- and the last one
-pub runs-done : (h : History) (t n : ℕ) (r : NewTransfer) → RunsOn h t n → n < BATCH_ITEMS → t ≤ TIMESTAMP
-    → is_linked_transfer r ≡ false → transfer_refused h r t ≡ None → NewTransferFits r
-    → IsLegal (pushed h (entry_of h r t))
-runs-done h t n r runs room within unlinked none fit =
-    runs r [] (pushed h (entry_of h r t)) (omega (arith, room)) unlinked (fit, tt) (omega (arith, within))
-    (ap (λ q. q.1) (alone_accepted transfer_rules h t r unlinked none))
+-- a chain of accounts begins
+pub accounts-legal : (h : History) (t : ℕ) → IsLegal h → h.closed ≡ false → h.last < t → AccountsRunOn h t 0
+accounts-legal h t legal is_open later a rest g long chain fits within is =
+    let items : List NewAccount = a ∷ rest in
+    let first : base h t ≡ t = own_time h t later in
+    let all : accounts_from h (base h t) items ≡ ((played account_rules h t items).0 ++ [], g) =
+    ap (λ n. accounts_from h n items) first
+    ∙ ap (chains_from account_rules h t) (one_chain is_linked_account a rest chain)
+    ∙ ap (λ o. ((played account_rules h t items).0 ++ [], unwrap_or o (timed h (t + length items - 1)))) is in
+    IsLegal-submit h g (batch.Accounts t items) (results.Accounts ((played account_rules h t items).0 ++ []))
+    (omega (arith, within), fits) legal
+    (ap (λ o. answered o (taken h (batch.Accounts t items)))
+    (unrefused h t t (length items) (nat_lt BATCH_ITEMS (length items)) is_open
+    (le-ltb BATCH_ITEMS (length items) (omega (arith, long))) first within)
+    ∙ ap (λ q. Ok (results.Accounts q.0, q.1)) all)
 
 -- ---- a timestamp that nothing came of
 

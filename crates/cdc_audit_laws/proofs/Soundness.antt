@@ -1,12 +1,12 @@
 -- Accepted events are the events of a legal history, if a ledger can make them.
-use Rattle.std.proofs.Common.{◌≡◌, inl, inr, ℕ, ◌<◌, ◌≤◌, ◌^◌, true, false, List, [], ◌∷◌, ◌++◌, Option, Some, None, if◌then◌else◌, refl, sym, ap, ap₂, ◌∙◌, subst, arith}
-use Rattle.std.specs.List.{AllByRecursion}
-use Rattle.std.proofs.lemmas.Bool.{ltb-false}
-use Rattle.cdc_types.specs.declared.accounts.TheConstants.AccountFlags.{LINKED}
+use Rattle.std.proofs.Common.{◌≡◌, inl, inr, ℕ, ◌+◌, ◌<◌, ◌≤◌, ◌^◌, Bool, true, false, List, [], ◌∷◌, ◌++◌, Option, Some, None, if◌then◌else◌, refl, sym, ap, ap₂, ◌∙◌, subst, arith}
+use Rattle.std.specs.Prelude.{◌==◌, ◌||◌, nat_eq}
+use Rattle.std.specs.List.{AllByRecursion, list_any}
+use Rattle.std.specs.Map.{lookup}
+use Rattle.std.proofs.lemmas.Bool.{eqb-true, false≢true, ltb-false}
 use Rattle.cdc_types.specs.declared.bounds.TheConstants.Limits.{TIMESTAMP}
 use Rattle.cdc_types.specs.declared.events.Event.{Event}
 use Rattle.cdc_types.specs.declared.events.EventAccount.{EventAccount}
-use Rattle.cdc_types.specs.Flags.{has_flag}
 use Rattle.cdc_types.specs.Shapes.{account_refusal}
 use Rattle.cdc_ledger.specs.History.{empty_history}
 use Rattle.cdc_ledger.proofs.Elements.{AllByRecursion-both, AllByRecursion-weaker}
@@ -16,7 +16,7 @@ use Rattle.cdc_audit.specs.Audits.{follows_on, is_accepted}
 use Rattle.cdc_audit.specs.EventShapes.{asked_account}
 use Rattle.cdc_audit.specs.Fields.{fields_before, fixed_fields}
 use Rattle.cdc_audit.specs.Known.{last_expiry_from, linked_from}
-use Rattle.cdc_audit_laws.specs.Soundness.{AcceptedEventsAreALedgers, AcceptedEventsStartAsALedgers, CanBeMade, EventsAloneAreALedgers, HaveRoom, IsAlone, IsUnlinked, accounts_in}
+use Rattle.cdc_audit_laws.specs.Soundness.{AcceptedEventsAreALedgers, AcceptedEventsStartAsALedgers, AccountsHaveRoom, CanBeMade, EventsAloneAreALedgers, HaveRoom, IsAlone, IsFollowed, IsUnlinked, accounts_in}
 use Rattle.cdc_audit_laws.proofs.Coming.{has_accounts}
 use Rattle.cdc_audit_laws.proofs.Streams.{accepted_events_rise, first_follows}
 use Rattle.cdc_audit_laws.proofs.Alone.{AreAlone, all_alone, alone-nil}
@@ -24,7 +24,7 @@ use Rattle.cdc_audit_laws.proofs.Known.{IsKnown, all_known}
 use Rattle.cdc_audit_laws.proofs.Plan.{Admits, AllAdmit, Opens, Planned, all-place_all, events_in, events_in-only, events_in-place_all, only, only-all, only-rises, place_all, place_all-opens, rises-place_all}
 use Rattle.cdc_audit_laws.proofs.Openings.{AreCreated, IsOpenable, are_created, opening_of}
 use Rattle.cdc_audit_laws.proofs.Modes.{Reaches, part_legal, whole_legal}
-use Rattle.cdc_audit_laws.proofs.Walk.{CanMake, IsReady, made_from_empty}
+use Rattle.cdc_audit_laws.proofs.Walk.{AreFew, AreFollowed, CanMake, IsReady, IsThere, made_from_empty}
 
 -- ---- the accounts of accepted events can be opened
 
@@ -34,9 +34,9 @@ record IsFit (a : ℕ × FixedFields) : Type 0 where
   some : 0 < a.1.timestamp
 
 account_fits : (ledger : ℕ) (a : EventAccount) (t : ℕ) → ledger < 2 ^ 32 → AccountFits a
-    → account_refusal (asked_account ledger a) ≡ None → has_flag a.flags LINKED ≡ false → 0 < a.timestamp
+    → account_refusal (asked_account ledger a) ≡ None → 0 < a.timestamp
     → a.timestamp < t → t ≤ TIMESTAMP → IsFit (a.id, fixed_fields ledger a)
-account_fits ledger a t ledger_fits fits fields unlinked some earlier within = record {
+account_fits ledger a t ledger_fits fits fields some earlier within = record {
   openable = record {
     fields = fields;
     fits = record {
@@ -48,29 +48,59 @@ account_fits ledger a t ledger_fits fits fields unlinked some earlier within = r
       code = fits.code;
       flags = fits.flags;
     };
-    unlinked = unlinked;
     within = omega (arith, earlier, within);
   };
   some = some;
 }
 
 all_fit : (past rest : List Event) → follows_on past rest ≡ true → AllByRecursion EventFits rest
-    → AllByRecursion IsUnlinked (accounts_in rest) → AllByRecursion IsFit (accounts_in rest)
-all_fit past [] follow fit unlinked = tt
-all_fit past (e ∷ rest) follow fit unlinked =
+    → AllByRecursion IsFit (accounts_in rest)
+all_fit past [] follow fit = tt
+all_fit past (e ∷ rest) follow fit =
     let first = first_follows past e rest follow in
     let created : AreCreated e = are_created past e first.0 in
     let fields = has_accounts past e first.0 in
     let fits = fit.0 in
     let within = ltb-false TIMESTAMP e.timestamp first.0.within in (
-      account_fits e.ledger e.debit_account e.timestamp fits.ledger fits.debit_account fields.0 unlinked.0
+      account_fits e.ledger e.debit_account e.timestamp fits.ledger fits.debit_account fields.0
           created.debit_some created.debit within,
       (
-        account_fits e.ledger e.credit_account e.timestamp fits.ledger fits.credit_account fields.1 unlinked.1.0
+        account_fits e.ledger e.credit_account e.timestamp fits.ledger fits.credit_account fields.1
             created.credit_some created.credit within,
-        all_fit (past ++ e ∷ []) rest first.1 fit.1 unlinked.1.1,
+        all_fit (past ++ e ∷ []) rest first.1 fit.1,
       ),
     )
+
+-- ---- accounts that are found
+
+-- what holds of all accounts holds of one that is found
+found_has : (P : ℕ × FixedFields → Type 0) (those : List (ℕ × FixedFields)) (a : ℕ × FixedFields)
+    → AllByRecursion P those → lookup (nat_eq a.0) those ≡ Some a.1 → P a
+found_has P [] a all found = cc
+found_has P (b ∷ those) a all found =
+    by (nat_eq a.0 b.0) refl found (found_has P those a all.1)
+  where
+    by : (same : Bool) → nat_eq a.0 b.0 ≡ same → (if same then Some b.1 else lookup (nat_eq a.0) those) ≡ Some a.1
+        → (lookup (nat_eq a.0) those ≡ Some a.1 → P a) → P a
+    by true is found more =
+        let id = eqb-true a.0 b.0 is in
+        let fields : b.1 ≡ a.1 = cc in
+        let same : b ≡ a = ap₂ (λ n f. let x : ℕ × FixedFields = (n, f) in x) (sym id) fields in
+        subst P same all.0
+    by false is found more = more found
+
+-- an account with this timestamp is there
+any_there : (all those : List (ℕ × FixedFields)) (t : ℕ)
+    → AllByRecursion (λ a. lookup (nat_eq a.0) all ≡ Some a.1) those
+    → list_any (λ b. b.1.timestamp == t) those ≡ true → IsThere all t
+any_there all [] t known some = cc
+any_there all (b ∷ those) t known some =
+    by (b.1.timestamp == t) refl some (any_there all those t known.1)
+  where
+    by : (is : Bool) → (b.1.timestamp == t) ≡ is → (is || list_any (λ x. x.1.timestamp == t) those) ≡ true
+        → (list_any (λ x. x.1.timestamp == t) those ≡ true → IsThere all t) → IsThere all t
+    by true is some more = record { account = b; known = known.0; time = eqb-true b.1.timestamp t is }
+    by false is some more = more some
 
 -- ---- so a ledger can make them all
 module _ (events : List Event) (can : CanBeMade events) (accepted : is_accepted events ≡ true) where
@@ -81,7 +111,7 @@ module _ (events : List Event) (can : CanBeMade events) (accepted : is_accepted 
   plan = place_all opening_of shown (only events)
 
   fit : AllByRecursion IsFit shown
-  fit = all_fit [] events accepted can.fit can.unlinked
+  fit = all_fit [] events accepted can.fit
 
   known : AllByRecursion (IsKnown events) shown
   known = all_known [] events accepted tt
@@ -126,12 +156,21 @@ module _ (events : List Event) (can : CanBeMade events) (accepted : is_accepted 
       (λ a is. (is.0.openable, is.1)) shown (AllByRecursion-both IsFit (IsKnown events) shown fit known))
       (only-all (CanMake shown) events can.fit)
 
+  followed : AreFollowed shown
+  followed a found linked =
+      any_there shown shown (a.1.timestamp + 1) known (found_has (IsFollowed events) shown a can.followed found linked)
+
+  few : AreFew shown
+  few t =
+      let one = can.accounts_room t in
+      (one.0, one.1, λ a found. found_has (λ b. b.1.timestamp ≡ t + one.0 → IsUnlinked b) shown a one.2 found)
+
   reaches : Reaches events
   reaches =
       let after : AllByRecursion (λ a. 0 < (opening_of a).timestamp) shown =
       AllByRecursion-weaker IsFit (λ a. 0 < (opening_of a).timestamp) (λ a is. is.some) shown fit in
       subst Reaches same_events
-      (made_from_empty shown plan
+      (made_from_empty shown plan followed few (λ a found. found_has (λ b. Opens (opening_of b) plan) shown a opens found)
       (rises-place_all opening_of 0 shown (only events) after (only-rises 0 events (accepted_events_rise events accepted)))
       can_make ready (ap (follows_on []) same_events ∙ accepted)
       (subst (HaveRoom 0) (sym same_events) can.room))
@@ -166,6 +205,21 @@ alone_stored [] alone = refl
 alone_stored (e ∷ events) alone =
     ap (λ b. last_expiry_from (if b then None else Some e) events) alone.0.stored ∙ alone_stored events alone.1
 
+-- accounts that aren't linked are no chains
+pub each_followed : (events : List Event) → AllByRecursion IsUnlinked (accounts_in events)
+    → AllByRecursion (IsFollowed events) (accounts_in events)
+each_followed events unlinked =
+    AllByRecursion-weaker IsUnlinked (IsFollowed events) (λ a is linked. absurd (false≢true (sym is ∙ linked)))
+    (accounts_in events) unlinked
+
+pub with_room : (events : List Event) → AllByRecursion IsUnlinked (accounts_in events) → AccountsHaveRoom events
+with_room events unlinked t = (
+  0,
+  omega arith,
+  AllByRecursion-weaker IsUnlinked (λ a. a.1.timestamp ≡ t + 0 → IsUnlinked a) (λ a is time. is) (accounts_in events)
+      unlinked,
+)
+
 -- nothing isn't something
 none_some : (x : Event) → ◌≡◌ {A = Option Event} None (Some x) → ⊥
 none_some x is = cc
@@ -174,7 +228,8 @@ pub events_alone_are_a_ledgers : EventsAloneAreALedgers
 events_alone_are_a_ledgers events alone unlinked accepted =
     accepted_events_are_a_ledgers events (record {
       fit = AllByRecursion-weaker IsAlone EventFits (λ e is. is.fits) events alone;
-      unlinked = unlinked;
+      followed = each_followed events unlinked;
+      accounts_room = with_room events unlinked;
       room = alone_room events alone;
     }) (record {
       chain = alone_unlinked events alone;

@@ -2,6 +2,7 @@
 use Rattle.std.specs.Prelude.{◌≡◌, true, List, [], ◌∷◌, ◌++◌}
 use Rattle.std.proofs.Common.{refl, subst, arith}
 use Rattle.std.proofs.lemmas.Bool.{true≢false}
+use Rattle.std.specs.List.{AllByRecursion}
 use Rattle.cdc_types.specs.declared.events.Event.{Event}
 use Rattle.cdc_types.specs.declared.events.EventKind.TheVariants.{SinglePhase, TwoPhasePending, TwoPhaseExpired}
 use Rattle.cdc_ledger.specs.Events.{events as events_of}
@@ -10,8 +11,8 @@ use Rattle.cdc_ledger.specs.Submit.{IsLegal}
 use Rattle.cdc_message.specs.Widths.{EventFits}
 use Rattle.cdc_audit.specs.Audits.{follows_on, is_accepted}
 use Rattle.cdc_audit.specs.Rules.{refusal}
-use Rattle.cdc_audit_laws.specs.Soundness.{AreCutOff, AreWhole, CanBeMade}
-use Rattle.cdc_audit_laws.proofs.Soundness.{accepted_events_are_a_ledgers, accepted_events_start_as_a_ledgers}
+use Rattle.cdc_audit_laws.specs.Soundness.{AreCutOff, AreWhole, CanBeMade, IsUnlinked, accounts_in}
+use Rattle.cdc_audit_laws.proofs.Soundness.{accepted_events_are_a_ledgers, accepted_events_start_as_a_ledgers, each_followed, with_room}
 use Rattle.cdc_audit_laws.proofs.SoundExamples.{account, account_fits, event, event_fits}
 use Rattle.cdc_audit_laws.proofs.Whole.{ledgers_events_are_whole}
 
@@ -92,6 +93,16 @@ paid_after_fits =
 long_whole : AreWhole long_stream
 long_whole = record { chain = refl; pulse = λ x y last first. cc }
 
+-- none of its accounts is linked
+long_unlinked : AllByRecursion IsUnlinked (accounts_in long_stream)
+long_unlinked = (
+  refl,
+  (
+    refl,
+    (refl, (refl, (refl, (refl, (refl, (refl, (refl, (refl, (refl, (refl, (refl, (refl, tt)))))))))))),
+  ),
+)
+
 long_can_be_made : CanBeMade long_stream
 long_can_be_made = record {
   fit = (
@@ -104,13 +115,8 @@ long_can_be_made = record {
       ),
     ),
   );
-  unlinked = (
-    refl,
-    (
-      refl,
-      (refl, (refl, (refl, (refl, (refl, (refl, (refl, (refl, (refl, (refl, (refl, (refl, tt)))))))))))),
-    ),
-  );
+  followed = each_followed long_stream long_unlinked;
+  accounts_room = with_room long_stream long_unlinked;
   room = (omega arith, (omega arith, (omega arith, (omega arith, (omega arith, (omega arith, (omega arith, tt)))))));
 }
 
@@ -133,10 +139,14 @@ cut_no_ledgers h legal same =
     true≢false whole.chain
 
 -- but a ledger has all of it but a last part
+cut_unlinked : AllByRecursion IsUnlinked (accounts_in cut_stream)
+cut_unlinked = (refl, (refl, (refl, (refl, tt))))
+
 cut_can_be_made : CanBeMade cut_stream
 cut_can_be_made = record {
   fit = (held_long_fits, (linked_one_fits, tt));
-  unlinked = (refl, (refl, (refl, (refl, tt))));
+  followed = each_followed cut_stream cut_unlinked;
+  accounts_room = with_room cut_stream cut_unlinked;
   room = (omega arith, (omega arith, tt));
 }
 

@@ -1,18 +1,18 @@
 -- A ledger that opens accounts and stores events in the order of their timestamps, as a plan has them.
 use Rattle.std.proofs.Common.{◌≡◌, ◌⊎◌, inl, inr, ℕ, ◌+◌, ◌-◌, ◌<◌, ◌≤◌, Bool, true, false, List, [], ◌∷◌, ◌++◌, Option, Some, None, is_some, refl, sym, ap, ap₂, ◌∙◌, subst, append_assoc, arith}
-use Rattle.std.specs.Prelude.{◌==◌, ◌&&◌, nat_eq, if◌then◌else◌}
+use Rattle.std.specs.Prelude.{◌==◌, ◌&&◌, nat_eq, nat_lt, if◌then◌else◌}
 use Rattle.std.specs.List.{AllByRecursion}
 use Rattle.std.specs.Map.{lookup}
 use Rattle.std.specs.Option.{option_or}
-use Rattle.std.proofs.lemmas.Bool.{eq-eqb, false≢true, ltb-false}
+use Rattle.std.proofs.lemmas.Bool.{eq-eqb, eqb-false, eqb-true, false≢true, ltb-false, ltb-true}
 use Rattle.std.proofs.lemmas.List.{append-nil}
-use Rattle.cdc_types.specs.declared.bounds.TheConstants.Limits.{TIMESTAMP}
+use Rattle.cdc_types.specs.declared.bounds.TheConstants.Limits.{BATCH_ITEMS, TIMESTAMP}
 use Rattle.cdc_types.specs.declared.events.Entry.{Entry}
 use Rattle.cdc_types.specs.declared.events.Event.{Event}
 use Rattle.cdc_types.specs.declared.transfers.NewTransfer.{NewTransfer}
 use Rattle.cdc_types.specs.declared.transfers.TheConstants.TransferFlags.{LINKED}
 use Rattle.cdc_types.specs.declared.transfers.Transfer.{Transfer}
-use Rattle.cdc_types.specs.Flags.{has_flag, is_linked_transfer}
+use Rattle.cdc_types.specs.Flags.{has_flag, is_linked_account, is_linked_transfer}
 use Rattle.cdc_types.specs.Lines.{first_line}
 use Rattle.cdc_types.specs.Shapes.{account_shape_lines}
 use Rattle.cdc_types.specs.Timestamps.{last_timestamp}
@@ -22,12 +22,12 @@ use Rattle.cdc_ledger.specs.Changes.{pushed, timed, with_account}
 use Rattle.cdc_ledger.specs.Due.{due}
 use Rattle.cdc_ledger.specs.Events.{events}
 use Rattle.cdc_ledger.specs.Filling.{expires_at as expires_at_one}
-use Rattle.cdc_ledger.specs.Fits.{NewTransferFits}
+use Rattle.cdc_ledger.specs.Fits.{NewAccountFits, NewTransferFits}
 use Rattle.cdc_ledger.specs.Follows.{Follows}
 use Rattle.cdc_ledger.specs.History.{History, Opened, empty_history, opened}
 use Rattle.cdc_ledger.specs.Kinds.{stores}
 use Rattle.cdc_ledger.specs.Sound.{IsSound}
-use Rattle.cdc_ledger.specs.Submit.{IsLegal}
+use Rattle.cdc_ledger.specs.Submit.{IsLegal, account_rules, transfer_rules}
 use Rattle.cdc_ledger.specs.Verdict.{account_refused, known_account_lines}
 use Rattle.cdc_ledger.proofs.BalanceLaws.{balances_later}
 use Rattle.cdc_ledger.proofs.Elements.{AllByRecursion-weaker, AllByRecursion_push}
@@ -54,7 +54,7 @@ use Rattle.cdc_audit_laws.proofs.Made.{IsShownBy, entry_with, events_then, shown
 use Rattle.cdc_audit_laws.proofs.Modes.{IsInChain, IsInPulse, IsOfChain, IsOfPulse, Mode, Reaches, StartsLegal, chain-push, chain_next, expiry-push, goes_on}
 use Rattle.cdc_audit_laws.proofs.Modes.{linked_run, pulse_next, run-push, run_from-push, starts, starts-push, stores_or_not}
 use Rattle.cdc_audit_laws.proofs.Openings.{IsOpenable, are_created, opening_of, request_fits}
-use Rattle.cdc_audit_laws.proofs.Running.{opens, Pulses, RunsOn, pulses-done, pulses-expired, pulses-legal, runs-done, runs-legal, runs-more, runs-taken, timed_before}
+use Rattle.cdc_audit_laws.proofs.Running.{AccountsRunOn, Pulses, RunsOn, accounts-legal, pulses-done, pulses-expired, pulses-legal, runs-done, runs-legal, runs-more, runs-taken, timed_before}
 use Rattle.cdc_audit_laws.proofs.Streams.{first_follows}
 use Rattle.cdc_audit_laws.proofs.Plan.{Opens, Rises, Planned, events_in, events_later, opens_later}
 use Rattle.cdc_audit_laws.proofs.Soonest.{AllThatExpire, expire_then, no_earlier, none_before_expiry}
@@ -90,8 +90,61 @@ module _ (all : List (ℕ × FixedFields)) where
   abbrev pub IsReady : History → List Planned → ℕ × FixedFields → Type 0
   IsReady h rest a = (opened h a.0 ≡ Some (opening_of a)) ⊎ Opens (opening_of a) rest
 
+  -- one of these accounts was created at this timestamp
+  pub record IsThere (t : ℕ) : Type 0 where
+    pub account : ℕ × FixedFields
+    pub known : lookup (nat_eq account.0) all ≡ Some account.1
+    pub time : account.1.timestamp ≡ t
+
+  -- and it is linked to the next one
+  record IsLinkedAt (t : ℕ) : Type 0 where
+    is_there : IsThere t
+    linked : is_linked_account (opening_of is_there.account).request ≡ true
+
+  -- after each linked account the next one is there
+  abbrev pub AreFollowed : Type 0
+  AreFollowed = (a : ℕ × FixedFields) → lookup (nat_eq a.0) all ≡ Some a.1 → is_linked_account (opening_of a).request ≡ true
+      → IsThere (a.1.timestamp + 1)
+
+  -- of as many timestamps as a batch has room for, one isn't that of a linked account
+  abbrev pub AreFew : Type 0
+  AreFew = (t : ℕ) → (k : ℕ) × (k < BATCH_ITEMS)
+      × ((a : ℕ × FixedFields) → lookup (nat_eq a.0) all ≡ Some a.1 → a.1.timestamp ≡ t + k
+      → is_linked_account (opening_of a).request ≡ false)
+
+  -- before this timestamp a chain of accounts began, or none did: all accounts since then are linked
+  record IsBegun (h : History) (t : ℕ) : Type 0 where
+    start : ℕ
+    before : start ≤ t
+    runs : AccountsRunOn h t (t - start)
+    linked : (u : ℕ) → start ≤ u → u < t → IsLinkedAt u
+
+  -- within a chain of accounts
+  record IsOpening (h : History) : Type 0 where
+    begun : IsBegun h (h.last + 1)
+    next : IsThere (h.last + 1)
+
+  -- a batch has room for one more
+  begun-room : (h : History) (t : ℕ) → AreFew → (begun : IsBegun h t) → t - begun.start < BATCH_ITEMS
+  begun-room h t few begun =
+      let one = few begun.start in
+      by one.0 one.1 one.2 (nat_lt (begun.start + one.0) t) refl
+    where
+      by : (k : ℕ) → k < BATCH_ITEMS
+          → ((a : ℕ × FixedFields) → lookup (nat_eq a.0) all ≡ Some a.1 → a.1.timestamp ≡ begun.start + k
+          → is_linked_account (opening_of a).request ≡ false)
+          → (b : Bool) → nat_lt (begun.start + k) t ≡ b → t - begun.start < BATCH_ITEMS
+      by k few_one unlinked true is =
+          let it = begun.linked (begun.start + k) (omega arith) (ltb-true (begun.start + k) t is) in
+          absurd (false≢true (sym (unlinked it.is_there.account it.is_there.known it.is_there.time) ∙ it.linked))
+      by k few_one unlinked false is =
+          let most = ltb-false (begun.start + k) t is in omega (arith, most, few_one)
+
   -- what is known of a history, and of the rest of the plan
   record Goes (h : History) (rest : List Planned) : Type 0 where
+    followed : AreFollowed
+    few : AreFew
+    all_ready : (a : ℕ × FixedFields) → lookup (nat_eq a.0) all ≡ Some a.1 → IsReady h rest a
     sound : IsSound h
     shown : (id : ℕ) → balances_after (events h) id ≡ balances h id h.last
     is_open : h.closed ≡ false
@@ -101,7 +154,22 @@ module _ (all : List (ℕ × FixedFields)) where
     ready : AllByRecursion (IsReady h rest) (accounts_in (events_in rest))
     follow : follows_on (events h) (events_in rest) ≡ true
     room : HaveRoom (linked_run (events h)) (events_in rest)
-    mode : Mode h
+    mode : Mode h ⊎ IsOpening h
+
+  -- within a chain of accounts the next one is to come
+  to_come : (h : History) (rest : List Planned) → Goes h rest → (opening : IsOpening h)
+      → Opens (opening_of opening.next.account) rest
+  to_come h rest goes opening = by (goes.all_ready opening.next.account opening.next.known)
+    where
+      by : IsReady h rest opening.next.account → Opens (opening_of opening.next.account) rest
+      by (inl there) =
+          let it = opening.next.account in
+          let past : IsPast h.last (opening_of it) =
+          (find_all (λ (y : Opened). y.request.id == it.0) (IsPast h.last) h.accounts (opening_of it) goes.past
+          there).1 in
+          let time = opening.next.time in
+          absurd (let no : ⊥ = omega (arith, past.1, time) in no)
+      by (inr later) = later
 
   -- ---- an account is opened
   module _ (h : History) (o : Opened) (rest : List Planned) (goes : Goes h (inl o ∷ rest)) where
@@ -137,10 +205,74 @@ module _ (all : List (ℕ × FixedFields)) where
         let next = goes_on h e goes.sound on can in
         omega (arith, after, before, next)
 
-    legal_then : IsLegal h → IsLegal with_one
-    legal_then legal =
-        opens h o.timestamp o.request legal goes.is_open goes.rises.0 goes.can.0.0.within goes.can.0.0.fits
-        goes.can.0.0.unlinked unrefused_one
+    -- a chain of accounts is on its way, or begins
+    begun_new : IsLegal h → IsBegun h o.timestamp
+    begun_new legal = record {
+      start = o.timestamp;
+      before = omega arith;
+      runs =
+          runs-more account_rules NewAccountFits h o.timestamp (o.timestamp - o.timestamp)
+          (accounts-legal h o.timestamp legal goes.is_open goes.rises.0);
+      linked = λ u from to. absurd (let no : ⊥ = omega (arith, from, to) in no);
+    }
+
+    -- within one this account is the next one
+    its_turn : IsOpening h → o.timestamp ≡ h.last + 1
+    its_turn opening = by (to_come h (inl o ∷ rest) goes opening)
+      where
+        by : Opens (opening_of opening.next.account) (inl o ∷ rest) → o.timestamp ≡ h.last + 1
+        by (inl same) = ap (λ (x : Opened). x.timestamp) same ∙ opening.next.time
+        by (inr later) =
+            let after : o.timestamp < opening.next.account.1.timestamp =
+            opens_later o.timestamp (opening_of opening.next.account) rest goes.rises.1 later in
+            let before : h.last < o.timestamp = goes.rises.0 in
+            let time = opening.next.time in
+            absurd (let no : ⊥ = omega (arith, after, before, time) in no)
+
+    begun_before : IsOpening h → IsBegun h o.timestamp
+    begun_before opening = subst (IsBegun h) (sym (its_turn opening)) opening.begun
+
+    -- it ends the chain, or goes on with it
+    mode_then : IsBegun h o.timestamp → Mode with_one ⊎ IsOpening with_one
+    mode_then begun = by (is_linked_account o.request) refl
+      where
+        by : (b : Bool) → is_linked_account o.request ≡ b → Mode with_one ⊎ IsOpening with_one
+        by false is =
+            inl (inl (runs-done account_rules NewAccountFits h o.timestamp (o.timestamp - begun.start) o.request
+            begun.runs (begun-room h o.timestamp goes.few begun) goes.can.0.0.within is unrefused_one
+            goes.can.0.0.fits))
+        by true is =
+            let before = begun.before in
+            let taken : AccountsRunOn with_one (o.timestamp + 1) (o.timestamp - begun.start + 1) =
+            runs-taken account_rules NewAccountFits h o.timestamp (o.timestamp - begun.start) o.request begun.runs is
+            unrefused_one goes.can.0.0.fits in
+            inr (record {
+              begun = record {
+                start = begun.start;
+                before = omega (arith, before);
+                runs =
+                    subst (AccountsRunOn with_one (o.timestamp + 1))
+                    (let same : o.timestamp - begun.start + 1 ≡ o.timestamp + 1 - begun.start = omega (arith, before) in
+                    same) taken;
+                linked = λ u from to. since u from to is (u == o.timestamp) refl;
+              };
+              next = goes.followed (o.request.id, fixed_of o) goes.can.0.1 is;
+            })
+          where
+            since : (u : ℕ) → begun.start ≤ u → u < o.timestamp + 1 → is_linked_account o.request ≡ true
+                → (b : Bool) → (u == o.timestamp) ≡ b → IsLinkedAt u
+            since u from to linked true same =
+                record {
+                  is_there = record {
+                    account = (o.request.id, fixed_of o);
+                    known = goes.can.0.1;
+                    time = sym (eqb-true u o.timestamp same);
+                  };
+                  linked = linked;
+                }
+            since u from to linked false same =
+                let other = eqb-false u o.timestamp same in
+                begun.linked u from (omega (arith, other, to))
 
     -- it is found
     found_then : opened with_one o.request.id ≡ Some o
@@ -158,8 +290,11 @@ module _ (all : List (ℕ × FixedFields)) where
     same_events : events with_one ≡ events h
     same_events = events-with_account h o goes.sound.known
 
-    goes_then : IsLegal h → Goes with_one rest
-    goes_then legal = record {
+    goes_then : IsBegun h o.timestamp → Goes with_one rest
+    goes_then begun = record {
+      followed = goes.followed;
+      few = goes.few;
+      all_ready = λ a known. ready_then a (goes.all_ready a known);
       sound =
           let later : h.last < o.timestamp = goes.rises.0 in
           IsSound-with_account h o goes.sound is_new (omega (arith, later)) goes.can.0.0.within;
@@ -167,7 +302,7 @@ module _ (all : List (ℕ × FixedFields)) where
           let later : h.last < o.timestamp = goes.rises.0 in
           ap (λ es. balances_after es id) same_events ∙ goes.shown id
           ∙ sym (balances_later h id h.last o.timestamp goes.sound.past (omega (arith, later)));
-      mode = inl (legal_then legal);
+      mode = mode_then begun;
       is_open = goes.is_open;
       rises = goes.rises.1;
       can = goes.can.1;
@@ -189,6 +324,20 @@ module _ (all : List (ℕ × FixedFields)) where
 
     in_time : e.timestamp ≤ TIMESTAMP
     in_time = ltb-false TIMESTAMP e.timestamp first.0.within
+
+    -- no chain of accounts is on its way: its next one would come first
+    mode_at : Mode h
+    mode_at = by goes.mode
+      where
+        by : (Mode h ⊎ IsOpening h) → Mode h
+        by (inl mode) = mode
+        by (inr opening) =
+            let later : e.timestamp < opening.next.account.1.timestamp =
+            opens_later e.timestamp (opening_of opening.next.account) rest goes.rises.1
+            (to_come h (inr e ∷ rest) goes opening) in
+            let after : h.last < e.timestamp = goes.rises.0 in
+            let time = opening.next.time in
+            absurd (let no : ⊥ = omega (arith, later, after, time) in no)
 
     -- its accounts were opened before it
     before : (a : ℕ × FixedFields) → a.1.timestamp < e.timestamp → IsReady h (inr e ∷ rest) a
@@ -218,6 +367,9 @@ module _ (all : List (ℕ × FixedFields)) where
 
       goes_with : Goes (pushed h (entry_with e y)) rest
       goes_with = record {
+        followed = goes.followed;
+        few = goes.few;
+        all_ready = λ a known. goes.all_ready a known;
         sound = sound_then h e comes y is follows;
         shown = shown_then h e comes y is follows;
         is_open = goes.is_open;
@@ -231,7 +383,7 @@ module _ (all : List (ℕ × FixedFields)) where
         room =
             subst (λ n. HaveRoom n (events_in rest)) (sym (ap linked_run same_then ∙ run_from-push 0 (events h) e))
             goes.room.1;
-        mode = mode;
+        mode = inl mode;
       }
 
     -- a transfer that is stored
@@ -248,11 +400,11 @@ module _ (all : List (ℕ × FixedFields)) where
 
       -- a chain is on its way, or begins
       runs : RunsOn h e.timestamp (linked_run (events h)) × StartsLegal (events h) IsOfChain
-      runs = by goes.mode
+      runs = by mode_at
         where
           by : Mode h → RunsOn h e.timestamp (linked_run (events h)) × StartsLegal (events h) IsOfChain
           by (inl legal) = (
-            runs-more h e.timestamp (linked_run (events h))
+            runs-more transfer_rules NewTransferFits h e.timestamp (linked_run (events h))
                 (runs-legal h e.timestamp legal goes.is_open goes.rises.0),
             starts IsOfChain h legal,
           )
@@ -276,7 +428,7 @@ module _ (all : List (ℕ × FixedFields)) where
           by : (b : Bool) → is_linked e ≡ b → Mode with_own
           by false is =
               inl (subst (λ (x : Entry). IsLegal (pushed h x)) (entry_is h e comes storing)
-              (runs-done h e.timestamp (linked_run (events h)) request runs.0 goes.room.0 in_time (linked_is ∙ is)
+              (runs-done transfer_rules NewTransferFits h e.timestamp (linked_run (events h)) request runs.0 goes.room.0 in_time (linked_is ∙ is)
               (unrefused h e comes storing) fit))
           by true is =
               inr (inl (record {
@@ -285,7 +437,7 @@ module _ (all : List (ℕ × FixedFields)) where
                     (sym (ap linked_run same_own ∙ run-push (events h) e is))
                     (subst (λ (x : Entry). RunsOn (pushed h x) (e.timestamp + 1) (linked_run (events h) + 1))
                     (entry_is h e comes storing)
-                    (runs-taken h e.timestamp (linked_run (events h)) request runs.0 (linked_is ∙ is)
+                    (runs-taken transfer_rules NewTransferFits h e.timestamp (linked_run (events h)) request runs.0 (linked_is ∙ is)
                     (unrefused h e comes storing) fit));
                 chained = ap ends_in_chain same_own ∙ chain-push (events h) e ∙ is;
                 at_end = ap last_timestamp same_own ∙ last_timestamp_from-push 0 (events h) e;
@@ -369,6 +521,9 @@ module _ (all : List (ℕ × FixedFields)) where
         let later : h.last < e.timestamp = goes.rises.0 in
         let within = in_time h e rest goes in
         record {
+          followed = goes.followed;
+          few = goes.few;
+          all_ready = goes.all_ready;
           sound = IsSound-timed h (e.timestamp - 1) goes.sound (omega (arith, later)) (omega (arith, within));
           shown = λ id. goes.shown id
               ∙ sym (balances_later h id h.last (e.timestamp - 1) goes.sound.past (omega (arith, later)));
@@ -379,7 +534,7 @@ module _ (all : List (ℕ × FixedFields)) where
           ready = goes.ready;
           follow = goes.follow;
           room = goes.room;
-          mode = inl (timed_before h e.timestamp legal goes.is_open later within);
+          mode = inl (inl (timed_before h e.timestamp legal goes.is_open later within));
         }
 
     pulses_paused : stores e.kind ≡ false → Pulses paused (expires_at e.transfer)
@@ -433,27 +588,31 @@ module _ (all : List (ℕ × FixedFields)) where
         goes = goes_own h e rest goes storing;
         events_are = same_own h e rest goes storing;
       }
-      by (inr storing) = expires storing goes.mode
+      by (inr storing) = expires storing (mode_at h e rest goes)
 
   -- so the plan is done to its end; accounts that no later event shows stay away, if a chain or a pulse is cut off
   reaches : (rest : List Planned) (h : History) → Goes h rest → Reaches (events h ++ events_in rest)
-  reaches [] h goes =
-      record { last = h; sound = goes.sound; mode = goes.mode; same = sym (append-nil (events h)) }
+  reaches [] h goes = by goes.mode
+    where
+      by : (Mode h ⊎ IsOpening h) → Reaches (events h ++ [])
+      by (inl mode) = record { last = h; sound = goes.sound; mode = mode; same = sym (append-nil (events h)) }
+      by (inr opening) = absurd (to_come h [] goes opening)
   reaches (inl o ∷ rest) h goes =
       by goes.mode (events_in rest) refl
-      (λ legal. subst Reaches (ap (λ es. es ++ events_in rest) (same_events h o rest goes))
-      (reaches rest (with_account h o) (goes_then h o rest goes legal)))
+      (λ begun. subst Reaches (ap (λ es. es ++ events_in rest) (same_events h o rest goes))
+      (reaches rest (with_account h o) (goes_then h o rest goes begun)))
     where
-      by : Mode h → (es : List Event) → events_in rest ≡ es → (IsLegal h → Reaches (events h ++ events_in rest))
-          → Reaches (events h ++ events_in rest)
-      by (inl legal) es is more = more legal
-      by (inr on) [] is more = record {
+      by : (Mode h ⊎ IsOpening h) → (es : List Event) → events_in rest ≡ es
+          → (IsBegun h o.timestamp → Reaches (events h ++ events_in rest)) → Reaches (events h ++ events_in rest)
+      by (inl (inl legal)) es is more = more (begun_new h o rest goes legal)
+      by (inl (inr on)) [] is more = record {
         last = h;
         sound = goes.sound;
-        mode = goes.mode;
+        mode = inr on;
         same = sym (append-nil (events h)) ∙ ap (λ es. events h ++ es) (sym is);
       }
-      by (inr on) (e ∷ es) is more = absurd (too_late h o rest goes e es is on)
+      by (inl (inr on)) (e ∷ es) is more = absurd (too_late h o rest goes e es is on)
+      by (inr opening) es is more = more (begun_before h o rest goes opening)
   reaches (inr e ∷ rest) h goes =
       let step = steps h e rest goes in
       subst Reaches
@@ -461,11 +620,15 @@ module _ (all : List (ℕ × FixedFields)) where
       (reaches rest step.after step.goes)
 
   -- from a new ledger on
-  pub made_from_empty : (plan : List Planned) → Rises 0 plan → AllByRecursion CanMake plan
-      → AllByRecursion (IsReady empty_history plan) (accounts_in (events_in plan))
+  pub made_from_empty : (plan : List Planned) → AreFollowed → AreFew
+      → ((a : ℕ × FixedFields) → lookup (nat_eq a.0) all ≡ Some a.1 → Opens (opening_of a) plan) → Rises 0 plan
+      → AllByRecursion CanMake plan → AllByRecursion (IsReady empty_history plan) (accounts_in (events_in plan))
       → follows_on [] (events_in plan) ≡ true → HaveRoom 0 (events_in plan) → Reaches (events_in plan)
-  made_from_empty plan rises can ready follow room =
+  made_from_empty plan followed few opened_all rises can ready follow room =
       reaches plan empty_history (record {
+        followed = followed;
+        few = few;
+        all_ready = λ a known. inr (opened_all a known);
         sound = IsSound-empty;
         shown = λ id. refl;
         is_open = refl;
@@ -475,5 +638,5 @@ module _ (all : List (ℕ × FixedFields)) where
         ready = ready;
         follow = follow;
         room = room;
-        mode = inl IsLegal-empty;
+        mode = inl (inl IsLegal-empty);
       })

@@ -1,6 +1,6 @@
 -- Which accepted events are those of a ledger.
-use Rattle.std.specs.Prelude.{◌≡◌, ◌≢◌, ◌⊎◌, ◌<◌, ◌+◌, ℕ, true, false, List, [], ◌∷◌, ◌++◌, Some, if◌then◌else◌}
-use Rattle.std.specs.List.{AllByRecursion, flat_map}
+use Rattle.std.specs.Prelude.{◌≡◌, ◌≢◌, ◌⊎◌, ◌<◌, ◌+◌, ◌==◌, ℕ, true, false, List, [], ◌∷◌, ◌++◌, Some, if◌then◌else◌}
+use Rattle.std.specs.List.{AllByRecursion, flat_map, list_any}
 use Rattle.cdc_types.specs.declared.accounts.TheConstants.AccountFlags.{LINKED}
 use Rattle.cdc_types.specs.declared.bounds.TheConstants.Limits.{BATCH_ITEMS}
 use Rattle.cdc_types.specs.declared.events.Event.{Event}
@@ -27,6 +27,16 @@ accounts_in events = flat_map accounts_of events
 abbrev pub IsUnlinked : ℕ × FixedFields → Type 0
 IsUnlinked a = has_flag a.1.flags LINKED ≡ false
 
+-- if the account is linked, these events show the next one too: it was created at the next timestamp
+abbrev pub IsFollowed : List Event → ℕ × FixedFields → Type 0
+IsFollowed events a = has_flag a.1.flags LINKED ≡ true
+    → list_any (λ b. b.1.timestamp == a.1.timestamp + 1) (accounts_in events) ≡ true
+
+-- a batch has room for each chain of accounts: of as many timestamps in a row, one isn't that of a linked account
+abbrev pub AccountsHaveRoom : List Event → Type 0
+AccountsHaveRoom events = (t : ℕ) → (k : ℕ) × (k < BATCH_ITEMS)
+    × AllByRecursion (λ a. a.1.timestamp ≡ t + k → IsUnlinked a) (accounts_in events)
+
 -- ---- chains and pulses
 
 -- a batch has room for each chain of these events, of which this number of linked transfers came before them
@@ -50,10 +60,11 @@ AreCutOff events =
 -- ---- the laws
 
 -- a ledger can make these events: their numbers are within their widths, as those of all events are that were read;
--- none of their accounts is linked to the next one, and a batch has room for each chain
+-- they show each account of a chain of accounts; and a batch has room for each chain, of accounts or of transfers
 pub record CanBeMade (events : List Event) : Type 0 where
   pub fit : AllByRecursion EventFits events
-  pub unlinked : AllByRecursion IsUnlinked (accounts_in events)
+  pub followed : AllByRecursion (IsFollowed events) (accounts_in events)
+  pub accounts_room : AccountsHaveRoom events
   pub room : HaveRoom 0 events
 
 -- if such events are accepted, and no chain and no pulse is cut off, they are the events of a legal history
@@ -72,7 +83,7 @@ pub record IsAlone (e : Event) : Type 0 where
   pub stored : stores e.kind ≡ true
   pub unlinked : is_linked e ≡ false
 
--- for events that store a transfer each, without chains, only the premise on accounts is left
+-- for events that store a transfer each, without chains, of accounts that aren't linked, no premise on chains is left
 abbrev pub EventsAloneAreALedgers : Type 0
 EventsAloneAreALedgers = (events : List Event) → AllByRecursion IsAlone events
     → AllByRecursion IsUnlinked (accounts_in events) → is_accepted events ≡ true
