@@ -53,7 +53,7 @@ abbrev pub IsKnown : List Event → ℕ × FixedFields → Type 0
 IsKnown es a = fields_before es a.0 ≡ Some a.1
 
 -- an account is looked up in two parts
-lookup_parts : (id : ℕ) (first second : List (ℕ × FixedFields))
+pub lookup_parts : (id : ℕ) (first second : List (ℕ × FixedFields))
     → lookup (nat_eq id) (first ++ second) ≡ option_or (lookup (nat_eq id) first) (lookup (nat_eq id) second)
 lookup_parts id [] second = refl
 lookup_parts id (a ∷ first) second = by (id == a.0) (lookup_parts id first second)
@@ -65,7 +65,7 @@ lookup_parts id (a ∷ first) second = by (id == a.0) (lookup_parts id first sec
     by true later = refl
     by false later = later
 
-all_parts : (P : ℕ × FixedFields → Type 0) (first second : List (ℕ × FixedFields)) → AllByRecursion P first
+pub all_parts : (P : ℕ × FixedFields → Type 0) (first second : List (ℕ × FixedFields)) → AllByRecursion P first
     → AllByRecursion P second → AllByRecursion P (first ++ second)
 all_parts P [] second all others = others
 all_parts P (a ∷ first) second all others = (all.0, all_parts P first second all.1 others)

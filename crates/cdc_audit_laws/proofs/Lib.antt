@@ -27,6 +27,7 @@ pub mod Openings
 pub mod Walk
 pub mod Known
 pub mod Alone
+pub mod Unseen
 pub mod Soundness
 pub mod Whole
 mod Examples

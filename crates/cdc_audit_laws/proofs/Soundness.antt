@@ -1,12 +1,15 @@
 -- Accepted events are the events of a legal history, if a ledger can make them.
-use Rattle.std.proofs.Common.{◌≡◌, inl, inr, ℕ, ◌+◌, ◌<◌, ◌≤◌, ◌^◌, Bool, true, false, List, [], ◌∷◌, ◌++◌, Option, Some, None, if◌then◌else◌, refl, sym, ap, ap₂, ◌∙◌, subst, arith}
-use Rattle.std.specs.Prelude.{◌==◌, ◌||◌, nat_eq}
+use Rattle.std.proofs.Common.{◌≡◌, ◌≢◌, not, map, inl, inr, ℕ, ◌+◌, ◌<◌, ◌≤◌, ◌^◌, Bool, true, false, List, [], ◌∷◌, ◌++◌, Option, Some, None, if◌then◌else◌, refl, sym, ap, ap₂, ◌∙◌, subst, arith}
+use Rattle.std.specs.Prelude.{◌==◌, ◌&&◌, ◌||◌, nat_eq}
 use Rattle.std.specs.List.{AllByRecursion, list_any}
 use Rattle.std.specs.Map.{lookup}
-use Rattle.std.proofs.lemmas.Bool.{eqb-true, false≢true, ltb-false}
+use Rattle.std.specs.Option.{option_or}
+use Rattle.std.proofs.lemmas.Bool.{and_from, and_parts, eqb-false, eqb-true, false≢true, ltb-false, not-true, not_from_false, or_parts}
+use Rattle.cdc_types.specs.declared.accounts.TheConstants.AccountFlags.{LINKED}
 use Rattle.cdc_types.specs.declared.bounds.TheConstants.Limits.{TIMESTAMP}
 use Rattle.cdc_types.specs.declared.events.Event.{Event}
 use Rattle.cdc_types.specs.declared.events.EventAccount.{EventAccount}
+use Rattle.cdc_types.specs.Flags.{has_flag}
 use Rattle.cdc_types.specs.Shapes.{account_refusal}
 use Rattle.cdc_ledger.specs.History.{empty_history}
 use Rattle.cdc_ledger.proofs.Elements.{AllByRecursion-both, AllByRecursion-weaker}
@@ -16,11 +19,13 @@ use Rattle.cdc_audit.specs.Audits.{follows_on, is_accepted}
 use Rattle.cdc_audit.specs.EventShapes.{asked_account}
 use Rattle.cdc_audit.specs.Fields.{fields_before, fixed_fields}
 use Rattle.cdc_audit.specs.Known.{last_expiry_from, linked_from}
-use Rattle.cdc_audit_laws.specs.Soundness.{AcceptedEventsAreALedgers, AcceptedEventsStartAsALedgers, AccountsHaveRoom, CanBeMade, EventsAloneAreALedgers, HaveRoom, IsAlone, IsFollowed, IsUnlinked, accounts_in}
+use Rattle.cdc_audit_laws.specs.Soundness.{AcceptedEventsAreALedgers, AcceptedEventsStartAsALedgers, AccountsHaveRoom, CanBeMade, EventsAloneAreALedgers, HaveRoom, IsAlone, NextIsFree, IsUnlinked, accounts_in}
 use Rattle.cdc_audit_laws.proofs.Coming.{has_accounts}
 use Rattle.cdc_audit_laws.proofs.Streams.{accepted_events_rise, first_follows}
 use Rattle.cdc_audit_laws.proofs.Alone.{AreAlone, all_alone, alone-nil}
-use Rattle.cdc_audit_laws.proofs.Known.{IsKnown, all_known}
+use Rattle.cdc_audit_laws.proofs.Known.{IsKnown, all_known, all_parts, lookup_parts}
+use Rattle.cdc_audit_laws.proofs.Unseen.{HasIds, each_there, has_ids, none_has, times_after, times_after-all, times_after-has, unseen}
+use Rattle.cdc_audit_laws.proofs.Unseen.{unseen-found, unseen-openable}
 use Rattle.cdc_audit_laws.proofs.Plan.{Admits, AllAdmit, Opens, Planned, all-place_all, events_in, events_in-only, events_in-place_all, only, only-all, only-rises, place_all, place_all-opens, rises-place_all}
 use Rattle.cdc_audit_laws.proofs.Openings.{AreCreated, IsOpenable, are_created, opening_of}
 use Rattle.cdc_audit_laws.proofs.Modes.{Reaches, part_legal, whole_legal}
@@ -71,6 +76,25 @@ all_fit past (e ∷ rest) follow fit =
       ),
     )
 
+-- events and accounts are early enough
+all_within : (past rest : List Event) → follows_on past rest ≡ true
+    → AllByRecursion (λ e. e.timestamp ≤ TIMESTAMP) rest
+all_within past [] follow = tt
+all_within past (e ∷ rest) follow =
+    let first = first_follows past e rest follow in
+    (ltb-false TIMESTAMP e.timestamp first.0.within, all_within (past ++ e ∷ []) rest first.1)
+
+all_early : (past rest : List Event) → follows_on past rest ≡ true
+    → AllByRecursion (λ a. a.1.timestamp < TIMESTAMP) (accounts_in rest)
+all_early past [] follow = tt
+all_early past (e ∷ rest) follow =
+    let first = first_follows past e rest follow in
+    let created : AreCreated e = are_created past e first.0 in
+    let within = ltb-false TIMESTAMP e.timestamp first.0.within in
+    let debit = created.debit in
+    let credit = created.credit in
+    (omega (arith, debit, within), (omega (arith, credit, within), all_early (past ++ e ∷ []) rest first.1))
+
 -- ---- accounts that are found
 
 -- what holds of all accounts holds of one that is found
@@ -102,13 +126,39 @@ any_there all (b ∷ those) t known some =
     by true is some more = record { account = b; known = known.0; time = eqb-true b.1.timestamp t is }
     by false is some more = more some
 
+-- what holds of all timestamps holds of one that is there
+time_has : (P : ℕ → Type 0) (t : ℕ) (ts : List ℕ) → AllByRecursion P ts → list_any (λ u. t == u) ts ≡ true → P t
+time_has P t [] all some = cc
+time_has P t (u ∷ ts) all some = by (t == u) refl some (time_has P t ts all.1)
+  where
+    by : (is : Bool) → (t == u) ≡ is → (is || list_any (λ v. t == v) ts) ≡ true
+        → (list_any (λ v. t == v) ts ≡ true → P t) → P t
+    by true is some more = subst P (sym (eqb-true t u is)) all.0
+    by false is some more = more some
+
+-- no account has a timestamp that isn't found
+none_there : (t : ℕ) (those : List (ℕ × FixedFields)) → list_any (λ b. b.1.timestamp == t) those ≡ false
+    → AllByRecursion (λ b. b.1.timestamp ≢ t) those
+none_there t [] none = tt
+none_there t (b ∷ those) none =
+    let parts = or_parts (b.1.timestamp == t) (list_any (λ x. x.1.timestamp == t) those) none in
+    (eqb-false b.1.timestamp t parts.0, none_there t those parts.1)
+
+-- what holds of each image, and what holds of the first part
+mapped : (P : ℕ × FixedFields → Type 0) (f : ℕ → ℕ × FixedFields) (ts : List ℕ) → AllByRecursion (λ t. P (f t)) ts
+    → AllByRecursion P (map f ts)
+mapped P f [] all = tt
+mapped P f (t ∷ ts) all = (all.0, mapped P f ts all.1)
+
+first_part : (P : ℕ × FixedFields → Type 0) (first second : List (ℕ × FixedFields))
+    → AllByRecursion P (first ++ second) → AllByRecursion P first
+first_part P [] second all = tt
+first_part P (a ∷ first) second all = (all.0, first_part P first second all.1)
+
 -- ---- so a ledger can make them all
 module _ (events : List Event) (can : CanBeMade events) (accepted : is_accepted events ≡ true) where
   abbrev shown : List (ℕ × FixedFields)
   shown = accounts_in events
-
-  abbrev plan : List Planned
-  plan = place_all opening_of shown (only events)
 
   fit : AllByRecursion IsFit shown
   fit = all_fit [] events accepted can.fit
@@ -116,11 +166,87 @@ module _ (events : List Event) (can : CanBeMade events) (accepted : is_accepted 
   known : AllByRecursion (IsKnown events) shown
   known = all_known [] events accepted tt
 
-  same_events : events_in plan ≡ events
-  same_events = events_in-place_all opening_of shown (only events) ∙ events_in-only events
-
   each_alone : AreAlone events
   each_alone = all_alone [] events accepted alone-nil
+
+  -- ---- accounts that no event shows: one after each linked account that is the last one shown of its chain
+  ids : HasIds shown
+  ids = has_ids events (accepted_events_rise events accepted) (all_within [] events accepted)
+
+  abbrev needs : ℕ × FixedFields → Bool
+  needs a = has_flag a.1.flags LINKED && not (list_any (λ b. b.1.timestamp == a.1.timestamp + 1) shown)
+
+  abbrev times : List ℕ
+  times = times_after needs shown
+
+  abbrev others : List (ℕ × FixedFields)
+  others = map (unseen ids.from) times
+
+  abbrev all : List (ℕ × FixedFields)
+  all = shown ++ others
+
+  -- such a timestamp is that of no event and of no account that is shown
+  record IsTime (t : ℕ) : Type 0 where
+    some : 0 < t
+    within : t ≤ TIMESTAMP
+    no_event : AllByRecursion (λ e. e.timestamp ≢ t) events
+    no_shown : AllByRecursion (λ b. b.1.timestamp ≢ t) shown
+
+  times_are : AllByRecursion IsTime times
+  times_are =
+      times_after-all needs IsTime shown
+      (AllByRecursion-weaker (λ a. (a.1.timestamp < TIMESTAMP) × NextIsFree events a)
+      (λ a. needs a ≡ true → IsTime (a.1.timestamp + 1))
+      (λ a is need.
+      let parts = and_parts (has_flag a.1.flags LINKED)
+      (not (list_any (λ b. b.1.timestamp == a.1.timestamp + 1) shown)) need in
+      let early = is.0 in
+      record {
+        some = omega arith;
+        within = omega (arith, early);
+        no_event = is.1 parts.0;
+        no_shown = none_there (a.1.timestamp + 1) shown (not-true _ parts.1);
+      }) shown
+      (AllByRecursion-both (λ a. a.1.timestamp < TIMESTAMP) (NextIsFree events) shown (all_early [] events accepted)
+      can.next_free))
+
+  -- each account is found
+  abbrev IsFound : ℕ × FixedFields → Type 0
+  IsFound a = lookup (nat_eq a.0) all ≡ Some a.1
+
+  found_times : AllByRecursion (λ t. IsFound (unseen ids.from t)) times
+  found_times =
+      AllByRecursion-weaker (λ t. IsTime t × (list_any (λ u. t == u) times ≡ true))
+      (λ t. IsFound (unseen ids.from t))
+      (λ t is. lookup_parts (ids.from + t) shown others
+      ∙ ap₂ option_or (none_has ids.from t shown is.0.within ids.free)
+      (unseen-found ids.from t times ∙ ap (λ b. if b then Some (unseen ids.from t).1 else None) is.1)) times
+      (AllByRecursion-both IsTime (λ t. list_any (λ u. t == u) times ≡ true) times times_are (each_there times))
+
+  found_all : AllByRecursion IsFound all
+  found_all =
+      all_parts IsFound shown others
+      (AllByRecursion-weaker (IsKnown events) IsFound
+      (λ a is. lookup_parts a.0 shown others ∙ ap (λ o. option_or o (lookup (nat_eq a.0) others)) is) shown known)
+      (mapped IsFound (unseen ids.from) times found_times)
+
+  -- and can be opened
+  fit_all : AllByRecursion IsFit all
+  fit_all =
+      all_parts IsFit shown others fit
+      (mapped IsFit (unseen ids.from) times
+      (AllByRecursion-weaker IsTime (λ t. IsFit (unseen ids.from t))
+      (λ t is. record {
+        openable = unseen-openable ids.from t ids.some ids.bound is.within;
+        some = is.some;
+      }) times times_are))
+
+  -- ---- the plan
+  abbrev plan : List Planned
+  plan = place_all opening_of all (only events)
+
+  same_events : events_in plan ≡ events
+  same_events = events_in-place_all opening_of all (only events) ∙ events_in-only events
 
   -- an account of one timestamp with this one is this one
   no_other : (a : ℕ × FixedFields) → IsKnown events a → (b : ℕ × FixedFields) → IsKnown events b
@@ -131,47 +257,101 @@ module _ (events : List Event) (can : CanBeMade events) (accepted : is_accepted 
       let fields : b.1 ≡ a.1 = cc in
       ap₂ (λ n f. opening_of (n, f)) id fields
 
-  admits : (a : ℕ × FixedFields) → IsKnown events a → AllAdmit opening_of shown (only events) a
-  admits a a_known = (
-    AllByRecursion-weaker (IsKnown events) (λ b. Admits (opening_of a) (inl (opening_of b))) (no_other a a_known) shown
-        known,
+  admits_shown : (a : ℕ × FixedFields) → IsKnown events a → AllAdmit opening_of all (only events) a
+  admits_shown a a_known = (
+    all_parts (λ b. Admits (opening_of a) (inl (opening_of b))) shown others
+        (AllByRecursion-weaker (IsKnown events) (λ b. Admits (opening_of a) (inl (opening_of b))) (no_other a a_known)
+        shown known)
+        (mapped (λ b. Admits (opening_of a) (inl (opening_of b))) (unseen ids.from) times
+        (AllByRecursion-weaker IsTime (λ t. Admits (opening_of a) (inl (opening_of (unseen ids.from t))))
+        (λ t is time. absurd (found_has (λ b. b.1.timestamp ≢ t) shown a is.no_shown a_known (sym time))) times
+        times_are)),
     only-all (Admits (opening_of a)) events (each_alone.no_event a.0 a.1 a_known),
   )
 
-  opens : AllByRecursion (λ a. Opens (opening_of a) plan) shown
+  admits_other : (t : ℕ) → IsTime t → AllAdmit opening_of all (only events) (unseen ids.from t)
+  admits_other t is = (
+    all_parts (λ b. Admits (opening_of (unseen ids.from t)) (inl (opening_of b))) shown others
+        (AllByRecursion-weaker (λ b. b.1.timestamp ≢ t)
+        (λ b. Admits (opening_of (unseen ids.from t)) (inl (opening_of b)))
+        (λ b other time. absurd (other time)) shown is.no_shown)
+        (mapped (λ b. Admits (opening_of (unseen ids.from t)) (inl (opening_of b))) (unseen ids.from) times
+        (AllByRecursion-weaker IsTime
+        (λ u. Admits (opening_of (unseen ids.from t)) (inl (opening_of (unseen ids.from u))))
+        (λ u other time. ap (λ v. opening_of (unseen ids.from v)) time) times times_are)),
+    only-all (Admits (opening_of (unseen ids.from t))) events is.no_event,
+  )
+
+  opens : AllByRecursion (λ a. Opens (opening_of a) plan) all
   opens =
-      place_all-opens opening_of shown (only events)
-      (AllByRecursion-weaker (IsKnown events) (AllAdmit opening_of shown (only events)) admits shown known)
+      place_all-opens opening_of all (only events)
+      (all_parts (AllAdmit opening_of all (only events)) shown others
+      (AllByRecursion-weaker (IsKnown events) (AllAdmit opening_of all (only events)) admits_shown shown known)
+      (mapped (AllAdmit opening_of all (only events)) (unseen ids.from) times
+      (AllByRecursion-weaker IsTime (λ t. AllAdmit opening_of all (only events) (unseen ids.from t)) admits_other
+      times times_are)))
 
-  ready : AllByRecursion (IsReady shown empty_history plan) (accounts_in (events_in plan))
+  ready : AllByRecursion (IsReady all empty_history plan) (accounts_in (events_in plan))
   ready =
-      subst (λ es. AllByRecursion (IsReady shown empty_history plan) (accounts_in es)) (sym same_events)
-      (AllByRecursion-weaker (λ a. Opens (opening_of a) plan) (IsReady shown empty_history plan) (λ a is. inr is) shown
-      opens)
+      subst (λ es. AllByRecursion (IsReady all empty_history plan) (accounts_in es)) (sym same_events)
+      (AllByRecursion-weaker (λ a. Opens (opening_of a) plan) (IsReady all empty_history plan) (λ a is. inr is) shown
+      (first_part (λ a. Opens (opening_of a) plan) shown others opens))
 
-  can_make : AllByRecursion (CanMake shown) plan
+  can_make : AllByRecursion (CanMake all) plan
   can_make =
-      all-place_all opening_of (CanMake shown) shown (only events)
-      (AllByRecursion-weaker (λ a. IsFit a × IsKnown events a) (λ a. CanMake shown (inl (opening_of a)))
-      (λ a is. (is.0.openable, is.1)) shown (AllByRecursion-both IsFit (IsKnown events) shown fit known))
-      (only-all (CanMake shown) events can.fit)
+      all-place_all opening_of (CanMake all) all (only events)
+      (AllByRecursion-weaker (λ a. IsFit a × IsFound a) (λ a. CanMake all (inl (opening_of a)))
+      (λ a is. (is.0.openable, is.1)) all (AllByRecursion-both IsFit IsFound all fit_all found_all))
+      (only-all (CanMake all) events can.fit)
 
-  followed : AreFollowed shown
-  followed a found linked =
-      any_there shown shown (a.1.timestamp + 1) known (found_has (IsFollowed events) shown a can.followed found linked)
+  -- after each linked account there is one: it is shown, or another one
+  abbrev HasNext : ℕ × FixedFields → Type 0
+  HasNext a = has_flag a.1.flags LINKED ≡ true → IsThere all (a.1.timestamp + 1)
 
-  few : AreFew shown
+  has_next : (a : ℕ × FixedFields)
+      → (needs a ≡ true → list_any (λ u. a.1.timestamp + 1 == u) times ≡ true) → HasNext a
+  has_next a has linked = by (list_any (λ b. b.1.timestamp == a.1.timestamp + 1) shown) refl
+    where
+      by : (b : Bool) → list_any (λ x. x.1.timestamp == a.1.timestamp + 1) shown ≡ b
+          → IsThere all (a.1.timestamp + 1)
+      by true some = any_there all shown (a.1.timestamp + 1) (first_part IsFound shown others found_all) some
+      by false none = record {
+        account = unseen ids.from (a.1.timestamp + 1);
+        known =
+            time_has (λ t. IsFound (unseen ids.from t)) (a.1.timestamp + 1) times found_times
+            (has (and_from _ _ linked (not_from_false _ none)));
+        time = refl;
+      }
+
+  followed : AreFollowed all
+  followed a found =
+      found_has HasNext all a
+      (all_parts HasNext shown others
+      (AllByRecursion-weaker (λ x. needs x ≡ true → list_any (λ u. x.1.timestamp + 1 == u) times ≡ true) HasNext
+      has_next shown (times_after-has needs shown))
+      (mapped HasNext (unseen ids.from) times
+      (AllByRecursion-weaker IsTime (λ t. HasNext (unseen ids.from t)) (λ t is linked. absurd (false≢true linked)) times
+      times_are))) found
+
+  few : AreFew all
   few t =
-      let one = can.accounts_room t in
-      (one.0, one.1, λ a found. found_has (λ b. b.1.timestamp ≡ t + one.0 → IsUnlinked b) shown a one.2 found)
+      let one = can.accounts_room t in (
+        one.0,
+        one.1,
+        λ a found. found_has (λ b. b.1.timestamp ≡ t + one.0 → IsUnlinked b) all a
+            (all_parts (λ b. b.1.timestamp ≡ t + one.0 → IsUnlinked b) shown others one.2
+            (mapped (λ b. b.1.timestamp ≡ t + one.0 → IsUnlinked b) (unseen ids.from) times
+            (AllByRecursion-weaker IsTime (λ u. u ≡ t + one.0 → IsUnlinked (unseen ids.from u)) (λ u is time. refl)
+            times times_are))) found,
+      )
 
   reaches : Reaches events
   reaches =
-      let after : AllByRecursion (λ a. 0 < (opening_of a).timestamp) shown =
-      AllByRecursion-weaker IsFit (λ a. 0 < (opening_of a).timestamp) (λ a is. is.some) shown fit in
+      let after : AllByRecursion (λ a. 0 < (opening_of a).timestamp) all =
+      AllByRecursion-weaker IsFit (λ a. 0 < (opening_of a).timestamp) (λ a is. is.some) all fit_all in
       subst Reaches same_events
-      (made_from_empty shown plan followed few (λ a found. found_has (λ b. Opens (opening_of b) plan) shown a opens found)
-      (rises-place_all opening_of 0 shown (only events) after (only-rises 0 events (accepted_events_rise events accepted)))
+      (made_from_empty all plan followed few (λ a found. found_has (λ b. Opens (opening_of b) plan) all a opens found)
+      (rises-place_all opening_of 0 all (only events) after (only-rises 0 events (accepted_events_rise events accepted)))
       can_make ready (ap (follows_on []) same_events ∙ accepted)
       (subst (HaveRoom 0) (sym same_events) can.room))
 
@@ -206,10 +386,10 @@ alone_stored (e ∷ events) alone =
     ap (λ b. last_expiry_from (if b then None else Some e) events) alone.0.stored ∙ alone_stored events alone.1
 
 -- accounts that aren't linked are no chains
-pub each_followed : (events : List Event) → AllByRecursion IsUnlinked (accounts_in events)
-    → AllByRecursion (IsFollowed events) (accounts_in events)
-each_followed events unlinked =
-    AllByRecursion-weaker IsUnlinked (IsFollowed events) (λ a is linked. absurd (false≢true (sym is ∙ linked)))
+pub each_next_free : (events : List Event) → AllByRecursion IsUnlinked (accounts_in events)
+    → AllByRecursion (NextIsFree events) (accounts_in events)
+each_next_free events unlinked =
+    AllByRecursion-weaker IsUnlinked (NextIsFree events) (λ a is linked. absurd (false≢true (sym is ∙ linked)))
     (accounts_in events) unlinked
 
 pub with_room : (events : List Event) → AllByRecursion IsUnlinked (accounts_in events) → AccountsHaveRoom events
@@ -228,7 +408,7 @@ pub events_alone_are_a_ledgers : EventsAloneAreALedgers
 events_alone_are_a_ledgers events alone unlinked accepted =
     accepted_events_are_a_ledgers events (record {
       fit = AllByRecursion-weaker IsAlone EventFits (λ e is. is.fits) events alone;
-      followed = each_followed events unlinked;
+      next_free = each_next_free events unlinked;
       accounts_room = with_room events unlinked;
       room = alone_room events alone;
     }) (record {

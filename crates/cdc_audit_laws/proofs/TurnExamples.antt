@@ -12,7 +12,7 @@ use Rattle.cdc_message.specs.Widths.{EventFits}
 use Rattle.cdc_audit.specs.Audits.{follows_on, is_accepted}
 use Rattle.cdc_audit.specs.Rules.{refusal}
 use Rattle.cdc_audit_laws.specs.Soundness.{AreCutOff, AreWhole, CanBeMade, IsUnlinked, accounts_in}
-use Rattle.cdc_audit_laws.proofs.Soundness.{accepted_events_are_a_ledgers, accepted_events_start_as_a_ledgers, each_followed, with_room}
+use Rattle.cdc_audit_laws.proofs.Soundness.{accepted_events_are_a_ledgers, accepted_events_start_as_a_ledgers, each_next_free, with_room}
 use Rattle.cdc_audit_laws.proofs.SoundExamples.{account, account_fits, event, event_fits}
 use Rattle.cdc_audit_laws.proofs.Whole.{ledgers_events_are_whole}
 
@@ -115,7 +115,7 @@ long_can_be_made = record {
       ),
     ),
   );
-  followed = each_followed long_stream long_unlinked;
+  next_free = each_next_free long_stream long_unlinked;
   accounts_room = with_room long_stream long_unlinked;
   room = (omega arith, (omega arith, (omega arith, (omega arith, (omega arith, (omega arith, (omega arith, tt)))))));
 }
@@ -145,7 +145,7 @@ cut_unlinked = (refl, (refl, (refl, (refl, tt))))
 cut_can_be_made : CanBeMade cut_stream
 cut_can_be_made = record {
   fit = (held_long_fits, (linked_one_fits, tt));
-  followed = each_followed cut_stream cut_unlinked;
+  next_free = each_next_free cut_stream cut_unlinked;
   accounts_room = with_room cut_stream cut_unlinked;
   room = (omega arith, (omega arith, tt));
 }

@@ -1,6 +1,6 @@
 -- Which accepted events are those of a ledger.
-use Rattle.std.specs.Prelude.{◌≡◌, ◌≢◌, ◌⊎◌, ◌<◌, ◌+◌, ◌==◌, ℕ, true, false, List, [], ◌∷◌, ◌++◌, Some, if◌then◌else◌}
-use Rattle.std.specs.List.{AllByRecursion, flat_map, list_any}
+use Rattle.std.specs.Prelude.{◌≡◌, ◌≢◌, ◌⊎◌, ◌<◌, ◌+◌, ℕ, true, false, List, [], ◌∷◌, ◌++◌, Some, if◌then◌else◌}
+use Rattle.std.specs.List.{AllByRecursion, flat_map}
 use Rattle.cdc_types.specs.declared.accounts.TheConstants.AccountFlags.{LINKED}
 use Rattle.cdc_types.specs.declared.bounds.TheConstants.Limits.{BATCH_ITEMS}
 use Rattle.cdc_types.specs.declared.events.Event.{Event}
@@ -27,10 +27,10 @@ accounts_in events = flat_map accounts_of events
 abbrev pub IsUnlinked : ℕ × FixedFields → Type 0
 IsUnlinked a = has_flag a.1.flags LINKED ≡ false
 
--- if the account is linked, these events show the next one too: it was created at the next timestamp
-abbrev pub IsFollowed : List Event → ℕ × FixedFields → Type 0
-IsFollowed events a = has_flag a.1.flags LINKED ≡ true
-    → list_any (λ b. b.1.timestamp == a.1.timestamp + 1) (accounts_in events) ≡ true
+-- if the account is linked, no event has the next timestamp: it is that of the next account of the chain
+abbrev pub NextIsFree : List Event → ℕ × FixedFields → Type 0
+NextIsFree events a = has_flag a.1.flags LINKED ≡ true
+    → AllByRecursion (λ e. e.timestamp ≢ a.1.timestamp + 1) events
 
 -- a batch has room for each chain of accounts: of as many timestamps in a row, one isn't that of a linked account
 abbrev pub AccountsHaveRoom : List Event → Type 0
@@ -60,10 +60,10 @@ AreCutOff events =
 -- ---- the laws
 
 -- a ledger can make these events: their numbers are within their widths, as those of all events are that were read;
--- they show each account of a chain of accounts; and a batch has room for each chain, of accounts or of transfers
+-- none comes right after a linked account; and a batch has room for each chain, of accounts or of transfers
 pub record CanBeMade (events : List Event) : Type 0 where
   pub fit : AllByRecursion EventFits events
-  pub followed : AllByRecursion (IsFollowed events) (accounts_in events)
+  pub next_free : AllByRecursion (NextIsFree events) (accounts_in events)
   pub accounts_room : AccountsHaveRoom events
   pub room : HaveRoom 0 events
 
