@@ -24,6 +24,7 @@ pub mod Running
 pub mod Modes
 pub mod Plan
 pub mod Openings
+pub mod Opening
 pub mod Walk
 pub mod Known
 pub mod Alone
@@ -33,3 +34,4 @@ pub mod Whole
 mod Examples
 mod SoundExamples
 mod TurnExamples
+mod LinkExamples

@@ -29,7 +29,8 @@ use Rattle.cdc_audit_laws.proofs.Unseen.{unseen-found, unseen-openable}
 use Rattle.cdc_audit_laws.proofs.Plan.{Admits, AllAdmit, Opens, Planned, all-place_all, events_in, events_in-only, events_in-place_all, only, only-all, only-rises, place_all, place_all-opens, rises-place_all}
 use Rattle.cdc_audit_laws.proofs.Openings.{AreCreated, IsOpenable, are_created, opening_of}
 use Rattle.cdc_audit_laws.proofs.Modes.{Reaches, part_legal, whole_legal}
-use Rattle.cdc_audit_laws.proofs.Walk.{AreFew, AreFollowed, CanMake, IsReady, IsThere, made_from_empty}
+use Rattle.cdc_audit_laws.proofs.Opening.{AreFew, AreFollowed, CanMake, IsReady, IsThere}
+use Rattle.cdc_audit_laws.proofs.Walk.{made_from_empty}
 
 -- ---- the accounts of accepted events can be opened
 

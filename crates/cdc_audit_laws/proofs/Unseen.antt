@@ -1,22 +1,20 @@
 -- Accounts that no event shows: a ledger can open one after a linked account, under an id that no event shows.
-use Rattle.std.proofs.Common.{◌≡◌, ◌≢◌, ◌⊎◌, inl, inr, ℕ, suc, zero, ◌+◌, ◌*◌, ◌<◌, ◌≤◌, ◌^◌, Bool, true, false, not, List, [], ◌∷◌, ◌++◌, Option, Some, None, if◌then◌else◌, length, map, refl, sym, ap, ap₂, ◌∙◌, subst, arith}
+use Rattle.std.proofs.Common.{◌≡◌, ◌≢◌, ◌⊎◌, inl, inr, ℕ, suc, zero, ◌+◌, ◌*◌, ◌<◌, ◌≤◌, Bool, true, false, List, [], ◌∷◌, Option, Some, None, if◌then◌else◌, length, map, refl, sym, ap, ap₂, ◌∙◌, arith}
 use Rattle.std.specs.Prelude.{◌==◌, ◌&&◌, ◌||◌, nat_eq, nat_le, nat_lt}
 use Rattle.std.specs.List.{AllByRecursion, list_any}
 use Rattle.std.specs.Map.{lookup}
-use Rattle.std.specs.Option.{option_or}
 use Rattle.std.proofs.lemmas.Bool.{and_from, and_parts, eq-eqb, eqb-false, eqb-true, false≢true, le-leb, leb-true, lt-ltb, ltb-true, ne_eqb, or_left, or_right}
 use Rattle.cdc_types.specs.declared.bounds.TheConstants.Limits.{TIMESTAMP}
 use Rattle.cdc_types.specs.declared.events.Event.{Event}
 use Rattle.cdc_types.specs.declared.results.AccountResult.TheVariants as account
 use Rattle.cdc_types.specs.Flags.{has_other_flag}
 use Rattle.cdc_types.specs.Lines.{first_line}
-use Rattle.cdc_types.specs.Shapes.{account_flags, account_refusal}
+use Rattle.cdc_types.specs.Shapes.{account_flags}
 use Rattle.cdc_types.specs.Timestamps.{RiseFrom}
 use Rattle.cdc_types.specs.Widths.{max_128}
 use Rattle.cdc_ledger.proofs.Elements.{AllByRecursion-weaker}
 use Rattle.cdc_audit.specs.declared.fields.FixedFields.{FixedFields}
 use Rattle.cdc_audit_laws.specs.Soundness.{accounts_in}
-use Rattle.cdc_audit_laws.proofs.Known.{lookup_parts}
 use Rattle.cdc_audit_laws.proofs.Openings.{IsOpenable, opening_of}
 
 -- ---- ids that no account has

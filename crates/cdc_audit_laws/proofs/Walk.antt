@@ -1,47 +1,36 @@
 -- A ledger that opens accounts and stores events in the order of their timestamps, as a plan has them.
-use Rattle.std.proofs.Common.{◌≡◌, ◌⊎◌, inl, inr, ℕ, ◌+◌, ◌-◌, ◌<◌, ◌≤◌, Bool, true, false, List, [], ◌∷◌, ◌++◌, Option, Some, None, is_some, refl, sym, ap, ap₂, ◌∙◌, subst, append_assoc, arith}
-use Rattle.std.specs.Prelude.{◌==◌, ◌&&◌, nat_eq, nat_lt, if◌then◌else◌}
+use Rattle.std.proofs.Common.{◌≡◌, ◌⊎◌, inl, inr, ℕ, ◌+◌, ◌-◌, ◌<◌, ◌≤◌, Bool, true, false, List, [], ◌∷◌, ◌++◌, Some, refl, sym, ap, ◌∙◌, subst, append_assoc, arith}
+use Rattle.std.specs.Prelude.{◌&&◌, nat_eq}
 use Rattle.std.specs.List.{AllByRecursion}
 use Rattle.std.specs.Map.{lookup}
-use Rattle.std.specs.Option.{option_or}
-use Rattle.std.proofs.lemmas.Bool.{eq-eqb, eqb-false, eqb-true, false≢true, ltb-false, ltb-true}
+use Rattle.std.proofs.lemmas.Bool.{false≢true, ltb-false}
 use Rattle.std.proofs.lemmas.List.{append-nil}
-use Rattle.cdc_types.specs.declared.bounds.TheConstants.Limits.{BATCH_ITEMS, TIMESTAMP}
+use Rattle.cdc_types.specs.declared.bounds.TheConstants.Limits.{TIMESTAMP}
 use Rattle.cdc_types.specs.declared.events.Entry.{Entry}
 use Rattle.cdc_types.specs.declared.events.Event.{Event}
 use Rattle.cdc_types.specs.declared.transfers.NewTransfer.{NewTransfer}
 use Rattle.cdc_types.specs.declared.transfers.TheConstants.TransferFlags.{LINKED}
 use Rattle.cdc_types.specs.declared.transfers.Transfer.{Transfer}
-use Rattle.cdc_types.specs.Flags.{has_flag, is_linked_account, is_linked_transfer}
-use Rattle.cdc_types.specs.Lines.{first_line}
-use Rattle.cdc_types.specs.Shapes.{account_shape_lines}
+use Rattle.cdc_types.specs.Flags.{has_flag, is_linked_transfer}
 use Rattle.cdc_types.specs.Timestamps.{last_timestamp}
 use Rattle.cdc_types.proofs.Rising.{last_timestamp_from-push}
-use Rattle.cdc_ledger.specs.Balances.{balances}
 use Rattle.cdc_ledger.specs.Changes.{pushed, timed, with_account}
 use Rattle.cdc_ledger.specs.Due.{due}
 use Rattle.cdc_ledger.specs.Events.{events}
 use Rattle.cdc_ledger.specs.Filling.{expires_at as expires_at_one}
-use Rattle.cdc_ledger.specs.Fits.{NewAccountFits, NewTransferFits}
+use Rattle.cdc_ledger.specs.Fits.{NewTransferFits}
 use Rattle.cdc_ledger.specs.Follows.{Follows}
-use Rattle.cdc_ledger.specs.History.{History, Opened, empty_history, opened}
+use Rattle.cdc_ledger.specs.History.{History, empty_history, opened}
 use Rattle.cdc_ledger.specs.Kinds.{stores}
-use Rattle.cdc_ledger.specs.Sound.{IsSound}
-use Rattle.cdc_ledger.specs.Submit.{IsLegal, account_rules, transfer_rules}
-use Rattle.cdc_ledger.specs.Verdict.{account_refused, known_account_lines}
+use Rattle.cdc_ledger.specs.Submit.{IsLegal, transfer_rules}
 use Rattle.cdc_ledger.proofs.BalanceLaws.{balances_later}
-use Rattle.cdc_ledger.proofs.Elements.{AllByRecursion-weaker, AllByRecursion_push}
-use Rattle.cdc_ledger.proofs.EventLaws.{events-with_account}
+use Rattle.cdc_ledger.proofs.Elements.{AllByRecursion-weaker}
 use Rattle.cdc_ledger.proofs.LegalLaws.{IsLegal-empty}
-use Rattle.cdc_ledger.proofs.LineLaws.{first_line-append_none}
-use Rattle.cdc_ledger.proofs.OpenedLaws.{opened-with_account, opened-with_account_same, opened_id}
-use Rattle.cdc_ledger.proofs.SoundLaws.{IsSound-empty, IsSound-timed, IsSound-with_account}
-use Rattle.cdc_ledger.proofs.StoredLaws.{find_all}
-use Rattle.cdc_message.specs.Widths.{EventFits}
+use Rattle.cdc_ledger.proofs.SoundLaws.{IsSound-empty, IsSound-timed}
 use Rattle.cdc_audit.specs.declared.fields.FixedFields.{FixedFields}
 use Rattle.cdc_audit.specs.Audits.{follows_on}
 use Rattle.cdc_audit.specs.EventShapes.{asked_transfer}
-use Rattle.cdc_audit.specs.Known.{balances_after, ends_in_chain, is_linked, last_expiry}
+use Rattle.cdc_audit.specs.Known.{ends_in_chain, is_linked, last_expiry}
 use Rattle.cdc_audit.specs.Expiries.{can_expire, is_sooner}
 use Rattle.cdc_audit.specs.Settling.{expires_at}
 use Rattle.cdc_audit_laws.specs.Soundness.{HaveRoom, accounts_in}
@@ -49,276 +38,21 @@ use Rattle.cdc_audit_laws.proofs.Coming.{Comes}
 use Rattle.cdc_audit_laws.proofs.Entering.{entry_is, own, own_follows, shows_own, unrefused}
 use Rattle.cdc_audit_laws.proofs.Expiry.{expired, expiry_follows, expiry_is, is_up, shows_expired}
 use Rattle.cdc_audit_laws.proofs.Following.{CanFollow}
-use Rattle.cdc_audit_laws.proofs.Ledgers.{fixed_of}
 use Rattle.cdc_audit_laws.proofs.Made.{IsShownBy, entry_with, events_then, shown_then, sound_then}
-use Rattle.cdc_audit_laws.proofs.Modes.{IsInChain, IsInPulse, IsOfChain, IsOfPulse, Mode, Reaches, StartsLegal, chain-push, chain_next, expiry-push, goes_on}
+use Rattle.cdc_audit_laws.proofs.Modes.{IsOfChain, IsOfPulse, Mode, Reaches, StartsLegal, chain-push, chain_next, expiry-push}
 use Rattle.cdc_audit_laws.proofs.Modes.{linked_run, pulse_next, run-push, run_from-push, starts, starts-push, stores_or_not}
-use Rattle.cdc_audit_laws.proofs.Openings.{IsOpenable, are_created, opening_of, request_fits}
-use Rattle.cdc_audit_laws.proofs.Running.{AccountsRunOn, Pulses, RunsOn, accounts-legal, pulses-done, pulses-expired, pulses-legal, runs-done, runs-legal, runs-more, runs-taken, timed_before}
+use Rattle.cdc_audit_laws.proofs.Openings.{are_created, opening_of, request_fits}
+use Rattle.cdc_audit_laws.proofs.Running.{Pulses, RunsOn, pulses-done, pulses-expired, pulses-legal, runs-done, runs-legal, runs-more, runs-taken, timed_before}
 use Rattle.cdc_audit_laws.proofs.Streams.{first_follows}
-use Rattle.cdc_audit_laws.proofs.Plan.{Opens, Rises, Planned, events_in, events_later, opens_later}
+use Rattle.cdc_audit_laws.proofs.Plan.{Opens, Rises, Planned, events_in, opens_later}
 use Rattle.cdc_audit_laws.proofs.Soonest.{AllThatExpire, expire_then, no_earlier, none_before_expiry}
 use Rattle.cdc_audit_laws.proofs.Turns.{its_time, next_due}
+use Rattle.cdc_audit_laws.proofs.Opening.{AreFew, AreFollowed, CanMake, Goes, IsBegun, IsOpening, IsReady, begun_before, begun_new}
+use Rattle.cdc_audit_laws.proofs.Opening.{goes_then, past_later, same_events, to_come, too_late}
 
 module _ (all : List (ℕ × FixedFields)) where
-  -- the account is the one that these show
-  abbrev pub IsShown : Opened → Type 0
-  IsShown o = lookup (nat_eq o.request.id) all ≡ Some (fixed_of o)
-
-  -- of two such accounts of one id each is the other
-  same_shown : (o p : Opened) → IsShown o → IsShown p → o.request.id ≡ p.request.id → o ≡ p
-  same_shown o p o_is p_is same =
-      let found : Some (fixed_of o) ≡ Some (fixed_of p) =
-      sym o_is ∙ ap (λ n. lookup (nat_eq n) all) same ∙ p_is in
-      let fields : fixed_of o ≡ fixed_of p = cc in
-      ap₂ (λ n f. opening_of (n, f)) same fields
-
-  -- what can be made: an account that is openable and known, or an event
-  abbrev pub CanMake : Planned → Type 0
-  CanMake (inl o) = IsOpenable o × IsShown o
-  CanMake (inr e) = EventFits e
-
-  -- an account of a history, up to this timestamp
-  abbrev IsPast : ℕ → Opened → Type 0
-  IsPast t o = IsShown o × (o.timestamp ≤ t)
-
-  past_later : (s t : ℕ) (os : List Opened) → s ≤ t → AllByRecursion (IsPast s) os → AllByRecursion (IsPast t) os
-  past_later s t os later past =
-      AllByRecursion-weaker (IsPast s) (IsPast t) (λ o is. (is.0, omega (arith, is.1, later))) os past
-
-  -- an account is opened, or will be
-  abbrev pub IsReady : History → List Planned → ℕ × FixedFields → Type 0
-  IsReady h rest a = (opened h a.0 ≡ Some (opening_of a)) ⊎ Opens (opening_of a) rest
-
-  -- one of these accounts was created at this timestamp
-  pub record IsThere (t : ℕ) : Type 0 where
-    pub account : ℕ × FixedFields
-    pub known : lookup (nat_eq account.0) all ≡ Some account.1
-    pub time : account.1.timestamp ≡ t
-
-  -- and it is linked to the next one
-  record IsLinkedAt (t : ℕ) : Type 0 where
-    is_there : IsThere t
-    linked : is_linked_account (opening_of is_there.account).request ≡ true
-
-  -- after each linked account the next one is there
-  abbrev pub AreFollowed : Type 0
-  AreFollowed = (a : ℕ × FixedFields) → lookup (nat_eq a.0) all ≡ Some a.1 → is_linked_account (opening_of a).request ≡ true
-      → IsThere (a.1.timestamp + 1)
-
-  -- of as many timestamps as a batch has room for, one isn't that of a linked account
-  abbrev pub AreFew : Type 0
-  AreFew = (t : ℕ) → (k : ℕ) × (k < BATCH_ITEMS)
-      × ((a : ℕ × FixedFields) → lookup (nat_eq a.0) all ≡ Some a.1 → a.1.timestamp ≡ t + k
-      → is_linked_account (opening_of a).request ≡ false)
-
-  -- before this timestamp a chain of accounts began, or none did: all accounts since then are linked
-  record IsBegun (h : History) (t : ℕ) : Type 0 where
-    start : ℕ
-    before : start ≤ t
-    runs : AccountsRunOn h t (t - start)
-    linked : (u : ℕ) → start ≤ u → u < t → IsLinkedAt u
-
-  -- within a chain of accounts
-  record IsOpening (h : History) : Type 0 where
-    begun : IsBegun h (h.last + 1)
-    next : IsThere (h.last + 1)
-
-  -- a batch has room for one more
-  begun-room : (h : History) (t : ℕ) → AreFew → (begun : IsBegun h t) → t - begun.start < BATCH_ITEMS
-  begun-room h t few begun =
-      let one = few begun.start in
-      by one.0 one.1 one.2 (nat_lt (begun.start + one.0) t) refl
-    where
-      by : (k : ℕ) → k < BATCH_ITEMS
-          → ((a : ℕ × FixedFields) → lookup (nat_eq a.0) all ≡ Some a.1 → a.1.timestamp ≡ begun.start + k
-          → is_linked_account (opening_of a).request ≡ false)
-          → (b : Bool) → nat_lt (begun.start + k) t ≡ b → t - begun.start < BATCH_ITEMS
-      by k few_one unlinked true is =
-          let it = begun.linked (begun.start + k) (omega arith) (ltb-true (begun.start + k) t is) in
-          absurd (false≢true (sym (unlinked it.is_there.account it.is_there.known it.is_there.time) ∙ it.linked))
-      by k few_one unlinked false is =
-          let most = ltb-false (begun.start + k) t is in omega (arith, most, few_one)
-
-  -- what is known of a history, and of the rest of the plan
-  record Goes (h : History) (rest : List Planned) : Type 0 where
-    followed : AreFollowed
-    few : AreFew
-    all_ready : (a : ℕ × FixedFields) → lookup (nat_eq a.0) all ≡ Some a.1 → IsReady h rest a
-    sound : IsSound h
-    shown : (id : ℕ) → balances_after (events h) id ≡ balances h id h.last
-    is_open : h.closed ≡ false
-    rises : Rises h.last rest
-    can : AllByRecursion CanMake rest
-    past : AllByRecursion (IsPast h.last) h.accounts
-    ready : AllByRecursion (IsReady h rest) (accounts_in (events_in rest))
-    follow : follows_on (events h) (events_in rest) ≡ true
-    room : HaveRoom (linked_run (events h)) (events_in rest)
-    mode : Mode h ⊎ IsOpening h
-
-  -- within a chain of accounts the next one is to come
-  to_come : (h : History) (rest : List Planned) → Goes h rest → (opening : IsOpening h)
-      → Opens (opening_of opening.next.account) rest
-  to_come h rest goes opening = by (goes.all_ready opening.next.account opening.next.known)
-    where
-      by : IsReady h rest opening.next.account → Opens (opening_of opening.next.account) rest
-      by (inl there) =
-          let it = opening.next.account in
-          let past : IsPast h.last (opening_of it) =
-          (find_all (λ (y : Opened). y.request.id == it.0) (IsPast h.last) h.accounts (opening_of it) goes.past
-          there).1 in
-          let time = opening.next.time in
-          absurd (let no : ⊥ = omega (arith, past.1, time) in no)
-      by (inr later) = later
-
-  -- ---- an account is opened
-  module _ (h : History) (o : Opened) (rest : List Planned) (goes : Goes h (inl o ∷ rest)) where
-    abbrev with_one : History
-    with_one = with_account h o
-
-    is_new : opened h o.request.id ≡ None
-    is_new = by (opened h o.request.id) refl
-      where
-        by : (found : Option Opened) → opened h o.request.id ≡ found → opened h o.request.id ≡ None
-        by None is = is
-        by (Some x) is =
-            let has : IsPast h.last x =
-            (find_all (λ (y : Opened). y.request.id == o.request.id) (IsPast h.last) h.accounts x goes.past is).1 in
-            let same : x ≡ o = same_shown x o has.0 goes.can.0.1 (opened_id h x o.request.id is) in
-            let time : x.timestamp ≡ o.timestamp = ap (λ (y : Opened). y.timestamp) same in
-            let later : h.last < o.timestamp = goes.rises.0 in
-            absurd (let no : ⊥ = omega (arith, time, has.1, later) in no)
-
-    unrefused_one : account_refused h o.request ≡ None
-    unrefused_one =
-        first_line-append_none (account_shape_lines o.request) (known_account_lines (opened h o.request.id) o.request)
-        goes.can.0.0.fields
-        ∙ ap (λ x. first_line (known_account_lines x o.request)) is_new
-
-    -- no chain and no pulse is on its way, if an event comes: it would be before the account is opened
-    too_late : (e : Event) (es : List Event) → events_in rest ≡ e ∷ es → (IsInChain h ⊎ IsInPulse h) → ⊥
-    too_late e es is on =
-        let after : o.timestamp < e.timestamp = events_later o.timestamp rest e es goes.rises.1 is in
-        let before : h.last < o.timestamp = goes.rises.0 in
-        let can : CanFollow (events h) e =
-        (first_follows (events h) e es (ap (follows_on (events h)) (sym is) ∙ goes.follow)).0 in
-        let next = goes_on h e goes.sound on can in
-        omega (arith, after, before, next)
-
-    -- a chain of accounts is on its way, or begins
-    begun_new : IsLegal h → IsBegun h o.timestamp
-    begun_new legal = record {
-      start = o.timestamp;
-      before = omega arith;
-      runs =
-          runs-more account_rules NewAccountFits h o.timestamp (o.timestamp - o.timestamp)
-          (accounts-legal h o.timestamp legal goes.is_open goes.rises.0);
-      linked = λ u from to. absurd (let no : ⊥ = omega (arith, from, to) in no);
-    }
-
-    -- within one this account is the next one
-    its_turn : IsOpening h → o.timestamp ≡ h.last + 1
-    its_turn opening = by (to_come h (inl o ∷ rest) goes opening)
-      where
-        by : Opens (opening_of opening.next.account) (inl o ∷ rest) → o.timestamp ≡ h.last + 1
-        by (inl same) = ap (λ (x : Opened). x.timestamp) same ∙ opening.next.time
-        by (inr later) =
-            let after : o.timestamp < opening.next.account.1.timestamp =
-            opens_later o.timestamp (opening_of opening.next.account) rest goes.rises.1 later in
-            let before : h.last < o.timestamp = goes.rises.0 in
-            let time = opening.next.time in
-            absurd (let no : ⊥ = omega (arith, after, before, time) in no)
-
-    begun_before : IsOpening h → IsBegun h o.timestamp
-    begun_before opening = subst (IsBegun h) (sym (its_turn opening)) opening.begun
-
-    -- it ends the chain, or goes on with it
-    mode_then : IsBegun h o.timestamp → Mode with_one ⊎ IsOpening with_one
-    mode_then begun = by (is_linked_account o.request) refl
-      where
-        by : (b : Bool) → is_linked_account o.request ≡ b → Mode with_one ⊎ IsOpening with_one
-        by false is =
-            inl (inl (runs-done account_rules NewAccountFits h o.timestamp (o.timestamp - begun.start) o.request
-            begun.runs (begun-room h o.timestamp goes.few begun) goes.can.0.0.within is unrefused_one
-            goes.can.0.0.fits))
-        by true is =
-            let before = begun.before in
-            let taken : AccountsRunOn with_one (o.timestamp + 1) (o.timestamp - begun.start + 1) =
-            runs-taken account_rules NewAccountFits h o.timestamp (o.timestamp - begun.start) o.request begun.runs is
-            unrefused_one goes.can.0.0.fits in
-            inr (record {
-              begun = record {
-                start = begun.start;
-                before = omega (arith, before);
-                runs =
-                    subst (AccountsRunOn with_one (o.timestamp + 1))
-                    (let same : o.timestamp - begun.start + 1 ≡ o.timestamp + 1 - begun.start = omega (arith, before) in
-                    same) taken;
-                linked = λ u from to. since u from to is (u == o.timestamp) refl;
-              };
-              next = goes.followed (o.request.id, fixed_of o) goes.can.0.1 is;
-            })
-          where
-            since : (u : ℕ) → begun.start ≤ u → u < o.timestamp + 1 → is_linked_account o.request ≡ true
-                → (b : Bool) → (u == o.timestamp) ≡ b → IsLinkedAt u
-            since u from to linked true same =
-                record {
-                  is_there = record {
-                    account = (o.request.id, fixed_of o);
-                    known = goes.can.0.1;
-                    time = sym (eqb-true u o.timestamp same);
-                  };
-                  linked = linked;
-                }
-            since u from to linked false same =
-                let other = eqb-false u o.timestamp same in
-                begun.linked u from (omega (arith, other, to))
-
-    -- it is found
-    found_then : opened with_one o.request.id ≡ Some o
-    found_then =
-        opened-with_account h o o.request.id
-        ∙ ap₂ (λ x b. option_or x (if b then Some o else None)) is_new (eq-eqb o.request.id o.request.id refl)
-
-    ready_then : (a : ℕ × FixedFields) → IsReady h (inl o ∷ rest) a → IsReady with_one rest a
-    ready_then a (inl there) =
-        inl (opened-with_account_same h o a.0 (ap is_some there) ∙ there)
-    ready_then a (inr (inl same)) =
-        inl (ap (λ (x : Opened). opened with_one x.request.id) (sym same) ∙ found_then ∙ ap Some same)
-    ready_then a (inr (inr later)) = inr later
-
-    same_events : events with_one ≡ events h
-    same_events = events-with_account h o goes.sound.known
-
-    goes_then : IsBegun h o.timestamp → Goes with_one rest
-    goes_then begun = record {
-      followed = goes.followed;
-      few = goes.few;
-      all_ready = λ a known. ready_then a (goes.all_ready a known);
-      sound =
-          let later : h.last < o.timestamp = goes.rises.0 in
-          IsSound-with_account h o goes.sound is_new (omega (arith, later)) goes.can.0.0.within;
-      shown = λ id.
-          let later : h.last < o.timestamp = goes.rises.0 in
-          ap (λ es. balances_after es id) same_events ∙ goes.shown id
-          ∙ sym (balances_later h id h.last o.timestamp goes.sound.past (omega (arith, later)));
-      mode = mode_then begun;
-      is_open = goes.is_open;
-      rises = goes.rises.1;
-      can = goes.can.1;
-      past =
-          let later : h.last < o.timestamp = goes.rises.0 in
-          AllByRecursion_push (IsPast o.timestamp) h.accounts o
-          (past_later h.last o.timestamp h.accounts (omega (arith, later)) goes.past)
-          (goes.can.0.1, omega arith);
-      ready = AllByRecursion-weaker (IsReady h (inl o ∷ rest)) (IsReady with_one rest) ready_then
-          (accounts_in (events_in rest)) goes.ready;
-      follow = subst (λ es. follows_on es (events_in rest) ≡ true) (sym same_events) goes.follow;
-      room = subst (λ es. HaveRoom (linked_run es) (events_in rest)) (sym same_events) goes.room;
-    }
-
   -- ---- an event happens
-  module _ (h : History) (e : Event) (rest : List Planned) (goes : Goes h (inr e ∷ rest)) where
+  module _ (h : History) (e : Event) (rest : List Planned) (goes : Goes all h (inr e ∷ rest)) where
     first : CanFollow (events h) e × (follows_on (events h ++ e ∷ []) (events_in rest) ≡ true)
     first = first_follows (events h) e (events_in rest) goes.follow
 
@@ -329,18 +63,18 @@ module _ (all : List (ℕ × FixedFields)) where
     mode_at : Mode h
     mode_at = by goes.mode
       where
-        by : (Mode h ⊎ IsOpening h) → Mode h
+        by : (Mode h ⊎ IsOpening all h) → Mode h
         by (inl mode) = mode
         by (inr opening) =
             let later : e.timestamp < opening.next.account.1.timestamp =
             opens_later e.timestamp (opening_of opening.next.account) rest goes.rises.1
-            (to_come h (inr e ∷ rest) goes opening) in
+            (to_come all h (inr e ∷ rest) goes opening) in
             let after : h.last < e.timestamp = goes.rises.0 in
             let time = opening.next.time in
             absurd (let no : ⊥ = omega (arith, later, after, time) in no)
 
     -- its accounts were opened before it
-    before : (a : ℕ × FixedFields) → a.1.timestamp < e.timestamp → IsReady h (inr e ∷ rest) a
+    before : (a : ℕ × FixedFields) → a.1.timestamp < e.timestamp → IsReady all h (inr e ∷ rest) a
         → opened h a.0 ≡ Some (opening_of a)
     before a earlier (inl there) = there
     before a earlier (inr later) =
@@ -365,7 +99,7 @@ module _ (all : List (ℕ × FixedFields)) where
       same_then : events (pushed h (entry_with e y)) ≡ events h ++ e ∷ []
       same_then = events_then h e comes y is follows
 
-      goes_with : Goes (pushed h (entry_with e y)) rest
+      goes_with : Goes all (pushed h (entry_with e y)) rest
       goes_with = record {
         followed = goes.followed;
         few = goes.few;
@@ -377,7 +111,7 @@ module _ (all : List (ℕ × FixedFields)) where
         can = goes.can.1;
         past =
             let later : h.last < e.timestamp = goes.rises.0 in
-            past_later h.last e.timestamp h.accounts (omega (arith, later)) goes.past;
+            past_later all h.last e.timestamp h.accounts (omega (arith, later)) goes.past;
         ready = goes.ready.1.1;
         follow = subst (λ es. follows_on es (events_in rest) ≡ true) (sym same_then) first.1;
         room =
@@ -446,7 +180,7 @@ module _ (all : List (ℕ × FixedFields)) where
                     (starts-push IsOfChain (events h) e runs.1 is);
               }))
 
-      goes_own : Goes with_own rest
+      goes_own : Goes all with_own rest
       goes_own =
           goes_with (own h e comes storing) (shows_own h e comes storing) (own_follows h e comes storing) own_mode
 
@@ -508,15 +242,15 @@ module _ (all : List (ℕ × FixedFields)) where
                     (starts-push (IsOfPulse now) (events h) e start (storing, refl));
               }))
 
-      goes_gone : Goes with_gone rest
+      goes_gone : Goes all with_gone rest
       goes_gone = goes_with gone (shows_expired h e comes storing) (expiry_follows h e comes storing) gone_mode
 
   -- before a pulse begins, the timestamp before it is taken
-  module _ (h : History) (e : Event) (rest : List Planned) (goes : Goes h (inr e ∷ rest)) (legal : IsLegal h) where
+  module _ (h : History) (e : Event) (rest : List Planned) (goes : Goes all h (inr e ∷ rest)) (legal : IsLegal h) where
     abbrev paused : History
     paused = timed h (e.timestamp - 1)
 
-    goes_paused : Goes paused (inr e ∷ rest)
+    goes_paused : Goes all paused (inr e ∷ rest)
     goes_paused =
         let later : h.last < e.timestamp = goes.rises.0 in
         let within = in_time h e rest goes in
@@ -530,7 +264,7 @@ module _ (all : List (ℕ × FixedFields)) where
           is_open = goes.is_open;
           rises = (omega (arith, later), goes.rises.1);
           can = goes.can;
-          past = past_later h.last (e.timestamp - 1) h.accounts (omega (arith, later)) goes.past;
+          past = past_later all h.last (e.timestamp - 1) h.accounts (omega (arith, later)) goes.past;
           ready = goes.ready;
           follow = goes.follow;
           room = goes.room;
@@ -550,10 +284,10 @@ module _ (all : List (ℕ × FixedFields)) where
   -- one event more
   record Steps (h : History) (e : Event) (rest : List Planned) : Type 0 where
     after : History
-    goes : Goes after rest
+    goes : Goes all after rest
     events_are : events after ≡ events h ++ e ∷ []
 
-  steps : (h : History) (e : Event) (rest : List Planned) → Goes h (inr e ∷ rest) → Steps h e rest
+  steps : (h : History) (e : Event) (rest : List Planned) → Goes all h (inr e ∷ rest) → Steps h e rest
   steps h e rest goes = by (stores_or_not (stores e.kind))
     where
       expires : stores e.kind ≡ false → Mode h → Steps h e rest
@@ -591,28 +325,28 @@ module _ (all : List (ℕ × FixedFields)) where
       by (inr storing) = expires storing (mode_at h e rest goes)
 
   -- so the plan is done to its end; accounts that no later event shows stay away, if a chain or a pulse is cut off
-  reaches : (rest : List Planned) (h : History) → Goes h rest → Reaches (events h ++ events_in rest)
+  reaches : (rest : List Planned) (h : History) → Goes all h rest → Reaches (events h ++ events_in rest)
   reaches [] h goes = by goes.mode
     where
-      by : (Mode h ⊎ IsOpening h) → Reaches (events h ++ [])
+      by : (Mode h ⊎ IsOpening all h) → Reaches (events h ++ [])
       by (inl mode) = record { last = h; sound = goes.sound; mode = mode; same = sym (append-nil (events h)) }
-      by (inr opening) = absurd (to_come h [] goes opening)
+      by (inr opening) = absurd (to_come all h [] goes opening)
   reaches (inl o ∷ rest) h goes =
       by goes.mode (events_in rest) refl
-      (λ begun. subst Reaches (ap (λ es. es ++ events_in rest) (same_events h o rest goes))
-      (reaches rest (with_account h o) (goes_then h o rest goes begun)))
+      (λ begun. subst Reaches (ap (λ es. es ++ events_in rest) (same_events all h o rest goes))
+      (reaches rest (with_account h o) (goes_then all h o rest goes begun)))
     where
-      by : (Mode h ⊎ IsOpening h) → (es : List Event) → events_in rest ≡ es
-          → (IsBegun h o.timestamp → Reaches (events h ++ events_in rest)) → Reaches (events h ++ events_in rest)
-      by (inl (inl legal)) es is more = more (begun_new h o rest goes legal)
+      by : (Mode h ⊎ IsOpening all h) → (es : List Event) → events_in rest ≡ es
+          → (IsBegun all h o.timestamp → Reaches (events h ++ events_in rest)) → Reaches (events h ++ events_in rest)
+      by (inl (inl legal)) es is more = more (begun_new all h o rest goes legal)
       by (inl (inr on)) [] is more = record {
         last = h;
         sound = goes.sound;
         mode = inr on;
         same = sym (append-nil (events h)) ∙ ap (λ es. events h ++ es) (sym is);
       }
-      by (inl (inr on)) (e ∷ es) is more = absurd (too_late h o rest goes e es is on)
-      by (inr opening) es is more = more (begun_before h o rest goes opening)
+      by (inl (inr on)) (e ∷ es) is more = absurd (too_late all h o rest goes e es is on)
+      by (inr opening) es is more = more (begun_before all h o rest goes opening)
   reaches (inr e ∷ rest) h goes =
       let step = steps h e rest goes in
       subst Reaches
@@ -620,9 +354,9 @@ module _ (all : List (ℕ × FixedFields)) where
       (reaches rest step.after step.goes)
 
   -- from a new ledger on
-  pub made_from_empty : (plan : List Planned) → AreFollowed → AreFew
+  pub made_from_empty : (plan : List Planned) → AreFollowed all → AreFew all
       → ((a : ℕ × FixedFields) → lookup (nat_eq a.0) all ≡ Some a.1 → Opens (opening_of a) plan) → Rises 0 plan
-      → AllByRecursion CanMake plan → AllByRecursion (IsReady empty_history plan) (accounts_in (events_in plan))
+      → AllByRecursion (CanMake all) plan → AllByRecursion (IsReady all empty_history plan) (accounts_in (events_in plan))
       → follows_on [] (events_in plan) ≡ true → HaveRoom 0 (events_in plan) → Reaches (events_in plan)
   made_from_empty plan followed few opened_all rises can ready follow room =
       reaches plan empty_history (record {

@@ -83,7 +83,7 @@ pub record IsAlone (e : Event) : Type 0 where
   pub stored : stores e.kind ≡ true
   pub unlinked : is_linked e ≡ false
 
--- for events that store a transfer each, without chains, of accounts that aren't linked, no premise on chains is left
+-- for events that store a transfer each, if no account and no transfer is linked, only the premise on numbers is left
 abbrev pub EventsAloneAreALedgers : Type 0
 EventsAloneAreALedgers = (events : List Event) → AllByRecursion IsAlone events
     → AllByRecursion IsUnlinked (accounts_in events) → is_accepted events ≡ true

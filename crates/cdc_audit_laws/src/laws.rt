@@ -11,9 +11,9 @@ pub fn ledgers_are_accepted()
 {}
 
 /// Does nothing. The converse: events that are accepted are those of a legal history, if a ledger can make them. Their
-/// numbers are within their widths, none of their accounts is linked, and a batch has room for each chain. If a chain or
-/// a pulse is cut off at the end, a legal history has the events before it. If no event is linked or an expiry, only the
-/// premises on numbers and accounts are left.
+/// numbers are within their widths, no event comes right after a linked account, and a batch has room for each chain of
+/// accounts or of transfers. If a chain or a pulse is cut off at the end, a legal history has the events before it. If no
+/// account and no event is linked and no event is an expiry, only the premise on numbers is left.
 pub fn accepted_events_are_a_ledgers()
     ensures all { AcceptedEventsAreALedgers }
     ensures start { AcceptedEventsStartAsALedgers }
