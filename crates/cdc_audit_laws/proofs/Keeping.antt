@@ -185,7 +185,7 @@ at_its_time h r t = by (is_plain_request r) (stored h r.pending_id)
     by false (Some x) = refl
 
 -- how many items there are in these chains
-abbrev total : {A : Type 0} → List (List A) → ℕ
+abbrev pub total : {A : Type 0} → List (List A) → ℕ
 total [] = 0
 total (chain ∷ chains) = length chain + total chains
 
@@ -196,7 +196,7 @@ total-in_front true a [] = refl
 total-in_front true a (chain ∷ chains) = omega arith
 
 -- the chains of a batch have its items
-total-chains_of : {A : Type 0} (linked : A → Bool) (items : List A) → total (chains_of linked items) ≡ length items
+pub total-chains_of : {A : Type 0} (linked : A → Bool) (items : List A) → total (chains_of linked items) ≡ length items
 total-chains_of linked [] = refl
 total-chains_of linked (a ∷ rest) =
     let more = total-in_front (linked a) a (chains_of linked rest) in
@@ -204,7 +204,7 @@ total-chains_of linked (a ∷ rest) =
     omega (arith, more, others)
 
 -- a batch that is answered isn't too large
-not_large : (h : History) (b : Batch) (answer : BatchResults × History) → submit h b ≡ Ok answer
+pub not_large : (h : History) (b : Batch) (answer : BatchResults × History) → submit h b ≡ Ok answer
     → is_too_large b ≡ false
 not_large h b answer e =
     test_fails batch_error_number BatchTooLarge

@@ -31,6 +31,7 @@ pub mod Alone
 pub mod Unseen
 pub mod Soundness
 pub mod Whole
+pub mod Links
 mod Examples
 mod SoundExamples
 mod TurnExamples

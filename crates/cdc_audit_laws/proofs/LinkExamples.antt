@@ -1,6 +1,7 @@
 -- The converse law at work with linked accounts: a stream that is a ledger's, and one with an event in their chain.
 use Rattle.std.specs.Prelude.{ℕ, ◌≡◌, true, [], ◌∷◌}
-use Rattle.std.proofs.Common.{refl, arith}
+use Rattle.std.proofs.Common.{refl, sym, subst, arith}
+use Rattle.std.specs.List.{AllByRecursion}
 use Rattle.cdc_types.specs.declared.events.Event.{Event}
 use Rattle.cdc_types.specs.declared.events.EventAccount.{EventAccount}
 use Rattle.cdc_types.specs.declared.events.EventKind.TheVariants.{SinglePhase}
@@ -11,6 +12,7 @@ use Rattle.cdc_message.specs.Widths.{AccountFits, EventFits}
 use Rattle.cdc_audit.specs.Audits.{follows_on, is_accepted}
 use Rattle.cdc_audit.specs.Rules.{refusal}
 use Rattle.cdc_audit_laws.specs.Soundness.{AreWhole, CanBeMade}
+use Rattle.cdc_audit_laws.proofs.Links.{ledgers_events_can_be_made}
 use Rattle.cdc_audit_laws.proofs.Soundness.{accepted_events_are_a_ledgers}
 use Rattle.cdc_audit_laws.proofs.SoundExamples.{account, account_fits, event, event_fits}
 
@@ -69,7 +71,7 @@ paid_whole = record { chain = refl; pulse = λ x y last first. cc }
 paid_is_a_ledgers : (h : History) × IsLegal h × (events_of h ≡ paid ∷ [])
 paid_is_a_ledgers = accepted_events_are_a_ledgers (paid ∷ []) paid_can_be_made paid_whole paid_accepted
 
--- at 3 the event would have the timestamp of the third account: it is accepted, and the law doesn't take it
+-- at 3 the event would have the timestamp of the third account. It is accepted
 abbrev too_soon : Event
 too_soon = event SinglePhase 3 7 0 10 0 0 3 (linked_account 1 1 10 0) (linked_account 2 2 0 10)
 
@@ -77,5 +79,15 @@ too_soon_accepted : is_accepted (too_soon ∷ []) ≡ true
 unfolding follows_on refusal
 too_soon_accepted = refl
 
-too_soon_not_made : CanBeMade (too_soon ∷ []) → ⊥
-too_soon_not_made can = (can.next_free.1.0 refl).0 refl
+-- no ledger has it
+too_soon_fits : EventFits too_soon
+too_soon_fits =
+    event_fits SinglePhase 3 7 0 10 0 0 3 (linked_account 1 1 10 0) (linked_account 2 2 0 10) refl refl refl refl refl
+    refl refl (linked_fits 1 1 10 0 (account_fits 1 1 0 10 0 0 refl refl refl refl refl refl))
+    (linked_fits 2 2 0 10 (account_fits 2 2 0 0 0 10 refl refl refl refl refl refl))
+
+too_soon_no_ledgers : (h : History) → IsLegal h → events_of h ≡ too_soon ∷ [] → ⊥
+too_soon_no_ledgers h legal same =
+    let fit : AllByRecursion EventFits (events_of h) = subst (AllByRecursion EventFits) (sym same) (too_soon_fits, tt) in
+    let can : CanBeMade (too_soon ∷ []) = subst CanBeMade same (ledgers_events_can_be_made h legal fit).0 in
+    (can.next_free.1.0 refl).0 refl

@@ -92,3 +92,8 @@ EventsAloneAreALedgers = (events : List Event) → AllByRecursion IsAlone events
 -- a ledger's events have no chain and no pulse that is cut off, and a batch has room for each chain
 abbrev pub LedgersEventsAreWhole : Type 0
 LedgersEventsAreWhole = (h : History) → IsLegal h → HaveRoom 0 (events_of h) × AreWhole (events_of h)
+
+-- so the premises hold of every ledger's events, if their numbers are within their widths
+abbrev pub LedgersEventsCanBeMade : Type 0
+LedgersEventsCanBeMade = (h : History) → IsLegal h → AllByRecursion EventFits (events_of h)
+    → CanBeMade (events_of h) × AreWhole (events_of h)

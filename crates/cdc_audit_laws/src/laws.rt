@@ -3,7 +3,7 @@
 ghost use Rattle.cdc_audit_laws.specs.Laws.{AChangeShows, AcceptedEventsRise, BalancesAreSums, LedgersAreAccepted, NoOtherBalances};
 ghost use Rattle.cdc_audit_laws.specs.Laws.{PrefixesAreAccepted, WhatIsLeftOutMovedNothing};
 ghost use Rattle.cdc_audit_laws.specs.Soundness.{AcceptedEventsAreALedgers, AcceptedEventsStartAsALedgers, EventsAloneAreALedgers};
-ghost use Rattle.cdc_audit_laws.specs.Soundness.{LedgersEventsAreWhole};
+ghost use Rattle.cdc_audit_laws.specs.Soundness.{LedgersEventsAreWhole, LedgersEventsCanBeMade};
 
 /// Does nothing. Every stream that a ledger's events make is accepted, whole and every prefix of it.
 pub fn ledgers_are_accepted()
@@ -20,10 +20,12 @@ pub fn accepted_events_are_a_ledgers()
     ensures alone { EventsAloneAreALedgers }
 {}
 
-/// Does nothing. A ledger's events are whole: a batch has room for each chain, and no chain and no pulse is cut off. So
-/// these premises of the converse hold of every ledger.
+/// Does nothing. A ledger's events are whole: a batch has room for each chain, and no chain and no pulse is cut off. All
+/// premises of the converse hold of every ledger's events, if their numbers are within their widths. So among accepted
+/// events they hold of a ledger's, and of no others.
 pub fn ledgers_events_are_whole()
-    ensures { LedgersEventsAreWhole }
+    ensures whole { LedgersEventsAreWhole }
+    ensures made { LedgersEventsCanBeMade }
 {}
 
 /// Does nothing. Each prefix of an accepted stream is accepted. So what the other laws promise of the last event of a
