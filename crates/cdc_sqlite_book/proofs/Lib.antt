@@ -1,0 +1,6 @@
+pub mod CreateLemmas
+pub mod DropLemmas
+pub mod InsertLemmas
+pub mod RowLemmas
+pub mod SelectLemmas
+pub mod StepLemmas
