@@ -1,6 +1,0 @@
-pub mod CreateLemmas
-pub mod DropLemmas
-pub mod InsertLemmas
-pub mod RowLemmas
-pub mod SelectLemmas
-pub mod StepLemmas
