@@ -146,7 +146,7 @@ class Audit:
     def __init__(self):
         self.count, self.last, self.linked, self.expired = 0, 0, False, None
         self.balances, self.stored, self.pending, self.settled, self.fixed = {}, set(), {}, set(), {}
-        self.open = {}
+        self.open, self.times, self.created = {}, set(), {}
 
     def refusal(self, body):
         """Why an event is refused, as the rule and its sentence, or None."""
@@ -209,6 +209,15 @@ class Audit:
             id, created = int(body[side]["id"]), int(body[side]["timestamp"])
             if not 0 < created < int(body["timestamp"]):
                 return f"created: account {id} at {created}, in an event at {int(body['timestamp'])}"
+        for side in SIDES:
+            id, created = int(body[side]["id"]), int(body[side]["timestamp"])
+            if id not in self.fixed and created in self.times:
+                return f"created: account {id} at {created}, as an event"
+            if id not in self.fixed and created in self.created:
+                return f"created: account {id} at {created}, as account {self.created[created]}"
+        debit, credit = ((int(body[side]["id"]), int(body[side]["timestamp"])) for side in SIDES)
+        if debit[1] == credit[1]:
+            return f"created: account {credit[0]} at {credit[1]}, as account {debit[0]}"
         return None
 
     def other_transfer(self, body, pending):
@@ -253,6 +262,7 @@ class Audit:
         if body["type"] not in STORES:
             self.expired = body
         self.count, self.last = self.count + 1, int(body["timestamp"])
+        self.times.add(self.last)
         self.linked = body["type"] in STORES and bool(int(body["transfer"]["flags"]) & 1)
         if body["type"] in STORES:
             self.stored.add(int(body["transfer"]["id"]))
@@ -267,6 +277,7 @@ class Audit:
         for side in SIDES:
             account = body[side]
             self.fixed.setdefault(int(account["id"]), fixed_of(body, side))
+            self.created.setdefault(int(account["timestamp"]), int(account["id"]))
             self.balances[int(account["id"])] = tuple(int(account[name]) for name in BALANCES)
 
     def book(self):
@@ -291,7 +302,8 @@ def audited(bodies, book=False):
 
 
 def account(id, *balances, **others):
-    members = {"user_data_128": "0", "user_data_64": "0", "user_data_32": 0, "code": 1, "flags": 0, "timestamp": "1"}
+    members = {"user_data_128": "0", "user_data_64": "0", "user_data_32": 0, "code": 1, "flags": 0}
+    members["timestamp"] = str(id)
     return {"id": str(id), **{name: str(value) for name, value in zip(BALANCES, balances)}, **members, **others}
 
 
@@ -423,6 +435,17 @@ def rows_of_fields():
     yield "an account of later", [later], first + "created: account 1 at 10, in an event at 10\n", 1
     nothing = {**PAID, "debit_account": account(1, 0, 30, 0, 0, timestamp="0")}
     yield "an account of 0", [nothing], first + "created: account 1 at 0, in an event at 10\n", 1
+    together = {**PAID, "credit_account": account(2, 0, 0, 0, 30, timestamp="1")}
+    yield "two accounts at once", [together], first + "created: account 2 at 1, as account 1\n", 1
+    for side, taken in (("debit_account", 1), ("credit_account", 2)):
+        new = event(20, 2, SINGLE, 0, (1, 0, 30, 0, 0), (3, 0, 0, 0, 0))
+        if side == "debit_account":
+            new = event(20, 2, SINGLE, 0, (3, 0, 0, 0, 0), (2, 0, 0, 0, 30))
+        yield f"an account of its own, {side}", [PAID, new], "accepted 2 last 20\n", 0
+        for time, thing in ((taken, f"account {taken}"), (10, "an event")):
+            other = {**new, side: account(3, 0, 0, 0, 0, timestamp=str(time))}
+            printed = second + f"created: account 3 at {time}, as {thing}\n"
+            yield f"an account at {time}, {side}", [PAID, other], printed, 1
     settles = "settles: pending transfer 2 has other accounts, another ledger, code or user data\n"
     other = event(30, 3, POSTED, 4, (1, 6, 34, 0, 0), (3, 0, 0, 0, 4), 2)
     yield "a post to another account", [PAID, HELD, other], third + settles, 1
@@ -607,6 +630,11 @@ def json_rows():
     yield [PAID, other], {"rule": "fields", "account": "2", "field": "code", "shown": "2", "before": "1"}
     later = {**PAID, "debit_account": account(1, 0, 30, 0, 0, timestamp="10")}
     yield [later], {"rule": "created", "account": "1", "created": "10", "timestamp": "10"}
+    together = {**PAID, "credit_account": account(2, 0, 0, 0, 30, timestamp="1")}
+    yield [together], {"rule": "created", "account": "2", "created": "1", "other": "1"}
+    new = event(20, 2, SINGLE, 0, (1, 0, 30, 0, 0), (3, 0, 0, 0, 0))
+    at_event = {**new, "credit_account": account(3, 0, 0, 0, 0, timestamp="10")}
+    yield [PAID, at_event], {"rule": "created", "account": "3", "created": "10"}
     yield [PAID, HELD, with_transfer(VOID, code=2)], {"rule": "settles", "transfer": "2"}
     yield [PAID, HELD, with_transfer(VOID, amount="9")], {"rule": "amount", "transfer": "2", "amount": "9", "held": "10"}
     limited = {**PAID, "debit_account": account(1, 0, 30, 0, 0, flags=2)}

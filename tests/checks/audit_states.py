@@ -44,32 +44,33 @@ def write(path, content):
 def texts():
     """Each row: what it is, the stream, the arguments, and the text of the state after it."""
     head = "audit-state 1 foreign no linked no\n"
-    fields = "fields 1 0 0 0 700 1 0 1\nfields 2 0 0 0 700 1 0 1\n"
+    fields = "fields 1 0 0 0 700 1 0 1\nfields 2 0 0 0 700 1 0 2\n"
     yield "nothing", [], [], head + "subscriber 1 applied 0 last 0 ended no closed no\n"
     paid = "account 1 0 30 0 0\naccount 2 0 0 0 30\n"
     yield "one event", [PAID], [], (
-        head + "subscriber 1 applied 1 last 10 ended no closed no\n" + paid + "plain 1\n" + fields
+        head + "subscriber 1 applied 1 last 10 ended no closed no\n" + paid + "plain 1\n" + fields + "time 10\n"
     )
     yield "an open transfer", [PAID, HELD], [], (
         head + "subscriber 1 applied 2 last 20 ended no closed no\naccount 1 10 30 0 0\naccount 2 0 0 10 30\n"
-        "plain 1\nheld 2 10\nopen " + own(HELD) + "\n" + fields
+        "plain 1\nheld 2 10\nopen " + own(HELD) + "\n" + fields + "time 10\ntime 20\n"
     )
     yield "a post, and the end", [PAID, HELD, POST, END], [], (
         head + "subscriber 1 applied 3 last 30 ended yes closed no\naccount 1 0 34 0 0\naccount 2 0 0 0 34\n"
-        "plain 1\nsettled 2 10\nplain 3\n" + fields
+        "plain 1\nsettled 2 10\nplain 3\n" + fields + "time 10\ntime 20\ntime 30\n"
     )
     yield "an expiry", [PAID, TIMED, EXPIRY], [], (
         head + f"subscriber 1 applied 3 last {UP} ended no closed no\n" + paid
-        + "expired " + own(EXPIRY) + "\nplain 1\nsettled 2 10\n" + fields
+        + "expired " + own(EXPIRY) + "\nplain 1\nsettled 2 10\n" + fields + f"time 10\ntime 20\ntime {UP}\n"
     )
     linked = with_transfer(PAID, flags=1)
     yield "a chain", [linked], [], (
         "audit-state 1 foreign no linked yes\nsubscriber 1 applied 1 last 10 ended no closed no\n" + paid + "plain 1\n" + fields
+        + "time 10\n"
     )
     other = {**PAID, "debit_account": account(1, 0, 30, 0, 0, user_data_128="5", user_data_64="6", user_data_32=7, flags=24)}
     yield "another ledger's", [other], ["--foreign"], (
         "audit-state 1 foreign yes linked no\nsubscriber 1 applied 1 last 10 ended no closed no\n" + paid + "plain 1\n"
-        "fields 1 5 6 7 700 1 8 1\nfields 2 0 0 0 700 1 0 1\n"
+        "fields 1 5 6 7 700 1 8 1\nfields 2 0 0 0 700 1 0 2\ntime 10\n"
     )
 
 

@@ -1,9 +1,8 @@
 -- What the events show of a transfer after one more event, and what an auditor knows of it then.
 use Rattle.std.proofs.Common.{◌≡◌, ℕ, Bool, true, false, cond, List, [], ◌∷◌, ◌++◌, Option, Some, None, refl, sym, ap, ap₂, ◌∙◌, inl, inr}
-use Rattle.std.specs.Prelude.{◌==◌, ◌&&◌, ◌||◌, not, nat_eq, is_none, is_some, unwrap_or, find, option_map}
-use Rattle.std.specs.List.{AllByRecursion, flat_map}
+use Rattle.std.specs.Prelude.{◌==◌, ◌&&◌, ◌||◌, nat_eq, is_none, is_some, unwrap_or, find, option_map}
+use Rattle.std.specs.List.{AllByRecursion}
 use Rattle.std.specs.Option.{option_or}
-use Rattle.std.proofs.lemmas.Grind.{flat_map-append}
 use Rattle.std.proofs.lemmas.Bool.{ne_eqb}
 use Rattle.std.proofs.lemmas.Bool.Decides.{eqb_tells}
 use Rattle.std.proofs.lemmas.List.Folds.{find-append, list_any-append}
@@ -16,13 +15,10 @@ use Rattle.cdc_ledger.proofs.Elements.{AllByRecursion-weaker, AllByRecursion_pus
 use Rattle.cdc_audit.specs.declared.checks.Stored.{Stored}
 use Rattle.cdc_audit.specs.declared.checks.Stored.TheVariants.{Plain, Pending, Settled}
 use Rattle.cdc_audit.specs.Checks.{amount_in, stored_by, was_settled}
-use Rattle.cdc_audit.specs.declared.checks.Facts.{Facts}
-use Rattle.cdc_audit.specs.declared.fields.FixedFields.{FixedFields}
-use Rattle.cdc_audit.specs.Fields.{accounts_of, fields_before, fixed_fields}
 use Rattle.cdc_audit.specs.Known.{expiry_or, is_linked, is_settled, is_stored, last_expiry_from, linked_from, open_event}
 use Rattle.cdc_audit.specs.Known.{pending_amount, pending_event, settled_id}
-use Rattle.cdc_audit.specs.Standing.{IsKnownOf, IsOnce, KeepsAccounts, fields_under, open_under, stored_under, with_held, with_open, with_own, with_settled, without_settled}
-use Rattle.cdc_audit.proofs.OpenLemmas.{lookup-append, open_under-added}
+use Rattle.cdc_audit.specs.Standing.{IsKnownOf, IsOnce, open_under, stored_under, with_held, with_open, with_own, with_settled, without_settled}
+use Rattle.cdc_audit.proofs.OpenLemmas.{open_under-added}
 
 or_false : (b : Bool) → (b || false) ≡ b
 or_false true = refl
@@ -349,68 +345,3 @@ last_expiry_from-push last (x ∷ past) e = last_expiry_from-push (expiry_or las
 pub linked_from-push : (b : Bool) (past : List Event) (e : Event) → linked_from b (past ++ e ∷ []) ≡ is_linked e
 linked_from-push b [] e = refl
 linked_from-push b (x ∷ past) e = linked_from-push (is_linked x) past e
-
--- ---- the fields of accounts
-
--- the fields of an account after one more event
-fields_before-push : (past : List Event) (e : Event) (id : ℕ)
-    → fields_before (past ++ e ∷ []) id ≡ option_or (fields_before past id) (fields_under (accounts_of e) id)
-fields_before-push past e id =
-    ap (λ es. fields_under es id) (flat_map-append accounts_of past (e ∷ []))
-    ∙ lookup-append id (flat_map accounts_of past) (accounts_of e)
-
-no_more : (b : Bool) → (not b && false) ≡ false
-no_more true = refl
-no_more false = refl
-
--- one step: the account is the debited one, or the credited one, or another one
-one-step : (debit credit : Bool) (before debits credits : Option FixedFields) (d c : FixedFields)
-    → (debit ≡ true → (debits ≡ before) × (credit ≡ false)) → (credit ≡ true → credits ≡ before)
-    → cond (not (is_some credits) && credit) (Some c) (cond (not (is_some debits) && debit) (Some d) before)
-    ≡ option_or before (cond debit (Some d) (cond credit (Some c) None))
-one-step true true before debits credits d c is_debit is_credit = let no = (is_debit refl).1 in cc
-one-step true false None debits credits d c is_debit is_credit =
-    let same = (is_debit refl).0 in rw (same, no_more (is_some credits)) refl
-one-step true false (Some x) debits credits d c is_debit is_credit =
-    let same = (is_debit refl).0 in rw (same, no_more (is_some credits)) refl
-one-step false true None debits credits d c is_debit is_credit = let same = is_credit refl in rw same refl
-one-step false true (Some x) debits credits d c is_debit is_credit =
-    let same = is_credit refl in rw (same, no_more (is_some debits)) refl
-one-step false false before debits credits d c is_debit is_credit =
-    rw (no_more (is_some credits), no_more (is_some debits)) (sym (or_none before))
-  where
-    or_none : (o : Option FixedFields) → option_or o None ≡ o
-    or_none None = refl
-    or_none (Some x) = refl
-
--- ids are compared either way round
-eqb-turn : (a b : ℕ) → (a == b) ≡ (b == a)
-eqb-turn a b = elim (eqb_tells a b) [
-  | inl same ↦ same.0 ∙ sym (ap (λ n. n == a) (sym same.1) ∙ eqb_same a)
-  | inr other ↦ other.0 ∙ sym (ne_eqb b a (λ is. other.1 (sym is)))
-]
-
--- what is known of the fields of each account after an event
-pub fields-step : (fields after : List (ℕ × FixedFields)) (facts : Facts) (past : List Event) (e : Event)
-    → facts.debit_fields ≡ fields_under fields e.debit_account.id
-    → facts.credit_fields ≡ fields_under fields e.credit_account.id
-    → (e.debit_account.id == e.credit_account.id) ≡ false
-    → ((id : ℕ) → fields_under fields id ≡ fields_before past id) → KeepsAccounts fields facts e after
-    → (id : ℕ) → fields_under after id ≡ fields_before (past ++ e ∷ []) id
-fields-step fields after facts past e debits credits apart knows kept id =
-    let debit : Bool = e.debit_account.id == id in
-    let credit : Bool = e.credit_account.id == id in
-    let d : FixedFields = fixed_fields e.ledger e.debit_account in
-    let c : FixedFields = fixed_fields e.ledger e.credit_account in
-    kept.2 id
-    ∙ ap (cond (not (is_some facts.credit_fields) && credit) (Some c)) (kept.1 id)
-    ∙ one-step debit credit (fields_under fields id) facts.debit_fields facts.credit_fields d c (λ is.
-    let same : e.debit_account.id ≡ id = same_id e.debit_account.id id is in (
-      debits ∙ ap (fields_under fields) same,
-      sym (ap (λ n. e.credit_account.id == n) same) ∙ eqb-turn e.credit_account.id e.debit_account.id ∙ apart,
-    )) (λ is.
-    credits ∙ ap (fields_under fields) (same_id e.credit_account.id id is))
-    ∙ ap (λ o. option_or o (cond debit (Some d) (cond credit (Some c) None))) (knows id)
-    ∙ ap₂ (λ p q. option_or (fields_before past id) (cond p (Some d) (cond q (Some c) None)))
-    (eqb-turn e.debit_account.id id) (eqb-turn e.credit_account.id id)
-    ∙ sym (fields_before-push past e id)

@@ -3,14 +3,16 @@ use Rattle.std.proofs.Common.{◌≡◌, ℕ, ◌+◌, Bool, true, false, cond, 
 use Rattle.std.specs.Prelude.{◌==◌, ◌&&◌, not, nat_le, nat_lt, is_none, is_some, unwrap_or, IfOk, OnOk}
 use Rattle.std.specs.Option.{option_or}
 use Rattle.std.specs.Result.{is_err}
+use Rattle.std.proofs.lemmas.Bool.{ltb-true}
 use Rattle.std.proofs.lemmas.Bool.Decides.{nat_tests}
 use Rattle.cdc_types.specs.declared.accounts.Balances.{Balances}
 use Rattle.cdc_types.specs.declared.bounds.TheConstants.Limits.{TIMESTAMP}
 use Rattle.cdc_types.specs.declared.events.Event.{Event}
+use Rattle.cdc_types.specs.declared.events.EventAccount.{EventAccount}
 use Rattle.cdc_types.specs.Lines.{first_line}
 use Rattle.cdc_types.specs.Timestamps.{last_timestamp}
 use Rattle.cdc_types.specs.Widths.{max_64}
-use Rattle.cdc_types.proofs.Rising.{last_timestamp_from-push}
+use Rattle.cdc_types.proofs.Rising.{RiseFrom-push, last_timestamp_from-push}
 use Rattle.cdc_ledger.specs.Accounts.{no_balances}
 use Rattle.cdc_ledger.specs.Kinds.{holds, settles, stores}
 use Rattle.cdc_ledger.proofs.LineLaws.{first_line-append, first_line_append_none_parts}
@@ -23,6 +25,7 @@ use Rattle.cdc_subscriber.proofs.BookFinds.{balances_in-book_of}
 use Rattle.cdc_subscriber.proofs.BookLemmas.{book_of-push}
 use Rattle.cdc_follow.specs.declared.entries.Content.{Content}
 use Rattle.cdc_follow.specs.declared.entries.Content.TheVariants as content
+use Rattle.cdc_audit.specs.declared.apart.Times.{Times}
 use Rattle.cdc_audit.specs.declared.checks.Facts.{Facts}
 use Rattle.cdc_audit.specs.declared.checks.Stored.{Stored}
 use Rattle.cdc_audit.specs.declared.fields.FixedFields.{FixedFields}
@@ -36,13 +39,15 @@ use Rattle.cdc_audit.specs.Rules as rules
 use Rattle.cdc_audit.specs.Rules.{chain_lines, event_lines, held, order_lines, posted, refusal, settled_event}
 use Rattle.cdc_audit.specs.EventShapes.{shape_lines}
 use Rattle.cdc_audit.specs.Expiries.{expiry_lines, first_due}
+use Rattle.cdc_audit.specs.Apart.{accounts_before, apart_lines, times_before, times_known}
 use Rattle.cdc_audit.specs.Fields.{created_lines, fields_lines}
 use Rattle.cdc_audit.specs.Foreign.{audited_event}
 use Rattle.cdc_audit.specs.Limits.{limits_lines}
 use Rattle.cdc_audit.specs.Settling.{settling_lines}
-use Rattle.cdc_audit.specs.Standing.{AuditorState, IsKnownOf, KeepsAccounts, IsFirst, StandsFor, facts_of, kept_after, open_under, stored_under, with_held, with_own, with_settled, without_settled}
+use Rattle.cdc_audit.specs.Standing.{AuditorState, AreInOrder, IsFirst, IsKnownOf, StandsFor, facts_of, fields_under, kept_after, open_under, stored_under, times_of_account, with_accounts, with_held, with_own, with_settled, without_settled}
+use Rattle.cdc_audit.proofs.ApartLemmas.{accounts_before-fields, accounts_before-push, rising_in_order, times_of-push}
 use Rattle.cdc_audit.proofs.FirstLemmas.{first_is}
-use Rattle.cdc_audit.proofs.KnownLemmas.{fields-step, known-step, last_expiry_from-push, linked_from-push, once-step, open_one-step}
+use Rattle.cdc_audit.proofs.KnownLemmas.{known-step, last_expiry_from-push, linked_from-push, once-step, open_one-step}
 
 -- the refusal by two parts of the lines
 pub either_is : (both one other : Option Refusal) (first second : List (Bool × Refusal)) → both ≡ option_or one other
@@ -155,6 +160,33 @@ balances_at-same : (e : Event) (less less2 : ℕ) (debited debited2 credited cre
     → balances_at e less debited credited ≡ balances_at e less2 debited2 credited2
 balances_at-same e less less2 debited debited2 credited credited2 p q r = cc
 
+-- what is known of an account's timestamp, by equal facts
+known_same : (known known2 : Bool) (times times2 : List ℕ) (fields fields2 : List (ℕ × FixedFields)) (t : ℕ)
+    → known ≡ known2 → times ≡ times2 → fields ≡ fields2
+    → times_known known times fields t ≡ times_known known2 times2 fields2 t
+known_same known known2 times times2 fields fields2 t p q r = cc
+
+-- what an auditor knows of an account's timestamp is what the events show of it
+times_same : (auditor : AuditorState) (state : AuditState) (a : EventAccount) → StandsFor auditor state
+    → times_of_account auditor a ≡ times_before state.past a
+times_same auditor state a stands =
+    known_same _ _ _ _ _ _ a.timestamp (ap is_some (stands.fields a.id)) stands.times stands.shown
+
+-- the timestamps that it has are in order
+pub times_ordered : (auditor : AuditorState) (state : AuditState) → StandsFor auditor state
+    → AreInOrder auditor.times
+times_ordered auditor state stands =
+    subst AreInOrder (sym stands.times) (rising_in_order 0 state.past stands.rising)
+
+-- the lines on the accounts, by equal facts
+fixed-same : (e : Event) (d d2 c c2 : Option FixedFields) (dt dt2 ct ct2 : Times) → d ≡ d2 → c ≡ c2 → dt ≡ dt2
+    → ct ≡ ct2
+    → fields_lines d e.ledger e.debit_account ++ fields_lines c e.ledger e.credit_account ++ created_lines e
+    ++ apart_lines dt ct e
+    ≡ fields_lines d2 e.ledger e.debit_account ++ fields_lines c2 e.ledger e.credit_account ++ created_lines e
+    ++ apart_lines dt2 ct2 e
+fixed-same e d d2 c c2 dt dt2 ct ct2 p q r s = cc
+
 -- the lines by what an auditor knows are those by the events for which it stands
 same_lines : (auditor : AuditorState) (state : AuditState) (first : Option Event) (e : Event) → StandsFor auditor state
     → IsFirst (open_under auditor.open_ones) first → lines (facts_of auditor first e) e ≡ event_lines state.past e
@@ -171,8 +203,8 @@ same_lines auditor state first e stands goes =
     (chain_lines (ends_in_chain past) (last_timestamp past) e ++ limits_lines e)
     (balances_lines facts e) (rules.balances_lines past e)
     (ap (λ (kept : SubscriberState). order_lines kept.last e) stands.kept)
-    (ap₂ (λ d c. fields_lines d e.ledger e.debit_account ++ fields_lines c e.ledger e.credit_account ++ created_lines e)
-    (stands.fields e.debit_account.id) (stands.fields e.credit_account.id))
+    (fixed-same e _ _ _ _ _ _ _ _ (stands.fields e.debit_account.id) (stands.fields e.credit_account.id)
+    (times_same auditor state e.debit_account stands) (times_same auditor state e.credit_account stands))
     (transfer-same e _ _ _ _ _ _
     (guarded (stores e.kind) is_some (stored_under auditor.transfers e.transfer.id) (is_stored past e.transfer.id)
     own.stored)
@@ -244,10 +276,11 @@ pub accepts : (auditor after : AuditorState) (state : AuditState) (first : Optio
     → after.kept ≡ next_state auditor.kept (item.Event e)
     → after.transfers ≡ with_settled (with_own auditor.transfers e) e (released (facts_of auditor first e) e)
     → ((id : ℕ) → open_under after.open_ones id ≡ without_settled (with_held auditor.open_ones e) e id)
-    → KeepsAccounts auditor.fields (facts_of auditor first e) e after.fields → after.linked ≡ is_linked e
+    → after.fields ≡ with_accounts auditor.fields e → after.times ≡ auditor.times ++ e.timestamp ∷ []
+    → after.linked ≡ is_linked e
     → after.expired ≡ expiry_or auditor.expired e → after.foreign ≡ auditor.foreign
     → StandsFor auditor state → StandsFor after (with_event state e)
-accepts auditor after state first e open_yet none kept transfers opened fields linked expired foreign stands =
+accepts auditor after state first e open_yet none kept transfers opened fields times linked expired foreign stands =
     let going : state.ended ≡ false = sym (ap (λ (kept : SubscriberState). kept.ended) stands.kept) ∙ open_yet in
     let facts = facts_of auditor first e in
     let parts = two_of_seven (order_lines facts.last e) (shape_lines e) (fixed_lines facts e) (transfer_lines facts e)
@@ -257,6 +290,8 @@ accepts auditor after state first e open_yet none kept transfers opened fields l
     let free = may_be_stored facts e parts.1 in
     let later : nat_lt (last_timestamp state.past) e.timestamp ≡ true =
     sym (ap (λ (kept : SubscriberState). nat_lt kept.last e.timestamp) stands.kept) ∙ order.0 in
+    let shown : after.fields ≡ accounts_before (state.past ++ e ∷ []) =
+    fields ∙ ap (λ fs. with_accounts fs e) stands.shown ∙ sym (accounts_before-push state.past e) in
     record {
       foreign = foreign ∙ stands.foreign;
       kept = kept ∙ ap (λ kept. next_state kept (item.Event e)) stands.kept ∙ kept-next state e going later;
@@ -264,19 +299,14 @@ accepts auditor after state first e open_yet none kept transfers opened fields l
           (known-step auditor.transfers state.past e stands.transfers free.0 free.1 free.2 id);
       open_ones = λ id. opened id
           ∙ open_one-step auditor.transfers auditor.open_ones state.past e stands.transfers stands.open_ones free.0 id;
-      fields = λ id. fields-step auditor.fields after.fields facts state.past e refl refl order.1
-          stands.fields fields id;
+      fields = λ id. ap (λ fs. fields_under fs id) shown ∙ accounts_before-fields (state.past ++ e ∷ []) id;
+      shown = shown;
+      times = times ∙ ap (λ ts. ts ++ e.timestamp ∷ []) stands.times ∙ sym (times_of-push state.past e);
+      rising = RiseFrom-push 0 state.past e stands.rising (ltb-true (last_timestamp state.past) e.timestamp later);
       linked = linked ∙ sym (linked_from-push false state.past e);
       expired = expired ∙ ap (λ last. expiry_or last e) stands.expired ∙ sym (last_expiry_from-push None state.past e);
       once = once-step auditor.transfers state.past e stands.transfers free.0 stands.once;
     }
-
--- what is kept of accounts, from equal fields and by equal facts
-pub accounts_from : (old old2 : List (ℕ × FixedFields)) (facts facts2 : Facts) (e : Event)
-    (new : List (ℕ × FixedFields)) → old ≡ old2 → facts ≡ facts2 → KeepsAccounts old facts e new
-    → KeepsAccounts old2 facts2 e new
-accounts_from old old2 facts facts2 e new fields_are facts_are kept =
-    subst (λ fs. KeepsAccounts fs facts2 e new) fields_are (subst (λ f. KeepsAccounts old f e new) facts_are kept)
 
 -- what holds of a result that is no error
 pub unless_error : {T E : Type 0} (result : Result T E) (P : Type 0) → is_err result ≡ false → OnOk result P → P

@@ -15,6 +15,7 @@ use Rattle.cdc_audit.specs.declared.refusals.Refusal.{Refusal}
 use Rattle.cdc_audit.specs.declared.refusals.Refusal.TheVariants.{KnownId, NotPending, Settled}
 use Rattle.cdc_audit.specs.Known.{settled_id}
 use Rattle.cdc_audit.specs.EventShapes.{shape_lines}
+use Rattle.cdc_audit.specs.Apart.{apart_lines}
 use Rattle.cdc_audit.specs.Expiries.{expiry_lines}
 use Rattle.cdc_audit.specs.Fields.{created_lines, fields_lines}
 use Rattle.cdc_audit.specs.Limits.{limits_lines}
@@ -76,12 +77,13 @@ balances_lines facts e =
     account_lines e.debit_account facts.debited (amounts_of facts e) nothing
     ++ account_lines e.credit_account facts.credited nothing (amounts_of facts e)
 
--- the lines on the fields of both accounts that never change
+-- the lines on the fields of both accounts that never change, and on the timestamps at which they were created
 abbrev pub fixed_lines : Facts → Event → List (Bool × Refusal)
 fixed_lines facts e =
     fields_lines facts.debit_fields e.ledger e.debit_account
     ++ fields_lines facts.credit_fields e.ledger e.credit_account
     ++ created_lines e
+    ++ apart_lines facts.debit_times facts.credit_times e
 
 -- the lines on the transfers
 abbrev pub transfer_lines : Facts → Event → List (Bool × Refusal)

@@ -4,6 +4,7 @@ pub mod Settling
 pub mod Expiries
 pub mod EventShapes
 pub mod Fields
+pub mod Apart
 pub mod Limits
 pub mod Rules
 pub mod Foreign

@@ -11,6 +11,7 @@ use Rattle.cdc_audit.specs.declared.refusals.Refusal.{Refusal}
 use Rattle.cdc_audit.specs.declared.refusals.Refusal.TheVariants.{BrokenChain, NotLater, OneAccount, TooHigh, KnownId, NotPending, Settled, Balance}
 use Rattle.cdc_audit.specs.Known.{balances_after, ends_in_chain, is_settled, is_stored, last_expiry, open_event, pending_amount, settled_id}
 use Rattle.cdc_audit.specs.EventShapes.{shape_lines}
+use Rattle.cdc_audit.specs.Apart.{apart_lines, times_before}
 use Rattle.cdc_audit.specs.Expiries.{expiry_lines, first_due}
 use Rattle.cdc_audit.specs.Fields.{created_lines, fields_before, fields_lines}
 use Rattle.cdc_audit.specs.Limits.{limits_lines}
@@ -74,12 +75,13 @@ transfer_lines past e =
 abbrev pub settled_event : List Event → Event → Option Event
 settled_event past e = if settles e.kind then open_event past (settled_id e) else None
 
--- the lines on the fields of both accounts that never change
+-- the lines on the fields of both accounts that never change, and on the timestamps at which they were created
 abbrev pub fixed_lines : List Event → Event → List (Bool × Refusal)
 fixed_lines past e =
     fields_lines (fields_before past e.debit_account.id) e.ledger e.debit_account
     ++ fields_lines (fields_before past e.credit_account.id) e.ledger e.credit_account
     ++ created_lines e
+    ++ apart_lines (times_before past e.debit_account) (times_before past e.credit_account) e
 
 -- the lines on all balances
 abbrev pub balances_lines : List Event → Event → List (Bool × Refusal)

@@ -1,5 +1,5 @@
 -- What an auditor keeps, and for which audits it stands.
-use Rattle.std.specs.Prelude.{◌≡◌, ℕ, Bool, true, false, ◌==◌, ◌&&◌, not, min, nat_eq, is_some, List, [], ◌∷◌, ◌++◌, length, Option, Some, None, unwrap_or, if◌then◌else◌}
+use Rattle.std.specs.Prelude.{◌≡◌, ◌<◌, ◌≤◌, ℕ, Bool, true, false, ◌==◌, ◌&&◌, not, min, fold, get_or, nat_eq, is_some, List, [], ◌∷◌, ◌++◌, length, Option, Some, None, unwrap_or, if◌then◌else◌}
 use Rattle.std.specs.List.{AllByRecursion}
 use Rattle.std.specs.Map.{lookup}
 use Rattle.std.specs.declared.cmp.Ordering.{Ordering}
@@ -8,32 +8,35 @@ use Rattle.std.specs.BTreeSet.{BTreeSet, contains}
 use Rattle.indexmap.specs.IndexMap.{insert_entry}
 use Rattle.cdc_types.specs.declared.events.Event.{Event}
 use Rattle.cdc_types.specs.declared.events.EventAccount.{EventAccount}
-use Rattle.cdc_types.specs.Timestamps.{last_timestamp}
+use Rattle.cdc_types.specs.Timestamps.{RiseFrom, last_timestamp}
 use Rattle.cdc_types.specs.Widths.{max_64}
 use Rattle.cdc_ledger.specs.Accounts.{no_balances}
 use Rattle.cdc_ledger.specs.Kinds.{holds, settles, stores}
 use Rattle.cdc_subscriber.specs.Book.{balances_in, book_of}
 use Rattle.cdc_subscriber.specs.SubscriberState.{SubscriberState}
+use Rattle.cdc_audit.specs.declared.apart.Times.{Times}
 use Rattle.cdc_audit.specs.declared.checks.Facts.{Facts}
 use Rattle.cdc_audit.specs.declared.fields.FixedFields.{FixedFields}
 use Rattle.cdc_audit.specs.declared.open_ones.Due.{Due}
 use Rattle.cdc_audit.specs.declared.checks.Stored.{Stored}
 use Rattle.cdc_audit.specs.declared.checks.Stored.TheVariants as stored
+use Rattle.cdc_audit.specs.Apart.{account_at, accounts_before, times_known, times_of, with_shown}
 use Rattle.cdc_audit.specs.Audits.{AuditState}
 use Rattle.cdc_audit.specs.Checks.{amount_in, stored_by, was_settled}
-use Rattle.cdc_audit.specs.Fields.{fields_before, fixed_fields}
+use Rattle.cdc_audit.specs.Fields.{accounts_of, fields_before}
 use Rattle.cdc_audit.specs.Known.{ends_in_chain, is_settled, is_stored, last_expiry, open_event, pending_amount, pending_event, settled_id}
 use Rattle.cdc_audit.specs.Settling.{expires_at}
 
 -- what an auditor keeps: whether the stream is another ledger's, what its subscriber keeps, what is known of each stored transfer, by its id, the event of each
--- open pending one, the fields of each account that never change, whether the last event stored a linked transfer, and
--- the last expiry
+-- open pending one, the fields of each account that never change, the timestamps of the events, whether the last event
+-- stored a linked transfer, and the last expiry
 pub record AuditorState : Type 0 where
   pub foreign : Bool
   pub kept : SubscriberState
   pub transfers : List (ℕ × Stored)
   pub open_ones : List (ℕ × Event)
   pub fields : List (ℕ × FixedFields)
+  pub times : List ℕ
   pub linked : Bool
   pub expired : Option Event
 
@@ -70,14 +73,18 @@ abbrev pub IsOnce : List Event → Event → Type 0
 IsOnce past e = holds e.kind ≡ true → pending_event past e.transfer.id ≡ Some e
 
 -- an auditor stands for an audit: it has the book, the last timestamp, the count and the end of the audited events,
--- knows each of their transfers, has the events of the open pending ones and the fields of each account, and knows
--- whether they end within a chain; no two of them stored a pending transfer of one id
+-- knows each of their transfers, has the events of the open pending ones and the fields of each account, in the order in
+-- which they were shown, has the timestamps of the events, which rise, and knows whether they end within a chain; no two
+-- of them stored a pending transfer of one id
 pub record StandsFor (auditor : AuditorState) (state : AuditState) : Type 0 where
   pub foreign : auditor.foreign ≡ state.foreign
   pub kept : auditor.kept ≡ kept_after state
   pub transfers : (id : ℕ) → IsKnownOf (stored_under auditor.transfers id) state.past id
   pub open_ones : (id : ℕ) → open_under auditor.open_ones id ≡ open_event state.past id
   pub fields : (id : ℕ) → fields_under auditor.fields id ≡ fields_before state.past id
+  pub shown : auditor.fields ≡ accounts_before state.past
+  pub times : auditor.times ≡ times_of state.past
+  pub rising : RiseFrom 0 state.past
   pub linked : auditor.linked ≡ ends_in_chain state.past
   pub expired : auditor.expired ≡ last_expiry state.past
   pub once : AllByRecursion (IsOnce state.past) state.past
@@ -91,6 +98,11 @@ stored_if counts transfers id = if counts then stored_under transfers id else No
 -- the event under an id that counts
 abbrev pub open_if : Bool → List (ℕ × Event) → ℕ → Option Event
 open_if counts events id = if counts then open_under events id else None
+
+-- what else has the timestamp of an account, as far as an auditor knows
+abbrev pub times_of_account : AuditorState → EventAccount → Times
+times_of_account auditor a =
+    times_known (is_some (fields_under auditor.fields a.id)) auditor.times auditor.fields a.timestamp
 
 -- this is when the transfer of an event, kept under this id, expires
 abbrev pub due_of : ℕ → Event → Due
@@ -156,6 +168,8 @@ facts_of auditor first e = record {
   open_one = open_if (settles e.kind) auditor.open_ones (settled_id e);
   debit_fields = fields_under auditor.fields e.debit_account.id;
   credit_fields = fields_under auditor.fields e.credit_account.id;
+  debit_times = times_of_account auditor e.debit_account;
+  credit_times = times_of_account auditor e.credit_account;
   debited = unwrap_or (balances_in auditor.kept.book e.debit_account.id) no_balances;
   credited = unwrap_or (balances_in auditor.kept.book e.credit_account.id) no_balances;
 }
@@ -170,17 +184,14 @@ abbrev pub with_settled : List (ℕ × Stored) → Event → ℕ → List (ℕ �
 with_settled transfers e amount =
     if settles e.kind then insert_entry nat_eq transfers (settled_id e) (stored.Settled amount) else transfers
 
--- the fields of the account with this id, after this account of this ledger is shown; they are the first ones if they
--- are known
-abbrev pub fields_then : List (ℕ × FixedFields) → Bool → ℕ → EventAccount → ℕ → Option FixedFields
-fields_then fields known ledger account id =
-    if not known && (account.id == id) then Some (fixed_fields ledger account) else fields_under fields id
+-- the accounts that are known, after an event shows its two
+abbrev pub with_accounts : List (ℕ × FixedFields) → Event → List (ℕ × FixedFields)
+with_accounts fields e = fold with_shown fields (accounts_of e)
 
--- the fields of an event's accounts are kept, first those of the account that it debits
-abbrev pub KeepsAccounts : List (ℕ × FixedFields) → Facts → Event → List (ℕ × FixedFields) → Type 0
-KeepsAccounts old facts e new =
-    (between : List (ℕ × FixedFields))
-    × ((id : ℕ) → fields_under between id
-    ≡ fields_then old (is_some facts.debit_fields) e.ledger e.debit_account id)
-    × ((id : ℕ) → fields_under new id
-    ≡ fields_then between (is_some facts.credit_fields) e.ledger e.credit_account id)
+-- an index has the account that was created at each timestamp, if it is among these
+abbrev pub IsTimeIndex : List (ℕ × ℕ) → List (ℕ × FixedFields) → Type 0
+IsTimeIndex index fields = (t : ℕ) → lookup (nat_eq t) index ≡ account_at fields t
+
+-- numbers are in order, none lower than one before it
+abbrev pub AreInOrder : List ℕ → Type 0
+AreInOrder ns = (i j : ℕ) → i ≤ j → j < length ns → get_or ns i 0 ≤ get_or ns j 0

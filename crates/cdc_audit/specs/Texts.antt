@@ -9,7 +9,7 @@ use Rattle.cdc_audit.specs.declared.refusals.FixedField.{FixedField}
 use Rattle.cdc_audit.specs.declared.refusals.FixedField.TheVariants.{UserData128, UserData64, UserData32, Ledger, Code, Flags, Timestamp}
 use Rattle.cdc_audit.specs.declared.refusals.Mismatch.{Mismatch}
 use Rattle.cdc_audit.specs.declared.refusals.Refusal.{Refusal}
-use Rattle.cdc_audit.specs.declared.refusals.Refusal.TheVariants.{AfterEnd, NotLater, TooHigh, OneAccount, TransferShape, OtherKind, OtherTimestamp, AccountShape, AccountField, CreatedLater}
+use Rattle.cdc_audit.specs.declared.refusals.Refusal.TheVariants.{AfterEnd, NotLater, TooHigh, OneAccount, TransferShape, OtherKind, OtherTimestamp, AccountShape, AccountField, CreatedLater, CreatedAtEvent, CreatedTogether}
 use Rattle.cdc_audit.specs.declared.refusals.Refusal.TheVariants.{KnownId, NotPending, Settled, OtherFields, Amount, NoTimeout, TooSoon, TooLate, ExpiresLate, ExpiresApart, BrokenChain, TooLarge, Limit, Balance}
 use Rattle.cdc_audit.specs.declared.refusals.Side.{Side}
 use Rattle.cdc_audit.specs.declared.refusals.Side.TheVariants.{Debits, Credits}
@@ -26,6 +26,8 @@ refusal_name (OtherTimestamp id shown timestamp) = codes "shape"
 refusal_name (AccountShape id result) = codes "shape"
 refusal_name (AccountField mismatch) = codes "fields"
 refusal_name (CreatedLater id created timestamp) = codes "created"
+refusal_name (CreatedAtEvent id timestamp) = codes "created"
+refusal_name (CreatedTogether id timestamp other) = codes "created"
 refusal_name (KnownId id) = codes "id"
 refusal_name (NotPending id) = codes "pending"
 refusal_name (Settled id) = codes "ended"
@@ -88,6 +90,10 @@ abbrev pub at_times : List ℕ → ℕ → List ℕ → ℕ → ℕ → List ℕ
 at_times before id between one other =
     around before id between ++ (decimal one ++ (codes ", in an event at " ++ decimal other))
 
+-- an account's timestamp, which another thing has
+abbrev pub shared_text : ℕ → ℕ → List ℕ
+shared_text id timestamp = around (codes "account ") id (codes " at ") ++ decimal timestamp
+
 -- a pending transfer that is settled too soon or too late, and when it expires
 abbrev pub time_text : ℕ → List ℕ → ℕ → ℕ → List ℕ
 time_text id between timestamp end =
@@ -124,6 +130,9 @@ reason_text (OtherTimestamp id shown timestamp) =
 reason_text (AccountShape id result) = around (codes "account ") id (codes " is invalid: ") ++ account_name result
 reason_text (AccountField mismatch) = field_text mismatch
 reason_text (CreatedLater id created timestamp) = at_times (codes "account ") id (codes " at ") created timestamp
+reason_text (CreatedAtEvent id timestamp) = shared_text id timestamp ++ codes ", as an event"
+reason_text (CreatedTogether id timestamp other) =
+    shared_text id timestamp ++ (codes ", as account " ++ decimal other)
 reason_text (KnownId id) = around (codes "transfer ") id (codes " came before")
 reason_text (NotPending id) = around (codes "no pending transfer ") id (codes " came before")
 reason_text (Settled id) = around (codes "pending transfer ") id (codes " ended before")

@@ -10,15 +10,17 @@ ghost use Rattle.cdc_ledger.specs.Accounts.{no_balances};
 ghost use Rattle.cdc_subscriber.specs.Book.{balances_in};
 ghost use Rattle.cdc_subscriber.specs.Steps.{next_state};
 ghost use Rattle.cdc_audit.specs.Audits.{AuditState, begins, entry_refusal, event_refusal, next_audit, with_event};
+ghost use Rattle.cdc_audit.specs.Apart as apart;
 ghost use Rattle.cdc_audit.specs.Checks as spec;
 ghost use Rattle.cdc_audit.specs.Standing as standing;
-ghost use Rattle.cdc_audit.specs.Standing.{IsFirst, KeepsAccounts, StandsFor, kept_after};
+ghost use Rattle.cdc_audit.specs.Standing.{AreInOrder, IsFirst, IsTimeIndex, StandsFor, kept_after};
 
+use crate::apart::{Times, has_time, index_of, keep_accounts, keep_time};
 use crate::checks::{
     Facts, Stored, holds, is_linked, refusal_by, released, settled_id, settles, stored_by, stores,
 };
 use crate::expiries::expiry_or;
-use crate::fields::{FixedFields, fixed_fields};
+use crate::fields::FixedFields;
 use crate::foreign::audited_event;
 use crate::open_ones::OpenOnes;
 use crate::refusals::Refusal;
@@ -38,6 +40,10 @@ pub struct Auditor {
     open_ones: OpenOnes,
     /// The fields of each account that never change, as its first event shows them.
     fields: IndexMap<u128, FixedFields>,
+    /// Which account was created at each timestamp.
+    created: IndexMap<u64, u128>,
+    /// The timestamps of the events.
+    times: Vec<u64>,
     /// Whether the last event stored a linked transfer.
     linked: bool,
     /// The last expiry.
@@ -52,6 +58,8 @@ impl Drop for Auditor {
             transfers: _,
             open_ones: _,
             fields: _,
+            created: _,
+            times: _,
             linked: _,
             expired: _,
         } = self;
@@ -59,7 +67,7 @@ impl Drop for Auditor {
 }
 
 impl Model for Auditor {
-    ghost use Rattle.cdc_audit.specs.Standing.{AuditorState};
+    ghost use Rattle.cdc_audit.specs.Standing.{AuditorState, IsTimeIndex};
 
     ghost Value = { AuditorState };
 
@@ -69,9 +77,12 @@ impl Model for Auditor {
       transfers = a.transfers.entries;
       open_ones = a.open_ones;
       fields = a.fields.entries;
+      times = a.times.items;
       linked = a.linked;
       expired = a.expired;
     } };
+
+    ghost invariant = { λ a. IsTimeIndex a.created.entries a.fields.entries };
 }
 
 impl Auditor {
@@ -86,41 +97,50 @@ impl Auditor {
             transfers: IndexMap::new(alloc),
             open_ones: OpenOnes::new(alloc),
             fields: IndexMap::new(alloc),
+            created: IndexMap::new(alloc),
+            times: Vec::new(alloc),
             linked: false,
             expired: None,
         }
     }
 
     /// An auditor with these parts of another one, which goes on where that one stopped. `of_another`: whether the stream
-    /// is another ledger's. `in_chain`: whether the last event stored a linked transfer.
+    /// is another ledger's. `in_chain`: whether the last event stored a linked transfer. The one error is that memory ran
+    /// out.
     pub fn resume(
+        alloc: Global,
         of_another: bool,
         subscriber: Subscriber,
         transfers: IndexMap<u128, Stored>,
         open_ones: OpenOnes,
         fields: IndexMap<u128, FixedFields>,
+        times: Vec<u64>,
         in_chain: bool,
         last_expiry: Option<Event>,
-    ) -> Auditor
-        ensures { result ≡ record {
+    ) -> Result<Auditor, AllocError>
+        ensures { IfOk result (λ auditor. auditor ≡ record {
           foreign = of_another;
           kept = subscriber;
           transfers = transfers.entries;
           open_ones = open_ones;
           fields = fields.entries;
+          times = times.items;
           linked = in_chain;
           expired = last_expiry;
-        } }
+        }) }
     {
-        Auditor {
+        let created = index_of(alloc, &fields)?;
+        Ok(Auditor {
             foreign: of_another,
             subscriber,
             transfers,
             open_ones,
             fields,
+            created,
+            times,
             linked: in_chain,
             expired: last_expiry,
-        }
+        })
     }
 
     /// Takes an entry of the stream: accepts it, or returns why it is refused. A refused entry changes nothing. The one
@@ -181,6 +201,13 @@ impl Auditor {
         &self.fields
     }
 
+    /// The timestamps of the events.
+    pub fn times(&self) -> &[u64]
+        ensures { result.now ≡ self.now.times }
+    {
+        self.times.as_slice()
+    }
+
     /// Whether the last event stored a linked transfer.
     pub fn in_chain(&self) -> bool
         ensures { result ≡ self.now.linked }
@@ -220,6 +247,31 @@ impl Auditor {
         self.fields.get(&account).copied()
     }
 
+    /// What else has the timestamp of an account.
+    fn times_of(&self, account: &EventAccount) -> Times
+        ensures { AreInOrder self.now.times
+            → result ≡ standing.times_of_account self.now account.now }
+    {
+        if self.fields_of(account.id).is_some() {
+            Times {
+                of_event: false,
+                of_account: None,
+            }
+        } else {
+            Times {
+                of_event: has_time(self.times.as_slice(), account.timestamp),
+                of_account: self.account_at(account.timestamp),
+            }
+        }
+    }
+
+    /// The account that was created at this timestamp, if an event shows it.
+    fn account_at(&self, timestamp: u64) -> Option<u128>
+        ensures { result ≡ apart.account_at self.now.fields timestamp }
+    {
+        self.created.get(&timestamp).copied()
+    }
+
     /// The balances of an account; four zeros before its first event.
     fn balances(&self, account: u128) -> Balances
         ensures { result ≡ unwrap_or (balances_in self.now.kept.book account) no_balances }
@@ -234,7 +286,8 @@ impl Auditor {
 
     /// What is known of an event by the events before it.
     fn facts(&self, event: &Event) -> Facts
-        ensures facts { result ≡ standing.facts_of self.now result.first event.now }
+        ensures facts { AreInOrder self.now.times
+            → result ≡ standing.facts_of self.now result.first event.now }
         ensures first { IsFirst (standing.open_under self.now.open_ones) result.first }
     {
         Facts {
@@ -247,6 +300,8 @@ impl Auditor {
             open_one: self.open_if(settles(event.kind), settled_id(event)),
             debit_fields: self.fields_of(event.debit_account.id),
             credit_fields: self.fields_of(event.credit_account.id),
+            debit_times: self.times_of(&event.debit_account),
+            credit_times: self.times_of(&event.credit_account),
             debited: self.balances(event.debit_account.id),
             credited: self.balances(event.credit_account.id),
         }
@@ -270,6 +325,8 @@ impl Auditor {
         }
         self.transfers.reserve(2)?;
         self.fields.reserve(2)?;
+        self.created.reserve(2)?;
+        self.times.reserve(1)?;
         let added = add_open(&mut self.open_ones, event)?;
         if self.subscriber.take_event(event).is_err() {
             take_back(&mut self.open_ones, added);
@@ -277,7 +334,8 @@ impl Auditor {
         }
         keep(&mut self.transfers, event, released(&facts, event));
         remove_settled(&mut self.open_ones, event);
-        keep_accounts(&mut self.fields, &facts, event);
+        keep_accounts(&mut self.fields, &mut self.created, event);
+        keep_time(&mut self.times, event.timestamp);
         self.linked = is_linked(event);
         self.expired = expiry_or(self.expired, event);
         Ok(None)
@@ -348,51 +406,4 @@ fn remove_settled(open_ones: &mut OpenOnes, event: &Event)
     if settles(event.kind) {
         open_ones.remove(settled_id(event));
     }
-}
-
-/// Keeps the fields of the account with this id.
-fn put_fields(fields: &mut IndexMap<u128, FixedFields>, id: u128, shown: FixedFields)
-    requires { 1 ≤ spare fields.old }
-    ensures fields { (other : ℕ) → standing.fields_under fields.new.entries other
-        ≡ (if id == other then Some shown else standing.fields_under fields.old.entries other) }
-    ensures room { spare fields.old ≤ spare fields.new + 1 }
-{
-    fields.insert(id, shown).unwrap();
-}
-
-/// Keeps the fields of an account of this ledger, unless they are known.
-fn keep_account(
-    fields: &mut IndexMap<u128, FixedFields>,
-    known: bool,
-    ledger: u32,
-    account: &EventAccount,
-)
-    requires { 1 ≤ spare fields.old }
-    ensures fields { (id : ℕ) → standing.fields_under fields.new.entries id
-        ≡ standing.fields_then fields.old.entries known ledger account.now id }
-    ensures room { spare fields.old ≤ spare fields.new + 1 }
-{
-    if !known {
-        put_fields(fields, account.id, fixed_fields(ledger, account));
-    }
-}
-
-/// Keeps the fields of both accounts of an accepted event.
-fn keep_accounts(fields: &mut IndexMap<u128, FixedFields>, facts: &Facts, event: &Event)
-    requires { 2 ≤ spare fields.old }
-    ensures { KeepsAccounts fields.old.entries facts.now event.now fields.new.entries }
-{
-    let ledger = event.ledger;
-    keep_account(
-        fields,
-        facts.debit_fields.is_some(),
-        ledger,
-        &event.debit_account,
-    );
-    keep_account(
-        fields,
-        facts.credit_fields.is_some(),
-        ledger,
-        &event.credit_account,
-    );
 }

@@ -7,6 +7,7 @@ ghost use Rattle.cdc_audit.specs.Checks as spec;
 ghost use Rattle.cdc_audit.specs.Known as known;
 ghost use Rattle.cdc_audit.specs.Rules as rules;
 
+use crate::apart::{Times, apart_refusal};
 use crate::expiries::expiry_refusal;
 use crate::fields::{FixedFields, created_refusal, fields_refusal};
 use crate::limits::limits_refusal;
@@ -47,6 +48,10 @@ pub(crate) struct Facts {
     pub(crate) debit_fields: Option<FixedFields>,
     /// Those of the credited account.
     pub(crate) credit_fields: Option<FixedFields>,
+    /// What else has the timestamp of the debited account.
+    pub(crate) debit_times: Times,
+    /// What else has that of the credited one.
+    pub(crate) credit_times: Times,
     /// The balances of the debited account.
     pub(crate) debited: Balances,
     /// The balances of the credited account.
@@ -276,7 +281,7 @@ fn order_refusal(last: u64, event: &Event) -> Option<Refusal>
     }
 }
 
-/// The refusal of an event by the fields of its accounts that never change.
+/// The refusal of an event by the fields of its accounts that never change, and by their timestamps.
 fn fixed_refusal(facts: &Facts, event: &Event) -> Option<Refusal>
     ensures { result ≡ first_line (spec.fixed_lines facts.now event.now) }
 {
@@ -284,6 +289,7 @@ fn fixed_refusal(facts: &Facts, event: &Event) -> Option<Refusal>
     fields_refusal(facts.debit_fields, event.ledger, debited)
         .or(fields_refusal(facts.credit_fields, event.ledger, credited))
         .or(created_refusal(event))
+        .or(apart_refusal(facts.debit_times, facts.credit_times, event))
 }
 
 /// The refusal of an event by the transfer that it stores or by the pending one that it settles.

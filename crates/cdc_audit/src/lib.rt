@@ -1,6 +1,7 @@
 //! An audit of a stream: whether each of its events follows from the events before it.
 #![tactic(auto)]
 
+pub mod apart;
 pub mod auditor;
 pub mod checks;
 pub mod expiries;

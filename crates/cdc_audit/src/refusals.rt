@@ -96,6 +96,12 @@ pub enum Refusal {
     AccountField(FieldMismatch),
     /// It shows the account of this id, which was created at the second number, not before the event, the third one.
     CreatedLater(u128, u64, u64),
+    /// It is the first one that shows the account of this id, which was created at this timestamp, that of an event
+    /// before it.
+    CreatedAtEvent(u128, u64),
+    /// It is the first one that shows the account of the first id, which was created at this timestamp, as was that of
+    /// the last id, which it shows too or an event before it.
+    CreatedTogether(u128, u64, u128),
     /// It stores a transfer of this id, and an event before it did.
     KnownId(u128),
     /// It settles the pending transfer of this id, and no event before it stored a pending one of this id.
@@ -201,6 +207,8 @@ impl Refusal {
             Refusal::AccountShape(_, _) => "shape",
             Refusal::AccountField(_) => "fields",
             Refusal::CreatedLater(_, _, _) => "created",
+            Refusal::CreatedAtEvent(_, _) => "created",
+            Refusal::CreatedTogether(_, _, _) => "created",
             Refusal::KnownId(_) => "id",
             Refusal::NotPending(_) => "pending",
             Refusal::Settled(_) => "ended",

@@ -46,6 +46,15 @@ fn push_reason(why: Refusal, text: &mut Vec<u8>) -> Result<(), AllocError>
         Refusal::CreatedLater(id, created, timestamp) => {
             push_times(text, "account ", id, " at ", created, timestamp)
         }
+        Refusal::CreatedAtEvent(id, timestamp) => {
+            push_shared(text, id, timestamp)?;
+            push(text, ", as an event")
+        }
+        Refusal::CreatedTogether(id, timestamp, other) => {
+            push_shared(text, id, timestamp)?;
+            push(text, ", as account ")?;
+            push_number(text, other)
+        }
         Refusal::KnownId(id) => push_around(text, "transfer ", id, " came before"),
         Refusal::NotPending(id) => push_around(text, "no pending transfer ", id, " came before"),
         Refusal::Settled(id) => push_around(text, "pending transfer ", id, " ended before"),
@@ -116,6 +125,14 @@ fn push_times(
     push_number(text, one)?;
     push(text, ", in an event at ")?;
     push_number(text, other)
+}
+
+/// Adds an account's timestamp, which another thing has.
+fn push_shared(text: &mut Vec<u8>, id: u128, timestamp: u64) -> Result<(), AllocError>
+    ensures { OnOk result (text.new.items ≡ text.old.items ++ spec.shared_text id timestamp) }
+{
+    push_around(text, "account ", id, " at ")?;
+    push_number(text, timestamp)
 }
 
 /// Adds when a pending transfer is settled, and when it expires.

@@ -1,5 +1,5 @@
 -- The laws at work in short streams: what an audit finds, and what it can't find by nature.
-use Rattle.std.specs.Prelude.{ℕ, ◌≡◌, ◌≢◌, true, false, List, [], ◌∷◌, ◌++◌, Some}
+use Rattle.std.specs.Prelude.{ℕ, ◌+◌, ◌≡◌, ◌≢◌, true, false, List, [], ◌∷◌, ◌++◌, Some}
 use Rattle.std.proofs.Common.{refl, sym, ap, inl, arith}
 use Rattle.std.proofs.lemmas.Bool.{false≢true}
 use Rattle.cdc_types.specs.declared.accounts.Balances.{Balances}
@@ -27,7 +27,7 @@ account id debits_pending debits_posted credits_pending credits_posted = record 
   user_data_32 = 0;
   code = 10;
   flags = 0;
-  timestamp = 1000;
+  timestamp = 1000 + id;
 }
 
 -- the flags of a transfer of this kind of event

@@ -1,6 +1,6 @@
 -- What holds of the accounts of every legal history, and of the ledger of its entries.
 use Rattle.std.proofs.Common.{◌≡◌, ◌≢◌, ℕ, ◌+◌, ◌<◌, ◌≤◌, Bool, true, false, List, Option, Some, None, refl, sym, ap, ◌∙◌, subst, inl, inr, arith}
-use Rattle.std.specs.Prelude.{if◌then◌else◌, unwrap_or, IsSome}
+use Rattle.std.specs.Prelude.{◌==◌, if◌then◌else◌, unwrap_or, IsSome}
 use Rattle.std.specs.List.{AllByRecursion}
 use Rattle.std.proofs.lemmas.Bool.{ne_eqb}
 use Rattle.std.proofs.lemmas.Bool.Decides.{eqb_tells}
@@ -26,6 +26,8 @@ use Rattle.cdc_ledger.proofs.AcceptedLaws.{accepted_account}
 use Rattle.cdc_ledger.proofs.BalanceLaws.{balances-pushed, balances_later, balances_none, released_credit, released_debit, settled_by_is}
 use Rattle.cdc_ledger.proofs.Elements.{AllByRecursion-both, AllByRecursion-weaker, AllByRecursion_push}
 use Rattle.cdc_ledger.proofs.OpenedLaws.{opened-with_account_same}
+use Rattle.cdc_ledger.proofs.StoredLaws.{find_all}
+use Rattle.cdc_audit_laws.proofs.Created.{AreBy, AreOwn, own-account, own-closed, own-empty, own-pushed, own-timed}
 use Rattle.cdc_audit_laws.proofs.Requests.{Enters, HasLedger, account_of}
 
 -- balances keep the limits that an account's flags set
@@ -44,12 +46,14 @@ pub record IsKept (h : History) : Type 0 where
   pub accounts : AllByRecursion (IsCreated h.last) h.accounts
   pub ledgers : AllByRecursion (HasLedger h) h.entries
   pub limits : (id : ℕ) → IsLimited (account_of h id).request.flags (balances h id h.last)
+  pub own : AreOwn h
 
 pub kept-empty : IsKept empty_history
 kept-empty = record {
   accounts = tt;
   ledgers = tt;
   limits = λ id. record { debits = λ is. omega arith; credits = λ is. omega arith };
+  own = own-empty;
 }
 
 -- accounts that were created by one time were created by a later one
@@ -58,6 +62,11 @@ created_later : (s t : ℕ) (os : List Opened) → s ≤ t → AllByRecursion (I
 created_later s t os later all =
     AllByRecursion-weaker (IsCreated s) (IsCreated t) (λ o is. (is.0, let before = is.1 in omega arith, is.2)) os all
 
+-- each account was created by the last timestamp
+created_by : (h : History) → IsKept h → AreBy h
+created_by h kept i o is =
+    let at = find_all (λ (x : Opened). x.request.id == i) (IsCreated h.last) h.accounts o kept.accounts is in at.1.1
+
 pub kept-timed : (h : History) (t : ℕ) → IsSound h → h.last ≤ t → IsKept h → IsKept (timed h t)
 kept-timed h t sound later kept = record {
   accounts = created_later h.last t h.accounts later kept.accounts;
@@ -65,6 +74,7 @@ kept-timed h t sound later kept = record {
       (λ e has. record { debit = has.debit; credit = has.credit; code = has.code }) h.entries kept.ledgers;
   limits = λ id. subst (IsLimited (account_of h id).request.flags)
       (sym (balances_later h id h.last t sound.past later)) (kept.limits id);
+  own = own-timed h t kept.own;
 }
 
 pub kept-closed : (h : History) (closed : Bool) → IsKept h → IsKept (record h { closed = closed })
@@ -73,6 +83,7 @@ kept-closed h closed kept = record {
   ledgers = AllByRecursion-weaker (HasLedger h) (HasLedger (record h { closed = closed }))
       (λ e has. record { debit = has.debit; credit = has.credit; code = has.code }) h.entries kept.ledgers;
   limits = λ id. record { debits = (kept.limits id).debits; credits = (kept.limits id).credits };
+  own = own-closed h closed kept.own;
 }
 
 -- ---- an account that is opened
@@ -117,6 +128,7 @@ module _ (h : History) (a : NewAccount) (t : ℕ) (sound : IsSound h) (later : h
         (AllByRecursion-both (HasAccounts h) (HasLedger h) h.entries sound.known kept.ledgers);
     limits = λ id. subst (IsLimited (account_of after id).request.flags)
         (sym (balances_later h id h.last t sound.past (omega arith))) (limited_still id);
+    own = own-account h (opened_by a t) (created_by h kept) sound.past later kept.own;
   }
 
 -- ---- one more entry
@@ -269,4 +281,5 @@ module _ (h : History) (e : Entry) (sound : IsSound h) (follows : Follows h e) (
         (λ x has. record { debit = has.debit; credit = has.credit; code = has.code }) h.entries kept.ledgers)
         (record { debit = enters.ledger.debit; credit = enters.ledger.credit; code = enters.ledger.code });
     limits = limited_each;
+    own = own-pushed h e (created_by h kept) after kept.own;
   }

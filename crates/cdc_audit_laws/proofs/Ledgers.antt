@@ -50,6 +50,7 @@ use Rattle.cdc_audit.specs.Known.{open_event, pending_amount, pending_event, set
 use Rattle.cdc_audit.specs.declared.fields.FixedFields.{FixedFields}
 use Rattle.cdc_audit.specs.declared.refusals.Refusal.TheVariants.{TransferShape, OtherKind, OtherTimestamp}
 use Rattle.cdc_audit.specs.EventShapes.{account_lines as shape_account_lines, asked_account, asked_transfer, is_of_kind, refused_as, shape_lines, stored_lines}
+use Rattle.cdc_audit.specs.Apart.{apart_lines, times_before, times_lines, together_lines}
 use Rattle.cdc_audit.specs.Fields.{accounts_of, created_lines, fields_before, fields_lines, fixed_fields, same_lines}
 use Rattle.cdc_audit.specs.Limits.{all_credits, all_debits, limit_lines, limits_lines}
 use Rattle.cdc_audit.specs.Rules.{chain_lines, fixed_lines, released, settled_event}
@@ -57,6 +58,7 @@ use Rattle.cdc_audit.specs.Settling.{expires_at as expires_at_shown, has_data_of
 use Rattle.cdc_audit.specs.Expiries.{can_expire, expiry_lines, first_due, is_sooner}
 use Rattle.cdc_audit.proofs.FirstLemmas.{first_of-all, passing}
 use Rattle.cdc_audit_laws.specs.Laws.{LedgersAreAccepted}
+use Rattle.cdc_audit_laws.proofs.Created.{own_pair, own_times}
 use Rattle.cdc_audit_laws.proofs.Entries.{last_timestamp-events, pending_amount-events, pending_event-events, settled_id-shown, unresolved, unsettled, unstored}
 use Rattle.cdc_audit_laws.proofs.Following.{CanFollow, IsCredited, IsDebited, NoneApplies, none_of_both}
 use Rattle.cdc_audit_laws.proofs.Keeping.{end_from, is_in_chain, kept_by_legal, links, links_from, stores_asked}
@@ -457,6 +459,20 @@ module _ (h : History) (e : Entry) (sound : IsSound h) (follows : Follows h e) (
       by None is = refl
       by (Some x) is = now_is ∙ sym (before_is x is)
 
+  -- the timestamp of each account is its own
+  has_times : NoneApplies
+      (apart_lines (times_before (events h) event.debit_account) (times_before (events h) event.credit_account) event)
+  has_times =
+      let d = e.transfer.debit_account_id in
+      let c = e.transfer.credit_account_id in
+      let first = times_lines (times_before (events h) event.debit_account) event.debit_account in
+      let second = times_lines (times_before (events h) event.credit_account) event.credit_account in
+      none_of_both (first ++ second) (together_lines event)
+      (none_of_both first second
+      (own_times h kept.own sound.known d event.debit_account follows.accounts.0 debit_id refl)
+      (own_times h kept.own sound.known c event.credit_account follows.accounts.1 credit_id refl))
+      (own_pair h kept.own d c follows.accounts.0 follows.accounts.1 follows.apart, tt)
+
   has_fields : NoneApplies (fixed_lines (events h) event)
   has_fields =
       let d = e.transfer.debit_account_id in
@@ -465,7 +481,9 @@ module _ (h : History) (e : Entry) (sound : IsSound h) (follows : Follows h e) (
       let c_there = created c follows.accounts.1 in
       let first = fields_lines (fields_before (events h) event.debit_account.id) event.ledger event.debit_account in
       let second = fields_lines (fields_before (events h) event.credit_account.id) event.ledger event.credit_account in
-      none_of_both (first ++ second) (created_lines event)
+      none_of_both (first ++ second ++ created_lines event)
+      (apart_lines (times_before (events h) event.debit_account) (times_before (events h) event.credit_account) event)
+      (none_of_both (first ++ second) (created_lines event)
       (none_of_both first second
       (fields_none _ event.debit_account (account_of h d)
       (ap (λ n. record (fixed_of (account_of h d)) { ledger = n }) enters.ledger.debit)
@@ -480,7 +498,7 @@ module _ (h : History) (e : Entry) (sound : IsSound h) (follows : Follows h e) (
               (lt-ltb (account_of h c).timestamp e.timestamp (let b = c_there.1 in omega arith))),
           tt,
         ),
-      )
+      )) has_times
 
   -- the sums of both accounts are within their bounds
   bounds_none : (id : ℕ) (a : EventAccount) → a.flags ≡ (account_of h id).request.flags

@@ -6,6 +6,7 @@ pub mod Changes
 pub mod Pulses
 pub mod Keeping
 pub mod Requests
+pub mod Created
 pub mod Kept
 pub mod Entries
 pub mod Ledgers

@@ -1,6 +1,6 @@
 -- Audits go on.
-use Rattle.std.proofs.Common.{◌≡◌, ℕ, ◌+◌, ◌<◌, ◌≤◌, ◌^◌, Bool, true, false, cond, List, [], ◌∷◌, ◌++◌, length, Option, Some, None, Result, Ok, Err, refl, sym, ap, ◌∙◌, subst, arith, append_assoc, inl, inr}
-use Rattle.std.specs.Prelude.{◌==◌, ◌&&◌, bit_and}
+use Rattle.std.proofs.Common.{◌≡◌, ℕ, ◌+◌, ◌<◌, ◌^◌, Bool, true, false, cond, List, [], ◌∷◌, ◌++◌, length, Option, Some, None, Result, Ok, Err, refl, sym, ap, ◌∙◌, subst, arith, inl, inr}
+use Rattle.std.specs.Prelude.{◌==◌, ◌&&◌}
 use Rattle.std.specs.List.{AllByRecursion}
 use Rattle.std.proofs.lemmas.Bool.Decides.{eqb_tells}
 use Rattle.std.proofs.lemmas.Nat.{and_le_l}
@@ -10,7 +10,7 @@ use Rattle.cdc_types.specs.declared.events.EventAccount.{EventAccount}
 use Rattle.cdc_types.specs.declared.transfers.TheConstants.TransferFlags as transfer
 use Rattle.cdc_types.specs.Flags.{has_other_flag}
 use Rattle.cdc_ledger.specs.Kinds.{stores}
-use Rattle.cdc_message.specs.Widths.{AccountFits, EventFits, TransferFits}
+use Rattle.cdc_message.specs.Widths.{AccountFits, EventFits}
 use Rattle.cdc_follow.specs.declared.entries.Content.{Content}
 use Rattle.cdc_follow.specs.declared.entries.Content.TheVariants as content
 use Rattle.cdc_follow.specs.declared.entries.Entry.{Entry}
@@ -20,12 +20,11 @@ use Rattle.cdc_follow.specs.Lines.{join_first, lines_of}
 use Rattle.cdc_follow.specs.Widths.{ContentFits}
 use Rattle.cdc_follow.proofs.EntryWidths.{entries_fit}
 use Rattle.cdc_audit.specs.declared.refusals.Refusal.{Refusal}
-use Rattle.cdc_audit.specs.declared.streams.AuditStop.{AuditStop}
 use Rattle.cdc_audit.specs.declared.streams.AuditStop.TheVariants as stop
-use Rattle.cdc_audit.specs.Audits.{AuditState, Audited, audited_on, bytes_audited, entry_refusal, lines_audited, next_audit}
-use Rattle.cdc_audit.specs.Foreign.{audited_event, own_account, own_event, own_timestamp}
+use Rattle.cdc_audit.specs.Audits.{AuditState, Audited, entry_refusal, lines_audited, next_audit}
+use Rattle.cdc_audit.specs.Foreign.{own_account, own_event}
 use Rattle.cdc_audit.proofs.AuditLemmas.{bad_line, entry_line, no_lines, past_line}
-use Rattle.cdc_audit_state.specs.Laws.{AuditedEventsFit, AuditsGoOn, PastFits, later_by, later_stop}
+use Rattle.cdc_audit_state.specs.Laws.{AuditedEventsFit, AuditsGoOn, PastFits, later_by}
 
 -- ---- what is audited fits
 

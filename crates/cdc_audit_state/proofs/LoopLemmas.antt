@@ -1,16 +1,16 @@
 -- Reading line after line.
-use Rattle.std.proofs.Common.{◌≡◌, ◌≢◌, ℕ, ◌<◌, Bool, true, false, length, List, [], ◌∷◌, ◌++◌, Option, Some, None, refl, sym, ap, ◌∙◌, subst, arith}
-use Rattle.std.specs.Prelude.{◌==◌, IsSomeAnd}
+use Rattle.std.proofs.Common.{◌≡◌, ℕ, ◌<◌, Bool, true, false, length, List, [], ◌∷◌, Some, None, refl, sym, ap, ◌∙◌, arith}
+use Rattle.std.specs.Prelude.{◌==◌}
 use Rattle.std.specs.List.{AllByRecursion}
 use Rattle.cdc_audit.specs.declared.checks.Stored.TheVariants.{Plain, Pending, Settled}
 use Rattle.cdc_audit_state.specs.declared.rows.ReadRow.{ReadRow}
 use Rattle.cdc_audit_state.specs.declared.rows.Row.{Row}
-use Rattle.cdc_audit_state.specs.declared.rows.Row.TheVariants.{Account, Expired, Transfer, Open, Fields}
+use Rattle.cdc_audit_state.specs.declared.rows.Row.TheVariants.{Account, Expired, Transfer, Open, Fields, Time}
 use Rattle.cdc_audit_state.specs.Parts.{GivesParts, PartsState, no_parts, parts_of, with_row}
 use Rattle.cdc_audit_state.specs.Reading.{first_of}
 use Rattle.cdc_audit_state.specs.Rows.{GivesRow}
 use Rattle.cdc_audit_state.specs.Saveable.{RowFits}
-use Rattle.cdc_audit_state.specs.States.{row_line, rows_text}
+use Rattle.cdc_audit_state.specs.States.{rows_text}
 use Rattle.cdc_audit_state.proofs.PartLemmas.{on}
 use Rattle.cdc_audit_state.proofs.RowLemmas.{first_row, row_first}
 
@@ -39,6 +39,7 @@ some_byte (Transfer id (Pending amount)) = omega arith
 some_byte (Transfer id (Settled amount)) = omega arith
 some_byte (Open e) = omega arith
 some_byte (Fields id fields) = omega arith
+some_byte (Time timestamp) = omega arith
 
 none_left : (rest : List ℕ) (left : List Row) → rest ≡ [] → rest ≡ rows_text left → left ≡ []
 none_left rest [] none lines = refl

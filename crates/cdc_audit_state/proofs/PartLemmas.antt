@@ -1,7 +1,7 @@
 -- What the lines of a state that can be saved contain.
-use Rattle.std.proofs.Common.{◌≡◌, ◌≢◌, ℕ, Bool, true, false, cond, length, List, [], ◌∷◌, ◌++◌, Option, Some, None, refl, sym, ap, ◌∙◌, subst, append_assoc, append-nil}
-use Rattle.std.specs.Prelude.{◌==◌, ◌&&◌, fold, is_some, map, nat_eq, not}
-use Rattle.std.specs.List.{AllByRecursion, IsDistinct, flat_map}
+use Rattle.std.proofs.Common.{◌≡◌, ℕ, Bool, true, false, cond, List, [], ◌∷◌, ◌++◌, Option, Some, None, refl, sym, ap, ◌∙◌, subst, append_assoc, append-nil}
+use Rattle.std.specs.Prelude.{◌==◌, fold, is_some, map, nat_eq, not}
+use Rattle.std.specs.List.{AllByRecursion, flat_map}
 use Rattle.std.specs.Map.{keys_of, lookup}
 use Rattle.std.proofs.lemmas.Bool.{and_parts}
 use Rattle.std.proofs.lemmas.Map.Keys.{IsDistinct-head, IsDistinct-tail}
@@ -15,10 +15,10 @@ use Rattle.cdc_audit.specs.declared.checks.Stored.{Stored}
 use Rattle.cdc_audit.specs.declared.fields.FixedFields.{FixedFields}
 use Rattle.cdc_audit.specs.Standing.{AuditorState, open_under, with_open}
 use Rattle.cdc_audit_state.specs.declared.rows.Row.{Row}
-use Rattle.cdc_audit_state.specs.declared.rows.Row.TheVariants.{Account, Expired, Transfer, Open, Fields}
+use Rattle.cdc_audit_state.specs.declared.rows.Row.TheVariants.{Account, Time}
 use Rattle.cdc_audit_state.specs.Parts.{PartsState, no_parts, parts_of, with_account, with_row}
 use Rattle.cdc_audit_state.specs.Saveable.{AreDistinct, CanBeSaved, IsByItsId}
-use Rattle.cdc_audit_state.specs.States.{expiry_rows, fields_rows, known_rows, open_rows, row_line, rows_text, transfer_rows}
+use Rattle.cdc_audit_state.specs.States.{expiry_rows, fields_rows, known_rows, open_rows, row_line, rows_text, time_rows, transfer_rows}
 
 -- the lines of accounts
 abbrev pub account_rows : List BookEntry → List Row
@@ -133,14 +133,23 @@ open_on (e ∷ left) parts more distinct all =
     (subst AreDistinct (sym whole) distinct) all.1
     ∙ ap (λ es. on (record parts { open_ones = es }) more) whole
 
-fields_on : (left : List (ℕ × FixedFields)) (parts : PartsState) → AreDistinct (parts.fixed ++ left)
-    → on parts (fields_rows left) ≡ record parts { fixed = parts.fixed ++ left }
-fields_on [] parts distinct = ap (λ es. record parts { fixed = es }) (sym (append-nil parts.fixed))
-fields_on (e ∷ left) parts distinct =
+fields_on : (left : List (ℕ × FixedFields)) (parts : PartsState) (more : List Row)
+    → AreDistinct (parts.fixed ++ left)
+    → on parts (fields_rows left ++ more) ≡ on (record parts { fixed = parts.fixed ++ left }) more
+fields_on [] parts more distinct = ap (λ es. on (record parts { fixed = es }) more) (sym (append-nil parts.fixed))
+fields_on (e ∷ left) parts more distinct =
     let whole : (parts.fixed ++ e ∷ []) ++ left ≡ parts.fixed ++ e ∷ left = append_assoc parts.fixed (e ∷ []) left in
-    ap (λ es. on (record parts { fixed = es }) (fields_rows left)) (inserted_last e.0 e.1 parts.fixed left distinct)
-    ∙ fields_on left (record parts { fixed = parts.fixed ++ e ∷ [] }) (subst AreDistinct (sym whole) distinct)
-    ∙ ap (λ es. record parts { fixed = es }) whole
+    ap (λ es. on (record parts { fixed = es }) (fields_rows left ++ more))
+    (inserted_last e.0 e.1 parts.fixed left distinct)
+    ∙ fields_on left (record parts { fixed = parts.fixed ++ e ∷ [] }) more (subst AreDistinct (sym whole) distinct)
+    ∙ ap (λ es. on (record parts { fixed = es }) more) whole
+
+times_on : (left : List ℕ) (parts : PartsState)
+    → on parts (time_rows left) ≡ record parts { times = parts.times ++ left }
+times_on [] parts = ap (λ ts. record parts { times = ts }) (sym (append-nil parts.times))
+times_on (t ∷ left) parts =
+    times_on left (record parts { times = parts.times ++ t ∷ [] })
+    ∙ ap (λ ts. record parts { times = ts }) (append_assoc parts.times (t ∷ []) left)
 
 expiry_on : (expired : Option Event) (parts : PartsState) (more : List Row) → parts.expired ≡ None
     → on parts (expiry_rows expired ++ more) ≡ on (record parts { expired = expired }) more
@@ -155,14 +164,17 @@ pub contained : (auditor : AuditorState) → CanBeSaved auditor
       transfers = auditor.transfers;
       open_ones = auditor.open_ones;
       fixed = auditor.fields;
+      times = auditor.times;
     }
 contained auditor can =
     let a1 : PartsState = record no_parts { accounts = auditor.kept.book } in
     let a2 : PartsState = record a1 { expired = auditor.expired } in
     let a3 : PartsState = record a2 { transfers = auditor.transfers } in
     let a4 : PartsState = record a3 { open_ones = auditor.open_ones } in
+    let a5 : PartsState = record a4 { fixed = auditor.fields } in
     accounts_on auditor.kept.book no_parts (known_rows auditor) can.book.distinct
     ∙ expiry_on auditor.expired a1 _ refl
     ∙ transfers_on auditor.transfers a2 _ can.transfers
     ∙ open_on auditor.open_ones a3 _ can.open_ones can.by_ids
-    ∙ fields_on auditor.fields a4 can.fields
+    ∙ fields_on auditor.fields a4 _ can.fields
+    ∙ times_on auditor.times a5

@@ -6,19 +6,19 @@ use Rattle.std.specs.Prelude.{codes}
 use Rattle.cdc_types.specs.declared.events.Event.{Event}
 use Rattle.cdc_audit.specs.declared.checks.Stored.{Stored}
 use Rattle.cdc_audit.specs.declared.fields.FixedFields.{FixedFields}
-use Rattle.cdc_audit_state.specs.States.{event_line, fields_line, fields_rows, open_rows, row_line, rows_text, transfer_line, transfer_rows}
+use Rattle.cdc_audit_state.specs.States.{event_line, fields_line, fields_rows, open_rows, row_line, rows_text, time_line, time_rows, transfer_line, transfer_rows}
 
 -- the lines of the entries that aren't left were pushed
-pub record Pushed {V : Type 0} (line : ℕ × V → List ℕ) (all left : List (ℕ × V)) (old new : List ℕ) : Type 0 where
-  pub done : List (ℕ × V)
+pub record Pushed {V : Type 0} (line : V → List ℕ) (all left : List V) (old new : List ℕ) : Type 0 where
+  pub done : List V
   pub parted : all ≡ done ++ left
   pub pushed : new ≡ old ++ flat_map line done
 
-module _ {V : Type 0} (line : ℕ × V → List ℕ) (all : List (ℕ × V)) (old : List ℕ) where
-  pub pushed_none : (left : List (ℕ × V)) → all ≡ left → Pushed line all left old old
+module _ {V : Type 0} (line : V → List ℕ) (all : List V) (old : List ℕ) where
+  pub pushed_none : (left : List V) → all ≡ left → Pushed line all left old old
   pushed_none left is = record { done = []; parted = is; pushed = sym (append-nil old) }
 
-  pub pushed_more : (left rest : List (ℕ × V)) (entry : ℕ × V) (mid new : List ℕ) → Pushed line all left old mid
+  pub pushed_more : (left rest : List V) (entry : V) (mid new : List ℕ) → Pushed line all left old mid
       → left ≡ entry ∷ rest → new ≡ mid ++ line entry → Pushed line all rest old new
   pushed_more left rest entry mid new before first adds = record {
     done = before.done ++ entry ∷ [];
@@ -28,7 +28,7 @@ module _ {V : Type 0} (line : ℕ × V → List ℕ) (all : List (ℕ × V)) (ol
         ∙ ap (λ text. flat_map line before.done ++ text) (append-nil (line entry))));
   }
 
-  pub pushed_all : (left : List (ℕ × V)) (new : List ℕ) → Pushed line all left old new → left ≡ []
+  pub pushed_all : (left : List V) (new : List ℕ) → Pushed line all left old new → left ≡ []
       → new ≡ old ++ flat_map line all
   pushed_all left new before none =
       before.pushed ∙ ap (λ es. old ++ flat_map line es)
@@ -58,6 +58,11 @@ pub all_fields_text : (fields : List (ℕ × FixedFields)) → rows_text (fields
 unfolding row_line
 all_fields_text [] = refl
 all_fields_text (f ∷ rest) = ap (λ text. fields_line f.0 f.1 ++ text) (all_fields_text rest)
+
+pub times_text : (times : List ℕ) → rows_text (time_rows times) ≡ flat_map time_line times
+unfolding row_line
+times_text [] = refl
+times_text (t ∷ rest) = ap (λ text. time_line t ++ text) (times_text rest)
 
 -- a piece, and what follows it
 pub pieces : (old mid new piece rest : List ℕ) → mid ≡ old ++ piece → new ≡ mid ++ rest → new ≡ old ++ (piece ++ rest)

@@ -1,23 +1,23 @@
 -- The lines of a state's text, by their first bytes.
-use Rattle.std.proofs.Common.{◌≡◌, ◌≢◌, ℕ, ◌<◌, ◌^◌, List, [], ◌∷◌, ◌++◌, length, drop, Bool, true, false, Option, Some, None, refl, sym, ap, ◌∙◌, append_assoc, arith}
+use Rattle.std.proofs.Common.{◌≡◌, ◌≢◌, ℕ, ◌<◌, ◌^◌, List, [], ◌∷◌, ◌++◌, drop, Bool, true, false, Option, refl, sym, ap, ◌∙◌, append_assoc, arith}
 use Rattle.std.specs.Prelude.{◌&&◌, codes, nat_le, IsSomeAnd}
 use Rattle.std.specs.List.{join_with_byte, list_all}
 use Rattle.std.proofs.lemmas.List.Folds.{list_all-append}
-use Rattle.std.proofs.lemmas.Bool.{and_parts, false≢true}
+use Rattle.std.proofs.lemmas.Bool.{and_parts}
 use Rattle.cdc_types.specs.declared.events.Event.{Event}
 use Rattle.cdc_message.specs.Bodies.{body, in_quotes, member_text, narrow_member, wide_member}
 use Rattle.cdc_message.specs.Headers.{headers_of_event}
 use Rattle.cdc_message.specs.Widths.{EventFits}
 use Rattle.cdc_subscriber.specs.declared.book.BookEntry.{BookEntry}
 use Rattle.cdc_subscriber.specs.Lines.{spaced}
-use Rattle.cdc_follow.specs.Saved.{EntryFits, is_in_line}
+use Rattle.cdc_follow.specs.Saved.{is_in_line}
 use Rattle.cdc_queues.specs.Lines.{headers_text, message_line, message_members, seconds_of}
 use Rattle.cdc_queues.proofs.Neat.{neat_message}
 use Rattle.cdc_audit.specs.declared.checks.Stored.{Stored}
 use Rattle.cdc_audit.specs.declared.checks.Stored.TheVariants.{Plain, Pending, Settled}
 use Rattle.cdc_audit.specs.declared.fields.FixedFields.{FixedFields}
 use Rattle.cdc_audit_state.specs.declared.rows.Row.{Row}
-use Rattle.cdc_audit_state.specs.declared.rows.Row.TheVariants.{Account, Expired, Transfer, Open, Fields}
+use Rattle.cdc_audit_state.specs.declared.rows.Row.TheVariants.{Account, Expired, Transfer, Open, Fields, Time}
 use Rattle.cdc_audit_state.specs.Reading.{ReadsNumber, first_of}
 use Rattle.cdc_audit_state.specs.Rows.{IsEventLine, ReadsAccount, ReadsFields, account_numbers, fields_numbers}
 use Rattle.cdc_audit_state.specs.Saveable.{RowFits}
@@ -73,6 +73,11 @@ fields_start id fields rest =
     (spaced fields.user_data_32) (spaced fields.ledger) (spaced fields.code) (spaced fields.flags)
     (spaced fields.timestamp) (codes "\n") rest
 
+time_start : (timestamp : ℕ) (rest : List ℕ)
+    → row_line (Time timestamp) ++ rest ≡ codes "time" ++ (spaced timestamp ++ 10 ∷ rest)
+unfolding row_line
+time_start timestamp rest = nest (codes "time") (spaced timestamp) (codes "\n") rest
+
 expired_start : (e : Event) (rest : List ℕ)
     → row_line (Expired e) ++ rest ≡ codes "expired " ++ (body e ++ 10 ∷ rest)
 unfolding row_line
@@ -91,6 +96,7 @@ row_first (Transfer id (Pending amount)) = 104
 row_first (Transfer id (Settled amount)) = 115
 row_first (Open e) = 111
 row_first (Fields id fields) = 102
+row_first (Time timestamp) = 116
 
 pub first_row : (row : Row) (rest : List ℕ) → first_of (row_line row ++ rest) ≡ row_first row
 first_row (Account entry) rest = ap first_of (account_start entry rest)
@@ -100,6 +106,7 @@ first_row (Transfer id (Pending amount)) rest = ap first_of (held_start id amoun
 first_row (Transfer id (Settled amount)) rest = ap first_of (settled_start id amount rest)
 first_row (Open e) rest = ap first_of (open_start e rest)
 first_row (Fields id fields) rest = ap first_of (fields_start id fields rest)
+first_row (Time timestamp) rest = ap first_of (time_start timestamp rest)
 
 -- a text that begins with this byte is that of a row that does
 pub begins : (text : List ℕ) (byte : ℕ) (row : Row) (rest : List ℕ) → first_of text ≡ byte
@@ -180,6 +187,17 @@ fields_reads text mid left id fields is first second (Transfer of stored) rest f
     (λ e. omega arith))
 fields_reads text mid left id fields is first second row rest fits whole =
     let byte : 102 ≡ row_first row = begins text 102 row rest is whole in absurd (omega arith)
+
+pub time_reads : (text mid left : List ℕ) (timestamp : ℕ) → first_of text ≡ 116
+    → ReadsNumber (2 ^ 64) (drop 4 text) timestamp mid → left ≡ drop 1 mid → Reads text (Time timestamp) left
+time_reads text mid left timestamp is reads left_is (Time shown) rest fits whole =
+    let both = reads shown 10 rest fits refl (ap (drop 4) (whole ∙ time_start shown rest)) in
+    (ap Time both.0, left_is ∙ ap (drop 1) both.1)
+time_reads text mid left timestamp is reads left_is (Transfer of stored) rest fits whole =
+    absurd (no_transfer 116 of stored (begins text 116 (Transfer of stored) rest is whole) (λ e. omega arith) (λ e. omega arith)
+    (λ e. omega arith))
+time_reads text mid left timestamp is reads left_is row rest fits whole =
+    let byte : 116 ≡ row_first row = begins text 116 row rest is whole in absurd (omega arith)
 
 -- ---- events
 
@@ -306,15 +324,17 @@ same_fields fields p q r s t u v = λ i. record {
 -- a line that begins with none of these bytes is none
 pub no_row : (byte : ℕ) (text : List ℕ) (row : Row) (rest : List ℕ) → byte ≡ first_of text
     → text ≡ row_line row ++ rest → byte ≢ 97 → byte ≢ 101 → byte ≢ 102 → byte ≢ 104 → byte ≢ 111 → byte ≢ 112
-    → byte ≢ 115 → ⊥
-no_row byte text (Account entry) rest is whole a e f h o p s = a (begins text byte (Account entry) rest (sym is) whole)
-no_row byte text (Expired shown) rest is whole a e f h o p s = e (begins text byte (Expired shown) rest (sym is) whole)
-no_row byte text (Transfer id Plain) rest is whole a e f h o p s =
+    → byte ≢ 115 → byte ≢ 116 → ⊥
+no_row byte text (Account entry) rest is whole a e f h o p s t = a (begins text byte (Account entry) rest (sym is) whole)
+no_row byte text (Expired shown) rest is whole a e f h o p s t = e (begins text byte (Expired shown) rest (sym is) whole)
+no_row byte text (Transfer id Plain) rest is whole a e f h o p s t =
     p (begins text byte (Transfer id Plain) rest (sym is) whole)
-no_row byte text (Transfer id (Pending amount)) rest is whole a e f h o p s =
+no_row byte text (Transfer id (Pending amount)) rest is whole a e f h o p s t =
     h (begins text byte (Transfer id (Pending amount)) rest (sym is) whole)
-no_row byte text (Transfer id (Settled amount)) rest is whole a e f h o p s =
+no_row byte text (Transfer id (Settled amount)) rest is whole a e f h o p s t =
     s (begins text byte (Transfer id (Settled amount)) rest (sym is) whole)
-no_row byte text (Open shown) rest is whole a e f h o p s = o (begins text byte (Open shown) rest (sym is) whole)
-no_row byte text (Fields id fields) rest is whole a e f h o p s =
+no_row byte text (Open shown) rest is whole a e f h o p s t = o (begins text byte (Open shown) rest (sym is) whole)
+no_row byte text (Fields id fields) rest is whole a e f h o p s t =
     f (begins text byte (Fields id fields) rest (sym is) whole)
+no_row byte text (Time timestamp) rest is whole a e f h o p s t =
+    t (begins text byte (Time timestamp) rest (sym is) whole)

@@ -1,11 +1,11 @@
 -- A state's text, part by part.
-use Rattle.std.proofs.Common.{◌≡◌, ℕ, ◌<◌, ◌^◌, List, [], ◌∷◌, ◌++◌, Bool, false, cond, Option, Some, None, refl, sym, ap, ◌∙◌, append_assoc}
+use Rattle.std.proofs.Common.{◌≡◌, ℕ, List, [], ◌∷◌, ◌++◌, false, Some, None, sym, ap, ◌∙◌, append_assoc}
 use Rattle.std.specs.Prelude.{codes}
 use Rattle.std.specs.List.{AllByRecursion, flat_map}
 use Rattle.std.proofs.lemmas.Grind.{flat_map-append}
 use Rattle.cdc_follow.specs.Saved.{EntryFits}
 use Rattle.cdc_subscriber.specs.declared.book.BookEntry.{BookEntry}
-use Rattle.cdc_subscriber.specs.Lines.{account_line, spaced, subscriber_line, subscriber_text}
+use Rattle.cdc_subscriber.specs.Lines.{account_line, spaced, subscriber_line}
 use Rattle.cdc_audit.specs.Standing.{AuditorState}
 use Rattle.cdc_audit_state.specs.declared.rows.Row.{Row}
 use Rattle.cdc_audit_state.specs.declared.saved.Front.{Front}
@@ -74,6 +74,7 @@ auditor_of front parts = record {
   transfers = parts.transfers;
   open_ones = parts.open_ones;
   fields = parts.fixed;
+  times = parts.times;
   linked = front.linked;
   expired = parts.expired;
 }
@@ -90,6 +91,7 @@ same_auditor : (state : AuditorState) (front : Front) (lines : List ℕ) → IsF
       transfers = state.transfers;
       open_ones = state.open_ones;
       fixed = state.fields;
+      times = state.times;
     })
     ≡ state
 same_auditor state front lines is open_yet = λ i. record {
@@ -104,6 +106,7 @@ same_auditor state front lines is open_yet = λ i. record {
   transfers = state.transfers;
   open_ones = state.open_ones;
   fields = state.fields;
+  times = state.times;
   linked = is.linked i;
   expired = state.expired;
 }

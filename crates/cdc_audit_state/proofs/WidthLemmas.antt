@@ -1,7 +1,7 @@
 -- That an auditor of events with numbers of their widths can be saved.
-use Rattle.std.proofs.Common.{◌≡◌, ℕ, ◌<◌, ◌≤◌, ◌^◌, Bool, true, false, cond, List, [], ◌∷◌, ◌++◌, Option, Some, None, refl, sym, ap, ◌∙◌, subst, inl, inr, arith, append_assoc, append-nil}
-use Rattle.std.specs.Prelude.{◌==◌, ◌&&◌, ◌||◌, find, fold, is_some, map, nat_eq, not, option_map, reverse}
-use Rattle.std.specs.List.{AllByRecursion, IsDistinct, flat_map, list_any}
+use Rattle.std.proofs.Common.{◌≡◌, ℕ, ◌<◌, ◌^◌, Bool, true, false, cond, List, [], ◌∷◌, ◌++◌, Option, Some, None, refl, sym, ap, ◌∙◌, subst, inl, inr, arith, append_assoc, append-nil}
+use Rattle.std.specs.Prelude.{◌==◌, ◌&&◌, ◌||◌, find, map, nat_eq, not, option_map}
+use Rattle.std.specs.List.{AllByRecursion, flat_map}
 use Rattle.std.specs.Map.{keys_of, lookup}
 use Rattle.std.proofs.lemmas.Bool.{and_parts, false≢true}
 use Rattle.std.proofs.lemmas.Bool.Decides.{eqb_tells}
@@ -15,20 +15,19 @@ use Rattle.cdc_subscriber.specs.Book.{are_distinct, book_of, entry_of, ids_of, i
 use Rattle.cdc_subscriber.specs.SubscriberState.{SubscriberState}
 use Rattle.cdc_subscriber.proofs.BookLemmas.{book_of-push, eqb_same, eqb_swap, neither}
 use Rattle.cdc_follow.specs.Saved.{AreBook, EntryFits}
-use Rattle.cdc_types.specs.Timestamps.{last_timestamp, last_timestamp_from}
-use Rattle.cdc_types.specs.Widths.{max_64}
+use Rattle.cdc_types.specs.Timestamps.{last_timestamp_from}
 use Rattle.cdc_audit.specs.declared.checks.Stored.{Stored}
 use Rattle.cdc_audit.specs.declared.checks.Stored.TheVariants.{Plain, Pending, Settled}
 use Rattle.cdc_audit.specs.declared.fields.FixedFields.{FixedFields}
-use Rattle.cdc_audit.specs.Audits.{AuditState}
+use Rattle.cdc_audit.specs.Apart.{times_of}
 use Rattle.cdc_audit.specs.Fields.{accounts_of, fields_before, fixed_fields}
-use Rattle.cdc_audit.specs.Known.{expiry_or, is_settled, is_stored, last_expiry, last_expiry_from, open_event, pending_amount, pending_event}
-use Rattle.cdc_audit.specs.Standing.{AuditorState, IsKnownOf, StandsFor, kept_after, open_under, stored_under}
+use Rattle.cdc_audit.specs.Known.{expiry_or, is_settled, is_stored, last_expiry_from, open_event, pending_amount, pending_event}
+use Rattle.cdc_audit.specs.Standing.{IsKnownOf, stored_under}
 use Rattle.cdc_audit_state.specs.declared.rows.Row.{Row}
-use Rattle.cdc_audit_state.specs.declared.rows.Row.TheVariants.{Expired, Transfer, Open, Fields}
-use Rattle.cdc_audit_state.specs.Laws.{AuditsCanBeSaved, PastFits}
-use Rattle.cdc_audit_state.specs.Saveable.{AreDistinct, CanBeSaved, FieldsFit, IsByItsId, RowFits, StoredFits}
-use Rattle.cdc_audit_state.specs.States.{expiry_rows, fields_rows, known_rows, open_rows, transfer_rows}
+use Rattle.cdc_audit_state.specs.declared.rows.Row.TheVariants.{Transfer, Open, Fields, Time}
+use Rattle.cdc_audit_state.specs.Laws.{AuditsCanBeSaved}
+use Rattle.cdc_audit_state.specs.Saveable.{AreDistinct, FieldsFit, IsByItsId, RowFits, StoredFits}
+use Rattle.cdc_audit_state.specs.States.{expiry_rows}
 
 -- ---- the accounts
 
@@ -262,6 +261,11 @@ transfer_fits transfers past fit known k v is =
     by (Pending amount) it = amount_fits past k amount fit it.amount
     by (Settled amount) it = amount_fits past k amount fit it.amount
 
+-- the timestamps of events
+times_fit : (past : List Event) → AllByRecursion EventFits past → AllByRecursion (λ t. t < 2 ^ 64) (times_of past)
+times_fit [] fit = tt
+times_fit (e ∷ past) fit = (fit.0.timestamp, times_fit past fit.1)
+
 -- ---- the lines
 
 mapped : {V : Type 0} (row : V → Row) (es : List V) (more : List Row) → AllByRecursion (λ e. RowFits (row e)) es
@@ -308,7 +312,8 @@ can_be_saved auditor state stands fit transfers open_ones fields =
       rows = with_expiry auditor.expired _ (subst MayFit (sym stands.expired) (expiry_fits None past tt fit))
           (mapped (λ (t : ℕ × Stored). Transfer t.0 t.1) auditor.transfers _ stored
           (mapped (λ (o : ℕ × Event). Open o.1) auditor.open_ones _ (firsts auditor.open_ones opened)
-          (mapped_last (λ (f : ℕ × FixedFields). Fields f.0 f.1) auditor.fields shown)));
+          (mapped (λ (f : ℕ × FixedFields). Fields f.0 f.1) auditor.fields _ shown
+          (mapped_last Time auditor.times (subst (AllByRecursion (λ t. t < 2 ^ 64)) (sym stands.times) (times_fit past fit))))));
       transfers = transfers;
       open_ones = open_ones;
       by_ids = seconds auditor.open_ones opened;

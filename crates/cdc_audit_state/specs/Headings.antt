@@ -1,5 +1,5 @@
 -- Reading back what precedes the lines of a state's text (private: for the code's own contracts).
-use Rattle.std.specs.Prelude.{◌≡◌, ℕ, ◌<◌, ◌^◌, List, ◌++◌, false}
+use Rattle.std.specs.Prelude.{◌≡◌, ℕ, ◌<◌, ◌^◌, List, ◌++◌}
 use Rattle.cdc_subscriber.specs.Lines.{subscriber_line}
 use Rattle.cdc_audit.specs.Standing.{AuditorState}
 use Rattle.cdc_audit_state.specs.declared.saved.Front.{Front}

@@ -9,20 +9,21 @@ use Rattle.cdc_audit.specs.declared.checks.Stored.{Stored}
 use Rattle.cdc_audit.specs.declared.fields.FixedFields.{FixedFields}
 use Rattle.cdc_audit.specs.Standing.{with_open}
 use Rattle.cdc_audit_state.specs.declared.rows.Row.{Row}
-use Rattle.cdc_audit_state.specs.declared.rows.Row.TheVariants.{Account, Expired, Transfer, Open, Fields}
+use Rattle.cdc_audit_state.specs.declared.rows.Row.TheVariants.{Account, Expired, Transfer, Open, Fields, Time}
 use Rattle.cdc_audit_state.specs.Saveable.{RowFits}
 use Rattle.cdc_audit_state.specs.States.{rows_text}
 
--- the accounts, the last expiry, the stored transfers, the open ones and the fixed fields
+-- the accounts, the last expiry, the stored transfers, the open ones, the fixed fields and the timestamps
 pub record PartsState : Type 0 where
   pub accounts : List BookEntry
   pub expired : Option Event
   pub transfers : List (ℕ × Stored)
   pub open_ones : List (ℕ × Event)
   pub fixed : List (ℕ × FixedFields)
+  pub times : List ℕ
 
 abbrev pub no_parts : PartsState
-no_parts = record { accounts = []; expired = None; transfers = []; open_ones = []; fixed = [] }
+no_parts = record { accounts = []; expired = None; transfers = []; open_ones = []; fixed = []; times = [] }
 
 -- an account after the others, unless its id is there
 abbrev pub with_account : List BookEntry → BookEntry → List BookEntry
@@ -36,6 +37,7 @@ with_row parts (Expired e) = record parts { expired = Some e }
 with_row parts (Transfer id stored) = record parts { transfers = insert_entry nat_eq parts.transfers id stored }
 with_row parts (Open e) = record parts { open_ones = with_open parts.open_ones e }
 with_row parts (Fields id fields) = record parts { fixed = insert_entry nat_eq parts.fixed id fields }
+with_row parts (Time timestamp) = record parts { times = parts.times ++ timestamp ∷ [] }
 
 -- what these lines contain
 abbrev pub parts_of : List Row → PartsState

@@ -10,7 +10,7 @@ use Rattle.cdc_audit.specs.declared.checks.Stored.TheVariants.{Plain, Pending, S
 use Rattle.cdc_audit.specs.declared.fields.FixedFields.{FixedFields}
 use Rattle.cdc_audit.specs.Standing.{AuditorState}
 use Rattle.cdc_audit_state.specs.declared.rows.Row.{Row}
-use Rattle.cdc_audit_state.specs.declared.rows.Row.TheVariants.{Account, Expired, Transfer, Open, Fields}
+use Rattle.cdc_audit_state.specs.declared.rows.Row.TheVariants.{Account, Expired, Transfer, Open, Fields, Time}
 use Rattle.cdc_audit_state.specs.States.{known_rows}
 
 -- the amount of a transfer that is or was pending has its width
@@ -36,6 +36,7 @@ RowFits (Expired e) = EventFits e
 RowFits (Transfer id stored) = (id < 2 ^ 128) × StoredFits stored
 RowFits (Open e) = EventFits e
 RowFits (Fields id fields) = (id < 2 ^ 128) × FieldsFit fields
+RowFits (Time timestamp) = timestamp < 2 ^ 64
 
 -- no two keys of a map are equal, as is known of every map
 abbrev pub AreDistinct : {V : Type 0} → List (ℕ × V) → Type 0

@@ -10,7 +10,7 @@ use Rattle.cdc_audit.specs.declared.checks.Stored.TheVariants.{Plain, Pending, S
 use Rattle.cdc_audit.specs.declared.fields.FixedFields.{FixedFields}
 use Rattle.cdc_audit.specs.Standing.{AuditorState}
 use Rattle.cdc_audit_state.specs.declared.rows.Row.{Row}
-use Rattle.cdc_audit_state.specs.declared.rows.Row.TheVariants.{Account, Expired, Transfer, Open, Fields}
+use Rattle.cdc_audit_state.specs.declared.rows.Row.TheVariants.{Account, Expired, Transfer, Open, Fields, Time}
 
 -- the line of a stored transfer: its id, and the amount of one that is or was pending
 abbrev pub transfer_line : ℕ → Stored → List ℕ
@@ -25,6 +25,10 @@ fields_line id fields =
     ++ (spaced fields.user_data_32 ++ (spaced fields.ledger ++ (spaced fields.code ++ (spaced fields.flags
     ++ (spaced fields.timestamp ++ codes "\n"))))))))
 
+-- the line of an event's timestamp
+abbrev pub time_line : ℕ → List ℕ
+time_line timestamp = codes "time" ++ (spaced timestamp ++ codes "\n")
+
 -- the line of an event, by its body
 abbrev pub event_line : List ℕ → Event → List ℕ
 event_line name e = name ++ (body e ++ codes "\n")
@@ -35,6 +39,7 @@ row_line (Expired e) = event_line (codes "expired ") e
 row_line (Transfer id stored) = transfer_line id stored
 row_line (Open e) = event_line (codes "open ") e
 row_line (Fields id fields) = fields_line id fields
+row_line (Time timestamp) = time_line timestamp
 
 -- the lines, one after another
 abbrev pub rows_text : List Row → List ℕ
@@ -54,11 +59,15 @@ open_rows events = map (λ (o : ℕ × Event). Open o.1) events
 abbrev pub fields_rows : List (ℕ × FixedFields) → List Row
 fields_rows fields = map (λ (f : ℕ × FixedFields). Fields f.0 f.1) fields
 
+abbrev pub time_rows : List ℕ → List Row
+time_rows times = map Time times
+
 -- what an auditor knows besides what its subscriber keeps
 abbrev pub known_rows : AuditorState → List Row
 known_rows auditor =
     expiry_rows auditor.expired
-    ++ (transfer_rows auditor.transfers ++ (open_rows auditor.open_ones ++ fields_rows auditor.fields))
+    ++ (transfer_rows auditor.transfers
+    ++ (open_rows auditor.open_ones ++ (fields_rows auditor.fields ++ time_rows auditor.times)))
 
 -- the version of the text, and two flags
 abbrev pub heading : AuditorState → List ℕ

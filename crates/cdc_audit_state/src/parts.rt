@@ -21,6 +21,7 @@ pub(crate) struct Parts {
     pub(crate) transfers: IndexMap<u128, Stored>,
     pub(crate) open_ones: OpenOnes,
     pub(crate) fields: IndexMap<u128, FixedFields>,
+    pub(crate) times: Vec<u64>,
 }
 
 impl Model for Parts {
@@ -34,6 +35,7 @@ impl Model for Parts {
       transfers = p.transfers.entries;
       open_ones = p.open_ones;
       fixed = p.fields.entries;
+      times = p.times.items;
     } };
 }
 
@@ -47,6 +49,7 @@ impl Parts {
             transfers: IndexMap::new(alloc),
             open_ones: OpenOnes::new(alloc),
             fields: IndexMap::new(alloc),
+            times: Vec::new(alloc),
         }
     }
 
@@ -69,6 +72,11 @@ impl Parts {
             }
             Row::Fields(id, fields) => {
                 if self.fields.insert(id, fields).is_err() {
+                    return Err(AllocError);
+                }
+            }
+            Row::Time(timestamp) => {
+                if self.times.push(timestamp).is_err() {
                     return Err(AllocError);
                 }
             }

@@ -3,6 +3,7 @@
 ghost use Rattle.std.specs.Prelude.{◌≡◌, ◌++◌, Bool, IfOk, OnOk, codes};
 ghost use Rattle.cdc_subscriber.specs.Lines.{flagged, subscriber_text};
 ghost use Rattle.cdc_audit_state.specs.States.{event_line, expiry_rows, fields_line, fields_rows, heading, known_rows};
+ghost use Rattle.cdc_audit_state.specs.States.{time_line, time_rows};
 ghost use Rattle.cdc_audit_state.specs.States.{open_rows, rows_text, state_text, transfer_line, transfer_rows};
 
 use cdc_audit::{Auditor, FixedFields, Stored};
@@ -69,7 +70,8 @@ fn push_known(alloc: Global, text: &mut Vec<u8>, auditor: &Auditor) -> Result<()
     push_expiry(alloc, text, auditor.last_expiry())?;
     push_transfers(text, auditor.transfers())?;
     push_open(alloc, text, auditor.open_ones().events())?;
-    push_all_fields(text, auditor.fields())
+    push_all_fields(text, auditor.fields())?;
+    push_times(text, auditor.times())
 }
 
 /// Adds the line of an event.
@@ -172,6 +174,25 @@ fn push_all_fields(
 {
     for (id, shown) in fields.iter() {
         push_fields(text, *id, shown)?;
+    }
+    Ok(())
+}
+
+/// Adds the line of an event's timestamp.
+fn push_time(text: &mut Vec<u8>, timestamp: u64) -> Result<(), AllocError>
+    ensures { OnOk result (text.new.items ≡ text.old.items ++ time_line timestamp) }
+{
+    push(text, "time")?;
+    push_number(text, timestamp)?;
+    push(text, "\n")
+}
+
+/// Adds the lines of the timestamps of the events.
+fn push_times(text: &mut Vec<u8>, times: &[u64]) -> Result<(), AllocError>
+    ensures { OnOk result (text.new.items ≡ text.old.items ++ rows_text (time_rows times.now)) }
+{
+    for timestamp in times {
+        push_time(text, *timestamp)?;
     }
     Ok(())
 }

@@ -25,6 +25,8 @@ pub(crate) enum Row {
     Open(Event),
     /// The fields of the account with this id that never change.
     Fields(u128, FixedFields),
+    /// The timestamp of an event.
+    Time(u64),
 }
 
 /// A line that was read, and the bytes after it.
@@ -178,6 +180,19 @@ fn fields_row(text: &[u8]) -> ReadRow<'_>
     }
 }
 
+/// The line of an event's timestamp.
+fn time_row(text: &[u8]) -> ReadRow<'_>
+    requires { first_of text.now ≡ 116 }
+    ensures reads { ReadsRow text.now result }
+    ensures shorter { length result.rest.now < length text.now }
+{
+    let (timestamp, rest) = number_64(skip(text, 4));
+    ReadRow {
+        row: Row::Time(timestamp),
+        rest: skip(rest, 1),
+    }
+}
+
 /// The line of the last expiry, if it is one.
 fn expired_row(alloc: Global, text: &[u8]) -> Result<Option<ReadRow<'_>>, AllocError>
     requires { first_of text.now ≡ 101 }
@@ -221,6 +236,7 @@ pub(crate) fn read_row(alloc: Global, text: &[u8]) -> Result<Option<ReadRow<'_>>
         b'o' => open_row(alloc, text),
         b'p' => Ok(Some(plain_row(text))),
         b's' => Ok(Some(settled_row(text))),
+        b't' => Ok(Some(time_row(text))),
         _ => Ok(None),
     }
 }

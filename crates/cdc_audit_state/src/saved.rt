@@ -58,8 +58,8 @@ fn is_text_of(alloc: Global, text: &[u8], auditor: &Auditor) -> Result<bool, All
 }
 
 /// An auditor with these parts.
-fn auditor_of(front: &Front<'_>, parts: Parts) -> Auditor
-    ensures { result ≡ record {
+fn auditor_of(alloc: Global, front: &Front<'_>, parts: Parts) -> Result<Auditor, AllocError>
+    ensures { IfOk result (λ auditor. auditor ≡ record {
       foreign = front.now.foreign;
       kept = record {
         book = parts.accounts;
@@ -71,9 +71,10 @@ fn auditor_of(front: &Front<'_>, parts: Parts) -> Auditor
       transfers = parts.transfers;
       open_ones = parts.open_ones;
       fields = parts.fixed;
+      times = parts.times;
       linked = front.now.linked;
       expired = parts.expired;
-    } }
+    }) }
 {
     let Parts {
         book,
@@ -81,14 +82,17 @@ fn auditor_of(front: &Front<'_>, parts: Parts) -> Auditor
         transfers,
         open_ones,
         fields,
+        times,
     } = parts;
     let subscriber = Subscriber::resume(book, front.last, front.applied, front.ended);
     Auditor::resume(
+        alloc,
         front.foreign,
         subscriber,
         transfers,
         open_ones,
         fields,
+        times,
         front.linked,
         expired,
     )
@@ -105,7 +109,7 @@ pub fn read_state(alloc: Global, text: &[u8]) -> Result<Option<Auditor>, AllocEr
     let Some(parts) = read_parts(alloc, front.lines)? else {
         return Ok(None);
     };
-    let auditor = auditor_of(&front, parts);
+    let auditor = auditor_of(alloc, &front, parts)?;
     if is_text_of(alloc, text, &auditor)? {
         Ok(Some(auditor))
     } else {

@@ -6,7 +6,7 @@ use Rattle.cdc_subscriber.specs.SubscriberState.{SubscriberState}
 use Rattle.cdc_types.specs.Results.{account_name, transfer_name}
 use Rattle.cdc_audit.specs.Texts.{field_name, fixed_name, refusal_name, side_name}
 use Rattle.cdc_audit.specs.declared.refusals.Refusal.{Refusal}
-use Rattle.cdc_audit.specs.declared.refusals.Refusal.TheVariants.{AfterEnd, NotLater, TooHigh, OneAccount, TransferShape, OtherKind, OtherTimestamp, AccountShape, AccountField, CreatedLater}
+use Rattle.cdc_audit.specs.declared.refusals.Refusal.TheVariants.{AfterEnd, NotLater, TooHigh, OneAccount, TransferShape, OtherKind, OtherTimestamp, AccountShape, AccountField, CreatedLater, CreatedAtEvent, CreatedTogether}
 use Rattle.cdc_audit.specs.declared.refusals.Refusal.TheVariants.{KnownId, NotPending, Settled, OtherFields, Amount, NoTimeout, TooSoon, TooLate, ExpiresLate, ExpiresApart, BrokenChain, TooLarge, Limit, Balance}
 use Rattle.cdc_audit.specs.declared.streams.AuditStop.{AuditStop}
 use Rattle.cdc_audit.specs.declared.streams.AuditStop.TheVariants.{AtEnd, Refused, BadLine}
@@ -48,6 +48,13 @@ refusal_members (CreatedLater account created timestamp) =
     member (codes "account") (wide account) (
     member (codes "created") (wide created) (
     member (codes "timestamp") (wide timestamp)
+    no_members))
+refusal_members (CreatedAtEvent account created) =
+    member (codes "account") (wide account) (member (codes "created") (wide created) no_members)
+refusal_members (CreatedTogether account created other) =
+    member (codes "account") (wide account) (
+    member (codes "created") (wide created) (
+    member (codes "other") (wide other)
     no_members))
 refusal_members (KnownId transfer) = member (codes "transfer") (wide transfer) no_members
 refusal_members (NotPending transfer) = member (codes "transfer") (wide transfer) no_members

@@ -9,8 +9,8 @@ ghost use Rattle.serde_json.specs.Data.{member, no_members, string};
 
 use crate::lines::{Field, Lines, Member};
 use crate::refusals::{
-    push_amount, push_created, push_end, push_excess, push_expiry, push_field, push_mismatch,
-    push_transfer_time,
+    push_amount, push_at_event, push_created, push_end, push_excess, push_expiry, push_field, push_mismatch,
+    push_together, push_transfer_time,
 };
 use crate::streams::push_bad_line;
 use cdc_audit::{AuditStop, Refusal};
@@ -98,6 +98,12 @@ fn push_refused(alloc: Global, lines: &mut Lines, line: u64, why: Refusal) -> Re
         Refusal::AccountField(mismatch) => push_field(alloc, lines, line, rule, mismatch),
         Refusal::CreatedLater(account, created, timestamp) => {
             push_created(alloc, lines, line, rule, account, created, timestamp)
+        }
+        Refusal::CreatedAtEvent(account, created) => {
+            push_at_event(alloc, lines, line, rule, account, created)
+        }
+        Refusal::CreatedTogether(account, created, other) => {
+            push_together(alloc, lines, line, rule, account, created, other)
         }
         Refusal::KnownId(transfer)
         | Refusal::NotPending(transfer)

@@ -185,6 +185,83 @@ pub(crate) fn push_created(
     )
 }
 
+/// Adds the line of an event that is refused by this rule, with an account that was created at an event's timestamp.
+pub(crate) fn push_at_event(
+    alloc: Global,
+    lines: &mut Lines,
+    line: u64,
+    rule: &str,
+    account: u128,
+    created: u64,
+) -> Result<(), AllocError>
+    ensures { OnOk result (lines.new.text.items ≡ lines.old.text.items
+        ++ json_line (rule_value line rule.now (refusal_members (Refusals.CreatedAtEvent account created)))) }
+{
+    lines.push(
+        alloc,
+        "refusal",
+        &[
+            Member {
+                name: "line",
+                value: Field::Number(line),
+            },
+            Member {
+                name: "rule",
+                value: Field::Text(rule),
+            },
+            Member {
+                name: "account",
+                value: Field::Wide(account),
+            },
+            Member {
+                name: "created",
+                value: Field::Wide(created.into()),
+            },
+        ],
+    )
+}
+
+/// Adds the line of an event that is refused by this rule, with an account that was created at the timestamp of another one.
+pub(crate) fn push_together(
+    alloc: Global,
+    lines: &mut Lines,
+    line: u64,
+    rule: &str,
+    account: u128,
+    created: u64,
+    second: u128,
+) -> Result<(), AllocError>
+    ensures { OnOk result (lines.new.text.items ≡ lines.old.text.items
+        ++ json_line (rule_value line rule.now (refusal_members (Refusals.CreatedTogether account created second)))) }
+{
+    lines.push(
+        alloc,
+        "refusal",
+        &[
+            Member {
+                name: "line",
+                value: Field::Number(line),
+            },
+            Member {
+                name: "rule",
+                value: Field::Text(rule),
+            },
+            Member {
+                name: "account",
+                value: Field::Wide(account),
+            },
+            Member {
+                name: "created",
+                value: Field::Wide(created.into()),
+            },
+            Member {
+                name: "other",
+                value: Field::Wide(second),
+            },
+        ],
+    )
+}
+
 /// Adds the line of an event that is refused by this rule, with an amount that isn't that of the pending transfer.
 pub(crate) fn push_amount(
     alloc: Global,

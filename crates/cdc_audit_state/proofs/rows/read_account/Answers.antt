@@ -1,5 +1,4 @@
-use Rattle.std.proofs.Common.{◌≡◌, ◌++◌, ◌∷◌, ◌∙◌, ap, drop, refl}
-use Rattle.std.specs.Prelude.{decimal}
+use Rattle.std.proofs.Common.{◌++◌, ◌∷◌, ◌∙◌, ap, drop, refl}
 use Rattle.cdc_subscriber.specs.Lines.{spaced}
 use Rattle.cdc_audit_state.proofs.RowLemmas.{same_account}
 use Rattle.cdc_audit_state.proofs.rows.read_account.Goals as goal

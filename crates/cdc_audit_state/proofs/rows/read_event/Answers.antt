@@ -1,4 +1,3 @@
-use Rattle.std.proofs.Common.{◌≡◌, ◌∙◌, Ok, sym}
 use Rattle.cdc_audit_state.proofs.EventLemmas.{event_given, event_wrong}
 use Rattle.cdc_audit_state.proofs.rows.read_event.Goals as goal
 

@@ -1,4 +1,4 @@
-use Rattle.std.proofs.Common.{◌≡◌, ◌++◌, ◌∷◌, ◌∙◌, ap, drop, refl}
+use Rattle.std.proofs.Common.{◌++◌, ◌∷◌, ◌∙◌, ap, drop, refl}
 use Rattle.std.proofs.Common.{arith}
 use Rattle.std.specs.Prelude.{codes}
 use Rattle.cdc_subscriber.specs.Lines.{spaced}

@@ -12,13 +12,13 @@ returns-in_default-clause-all c = λ state can is.
 
 pub returns-then-branch-clause-all : goal.returns-then-branch-clause-all
 returns-then-branch-clause-all c = λ state can is.
-    c.auditor_of-auditor.ensures
+    c.in_ok-auditor.ensures
     ∙ reads_state c.args.text.now c.read_front-front.result c.in-Some.parts state c.read_front-front.ensures
     (subst (GivesParts c.read_front-front.result.lines.now) c.in-Some.is c.in_ok-parts.ensures) can is
 
 pub returns-else-branch-clause-all : goal.returns-else-branch-clause-all
 returns-else-branch-clause-all c = λ state can is.
-    let same = c.auditor_of-auditor.ensures
+    let same = c.in_ok-auditor.ensures
     ∙ reads_state c.args.text.now c.read_front-front.result c.in-Some.parts state c.read_front-front.ensures
     (subst (GivesParts c.read_front-front.result.lines.now) c.in-Some.is c.in_ok-parts.ensures) can is in
     let text_is = is ∙ sym (ap state_text same) in

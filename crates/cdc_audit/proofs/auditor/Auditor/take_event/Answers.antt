@@ -1,12 +1,12 @@
-use Rattle.std.proofs.Common.{None, ap, sym, ◌∙◌}
+use Rattle.std.proofs.Common.{None, [], ◌∷◌, ◌++◌, ap, sym, subst, ◌∙◌}
 use Rattle.cdc_message.specs.declared.items.Item.TheVariants as item
 use Rattle.cdc_subscriber.specs.Steps.{next_state}
 use Rattle.cdc_types.specs.Lines.{first_line}
 use Rattle.cdc_audit.specs.declared.checks.Facts.{Facts}
 use Rattle.cdc_audit.specs.Checks.{lines, released}
 use Rattle.cdc_audit.specs.Known.{expiry_or}
-use Rattle.cdc_audit.specs.Standing.{AuditorState, with_held, with_own, with_settled, without_settled}
-use Rattle.cdc_audit.proofs.StandLemmas.{accepts, accounts_from, answers, unless_error}
+use Rattle.cdc_audit.specs.Standing.{AuditorState, IsTimeIndex, with_accounts, with_held, with_own, with_settled, without_settled}
+use Rattle.cdc_audit.proofs.StandLemmas.{accepts, answers, times_ordered, unless_error}
 use Rattle.cdc_audit.proofs.auditor.Auditor.take_event.Goals as goal
 
 pub returns-in-Some-clause-answer : goal.returns-in-Some-clause-answer
@@ -14,7 +14,8 @@ returns-in-Some-clause-answer c = λ state stands.
     answers c.args.self.now state _ c.args.event.now _
     (sym (ap (λ (a : AuditorState). a.kept.ended) c.self.view_is) ∙ (sym c.ended.ensures ∙ c.if-ended.false))
     (sym c.in-Some.is ∙ c.refusal_by.ensures
-    ∙ ap (λ (facts : Facts). first_line (lines facts c.args.event.now)) c.facts-facts.ensures.facts)
+    ∙ ap (λ (facts : Facts). first_line (lines facts c.args.event.now))
+    (c.facts-facts.ensures.facts (times_ordered c.args.self.now state stands)))
     c.facts-facts.ensures.first stands
 
 pub returns-clause-answer : goal.returns-clause-answer
@@ -22,23 +23,26 @@ returns-clause-answer c = λ state stands.
     answers c.args.self.now state _ c.args.event.now None
     (sym (ap (λ (a : AuditorState). a.kept.ended) c.self.view_is) ∙ (sym c.ended.ensures ∙ c.if-ended.false))
     (sym c.in_default.is ∙ c.refusal_by.ensures
-    ∙ ap (λ (facts : Facts). first_line (lines facts c.args.event.now)) c.facts-facts.ensures.facts)
+    ∙ ap (λ (facts : Facts). first_line (lines facts c.args.event.now))
+    (c.facts-facts.ensures.facts (times_ordered c.args.self.now state stands)))
     c.facts-facts.ensures.first stands
 
 pub returns-clause-accepted : goal.returns-clause-accepted
 returns-clause-accepted c = λ state stands _.
     let e = c.args.event.now in
+    let facts_are = c.facts-facts.ensures.facts (times_ordered c.args.self.now state stands) in
     accepts c.args.self.now (record {
       foreign = c.self.inside.foreign;
       kept = c.take_event.new.self;
       transfers = c.keep.new.transfers.entries;
       open_ones = c.remove_settled.new.open_ones;
       fields = c.keep_accounts.new.fields.entries;
+      times = c.keep_time.new.times.items;
       linked = c.is_linked-self-inside.result;
       expired = c.expiry_or-self-inside.result;
     }) state _ e
     (sym (ap (λ (a : AuditorState). a.kept.ended) c.self.view_is) ∙ (sym c.ended.ensures ∙ c.if-ended.false))
-    (sym (ap (λ (facts : Facts). first_line (lines facts e)) c.facts-facts.ensures.facts) ∙ sym c.refusal_by.ensures
+    (sym (ap (λ (facts : Facts). first_line (lines facts e)) facts_are) ∙ sym c.refusal_by.ensures
     ∙ c.in_default.is)
     (unless_error c.take_event.result _ (sym c.is_err.ensures.value ∙ c.if-is_err.false) c.take_event.ensures.state
     ∙ ap (λ (a : AuditorState). next_state a.kept (item.Event e)) c.self.view_is)
@@ -46,14 +50,23 @@ returns-clause-accepted c = λ state stands _.
     ∙ ap (λ ts. with_settled (with_own ts e) e c.released.result)
     (c.in_ok-reserve.ensures.entries ∙ ap (λ (a : AuditorState). a.transfers) c.self.view_is)
     ∙ ap (with_settled (with_own c.args.self.now.transfers e) e)
-    (c.released.ensures ∙ ap (λ (facts : Facts). released facts e) c.facts-facts.ensures.facts))
+    (c.released.ensures ∙ ap (λ (facts : Facts). released facts e) facts_are))
     (λ id. c.remove_settled.ensures id
     ∙ ap (λ es. without_settled es e id)
     (c.in_ok-added.ensures.events
     ∙ ap (λ (a : AuditorState). with_held a.open_ones e) c.self.view_is))
-    (accounts_from _ _ _ _ e _
-    (c.in_ok-reserve-2.ensures.entries ∙ ap (λ (a : AuditorState). a.fields) c.self.view_is) c.facts-facts.ensures.facts
-    c.keep_accounts.ensures)
+    (c.keep_accounts.ensures.fields
+    ∙ ap (λ fs. with_accounts fs e)
+    (c.in_ok-reserve-2.ensures.entries ∙ ap (λ (a : AuditorState). a.fields) c.self.view_is))
+    (c.keep_time.ensures
+    ∙ ap (λ ts. ts ++ e.timestamp ∷ [])
+    (c.in_ok-reserve-4.ensures.items ∙ ap (λ (a : AuditorState). a.times) c.self.view_is))
     c.is_linked-self-inside.ensures
     (c.expiry_or-self-inside.ensures ∙ ap (λ (a : AuditorState). expiry_or a.expired e) c.self.view_is)
     (ap (λ (a : AuditorState). a.foreign) c.self.view_is) stands
+
+pub invariant_of-self-2 : goal.invariant_of-self-2
+invariant_of-self-2 c =
+    c.keep_accounts.ensures.index (subst (λ index. IsTimeIndex index c.reserve-2.new.self.entries)
+    (sym c.in_ok-reserve-3.ensures.entries)
+    (subst (IsTimeIndex c.self.inside.created.entries) (sym c.in_ok-reserve-2.ensures.entries) c.self.invariant))

@@ -1,0 +1,169 @@
+//! The rules on the timestamps at which accounts were created: each belongs to one account, and to no event.
+
+ghost use Rattle.std.specs.Prelude.{◌≡◌, ◌==◌, ◌≤◌, ◌++◌, ◌∷◌, ◌+◌, [], ℕ, vec_len, IfOk, OnOk, OnErr, Some, None, nat_eq, if◌then◌else◌};
+ghost use Rattle.std.specs.Map.{lookup};
+ghost use Rattle.std.specs.Option.{option_or};
+ghost use Rattle.std.specs.Vec.{vec_capacity};
+ghost use Rattle.indexmap.specs.IndexMap.{insert_entry, spare};
+ghost use Rattle.cdc_types.specs.Lines.{first_line};
+ghost use Rattle.cdc_audit.specs.Apart as spec;
+ghost use Rattle.cdc_audit.specs.Fields as shown;
+ghost use Rattle.cdc_audit.specs.Standing as standing;
+ghost use Rattle.cdc_audit.specs.Standing.{AreInOrder, IsTimeIndex};
+
+use crate::fields::{FixedFields, fixed_fields};
+use crate::refusals::Refusal;
+use cdc_types::{Event, EventAccount};
+use indexmap::IndexMap;
+use std::alloc::{AllocError, Global};
+
+/// What else has the timestamp at which an account was created, if no earlier event shows the account.
+#[derive(Clone, Copy, Debug, PartialEq, Eq)]
+pub(crate) struct Times {
+    /// Whether an earlier event has it.
+    pub(crate) of_event: bool,
+    /// The account that an earlier event shows and that has it, by its id.
+    pub(crate) of_account: Option<u128>,
+}
+
+/// Whether one of these timestamps, which are in order, is this one.
+pub(crate) fn has_time(times: &[u64], timestamp: u64) -> bool
+    ensures { AreInOrder times.now → result ≡ spec.has_time times.now timestamp }
+{
+    times.binary_search(&timestamp).is_ok()
+}
+
+/// The refusal of an event by the timestamp of an account.
+fn times_refusal(times: Times, account: &EventAccount) -> Option<Refusal>
+    ensures { result ≡ first_line (spec.times_lines times account.now) }
+{
+    if times.of_event {
+        Some(Refusal::CreatedAtEvent(account.id, account.timestamp))
+    } else if let Some(other) = times.of_account {
+        Some(Refusal::CreatedTogether(account.id, account.timestamp, other))
+    } else {
+        None
+    }
+}
+
+/// The refusal of an event by the two timestamps of its accounts being one.
+fn together_refusal(event: &Event) -> Option<Refusal>
+    ensures { result ≡ first_line (spec.together_lines event.now) }
+{
+    let (debited, credited) = (&event.debit_account, &event.credit_account);
+    if debited.timestamp == credited.timestamp {
+        Some(Refusal::CreatedTogether(credited.id, credited.timestamp, debited.id))
+    } else {
+        None
+    }
+}
+
+/// The refusal of an event by the timestamps of its accounts.
+pub(crate) fn apart_refusal(debit: Times, credit: Times, event: &Event) -> Option<Refusal>
+    ensures { result ≡ first_line (spec.apart_lines debit credit event.now) }
+{
+    times_refusal(debit, &event.debit_account)
+        .or(times_refusal(credit, &event.credit_account))
+        .or(together_refusal(event))
+}
+
+/// Keeps which account was created at a timestamp, unless one is known.
+fn put_created(created: &mut IndexMap<u64, u128>, timestamp: u64, id: u128)
+    requires { 1 ≤ spare created.old }
+    ensures index { (t : ℕ) → lookup (nat_eq t) created.new.entries
+        ≡ option_or (lookup (nat_eq t) created.old.entries) (if timestamp == t then Some id else None) }
+    ensures room { spare created.old ≤ spare created.new + 1 }
+{
+    if !created.contains_key(&timestamp) {
+        created.insert(timestamp, id).unwrap();
+    }
+}
+
+/// Keeps the fields of the account with this id.
+fn put_fields(fields: &mut IndexMap<u128, FixedFields>, id: u128, shown: FixedFields)
+    requires { 1 ≤ spare fields.old }
+    ensures entries { fields.new.entries ≡ insert_entry nat_eq fields.old.entries id shown }
+    ensures room { spare fields.old ≤ spare fields.new + 1 }
+{
+    fields.insert(id, shown).unwrap();
+}
+
+/// Keeps an account that isn't known.
+fn add_account(
+    fields: &mut IndexMap<u128, FixedFields>,
+    created: &mut IndexMap<u64, u128>,
+    id: u128,
+    shown: FixedFields,
+)
+    requires new { lookup (nat_eq id) fields.old.entries ≡ None }
+    requires fields_fit { 1 ≤ spare fields.old }
+    requires created_fit { 1 ≤ spare created.old }
+    ensures fields { fields.new.entries ≡ fields.old.entries ++ (id, shown) ∷ [] }
+    ensures index { IsTimeIndex created.old.entries fields.old.entries
+        → IsTimeIndex created.new.entries fields.new.entries }
+    ensures room { spare fields.old ≤ spare fields.new + 1 }
+    ensures place { spare created.old ≤ spare created.new + 1 }
+{
+    put_created(created, shown.timestamp, id);
+    put_fields(fields, id, shown);
+}
+
+/// Keeps an account of this ledger, unless it is known.
+fn keep_account(
+    fields: &mut IndexMap<u128, FixedFields>,
+    created: &mut IndexMap<u64, u128>,
+    ledger: u32,
+    account: &EventAccount,
+)
+    requires fields_fit { 1 ≤ spare fields.old }
+    requires created_fit { 1 ≤ spare created.old }
+    ensures fields { fields.new.entries
+        ≡ spec.with_shown fields.old.entries (account.now.id, shown.fixed_fields ledger account.now) }
+    ensures index { IsTimeIndex created.old.entries fields.old.entries
+        → IsTimeIndex created.new.entries fields.new.entries }
+    ensures room { spare fields.old ≤ spare fields.new + 1 }
+    ensures place { spare created.old ≤ spare created.new + 1 }
+{
+    if !fields.contains_key(&account.id) {
+        add_account(fields, created, account.id, fixed_fields(ledger, account));
+    }
+}
+
+/// Keeps both accounts of an accepted event, by their ids and by the timestamps at which they were created.
+pub(crate) fn keep_accounts(
+    fields: &mut IndexMap<u128, FixedFields>,
+    created: &mut IndexMap<u64, u128>,
+    event: &Event,
+)
+    requires fields_fit { 2 ≤ spare fields.old }
+    requires created_fit { 2 ≤ spare created.old }
+    ensures fields { fields.new.entries ≡ standing.with_accounts fields.old.entries event.now }
+    ensures index { IsTimeIndex created.old.entries fields.old.entries
+        → IsTimeIndex created.new.entries fields.new.entries }
+{
+    keep_account(fields, created, event.ledger, &event.debit_account);
+    keep_account(fields, created, event.ledger, &event.credit_account);
+}
+
+/// Which of these accounts was created at each timestamp.
+pub(crate) fn index_of(
+    alloc: Global,
+    fields: &IndexMap<u128, FixedFields>,
+) -> Result<IndexMap<u64, u128>, AllocError>
+    ensures { IfOk result (λ index. IsTimeIndex index.entries fields.now.entries) }
+{
+    let mut created = IndexMap::new(alloc);
+    for (id, shown) in fields.iter() {
+        created.reserve(1)?;
+        put_created(&mut created, shown.timestamp, *id);
+    }
+    Ok(created)
+}
+
+/// Keeps the timestamp of an event.
+pub(crate) fn keep_time(times: &mut Vec<u64>, timestamp: u64)
+    requires { vec_len times.old + 1 ≤ vec_capacity times.old }
+    ensures { times.new.items ≡ times.old.items ++ timestamp ∷ [] }
+{
+    times.push(timestamp).unwrap();
+}
