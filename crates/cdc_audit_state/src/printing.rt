@@ -1,6 +1,7 @@
 //! The text of an audit's state.
 
 ghost use Rattle.std.specs.Prelude.{◌≡◌, ◌++◌, Bool, IfOk, OnOk, codes};
+ghost use Rattle.std.specs.List.{flat_map};
 ghost use Rattle.cdc_subscriber.specs.Lines.{flagged, subscriber_text};
 ghost use Rattle.cdc_audit_state.specs.States.{event_line, expiry_rows, fields_line, fields_rows, heading, known_rows};
 ghost use Rattle.cdc_audit_state.specs.States.{time_line, time_rows};
@@ -190,6 +191,13 @@ fn push_time(text: &mut Vec<u8>, timestamp: u64) -> Result<(), AllocError>
 /// Adds the lines of the timestamps of the events.
 fn push_times(text: &mut Vec<u8>, times: &[u64]) -> Result<(), AllocError>
     ensures { OnOk result (text.new.items ≡ text.old.items ++ rows_text (time_rows times.now)) }
+{
+    push_time_lines(text, times)
+}
+
+/// The same, line after line.
+fn push_time_lines(text: &mut Vec<u8>, times: &[u64]) -> Result<(), AllocError>
+    ensures { OnOk result (text.new.items ≡ text.old.items ++ flat_map time_line times.now) }
 {
     for timestamp in times {
         push_time(text, *timestamp)?;
