@@ -225,6 +225,9 @@ fn try_publish(rt: &HostRuntime) -> Result<(), CallsFault> {
 
 fn try_next(rt: &HostRuntime) -> Result<(), CallsFault> {
     let mut broker = made(rt, values::full_broker(rt.alloc()))?;
+    if broker.queue_count() == 0 {
+        return Err(CallsFault::NotMade);
+    }
     if let Some(delivery) = report(rt, delivered(rt.alloc(), &mut broker))? {
         println!(rt; "position {}", delivery.position)?;
         show_item(rt, &delivery.item)?;

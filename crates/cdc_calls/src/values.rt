@@ -1,7 +1,5 @@
 //! The fixed values that the calls are made on.
 
-ghost use Rattle.std.specs.Prelude.{◌≡◌, ◌≤◌, IfSome, length};
-
 use cdc_broker::{Broker, Taken};
 use cdc_ledger::Ledger;
 use cdc_match::Binding;
@@ -170,9 +168,7 @@ pub fn pulse() -> Option<Batch> {
 }
 
 /// A broker with one queue, of all events, and a connection.
-pub fn broker(alloc: Global) -> Option<Broker>
-    ensures { IfSome result (λ broker. length broker.queues ≡ 1) }
-{
+pub fn broker(alloc: Global) -> Option<Broker> {
     let mut bindings = Vec::new(alloc);
     bindings.push(Binding::parse(alloc, &["all"]).ok()?).ok()?;
     let mut broker = Broker::new(alloc, bindings).ok()?;
@@ -181,9 +177,7 @@ pub fn broker(alloc: Global) -> Option<Broker>
 }
 
 /// One that has accepted the first event.
-pub fn full_broker(alloc: Global) -> Option<Broker>
-    ensures { IfSome result (λ broker. length broker.queues ≡ 1) }
-{
+pub fn full_broker(alloc: Global) -> Option<Broker> {
     let mut broker = broker(alloc)?;
     let item = item(alloc)?;
     match broker.publish(alloc, 1, 1, item) {
