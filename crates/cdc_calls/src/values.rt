@@ -140,7 +140,7 @@ pub fn ledger(alloc: Global) -> Option<Ledger> {
     Some(ledger)
 }
 
-/// One that also has a pending transfer, which expires a second later.
+/// One that also has four pending transfers, which expire a second later. It has no room for their expiries.
 pub fn pending_ledger(alloc: Global) -> Option<Ledger> {
     let mut ledger = ledger(alloc)?;
     submit(alloc, &mut ledger, &transfers(alloc)?)?;
@@ -153,14 +153,17 @@ fn submit(alloc: Global, ledger: &mut Ledger, batch: &Batch) -> Option<()> {
 }
 
 pub fn transfers(alloc: Global) -> Option<Batch> {
-    let items = vec![in alloc; PENDING].ok()?;
+    let second = NewTransfer { id: 2, ..PENDING };
+    let third = NewTransfer { id: 3, ..PENDING };
+    let fourth = NewTransfer { id: 4, ..PENDING };
+    let items = vec![in alloc; PENDING, second, third, fourth].ok()?;
     Some(Batch::Transfers {
         now: 2000,
         items: Items::from_vec(items),
     })
 }
 
-/// An hour after the pending transfer.
+/// An hour after the pending transfers.
 pub fn pulse() -> Option<Batch> {
     Some(Batch::Pulse {
         now: 3_600_000_000_000,
