@@ -6,7 +6,6 @@ use Rattle.std.specs.Map.{lookup}
 use Rattle.std.specs.Option.{option_or}
 use Rattle.std.proofs.lemmas.Bool.{eq-eqb, eqb-true, ne_eqb}
 use Rattle.cdc_types.specs.declared.events.Entry.{Entry}
-use Rattle.cdc_types.specs.declared.events.Event.{Event}
 use Rattle.cdc_types.specs.declared.events.EventAccount.{EventAccount}
 use Rattle.cdc_ledger.specs.Changes.{pushed, timed, with_account}
 use Rattle.cdc_ledger.specs.Events.{event_of, events, nobody}

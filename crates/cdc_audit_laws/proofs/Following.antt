@@ -12,6 +12,8 @@ use Rattle.cdc_audit.specs.Known.{balances_after, ends_in_chain, is_settled, is_
 use Rattle.cdc_audit.specs.declared.refusals.Refusal.{Refusal}
 use Rattle.cdc_audit.specs.EventShapes.{shape_lines}
 use Rattle.cdc_audit.specs.Expiries.{expiry_lines, first_due}
+use Rattle.cdc_audit.specs.Apart.{apart_lines, times_before, times_lines, together_lines}
+use Rattle.cdc_audit.specs.Fields.{created_lines, fields_before, fields_lines}
 use Rattle.cdc_audit.specs.Limits.{limits_lines}
 use Rattle.cdc_audit.specs.Rules.{balances_lines, chain_lines, credit_lines, debit_lines, fixed_lines, held, order_lines, posted, refusal, released, settled_event, transfer_lines}
 use Rattle.cdc_audit.specs.Settling.{settling_lines}
@@ -89,6 +91,37 @@ pub record CanFollow (past : List Event) (e : Event) : Type 0 where
   pub limits : NoneApplies (limits_lines e)
   pub debited : IsDebited past e (balances_after past e.debit_account.id)
   pub credited : IsCredited past e (balances_after past e.credit_account.id)
+
+-- the parts of the lines on the fixed fields of both accounts, of which none applies
+pub record FixedParts (past : List Event) (e : Event) : Type 0 where
+  pub debit : NoneApplies (fields_lines (fields_before past e.debit_account.id) e.ledger e.debit_account)
+  pub credit : NoneApplies (fields_lines (fields_before past e.credit_account.id) e.ledger e.credit_account)
+  pub created : NoneApplies (created_lines e)
+  pub debit_times : NoneApplies (times_lines (times_before past e.debit_account) e.debit_account)
+  pub credit_times : NoneApplies (times_lines (times_before past e.credit_account) e.credit_account)
+  pub together : NoneApplies (together_lines e)
+
+pub fixed_parts : (past : List Event) (e : Event) → NoneApplies (fixed_lines past e) → FixedParts past e
+fixed_parts past e none =
+    let debit = fields_lines (fields_before past e.debit_account.id) e.ledger e.debit_account in
+    let credit = fields_lines (fields_before past e.credit_account.id) e.ledger e.credit_account in
+    let debit_times = times_before past e.debit_account in
+    let credit_times = times_before past e.credit_account in
+    let all = none_both (debit ++ credit ++ created_lines e) (apart_lines debit_times credit_times e) none in
+    let fields = none_both (debit ++ credit) (created_lines e) all.0 in
+    let both = none_both debit credit fields.0 in
+    let apart = none_both (times_lines debit_times e.debit_account ++ times_lines credit_times e.credit_account)
+    (together_lines e) all.1 in
+    let times = none_both (times_lines debit_times e.debit_account) (times_lines credit_times e.credit_account)
+    apart.0 in
+    record {
+      debit = both.0;
+      credit = both.1;
+      created = fields.1;
+      debit_times = times.0;
+      credit_times = times.1;
+      together = apart.1;
+    }
 
 -- no line of seven parts applies
 record NoneOfSeven (first second third fourth fifth sixth seventh : List (Bool × Refusal)) : Type 0 where

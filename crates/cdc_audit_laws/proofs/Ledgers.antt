@@ -236,7 +236,7 @@ apart_none a b t s storing next = by (a == b) refl
     by false is = refl
 
 -- what holds of each image
-all_images : (h : History) (P : Event → Type 0) (es : List Entry) → AllByRecursion (λ y. P (event_of h y)) es
+pub all_images : (h : History) (P : Event → Type 0) (es : List Entry) → AllByRecursion (λ y. P (event_of h y)) es
     → AllByRecursion P (map (event_of h) es)
 all_images h P [] all = tt
 all_images h P (y ∷ es) all = (all.0, all_images h P es all.1)

@@ -18,15 +18,17 @@ pub mod Posting
 pub mod Made
 pub mod Entering
 pub mod Expiry
+pub mod Soonest
 pub mod Turns
 pub mod Running
 pub mod Modes
-pub mod Told
+pub mod Plan
 pub mod Openings
 pub mod Walk
+pub mod Known
+pub mod Alone
 pub mod Soundness
-pub mod InTurn
-pub mod Apart
+pub mod Whole
 mod Examples
 mod SoundExamples
 mod TurnExamples

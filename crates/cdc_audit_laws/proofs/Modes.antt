@@ -1,33 +1,42 @@
 -- A history between two batches, within a chain, or within a pulse; and what comes next in a stream.
-use Rattle.std.proofs.Common.{◌≡◌, ◌⊎◌, inl, inr, ℕ, ◌+◌, ◌<◌, ◌≤◌, Bool, true, false, not, List, [], ◌∷◌, ◌++◌, Option, Some, None, if◌then◌else◌, refl, sym, ap, ap₂, ◌∙◌, subst, arith}
-use Rattle.std.specs.Prelude.{◌==◌, ◌&&◌, ◌||◌, nat_lt}
+use Rattle.std.proofs.Common.{◌≡◌, ◌⊎◌, inl, inr, ℕ, ◌+◌, ◌≤◌, Bool, true, false, not, List, [], ◌∷◌, ◌++◌, Option, Some, None, if◌then◌else◌, refl, sym, ap, ◌∙◌, subst, append_assoc, append-nil, arith}
+use Rattle.std.specs.Prelude.{◌==◌, ◌&&◌, filter, IfSome, IsSomeAnd}
 use Rattle.std.specs.List.{AllByRecursion}
-use Rattle.std.proofs.lemmas.Bool.{and_parts, eq-eqb, eqb-true, not-false, true≢false}
-use Rattle.std.proofs.lemmas.Bool.Decides.{nat_tests}
+use Rattle.std.proofs.lemmas.Bool.{and_parts, eq-eqb, eqb-true, false≢true, not-false, not-true}
+use Rattle.cdc_types.specs.declared.events.Entry.{Entry}
 use Rattle.cdc_types.specs.declared.events.Event.{Event}
 use Rattle.cdc_types.specs.declared.transfers.Transfer.{Transfer}
 use Rattle.cdc_types.specs.Timestamps.{last_timestamp}
 use Rattle.cdc_ledger.specs.Balances.{resolved}
 use Rattle.cdc_ledger.specs.Due.{due}
 use Rattle.cdc_ledger.specs.Events.{event_of, events}
-use Rattle.cdc_ledger.specs.Filling.{expires_at as expires_at_one, stored}
+use Rattle.cdc_ledger.specs.Filling.{expires_at as expires_at_one}
 use Rattle.cdc_ledger.specs.History.{History}
 use Rattle.cdc_ledger.specs.Kinds.{stores}
 use Rattle.cdc_ledger.specs.Sound.{IsSound}
 use Rattle.cdc_ledger.specs.Submit.{IsLegal}
+use Rattle.cdc_ledger.proofs.Elements.{AllByRecursion_push}
 use Rattle.cdc_ledger.proofs.PulseLaws.{IsOpen, due_open}
-use Rattle.cdc_audit.specs.Audits.{follows_on}
-use Rattle.cdc_audit.specs.Expiries.{expiry_lines, is_sooner}
+use Rattle.cdc_ledger.proofs.StoredLaws.{stored_has}
+use Rattle.cdc_audit.specs.Expiries.{can_expire, expiry_lines, first_due, is_sooner}
 use Rattle.cdc_audit.specs.Known.{ends_in_chain, is_linked, last_expiry, last_expiry_from, linked_from}
 use Rattle.cdc_audit.specs.Settling.{expires_at}
-use Rattle.cdc_audit_laws.specs.Soundness.{AreInTurn, ComesInTurn, IsWaiting, NoneIsLeft, linked_run, linked_run_from}
+use Rattle.cdc_audit.proofs.FirstLemmas.{first_of-all, passing}
+use Rattle.cdc_audit_laws.specs.Soundness.{AreCutOff, AreWhole}
 use Rattle.cdc_audit_laws.proofs.Following.{CanFollow, NoneApplies}
 use Rattle.cdc_audit_laws.proofs.Keeping.{IsUp, due_up}
 use Rattle.cdc_audit_laws.proofs.Running.{Pulses, RunsOn}
-use Rattle.cdc_audit_laws.proofs.Streams.{first_follows}
-use Rattle.cdc_audit_laws.proofs.Turns.{waiting}
+use Rattle.cdc_audit_laws.proofs.Soonest.{AllThatExpire, CanExpire, IsNoSooner, no_earlier, none_sooner, open_entries}
 
 -- ---- one more event
+
+-- how many linked transfers these events end with, after this number of them
+abbrev pub linked_run_from : ℕ → List Event → ℕ
+linked_run_from n [] = n
+linked_run_from n (e ∷ es) = linked_run_from (if is_linked e then n + 1 else 0) es
+
+abbrev pub linked_run : List Event → ℕ
+linked_run past = linked_run_from 0 past
 
 pub run_from-push : (n : ℕ) (es : List Event) (e : Event)
     → linked_run_from n (es ++ e ∷ []) ≡ (if is_linked e then linked_run_from n es + 1 else 0)
@@ -54,11 +63,43 @@ expiry-push es e is = expiry_from-push None es e ∙ ap (λ b. if b then last_ex
 
 -- ---- the modes
 
+-- a legal history has all of these events but a last part, each event of which is such a one
+pub record StartsLegal (es : List Event) (P : Event → Type 0) : Type 0 where
+  pub start : History
+  pub legal : IsLegal start
+  pub part : List Event
+  pub split : events start ++ part ≡ es
+  pub all : AllByRecursion P part
+
+-- none of them is left out
+pub starts : (P : Event → Type 0) (h : History) → IsLegal h → StartsLegal (events h) P
+starts P h legal = record { start = h; legal = legal; part = []; split = append-nil (events h); all = tt }
+
+-- one more event of that part
+pub starts-push : (P : Event → Type 0) (es : List Event) (e : Event) → StartsLegal es P → P e
+    → StartsLegal (es ++ e ∷ []) P
+starts-push P es e start is = record {
+  start = start.start;
+  legal = start.legal;
+  part = start.part ++ e ∷ [];
+  split = sym (append_assoc (events start.start) start.part (e ∷ [])) ∙ ap (λ xs. xs ++ e ∷ []) start.split;
+  all = AllByRecursion_push P start.part e start.all is;
+}
+
+-- an event of a chain that isn't its last one
+abbrev pub IsOfChain : Event → Type 0
+IsOfChain e = is_linked e ≡ true
+
+-- an event of a pulse of transfers that expire at this time
+abbrev pub IsOfPulse : ℕ → Event → Type 0
+IsOfPulse t e = (stores e.kind ≡ false) × (expires_at e.transfer ≡ t)
+
 -- within a chain: its last item was an event
 pub record IsInChain (h : History) : Type 0 where
   pub runs : RunsOn h (h.last + 1) (linked_run (events h))
   pub chained : ends_in_chain (events h) ≡ true
   pub at_end : last_timestamp (events h) ≡ h.last
+  pub start : StartsLegal (events h) IsOfChain
 
 -- within a pulse: its last item was an event, and more are due that expire at once with it
 pub record IsInPulse (h : History) : Type 0 where
@@ -66,11 +107,13 @@ pub record IsInPulse (h : History) : Type 0 where
   pub next : Transfer
   pub others : List Transfer
   pub left : due h now ≡ next ∷ others
+  pub least : AllThatExpire (events h) (λ y. now ≤ expires_at y.transfer)
   pub pulses : Pulses h now
   pub last : Event
   pub last_is : last_expiry (events h) ≡ Some last
   pub time : expires_at last.transfer ≡ now
   pub at_end : last.timestamp ≡ h.last
+  pub start : StartsLegal (events h) (IsOfPulse now)
 
 abbrev pub Mode : History → Type 0
 Mode h = IsLegal h ⊎ (IsInChain h ⊎ IsInPulse h)
@@ -87,102 +130,127 @@ chain_next h e mode can =
     let parts = and_parts (stores e.kind) (e.timestamp == last_timestamp (events h) + 1) (not-false _ line) in
     (parts.0, eqb-true e.timestamp (last_timestamp (events h) + 1) parts.1 ∙ ap (λ n. n + 1) mode.at_end)
 
--- the next one of a pulse is waiting
-record IsNextOne (h : History) (now : ℕ) : Type 0 where
+-- of the open pending transfers the first one expires at this time
+record IsFirstUp (h : History) (now : ℕ) : Type 0 where
   one : Event
-  is_waiting : IsWaiting (events h) one
-  up : expires_at one.transfer ≤ now
+  is : first_due (events h) ≡ Some one
+  time : expires_at one.transfer ≡ now
 
-next_one : (h : History) → IsSound h → (mode : IsInPulse h) → IsNextOne h mode.now
-next_one h sound mode =
-    let is_open : IsOpen h mode.next = (subst (AllByRecursion (IsOpen h)) mode.left (due_open h mode.now sound)).0 in
-    let up : IsUp mode.next mode.now =
-    (subst (AllByRecursion (λ p. IsUp p mode.now)) mode.left (due_up h mode.now)).0 in
-    let y = is_open.pending in
-    let same : y.transfer ≡ mode.next = is_open.same in
-    record {
-      one = event_of h y;
-      is_waiting =
-          waiting h y sound (ap (λ (p : Transfer). stored h p.id) same ∙ is_open.there) is_open.holding
-          (ap (λ p. resolved h p h.last) same ∙ is_open.unsettled)
-          (ap (λ (p : Transfer). p.timeout == 0) same ∙ up.timed);
-      up = subst (λ p. expires_at_one p ≤ mode.now) (sym same) up.ended;
+first_up : (h : History) → IsSound h → (mode : IsInPulse h) → IsFirstUp h mode.now
+first_up h sound mode = by (first_due (events h)) refl no_later no_sooner
+  where
+    is_open : IsOpen h mode.next
+    is_open = (subst (AllByRecursion (IsOpen h)) mode.left (due_open h mode.now sound)).0
+
+    up : IsUp mode.next mode.now
+    up = (subst (AllByRecursion (λ p. IsUp p mode.now)) mode.left (due_up h mode.now)).0
+
+    next : Entry
+    next = is_open.pending
+
+    can : CanExpire h next
+    can = record {
+      holding = is_open.holding;
+      timed = ap (λ (p : Transfer). p.timeout == 0) is_open.same ∙ up.timed;
+      unsettled = ap (λ p. resolved h p h.last) is_open.same ∙ is_open.unsettled;
     }
 
--- so one is left
-pub pulse_left : (h : History) → IsSound h → IsInPulse h → NoneIsLeft (events h) → ⊥
-pulse_left h sound mode none =
-    let next = next_one h sound mode in
-    let after : expires_at mode.last.transfer < expires_at next.one.transfer =
-    none mode.last next.one mode.last_is next.is_waiting in
-    omega (arith, after, next.up, mode.time)
+    -- the next one is due, and not sooner than the first one
+    ended : expires_at (event_of h next).transfer ≤ mode.now
+    ended = subst (λ p. expires_at_one p ≤ mode.now) (sym is_open.same) up.ended
 
--- of two pairs, if the second isn't before the first, its first number is no less
-no_less : (a b s t : ℕ) → (nat_lt b a || ((b == a) && nat_lt t s)) ≡ false → a ≤ b
-no_less a b s t line = grind (arith, nat_tests)
+    no_later : IsNoSooner (events h) (event_of h next)
+    no_later =
+        stored_has (λ y. CanExpire h y → IsNoSooner (events h) (event_of h y)) h mode.next.id next
+        (open_entries h (IsNoSooner (events h)) sound (none_sooner (events h))) is_open.there can
+
+    -- and none expires before the time of the pulse
+    no_sooner : IfSome (first_due (events h)) (λ f. mode.now ≤ expires_at f.transfer)
+    no_sooner =
+        first_of-all (λ f. mode.now ≤ expires_at f.transfer) (filter (can_expire (events h)) (events h))
+        (passing (can_expire (events h)) (λ f. mode.now ≤ expires_at f.transfer) (events h) mode.least)
+
+    by : (o : Option Event) → first_due (events h) ≡ o
+        → IsSomeAnd o (λ f. is_sooner (event_of h next).transfer f.transfer ≡ false)
+        → IfSome o (λ f. mode.now ≤ expires_at f.transfer) → IsFirstUp h mode.now
+    by None is later sooner = absurd later
+    by (Some f) is later sooner =
+        let before = no_earlier (event_of h next) f later in
+        record { one = f; is = is; time = omega (arith, before, sooner, ended) }
+
+-- so it is cut off, if no event comes
+pub pulse_left : (h : History) → IsSound h → IsInPulse h → AreWhole (events h) → ⊥
+pulse_left h sound mode whole =
+    let first = first_up h sound mode in
+    whole.pulse mode.last first.one mode.last_is first.is (mode.time ∙ sym first.time)
 
 -- a storing event or not
 pub stores_or_not : (b : Bool) → (b ≡ true) ⊎ (b ≡ false)
 stores_or_not true = inl refl
 stores_or_not false = inr refl
 
--- within a pulse the next event is an expiry at the next timestamp, and of the same expiry time
+-- within a pulse the next event is an expiry at the next timestamp, of a transfer that expires no later
 pub record IsPulseNext (h : History) (now : ℕ) (e : Event) : Type 0 where
   pub storing : stores e.kind ≡ false
   pub next : e.timestamp ≡ h.last + 1
-  pub time : expires_at e.transfer ≡ now
+  pub no_later : expires_at e.transfer ≤ now
 
 pub pulse_next : (h : History) (e : Event) → IsSound h → (mode : IsInPulse h) → CanFollow (events h) e
-    → ComesInTurn (events h) e → IsPulseNext h mode.now e
-pulse_next h e sound mode can turn = by (stores_or_not (stores e.kind))
+    → IsPulseNext h mode.now e
+pulse_next h e sound mode can =
+    let first = first_up h sound mode in
+    let expiry : NoneApplies (expiry_lines (Some first.one) (last_expiry (events h)) e) =
+    subst (λ o. NoneApplies (expiry_lines o (last_expiry (events h)) e)) first.is can.expiry in
+    let lines : NoneApplies (expiry_lines (Some first.one) (Some mode.last) e) =
+    subst (λ o. NoneApplies (expiry_lines (Some first.one) o e)) mode.last_is expiry in
+    let apart : not (not (stores e.kind) && (e.timestamp == mode.last.timestamp + 1)) ≡ false =
+    sym (ap (λ b. b && not (not (stores e.kind) && (e.timestamp == mode.last.timestamp + 1)))
+    (eq-eqb (expires_at first.one.transfer) (expires_at mode.last.transfer) (first.time ∙ sym mode.time)))
+    ∙ lines.1.0 in
+    let parts = and_parts (not (stores e.kind)) (e.timestamp == mode.last.timestamp + 1) (not-false _ apart) in
+    let late : is_sooner first.one.transfer e.transfer ≡ false =
+    sym (ap (λ b. b && is_sooner first.one.transfer e.transfer) parts.0) ∙ lines.0 in
+    record {
+      storing = not-true _ parts.0;
+      next = eqb-true e.timestamp (mode.last.timestamp + 1) parts.1 ∙ ap (λ n. n + 1) mode.at_end;
+      no_later = subst (λ t. expires_at e.transfer ≤ t) first.time (no_earlier first.one e late);
+    }
+
+-- within a chain or a pulse the next event is at the next timestamp
+pub goes_on : (h : History) (e : Event) → IsSound h → (IsInChain h ⊎ IsInPulse h) → CanFollow (events h) e
+    → e.timestamp ≡ h.last + 1
+goes_on h e sound (inl chain) can = (chain_next h e chain can).1
+goes_on h e sound (inr pulse) can = (pulse_next h e sound pulse can).next
+
+-- ---- the end
+
+-- a history has these events: a legal one, or one within a chain or a pulse
+pub record Reaches (es : List Event) : Type 0 where
+  pub last : History
+  pub sound : IsSound last
+  pub mode : Mode last
+  pub same : events last ≡ es
+
+-- if no chain and no pulse is cut off, it is legal
+pub whole_legal : (es : List Event) → Reaches es → AreWhole es → (g : History) × IsLegal g × (events g ≡ es)
+whole_legal es end whole = by end.mode
   where
-    by : ((stores e.kind ≡ true) ⊎ (stores e.kind ≡ false)) → IsPulseNext h mode.now e
-    by (inl is) = absurd (pulse_left h sound mode (turn.none_left is))
-    by (inr is) =
-        let next = next_one h sound mode in
-        let lines : NoneApplies (expiry_lines (Some mode.last) e) =
-        subst (λ o. NoneApplies (expiry_lines o e)) mode.last_is can.expiry in
-        let late : is_sooner e.transfer mode.last.transfer ≡ false =
-        sym (ap (λ b. not b && is_sooner e.transfer mode.last.transfer) is) ∙ lines.0 in
-        let no_later : expires_at e.transfer ≤ expires_at next.one.transfer =
-        no_less (expires_at e.transfer) (expires_at next.one.transfer) e.transfer.timestamp next.one.transfer.timestamp
-        (turn.first is next.one next.is_waiting) in
-        let no_sooner : expires_at mode.last.transfer ≤ expires_at e.transfer =
-        no_less (expires_at mode.last.transfer) (expires_at e.transfer) mode.last.transfer.timestamp
-        e.transfer.timestamp late in
-        let time : expires_at e.transfer ≡ mode.now = omega (arith, no_later, no_sooner, next.up, mode.time) in
-        let apart : not (e.timestamp == mode.last.timestamp + 1) ≡ false =
-        sym (ap₂ (λ b c. not b && c && not (e.timestamp == mode.last.timestamp + 1)) is
-        (eq-eqb (expires_at mode.last.transfer) (expires_at e.transfer) (mode.time ∙ sym time))) ∙ lines.1.0 in
-        record {
-          storing = is;
-          next = eqb-true e.timestamp (mode.last.timestamp + 1) (not-false _ apart) ∙ ap (λ n. n + 1) mode.at_end;
-          time = time;
-        }
+    by : Mode end.last → (g : History) × IsLegal g × (events g ≡ es)
+    by (inl legal) = (end.last, legal, end.same)
+    by (inr (inl chain)) =
+        absurd (false≢true (sym whole.chain ∙ sym (ap ends_in_chain end.same) ∙ chain.chained))
+    by (inr (inr pulse)) = absurd (pulse_left end.last end.sound pulse (subst AreWhole (sym end.same) whole))
 
--- a stream goes on after a chain or a pulse that isn't done, at the next timestamp
-pub record GoesOn (h : History) (es : List Event) : Type 0 where
-  pub first : Event
-  pub rest : List Event
-  pub split : es ≡ first ∷ rest
-  pub next : first.timestamp ≡ h.last + 1
-
-pub chain_goes_on : (h : History) (es : List Event) → IsInChain h → follows_on (events h) es ≡ true
-    → AreInTurn (events h) es → GoesOn h es
-chain_goes_on h [] mode follow turn = absurd (true≢false (sym mode.chained ∙ turn.0))
-chain_goes_on h (e ∷ es) mode follow turn = record {
-  first = e;
-  rest = es;
-  split = refl;
-  next = (chain_next h e mode (first_follows (events h) e es follow).0).1;
-}
-
-pub pulse_goes_on : (h : History) (es : List Event) → IsSound h → IsInPulse h → follows_on (events h) es ≡ true
-    → AreInTurn (events h) es → GoesOn h es
-pulse_goes_on h [] sound mode follow turn = absurd (pulse_left h sound mode turn.1)
-pulse_goes_on h (e ∷ es) sound mode follow turn = record {
-  first = e;
-  rest = es;
-  split = refl;
-  next = (pulse_next h e sound mode (first_follows (events h) e es follow).0 turn.0).next;
-}
+-- and if one may be, a legal history has all of the events but that last part
+pub part_legal : (es : List Event) → Reaches es
+    → (g : History) × (part : List Event) × IsLegal g × (events g ++ part ≡ es) × AreCutOff part
+part_legal es end = by end.mode
+  where
+    by : Mode end.last → (g : History) × (part : List Event) × IsLegal g × (events g ++ part ≡ es) × AreCutOff part
+    by (inl legal) = (end.last, [], legal, append-nil (events end.last) ∙ end.same, inl tt)
+    by (inr (inl chain)) =
+        let from = chain.start in
+        (from.start, from.part, from.legal, from.split ∙ end.same, inl from.all)
+    by (inr (inr pulse)) =
+        let from = pulse.start in
+        (from.start, from.part, from.legal, from.split ∙ end.same, inr (pulse.now, from.all))

@@ -1,5 +1,5 @@
 -- What a ledger opens for the accounts of events, and asks for their transfers.
-use Rattle.std.proofs.Common.{◌≡◌, ℕ, ◌<◌, ◌≤◌, false, List, ◌++◌, None}
+use Rattle.std.proofs.Common.{◌≡◌, ℕ, ◌<◌, ◌≤◌, false, List, None}
 use Rattle.std.specs.Prelude.{nat_lt}
 use Rattle.std.proofs.lemmas.Bool.{and_parts, ltb-true, not-false}
 use Rattle.cdc_types.specs.declared.bounds.TheConstants.Limits.{TIMESTAMP}
@@ -11,8 +11,8 @@ use Rattle.cdc_ledger.specs.History.{Opened}
 use Rattle.cdc_message.specs.Widths.{EventFits}
 use Rattle.cdc_audit.specs.declared.fields.FixedFields.{FixedFields}
 use Rattle.cdc_audit.specs.EventShapes.{asked_transfer}
-use Rattle.cdc_audit.specs.Fields.{created_lines, fields_before, fields_lines}
-use Rattle.cdc_audit_laws.proofs.Following.{CanFollow, none_both}
+use Rattle.cdc_audit.specs.Fields.{created_lines}
+use Rattle.cdc_audit_laws.proofs.Following.{CanFollow, NoneApplies, fixed_parts}
 
 -- an account of these fields, as it was opened
 abbrev pub opening_of : ℕ × FixedFields → Opened
@@ -62,9 +62,7 @@ pub record AreCreated (e : Event) : Type 0 where
 
 pub are_created : (past : List Event) (e : Event) → CanFollow past e → AreCreated e
 are_created past e can =
-    let first = fields_lines (fields_before past e.debit_account.id) e.ledger e.debit_account in
-    let second = fields_lines (fields_before past e.credit_account.id) e.ledger e.credit_account in
-    let lines = (none_both (first ++ second) (created_lines e) can.fixed).1 in
+    let lines : NoneApplies (created_lines e) = (fixed_parts past e can.fixed).created in
     let d = and_parts (nat_lt 0 e.debit_account.timestamp) (nat_lt e.debit_account.timestamp e.timestamp)
     (not-false _ lines.0) in
     let c = and_parts (nat_lt 0 e.credit_account.timestamp) (nat_lt e.credit_account.timestamp e.timestamp)

@@ -1,24 +1,19 @@
--- The converse law at work in short streams: one that is a ledger's, and some that are accepted and aren't.
-use Rattle.std.specs.Prelude.{ℕ, ◌<◌, ◌≡◌, ◌≢◌, ◌==◌, ◌&&◌, true, false, not, nat_lt, List, [], ◌∷◌}
-use Rattle.std.proofs.Common.{refl, sym, ap, ◌∙◌, subst, arith}
-use Rattle.std.specs.List.{AllByRecursion, list_any}
-use Rattle.std.proofs.lemmas.Bool.{eq-eqb, eqb-false, eqb-true, ltb-true, not-false, or_parts, true≢false}
-use Rattle.cdc_types.specs.declared.accounts.TheConstants.AccountFlags.{LINKED}
+-- The converse law at work in short streams: one that is a ledger's, and some that aren't.
+use Rattle.std.specs.Prelude.{ℕ, ◌<◌, ◌≡◌, true, false, nat_lt, List, [], ◌∷◌}
+use Rattle.std.proofs.Common.{refl, arith}
+use Rattle.std.specs.List.{AllByRecursion}
+use Rattle.std.proofs.lemmas.Bool.{ltb-true}
 use Rattle.cdc_types.specs.declared.events.Event.{Event}
 use Rattle.cdc_types.specs.declared.events.EventAccount.{EventAccount}
 use Rattle.cdc_types.specs.declared.events.EventKind.{EventKind}
 use Rattle.cdc_types.specs.declared.events.EventKind.TheVariants.{SinglePhase, TwoPhasePending, TwoPhasePosted, TwoPhaseVoided, TwoPhaseExpired}
-use Rattle.cdc_types.specs.Flags.{has_flag}
 use Rattle.cdc_ledger.specs.Events.{events as events_of}
 use Rattle.cdc_ledger.specs.History.{History}
 use Rattle.cdc_ledger.specs.Submit.{IsLegal}
 use Rattle.cdc_message.specs.Widths.{AccountFits, EventFits}
-use Rattle.cdc_audit.specs.declared.fields.FixedFields.{FixedFields}
 use Rattle.cdc_audit.specs.Audits.{follows_on, is_accepted}
 use Rattle.cdc_audit.specs.Rules.{refusal}
-use Rattle.cdc_audit_laws.specs.Soundness.{AreInTurn, CanBeTold, IsAlone, IsOpenedAlone, accounts_in}
-use Rattle.cdc_audit_laws.proofs.Apart.{ledgers_can_be_told}
-use Rattle.cdc_audit_laws.proofs.InTurn.{ledgers_come_in_turn}
+use Rattle.cdc_audit_laws.specs.Soundness.{IsAlone, IsUnlinked, accounts_in}
 use Rattle.cdc_audit_laws.proofs.Soundness.{events_alone_are_a_ledgers}
 
 -- an account, created at this time, and its balances
@@ -189,135 +184,33 @@ each_alone = (
   ),
 )
 
--- no account of it has the timestamp of an event or of another account
-pub opened_alone : (es : List Event) (a : ℕ × FixedFields) → has_flag a.1.flags LINKED ≡ false
-    → list_any (λ (e : Event). e.timestamp == a.1.timestamp) es ≡ false
-    → list_any (λ (b : ℕ × FixedFields). (b.1.timestamp == a.1.timestamp) && not (b.0 == a.0)) (accounts_in es)
-    ≡ false
-    → IsOpenedAlone es a
-opened_alone es a unlinked no_event no_other = record {
-  unlinked = unlinked;
-  no_event = none_at a.1.timestamp es no_event;
-  no_other = none_but a (accounts_in es) no_other;
-}
-  where
-    none_at : (t : ℕ) (es : List Event) → list_any (λ (e : Event). e.timestamp == t) es ≡ false
-        → AllByRecursion (λ e. e.timestamp ≢ t) es
-    none_at t [] none = tt
-    none_at t (e ∷ es) none =
-        let parts = or_parts (e.timestamp == t) (list_any (λ (x : Event). x.timestamp == t) es) none in
-        (eqb-false e.timestamp t parts.0, none_at t es parts.1)
-
-    one_but : (a b : ℕ × FixedFields) → ((b.1.timestamp == a.1.timestamp) && not (b.0 == a.0)) ≡ false
-        → b.1.timestamp ≡ a.1.timestamp → b.0 ≡ a.0
-    one_but a b none same =
-        eqb-true b.0 a.0 (not-false _
-        (sym (ap (λ c. c && not (b.0 == a.0)) (eq-eqb b.1.timestamp a.1.timestamp same)) ∙ none))
-
-    none_but : (a : ℕ × FixedFields) (bs : List (ℕ × FixedFields))
-        → list_any (λ (b : ℕ × FixedFields). (b.1.timestamp == a.1.timestamp) && not (b.0 == a.0)) bs ≡ false
-        → AllByRecursion (λ b. b.1.timestamp ≡ a.1.timestamp → b.0 ≡ a.0) bs
-    none_but a [] none = tt
-    none_but a (b ∷ bs) none =
-        let parts = or_parts ((b.1.timestamp == a.1.timestamp) && not (b.0 == a.0))
-        (list_any (λ (c : ℕ × FixedFields). (c.1.timestamp == a.1.timestamp) && not (c.0 == a.0)) bs) none in
-        (one_but a b parts.0, none_but a bs parts.1)
-
-each_opened : AllByRecursion (IsOpenedAlone stream) (accounts_in stream)
-each_opened = (
-  opened_alone stream _ refl refl refl,
-  (
-    opened_alone stream _ refl refl refl,
-    (
-      opened_alone stream _ refl refl refl,
-      (
-        opened_alone stream _ refl refl refl,
-        (
-          opened_alone stream _ refl refl refl,
-          (
-            opened_alone stream _ refl refl refl,
-            (
-              opened_alone stream _ refl refl refl,
-              (
-                opened_alone stream _ refl refl refl,
-                (
-                  opened_alone stream _ refl refl refl,
-                  (
-                    opened_alone stream _ refl refl refl,
-                    (
-                      opened_alone stream _ refl refl refl,
-                      (
-                        opened_alone stream _ refl refl refl,
-                        tt,
-                      ),
-                    ),
-                  ),
-                ),
-              ),
-            ),
-          ),
-        ),
-      ),
-    ),
-  ),
+-- none of its accounts is linked
+each_unlinked : AllByRecursion IsUnlinked (accounts_in stream)
+each_unlinked = (
+  refl,
+  (refl, (refl, (refl, (refl, (refl, (refl, (refl, (refl, (refl, (refl, (refl, tt))))))))))),
 )
 
 is_a_ledgers : (h : History) × IsLegal h × (events_of h ≡ stream)
-is_a_ledgers = events_alone_are_a_ledgers stream each_alone each_opened accepted
+is_a_ledgers = events_alone_are_a_ledgers stream each_alone each_unlinked accepted
 
--- ---- accepted, and no ledger's: each lacks one of the premises
+-- ---- no ledger's, and refused
 
 -- two accounts that were created at one timestamp
 abbrev at_once : Event
 at_once = event SinglePhase 3 7 0 10 0 0 3 (account 1 1 0 10 0 0) (account 2 1 0 0 0 10)
 
-abbrev created_at_once : List Event
-created_at_once = at_once ∷ []
-
-at_once_accepted : is_accepted created_at_once ≡ true
+at_once_refused : is_accepted (at_once ∷ []) ≡ false
 unfolding follows_on refusal
-at_once_accepted = refl
-
-at_once_fits : EventFits at_once
-at_once_fits =
-    event_fits SinglePhase 3 7 0 10 0 0 3 (account 1 1 0 10 0 0) (account 2 1 0 0 0 10) refl refl refl refl refl refl
-    refl (account_fits 1 1 0 10 0 0 refl refl refl refl refl refl)
-    (account_fits 2 1 0 0 0 10 refl refl refl refl refl refl)
-
--- what a ledger has told can be told
-told_by : (h : History) (es : List Event) → IsLegal h → events_of h ≡ es → AllByRecursion EventFits es
-    → AllByRecursion (λ a. has_flag a.1.flags LINKED ≡ false) (accounts_in es) → CanBeTold es
-told_by h es legal same fit unlinked =
-    subst CanBeTold same (ledgers_can_be_told h legal (subst (AllByRecursion EventFits) (sym same) fit)
-    (subst (λ xs. AllByRecursion (λ a. has_flag a.1.flags LINKED ≡ false) (accounts_in xs)) (sym same) unlinked))
-
-at_once_no_ledgers : (h : History) → IsLegal h → events_of h ≡ created_at_once → ⊥
-at_once_no_ledgers h legal same =
-    let told = told_by h created_at_once legal same (at_once_fits, tt) (refl, (refl, tt)) in
-    let one : 2 ≡ 1 = told.opened.0.no_other.1.0 refl in
-    omega (arith, one)
+at_once_refused = refl
 
 -- an account that was created at the timestamp of an event
 abbrev by_new_one : Event
 by_new_one = event SinglePhase 5 8 0 1 0 0 5 (account 3 3 0 1 0 0) (account 1 1 0 10 0 1)
 
-abbrev created_with_event : List Event
-created_with_event = paid ∷ by_new_one ∷ []
-
-with_event_accepted : is_accepted created_with_event ≡ true
+with_event_refused : is_accepted (paid ∷ by_new_one ∷ []) ≡ false
 unfolding follows_on refusal
-with_event_accepted = refl
-
-by_new_one_fits : EventFits by_new_one
-by_new_one_fits =
-    event_fits SinglePhase 5 8 0 1 0 0 5 (account 3 3 0 1 0 0) (account 1 1 0 10 0 1) refl refl refl refl refl refl refl
-    (account_fits 3 3 0 1 0 0 refl refl refl refl refl refl) (account_fits 1 1 0 10 0 1 refl refl refl refl refl refl)
-
-with_event_no_ledgers : (h : History) → IsLegal h → events_of h ≡ created_with_event → ⊥
-with_event_no_ledgers h legal same =
-    let told = told_by h created_with_event legal same (paid_fits, (by_new_one_fits, tt))
-    (refl, (refl, (refl, (refl, tt)))) in
-    told.opened.1.1.0.no_event.0 refl
+with_event_refused = refl
 
 -- an expiry while another transfer, which expired a second earlier, is still open
 abbrev soon : Event
@@ -329,14 +222,23 @@ later = event TwoPhasePending 5 9 0 7 2 2 5 (account 1 1 12 0 0 0) (account 2 2 
 abbrev expired : Event
 expired = event TwoPhaseExpired 2000000005 9 0 7 2 2 5 (account 1 1 5 0 0 0) (account 2 2 0 0 5 0)
 
-abbrev out_of_turn : List Event
-out_of_turn = soon ∷ later ∷ expired ∷ []
-
-out_of_turn_accepted : is_accepted out_of_turn ≡ true
+out_of_turn_refused : is_accepted (soon ∷ later ∷ expired ∷ []) ≡ false
 unfolding follows_on refusal
-out_of_turn_accepted = refl
+out_of_turn_refused = refl
 
-out_of_turn_no_ledgers : (h : History) → IsLegal h → events_of h ≡ out_of_turn → ⊥
-out_of_turn_no_ledgers h legal same =
-    let turn : AreInTurn [] out_of_turn = subst (AreInTurn []) same (ledgers_come_in_turn h legal) in
-    true≢false (turn.1.1.0.first refl soon (record { is_open = refl; timed = refl }))
+-- a payment after an expiry, while another transfer with the same expiry time is still open
+abbrev held_long : Event
+held_long = event TwoPhasePending 4 8 0 5 2 2 4 (account 1 1 5 0 0 0) (account 2 2 0 0 5 0)
+
+abbrev held_briefly : Event
+held_briefly = event TwoPhasePending 1000000004 9 0 7 1 2 1000000004 (account 1 1 12 0 0 0) (account 2 2 0 0 12 0)
+
+abbrev first_gone : Event
+first_gone = event TwoPhaseExpired 2000000010 8 0 5 2 2 4 (account 1 1 7 0 0 0) (account 2 2 0 0 7 0)
+
+abbrev paid_between : Event
+paid_between = event SinglePhase 2000000011 10 0 1 0 0 2000000011 (account 1 1 7 1 0 0) (account 2 2 0 0 7 1)
+
+left_behind_refused : is_accepted (held_long ∷ held_briefly ∷ first_gone ∷ paid_between ∷ []) ≡ false
+unfolding follows_on refusal
+left_behind_refused = refl

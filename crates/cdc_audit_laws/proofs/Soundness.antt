@@ -1,12 +1,7 @@
--- Accepted events are the events of a legal history, if they can be told to a ledger.
-use Rattle.std.proofs.Common.{◌≡◌, inl, inr, ℕ, ◌<◌, ◌≤◌, ◌+◌, ◌^◌, Bool, true, false, not, List, [], ◌∷◌, ◌++◌, Option, Some, None, if◌then◌else◌, refl, sym, ap, ap₂, ◌∙◌, subst, append_assoc, arith}
-use Rattle.std.specs.Prelude.{◌==◌, nat_eq}
+-- Accepted events are the events of a legal history, if a ledger can make them.
+use Rattle.std.proofs.Common.{◌≡◌, inl, inr, ℕ, ◌<◌, ◌≤◌, ◌^◌, true, false, List, [], ◌∷◌, ◌++◌, Option, Some, None, if◌then◌else◌, refl, sym, ap, ap₂, ◌∙◌, subst, arith}
 use Rattle.std.specs.List.{AllByRecursion}
-use Rattle.std.specs.Map.{lookup}
-use Rattle.std.specs.Option.{option_or}
-use Rattle.std.proofs.lemmas.Bool.{eq-eqb, eqb-true, ltb-false, ne_eqb, not-false, false≢true}
-use Rattle.std.proofs.lemmas.Grind.{flat_map-append}
-use Rattle.std.proofs.lemmas.List.{append-nil}
+use Rattle.std.proofs.lemmas.Bool.{ltb-false}
 use Rattle.cdc_types.specs.declared.accounts.TheConstants.AccountFlags.{LINKED}
 use Rattle.cdc_types.specs.declared.bounds.TheConstants.Limits.{TIMESTAMP}
 use Rattle.cdc_types.specs.declared.events.Event.{Event}
@@ -19,16 +14,17 @@ use Rattle.cdc_message.specs.Widths.{AccountFits, EventFits}
 use Rattle.cdc_audit.specs.declared.fields.FixedFields.{FixedFields}
 use Rattle.cdc_audit.specs.Audits.{follows_on, is_accepted}
 use Rattle.cdc_audit.specs.EventShapes.{asked_account}
-use Rattle.cdc_audit.specs.Fields.{accounts_of, created_lines, fields_before, fields_lines, fixed_fields, same_lines}
-use Rattle.cdc_audit.specs.Known.{ends_in_chain, last_expiry}
-use Rattle.cdc_audit_laws.specs.Soundness.{AcceptedEventsAreALedgers, AreInTurn, CanBeTold, EventsAloneAreALedgers, IsAlone, IsOpenedAlone, NoneIsLeft, accounts_in, linked_run}
+use Rattle.cdc_audit.specs.Fields.{fields_before, fixed_fields}
+use Rattle.cdc_audit.specs.Known.{last_expiry_from, linked_from}
+use Rattle.cdc_audit_laws.specs.Soundness.{AcceptedEventsAreALedgers, AcceptedEventsStartAsALedgers, CanBeMade, EventsAloneAreALedgers, HaveRoom, IsAlone, IsUnlinked, accounts_in}
 use Rattle.cdc_audit_laws.proofs.Coming.{has_accounts}
-use Rattle.cdc_audit_laws.proofs.Following.{CanFollow, NoneApplies, none_both}
-use Rattle.cdc_audit_laws.proofs.Modes.{chain-push, expiry_from-push, run_from-push}
 use Rattle.cdc_audit_laws.proofs.Streams.{accepted_events_rise, first_follows}
-use Rattle.cdc_audit_laws.proofs.Told.{Admits, AllAdmit, Opens, Told, all-place_all, events_in, events_in-only, events_in-place_all, only, only-all, only-rises, place_all, place_all-opens, rises-place_all}
+use Rattle.cdc_audit_laws.proofs.Alone.{AreAlone, all_alone, alone-nil}
+use Rattle.cdc_audit_laws.proofs.Known.{IsKnown, all_known}
+use Rattle.cdc_audit_laws.proofs.Plan.{Admits, AllAdmit, Opens, Planned, all-place_all, events_in, events_in-only, events_in-place_all, only, only-all, only-rises, place_all, place_all-opens, rises-place_all}
 use Rattle.cdc_audit_laws.proofs.Openings.{AreCreated, IsOpenable, are_created, opening_of}
-use Rattle.cdc_audit_laws.proofs.Walk.{CanTell, IsReady, told_from_empty}
+use Rattle.cdc_audit_laws.proofs.Modes.{Reaches, part_legal, whole_legal}
+use Rattle.cdc_audit_laws.proofs.Walk.{CanMake, IsReady, made_from_empty}
 
 -- ---- the accounts of accepted events can be opened
 
@@ -58,9 +54,6 @@ account_fits ledger a t ledger_fits fits fields unlinked some earlier within = r
   some = some;
 }
 
-abbrev IsUnlinked : ℕ × FixedFields → Type 0
-IsUnlinked a = has_flag a.1.flags LINKED ≡ false
-
 all_fit : (past rest : List Event) → follows_on past rest ≡ true → AllByRecursion EventFits rest
     → AllByRecursion IsUnlinked (accounts_in rest) → AllByRecursion IsFit (accounts_in rest)
 all_fit past [] follow fit unlinked = tt
@@ -79,222 +72,111 @@ all_fit past (e ∷ rest) follow fit unlinked =
       ),
     )
 
--- ---- each account has the same fields wherever it is shown
-
--- fields of which none differs are the same
-seven_same : (a b c d e f g h i j k l m n : ℕ) → a ≡ h → b ≡ i → c ≡ j → d ≡ k → e ≡ l → f ≡ m → g ≡ n
-    → ◌≡◌ {A = FixedFields} (record {
-      user_data_128 = a;
-      user_data_64 = b;
-      user_data_32 = c;
-      ledger = d;
-      code = e;
-      flags = f;
-      timestamp = g;
-    }) (record {
-      user_data_128 = h;
-      user_data_64 = i;
-      user_data_32 = j;
-      ledger = k;
-      code = l;
-      flags = m;
-      timestamp = n;
-    })
-seven_same a b c d e f g h i j k l m n one two three four five six seven = cc
-
-none_differs : (id : ℕ) (one other : FixedFields) → NoneApplies (same_lines id one other) → one ≡ other
-none_differs id one other none =
-    seven_same _ _ _ _ _ _ _ _ _ _ _ _ _ _ (same one.user_data_128 other.user_data_128 none.0)
-    (same one.user_data_64 other.user_data_64 none.1.0) (same one.user_data_32 other.user_data_32 none.1.1.0)
-    (same one.ledger other.ledger none.1.1.1.0) (same one.code other.code none.1.1.1.1.0)
-    (same one.flags other.flags none.1.1.1.1.1.0) (same one.timestamp other.timestamp none.1.1.1.1.1.1.0)
-  where
-    same : (m n : ℕ) → not (m == n) ≡ false → m ≡ n
-    same m n line = eqb-true m n (not-false _ line)
-
--- the events show these fields of the account first
-abbrev IsKnown : List Event → ℕ × FixedFields → Type 0
-IsKnown es a = fields_before es a.0 ≡ Some a.1
-
--- an account is looked up in two parts
-lookup_parts : (id : ℕ) (first second : List (ℕ × FixedFields))
-    → lookup (nat_eq id) (first ++ second) ≡ option_or (lookup (nat_eq id) first) (lookup (nat_eq id) second)
-lookup_parts id [] second = refl
-lookup_parts id (a ∷ first) second = by (id == a.0) (lookup_parts id first second)
-  where
-    by : (b : Bool) → lookup (nat_eq id) (first ++ second)
-        ≡ option_or (lookup (nat_eq id) first) (lookup (nat_eq id) second)
-        → (if b then Some a.1 else lookup (nat_eq id) (first ++ second))
-        ≡ option_or (if b then Some a.1 else lookup (nat_eq id) first) (lookup (nat_eq id) second)
-    by true later = refl
-    by false later = later
-
-all_parts : (P : ℕ × FixedFields → Type 0) (first second : List (ℕ × FixedFields)) → AllByRecursion P first
-    → AllByRecursion P second → AllByRecursion P (first ++ second)
-all_parts P [] second all others = others
-all_parts P (a ∷ first) second all others = (all.0, all_parts P first second all.1 others)
-
--- one more event
-module _ (past : List Event) (e : Event) (can : CanFollow past e) where
-  then_known : (id : ℕ)
-      → fields_before (past ++ e ∷ []) id ≡ option_or (fields_before past id) (lookup (nat_eq id) (accounts_of e))
-  then_known id =
-      ap (lookup (nat_eq id)) (flat_map-append accounts_of past (e ∷ []))
-      ∙ lookup_parts id (accounts_in past) (accounts_of e)
-
-  -- an account that was known stays so
-  still_known : (a : ℕ × FixedFields) → IsKnown past a → IsKnown (past ++ e ∷ []) a
-  still_known a known = then_known a.0 ∙ ap (λ o. option_or o (lookup (nat_eq a.0) (accounts_of e))) known
-
-  -- an account of the event has the fields that it had before, if it had any
-  now_known : (a : EventAccount) → NoneApplies (fields_lines (fields_before past a.id) e.ledger a)
-      → lookup (nat_eq a.id) (accounts_of e) ≡ Some (fixed_fields e.ledger a)
-      → IsKnown (past ++ e ∷ []) (a.id, fixed_fields e.ledger a)
-  now_known a none found = then_known a.id ∙ by (fields_before past a.id) none
-    where
-      by : (o : Option FixedFields) → NoneApplies (fields_lines o e.ledger a)
-          → option_or o (lookup (nat_eq a.id) (accounts_of e)) ≡ Some (fixed_fields e.ledger a)
-      by None none = found
-      by (Some x) none = ap Some (sym (none_differs a.id (fixed_fields e.ledger a) x none))
-
-  known_then : AllByRecursion (IsKnown past) (accounts_in past)
-      → AllByRecursion (IsKnown (past ++ e ∷ [])) (accounts_in (past ++ e ∷ []))
-  known_then known =
-      let d = e.debit_account in
-      let c = e.credit_account in
-      let d_fields = fixed_fields e.ledger d in
-      let c_fields = fixed_fields e.ledger c in
-      let first = fields_lines (fields_before past d.id) e.ledger d in
-      let second = fields_lines (fields_before past c.id) e.ledger c in
-      let lines = none_both first second (none_both (first ++ second) (created_lines e) can.fixed).0 in
-      let d_found : lookup (nat_eq d.id) (accounts_of e) ≡ Some d_fields =
-      ap (λ b. if b then Some d_fields else if d.id == c.id then Some c_fields else None) (eq-eqb d.id d.id refl) in
-      let c_found : lookup (nat_eq c.id) (accounts_of e) ≡ Some c_fields =
-      ap₂ (λ a b. if a then Some d_fields else if b then Some c_fields else None)
-      (ne_eqb c.id d.id (λ same. can.apart (sym same))) (eq-eqb c.id c.id refl) in
-      subst (AllByRecursion (IsKnown (past ++ e ∷ []))) (sym (flat_map-append accounts_of past (e ∷ [])))
-      (all_parts (IsKnown (past ++ e ∷ [])) (accounts_in past) (accounts_of e)
-      (AllByRecursion-weaker (IsKnown past) (IsKnown (past ++ e ∷ [])) still_known (accounts_in past) known)
-      (now_known d lines.0 d_found, (now_known c lines.1 c_found, tt)))
-
-all_known : (past rest : List Event) → follows_on past rest ≡ true
-    → AllByRecursion (IsKnown past) (accounts_in past)
-    → AllByRecursion (IsKnown (past ++ rest)) (accounts_in (past ++ rest))
-all_known past [] follow known =
-    subst (λ es. AllByRecursion (IsKnown es) (accounts_in es)) (sym (append-nil past)) known
-all_known past (e ∷ rest) follow known =
-    let first = first_follows past e rest follow in
-    subst (λ es. AllByRecursion (IsKnown es) (accounts_in es)) (append_assoc past (e ∷ []) rest)
-    (all_known (past ++ e ∷ []) rest first.1 (known_then past e first.0 known))
-
--- ---- so all can be told to a ledger
-module _ (events : List Event) (can : CanBeTold events) (accepted : is_accepted events ≡ true) where
+-- ---- so a ledger can make them all
+module _ (events : List Event) (can : CanBeMade events) (accepted : is_accepted events ≡ true) where
   abbrev shown : List (ℕ × FixedFields)
   shown = accounts_in events
 
-  abbrev told : List Told
-  told = place_all opening_of shown (only events)
+  abbrev plan : List Planned
+  plan = place_all opening_of shown (only events)
 
   fit : AllByRecursion IsFit shown
-  fit =
-      all_fit [] events accepted can.fit
-      (AllByRecursion-weaker (IsOpenedAlone events) IsUnlinked (λ a is. is.unlinked) shown can.opened)
+  fit = all_fit [] events accepted can.fit can.unlinked
 
   known : AllByRecursion (IsKnown events) shown
   known = all_known [] events accepted tt
 
-  same_events : events_in told ≡ events
+  same_events : events_in plan ≡ events
   same_events = events_in-place_all opening_of shown (only events) ∙ events_in-only events
 
+  each_alone : AreAlone events
+  each_alone = all_alone [] events accepted alone-nil
+
   -- an account of one timestamp with this one is this one
-  no_other : (a : ℕ × FixedFields) → IsKnown events a
-      → (b : ℕ × FixedFields) → (b.1.timestamp ≡ a.1.timestamp → b.0 ≡ a.0) × IsKnown events b
+  no_other : (a : ℕ × FixedFields) → IsKnown events a → (b : ℕ × FixedFields) → IsKnown events b
       → Admits (opening_of a) (inl (opening_of b))
-  no_other a a_known b b_is time =
-      let id : b.0 ≡ a.0 = b_is.0 time in
-      let found : Some b.1 ≡ Some a.1 = sym b_is.1 ∙ ap (fields_before events) id ∙ a_known in
+  no_other a a_known b b_known time =
+      let id : b.0 ≡ a.0 = each_alone.no_other b.0 a.0 b.1 a.1 b_known a_known time in
+      let found : Some b.1 ≡ Some a.1 = sym b_known ∙ ap (fields_before events) id ∙ a_known in
       let fields : b.1 ≡ a.1 = cc in
       ap₂ (λ n f. opening_of (n, f)) id fields
 
-  admits : (a : ℕ × FixedFields) → IsOpenedAlone events a × IsKnown events a
-      → AllAdmit opening_of shown (only events) a
-  admits a is = (
-    AllByRecursion-weaker (λ b. (b.1.timestamp ≡ a.1.timestamp → b.0 ≡ a.0) × IsKnown events b)
-        (λ b. Admits (opening_of a) (inl (opening_of b))) (no_other a is.1) shown
-        (AllByRecursion-both (λ b. b.1.timestamp ≡ a.1.timestamp → b.0 ≡ a.0) (IsKnown events) shown is.0.no_other
-        known),
-    only-all (Admits (opening_of a)) events is.0.no_event,
+  admits : (a : ℕ × FixedFields) → IsKnown events a → AllAdmit opening_of shown (only events) a
+  admits a a_known = (
+    AllByRecursion-weaker (IsKnown events) (λ b. Admits (opening_of a) (inl (opening_of b))) (no_other a a_known) shown
+        known,
+    only-all (Admits (opening_of a)) events (each_alone.no_event a.0 a.1 a_known),
   )
 
-  opens : AllByRecursion (λ a. Opens (opening_of a) told) shown
+  opens : AllByRecursion (λ a. Opens (opening_of a) plan) shown
   opens =
       place_all-opens opening_of shown (only events)
-      (AllByRecursion-weaker (λ a. IsOpenedAlone events a × IsKnown events a)
-      (AllAdmit opening_of shown (only events)) admits shown
-      (AllByRecursion-both (IsOpenedAlone events) (IsKnown events) shown can.opened known))
+      (AllByRecursion-weaker (IsKnown events) (AllAdmit opening_of shown (only events)) admits shown known)
 
-  ready : AllByRecursion (IsReady shown empty_history told) (accounts_in (events_in told))
+  ready : AllByRecursion (IsReady shown empty_history plan) (accounts_in (events_in plan))
   ready =
-      subst (λ es. AllByRecursion (IsReady shown empty_history told) (accounts_in es)) (sym same_events)
-      (AllByRecursion-weaker (λ a. Opens (opening_of a) told) (IsReady shown empty_history told) (λ a is. inr is) shown
+      subst (λ es. AllByRecursion (IsReady shown empty_history plan) (accounts_in es)) (sym same_events)
+      (AllByRecursion-weaker (λ a. Opens (opening_of a) plan) (IsReady shown empty_history plan) (λ a is. inr is) shown
       opens)
 
-  can_tell : AllByRecursion (CanTell shown) told
-  can_tell =
-      all-place_all opening_of (CanTell shown) shown (only events)
-      (AllByRecursion-weaker (λ a. IsFit a × IsKnown events a) (λ a. CanTell shown (inl (opening_of a)))
+  can_make : AllByRecursion (CanMake shown) plan
+  can_make =
+      all-place_all opening_of (CanMake shown) shown (only events)
+      (AllByRecursion-weaker (λ a. IsFit a × IsKnown events a) (λ a. CanMake shown (inl (opening_of a)))
       (λ a is. (is.0.openable, is.1)) shown (AllByRecursion-both IsFit (IsKnown events) shown fit known))
-      (only-all (CanTell shown) events can.fit)
+      (only-all (CanMake shown) events can.fit)
 
--- so they are the events of a ledger
+  reaches : Reaches events
+  reaches =
+      let after : AllByRecursion (λ a. 0 < (opening_of a).timestamp) shown =
+      AllByRecursion-weaker IsFit (λ a. 0 < (opening_of a).timestamp) (λ a is. is.some) shown fit in
+      subst Reaches same_events
+      (made_from_empty shown plan
+      (rises-place_all opening_of 0 shown (only events) after (only-rises 0 events (accepted_events_rise events accepted)))
+      can_make ready (ap (follows_on []) same_events ∙ accepted)
+      (subst (HaveRoom 0) (sym same_events) can.room))
+
+-- so they are the events of a ledger, if none is missing at the end
 pub accepted_events_are_a_ledgers : AcceptedEventsAreALedgers
-accepted_events_are_a_ledgers events can accepted =
-    let after : AllByRecursion (λ a. 0 < (opening_of a).timestamp) (accounts_in events) =
-    AllByRecursion-weaker IsFit (λ a. 0 < (opening_of a).timestamp) (λ a is. is.some) (accounts_in events)
-    (fit events can accepted) in
-    let same = same_events events can accepted in
-    let made = told_from_empty (accounts_in events) (told events can accepted)
-    (rises-place_all opening_of 0 (accounts_in events) (only events) after
-    (only-rises 0 events (accepted_events_rise events accepted)))
-    (can_tell events can accepted) (ready events can accepted)
-    (ap (follows_on []) same ∙ accepted) (subst (AreInTurn []) (sym same) can.in_turn) in
-    (made.0, made.1, made.2 ∙ same)
+accepted_events_are_a_ledgers events can whole accepted = whole_legal events (reaches events can accepted) whole
+
+-- and all of them but a last part are
+pub accepted_events_start_as_a_ledgers : AcceptedEventsStartAsALedgers
+accepted_events_start_as_a_ledgers events can accepted = part_legal events (reaches events can accepted)
 
 -- ---- events that store a transfer each, without chains
 
--- none of these events is linked or an expiry
-record HasNeither (past : List Event) : Type 0 where
-  run : linked_run past ≡ 0
-  chain : ends_in_chain past ≡ false
-  expiry : last_expiry past ≡ None
-
-neither-push : (past : List Event) (e : Event) → IsAlone e → HasNeither past → HasNeither (past ++ e ∷ [])
-neither-push past e alone neither = record {
-  run = run_from-push 0 past e ∙ ap (λ b. if b then linked_run past + 1 else 0) alone.unlinked;
-  chain = chain-push past e ∙ alone.unlinked;
-  expiry = expiry_from-push None past e ∙ ap (λ b. if b then last_expiry past else Some e) alone.stored
-      ∙ neither.expiry;
-}
-
-none_left : (past : List Event) → last_expiry past ≡ None → NoneIsLeft past
-none_left past none x y is waiting = cc
-
--- so each comes in its turn
-alone_in_turn : (past rest : List Event) → HasNeither past → AllByRecursion IsAlone rest → AreInTurn past rest
-alone_in_turn past [] neither alone = (neither.chain, none_left past neither.expiry)
-alone_in_turn past (e ∷ rest) neither alone = (
-  record {
-    chain = let none = neither.run in omega (arith, none);
-    first = λ is. absurd (false≢true (sym is ∙ alone.0.stored));
-    none_left = λ is. none_left past neither.expiry;
-  },
-  alone_in_turn (past ++ e ∷ []) rest (neither-push past e alone.0 neither) alone.1,
+-- none of these events is linked, so there is room
+alone_room : (events : List Event) → AllByRecursion IsAlone events → HaveRoom 0 events
+alone_room [] alone = tt
+alone_room (e ∷ events) alone = (
+  omega arith,
+  subst (λ b. HaveRoom (if b then 1 else 0) events) (sym alone.0.unlinked) (alone_room events alone.1),
 )
 
+-- and they don't end within a chain
+alone_unlinked : (events : List Event) → AllByRecursion IsAlone events → linked_from false events ≡ false
+alone_unlinked [] alone = refl
+alone_unlinked (e ∷ events) alone =
+    ap (λ b. linked_from b events) alone.0.unlinked ∙ alone_unlinked events alone.1
+
+-- none of them is an expiry
+alone_stored : (events : List Event) → AllByRecursion IsAlone events → last_expiry_from None events ≡ None
+alone_stored [] alone = refl
+alone_stored (e ∷ events) alone =
+    ap (λ b. last_expiry_from (if b then None else Some e) events) alone.0.stored ∙ alone_stored events alone.1
+
+-- nothing isn't something
+none_some : (x : Event) → ◌≡◌ {A = Option Event} None (Some x) → ⊥
+none_some x is = cc
+
 pub events_alone_are_a_ledgers : EventsAloneAreALedgers
-events_alone_are_a_ledgers events alone opened accepted =
+events_alone_are_a_ledgers events alone unlinked accepted =
     accepted_events_are_a_ledgers events (record {
       fit = AllByRecursion-weaker IsAlone EventFits (λ e is. is.fits) events alone;
-      opened = opened;
-      in_turn = alone_in_turn [] events (record { run = refl; chain = refl; expiry = refl }) alone;
+      unlinked = unlinked;
+      room = alone_room events alone;
+    }) (record {
+      chain = alone_unlinked events alone;
+      pulse = λ x y last first same. none_some x (sym (alone_stored events alone) ∙ last);
     }) accepted

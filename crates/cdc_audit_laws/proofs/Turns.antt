@@ -1,8 +1,8 @@
 -- In which order the transfers of a ledger expire, by its events.
-use Rattle.std.proofs.Common.{◌≡◌, ◌≢◌, ℕ, ◌<◌, ◌≤◌, true, false, not, ◌∷◌, Some, None, if◌then◌else◌, sym, ap, ◌∙◌, arith}
+use Rattle.std.proofs.Common.{◌≡◌, ◌≢◌, ℕ, ◌<◌, ◌≤◌, true, false, not, ◌∷◌, sym, ap, ◌∙◌, subst, arith}
 use Rattle.std.specs.Prelude.{◌==◌, ◌&&◌, ◌||◌, nat_le, nat_lt}
 use Rattle.std.specs.List.{AllByRecursion}
-use Rattle.std.proofs.lemmas.Bool.{and_from, and_parts, le-leb, leb-true, not-true, not_from_false}
+use Rattle.std.proofs.lemmas.Bool.{and_from, and_parts, le-leb, not-true, not_from_false}
 use Rattle.std.proofs.lemmas.Bool.Decides.{nat_tests}
 use Rattle.cdc_types.specs.declared.events.Entry.{Entry}
 use Rattle.cdc_types.specs.declared.events.Event.{Event}
@@ -11,41 +11,23 @@ use Rattle.cdc_ledger.specs.Balances.{resolved}
 use Rattle.cdc_ledger.specs.Changes.{expiry, pushed}
 use Rattle.cdc_ledger.specs.Due.{due, is_due, is_sooner as is_sooner_one}
 use Rattle.cdc_ledger.specs.Events.{event_of, events, shown_transfer}
-use Rattle.cdc_ledger.specs.Filling.{expires_at, stored}
+use Rattle.cdc_ledger.specs.Filling.{expires_at}
 use Rattle.cdc_ledger.specs.History.{History}
 use Rattle.cdc_ledger.specs.Kinds.{holds, stores}
-use Rattle.cdc_ledger.specs.Sound.{IsSound}
 use Rattle.cdc_ledger.proofs.BalanceLaws.{stores-holds}
 use Rattle.cdc_ledger.proofs.DueLaws.{due-first, due-rest}
 use Rattle.cdc_ledger.proofs.Elements.{AllByRecursion-weaker}
 use Rattle.cdc_ledger.proofs.Pending.{All-around, Around, Around-both, Around-weaker, IsAmong, IsOther, IsOther-around, IsStored-found}
-use Rattle.cdc_ledger.proofs.StoredLaws.{stored_each}
+use Rattle.cdc_ledger.proofs.StoredLaws.{stored_has}
 use Rattle.cdc_audit.specs.Expiries.{is_sooner}
-use Rattle.cdc_audit.specs.Known.{pending_event}
-use Rattle.cdc_audit_laws.specs.Soundness.{IsWaiting}
+use Rattle.cdc_audit.specs.Settling.{expires_at as expires_at_shown}
 use Rattle.cdc_audit_laws.proofs.Coming.{Comes}
-use Rattle.cdc_audit_laws.proofs.Entries.{pending_event-events, unsettled}
 use Rattle.cdc_audit_laws.proofs.Expiry.{expired, has_timeout, is_open, on_expired, shows_expired}
+use Rattle.cdc_audit_laws.proofs.Soonest.{AllThatExpire, CanExpire, open_entries}
 
--- an entry that is open is waiting, as its event shows
-pub waiting : (h : History) (y : Entry) → IsSound h → stored h y.transfer.id ≡ Some y → holds y.kind ≡ true
-    → resolved h y.transfer h.last ≡ false → (y.transfer.timeout == 0) ≡ false → IsWaiting (events h) (event_of h y)
-waiting h y sound there holding open_yet timed = record {
-  is_open =
-      ap (λ b. if b then None else pending_event (events h) y.transfer.id) (unsettled h y.transfer sound.past open_yet)
-      ∙ pending_event-events h y.transfer.id y there holding;
-  timed = timed;
-}
-
--- what it takes to be due
-record DueParts (h : History) (now : ℕ) (y : Entry) : Type 0 where
-  holding : holds y.kind ≡ true
-  timed : (y.transfer.timeout == 0) ≡ false
-  up : expires_at y.transfer ≤ now
-  unsettled : resolved h y.transfer h.last ≡ false
-
-due_parts : (h : History) (now : ℕ) (y : Entry) → is_due h now y ≡ true → DueParts h now y
-due_parts h now y is =
+-- an entry that is due can expire
+due_can : (h : History) (now : ℕ) (y : Entry) → is_due h now y ≡ true → CanExpire h y
+due_can h now y is =
     let last = and_parts (holds y.kind && not (y.transfer.timeout == 0) && nat_le (expires_at y.transfer) now)
     (not (resolved h y.transfer h.last)) is in
     let ended = and_parts (holds y.kind && not (y.transfer.timeout == 0)) (nat_le (expires_at y.transfer) now) last.0 in
@@ -53,7 +35,6 @@ due_parts h now y is =
     record {
       holding = timed.0;
       timed = not-true (y.transfer.timeout == 0) timed.1;
-      up = leb-true (expires_at y.transfer) now ended.1;
       unsettled = not-true (resolved h y.transfer h.last) last.1;
     }
 
@@ -62,9 +43,22 @@ before_other : (a b s t : ℕ) → (nat_lt b a || ((b == a) && nat_lt t s)) ≡ 
     → (nat_lt a b || ((a == b) && nat_lt s t)) ≡ true
 before_other a b s t not_before other = grind (arith, nat_tests)
 
--- the expiry of an event that no waiting transfer comes before is the next one of a pulse at this time
+-- the transfer of an expiry can expire: so what holds of each such time holds of its own
+pub its_time : (h : History) (e : Event) (comes : Comes h e) (storing : stores e.kind ≡ false) (P : ℕ → Type 0)
+    → AllThatExpire (events h) (λ y. P (expires_at_shown y.transfer)) → P (expires_at_shown e.transfer)
+its_time h e comes storing P all =
+    let on = on_expired h e comes storing in
+    subst (λ x. P (expires_at_shown x)) (shows_expired h e comes storing).shown
+    (stored_has (λ y. CanExpire h y → P (expires_at y.transfer)) h e.transfer.id on.entry
+    (open_entries h (λ y. P (expires_at_shown y.transfer)) comes.sound all) on.named (record {
+      holding = on.pending;
+      timed = has_timeout h e comes storing;
+      unsettled = (is_open h e comes storing).unsettled;
+    }))
+
+-- the expiry of an event that no open transfer comes before is the next one of a pulse at this time
 module _ (h : History) (e : Event) (comes : Comes h e) (storing : stores e.kind ≡ false)
-    (first : (y : Event) → IsWaiting (events h) y → is_sooner y.transfer e.transfer ≡ false) (now : ℕ)
+    (first : AllThatExpire (events h) (λ y. is_sooner y.transfer e.transfer ≡ false)) (now : ℕ)
     (up : expires_at (expired h e comes storing) ≤ now) where
   abbrev entry : Entry
   entry = (on_expired h e comes storing).entry
@@ -84,14 +78,12 @@ module _ (h : History) (e : Event) (comes : Comes h e) (storing : stores e.kind 
   -- no other one that is due is sooner
   none_sooner : AllByRecursion (λ y. is_due h now y ≡ true → is_sooner_one y.transfer entry.transfer ≡ false) h.entries
   none_sooner =
-      AllByRecursion-weaker (λ y. stores y.kind ≡ true → stored h y.transfer.id ≡ Some y)
+      AllByRecursion-weaker (λ y. CanExpire h y → is_sooner (event_of h y).transfer e.transfer ≡ false)
       (λ y. is_due h now y ≡ true → is_sooner_one y.transfer entry.transfer ≡ false)
-      (λ y there is.
-      let parts : DueParts h now y = due_parts h now y is in
+      (λ y not_sooner is.
       ap (λ (x : EventTransfer). is_sooner (shown_transfer y.transfer) x) (shows_expired h e comes storing).shown
-      ∙ first (event_of h y)
-      (waiting h y comes.sound (there (stores-holds y.kind parts.holding)) parts.holding parts.unsettled parts.timed))
-      h.entries (stored_each h comes.sound.once)
+      ∙ not_sooner (due_can h now y is)) h.entries
+      (open_entries h (λ y. is_sooner y.transfer e.transfer ≡ false) comes.sound first)
 
   soonest : Around (λ y. is_due h now y ≡ true → is_sooner_one entry.transfer y.transfer ≡ true) among.front among.back
   soonest =
@@ -100,7 +92,7 @@ module _ (h : History) (e : Event) (comes : Comes h e) (storing : stores e.kind 
       × (stores y.kind ≡ true → IsOther entry y))
       (λ y. is_due h now y ≡ true → is_sooner_one entry.transfer y.transfer ≡ true)
       (λ y both is.
-      let other : IsOther entry y = both.1 (stores-holds y.kind (due_parts h now y is).holding) in
+      let other : IsOther entry y = both.1 (stores-holds y.kind (due_can h now y is).holding) in
       before_other (expires_at entry.transfer) (expires_at y.transfer) entry.transfer.timestamp y.transfer.timestamp
       (both.0 is) other.time) among.front among.back
       (Around-both (λ y. is_due h now y ≡ true → is_sooner_one y.transfer entry.transfer ≡ false)

@@ -1,4 +1,4 @@
--- A ledger that is told accounts and events in the order of their timestamps.
+-- A ledger that opens accounts and stores events in the order of their timestamps, as a plan has them.
 use Rattle.std.proofs.Common.{◌≡◌, ◌⊎◌, inl, inr, ℕ, ◌+◌, ◌-◌, ◌<◌, ◌≤◌, Bool, true, false, List, [], ◌∷◌, ◌++◌, Option, Some, None, is_some, refl, sym, ap, ap₂, ◌∙◌, subst, append_assoc, arith}
 use Rattle.std.specs.Prelude.{◌==◌, ◌&&◌, nat_eq, if◌then◌else◌}
 use Rattle.std.specs.List.{AllByRecursion}
@@ -42,20 +42,23 @@ use Rattle.cdc_audit.specs.declared.fields.FixedFields.{FixedFields}
 use Rattle.cdc_audit.specs.Audits.{follows_on}
 use Rattle.cdc_audit.specs.EventShapes.{asked_transfer}
 use Rattle.cdc_audit.specs.Known.{balances_after, ends_in_chain, is_linked, last_expiry}
+use Rattle.cdc_audit.specs.Expiries.{can_expire, is_sooner}
 use Rattle.cdc_audit.specs.Settling.{expires_at}
-use Rattle.cdc_audit_laws.specs.Soundness.{AreInTurn, accounts_in, linked_run}
+use Rattle.cdc_audit_laws.specs.Soundness.{HaveRoom, accounts_in}
 use Rattle.cdc_audit_laws.proofs.Coming.{Comes}
 use Rattle.cdc_audit_laws.proofs.Entering.{entry_is, own, own_follows, shows_own, unrefused}
 use Rattle.cdc_audit_laws.proofs.Expiry.{expired, expiry_follows, expiry_is, is_up, shows_expired}
 use Rattle.cdc_audit_laws.proofs.Following.{CanFollow}
 use Rattle.cdc_audit_laws.proofs.Ledgers.{fixed_of}
 use Rattle.cdc_audit_laws.proofs.Made.{IsShownBy, entry_with, events_then, shown_then, sound_then}
-use Rattle.cdc_audit_laws.proofs.Modes.{GoesOn, Mode, chain-push, chain_goes_on, chain_next, expiry-push, pulse_goes_on, pulse_left, pulse_next, run-push, stores_or_not}
+use Rattle.cdc_audit_laws.proofs.Modes.{IsInChain, IsInPulse, IsOfChain, IsOfPulse, Mode, Reaches, StartsLegal, chain-push, chain_next, expiry-push, goes_on}
+use Rattle.cdc_audit_laws.proofs.Modes.{linked_run, pulse_next, run-push, run_from-push, starts, starts-push, stores_or_not}
 use Rattle.cdc_audit_laws.proofs.Openings.{IsOpenable, are_created, opening_of, request_fits}
 use Rattle.cdc_audit_laws.proofs.Running.{opens, Pulses, RunsOn, pulses-done, pulses-expired, pulses-legal, runs-done, runs-legal, runs-more, runs-taken, timed_before}
 use Rattle.cdc_audit_laws.proofs.Streams.{first_follows}
-use Rattle.cdc_audit_laws.proofs.Told.{Opens, Rises, Told, events_in, events_later, opens_later}
-use Rattle.cdc_audit_laws.proofs.Turns.{next_due}
+use Rattle.cdc_audit_laws.proofs.Plan.{Opens, Rises, Planned, events_in, events_later, opens_later}
+use Rattle.cdc_audit_laws.proofs.Soonest.{AllThatExpire, expire_then, no_earlier, none_before_expiry}
+use Rattle.cdc_audit_laws.proofs.Turns.{its_time, next_due}
 
 module _ (all : List (ℕ × FixedFields)) where
   -- the account is the one that these show
@@ -70,10 +73,10 @@ module _ (all : List (ℕ × FixedFields)) where
       let fields : fixed_of o ≡ fixed_of p = cc in
       ap₂ (λ n f. opening_of (n, f)) same fields
 
-  -- what can be told
-  abbrev pub CanTell : Told → Type 0
-  CanTell (inl o) = IsOpenable o × IsShown o
-  CanTell (inr e) = EventFits e
+  -- what can be made: an account that is openable and known, or an event
+  abbrev pub CanMake : Planned → Type 0
+  CanMake (inl o) = IsOpenable o × IsShown o
+  CanMake (inr e) = EventFits e
 
   -- an account of a history, up to this timestamp
   abbrev IsPast : ℕ → Opened → Type 0
@@ -84,28 +87,24 @@ module _ (all : List (ℕ × FixedFields)) where
       AllByRecursion-weaker (IsPast s) (IsPast t) (λ o is. (is.0, omega (arith, is.1, later))) os past
 
   -- an account is opened, or will be
-  abbrev pub IsReady : History → List Told → ℕ × FixedFields → Type 0
+  abbrev pub IsReady : History → List Planned → ℕ × FixedFields → Type 0
   IsReady h rest a = (opened h a.0 ≡ Some (opening_of a)) ⊎ Opens (opening_of a) rest
 
-  -- a history that has told these events too
-  abbrev HasTold : History → List Told → Type 0
-  HasTold h rest = (g : History) × IsLegal g × (events g ≡ events h ++ events_in rest)
-
-  -- what is known of a history, and of what is yet to be told
-  record Goes (h : History) (rest : List Told) : Type 0 where
+  -- what is known of a history, and of the rest of the plan
+  record Goes (h : History) (rest : List Planned) : Type 0 where
     sound : IsSound h
     shown : (id : ℕ) → balances_after (events h) id ≡ balances h id h.last
     is_open : h.closed ≡ false
     rises : Rises h.last rest
-    told : AllByRecursion CanTell rest
+    can : AllByRecursion CanMake rest
     past : AllByRecursion (IsPast h.last) h.accounts
     ready : AllByRecursion (IsReady h rest) (accounts_in (events_in rest))
     follow : follows_on (events h) (events_in rest) ≡ true
-    turn : AreInTurn (events h) (events_in rest)
+    room : HaveRoom (linked_run (events h)) (events_in rest)
     mode : Mode h
 
   -- ---- an account is opened
-  module _ (h : History) (o : Opened) (rest : List Told) (goes : Goes h (inl o ∷ rest)) where
+  module _ (h : History) (o : Opened) (rest : List Planned) (goes : Goes h (inl o ∷ rest)) where
     abbrev with_one : History
     with_one = with_account h o
 
@@ -117,7 +116,7 @@ module _ (all : List (ℕ × FixedFields)) where
         by (Some x) is =
             let has : IsPast h.last x =
             (find_all (λ (y : Opened). y.request.id == o.request.id) (IsPast h.last) h.accounts x goes.past is).1 in
-            let same : x ≡ o = same_shown x o has.0 goes.told.0.1 (opened_id h x o.request.id is) in
+            let same : x ≡ o = same_shown x o has.0 goes.can.0.1 (opened_id h x o.request.id is) in
             let time : x.timestamp ≡ o.timestamp = ap (λ (y : Opened). y.timestamp) same in
             let later : h.last < o.timestamp = goes.rises.0 in
             absurd (let no : ⊥ = omega (arith, time, has.1, later) in no)
@@ -125,30 +124,23 @@ module _ (all : List (ℕ × FixedFields)) where
     unrefused_one : account_refused h o.request ≡ None
     unrefused_one =
         first_line-append_none (account_shape_lines o.request) (known_account_lines (opened h o.request.id) o.request)
-        goes.told.0.0.fields
+        goes.can.0.0.fields
         ∙ ap (λ x. first_line (known_account_lines x o.request)) is_new
 
-    -- no chain and no pulse is on its way, since its next item would be an event before the account is opened
-    too_late : GoesOn h (events_in rest) → ⊥
-    too_late on =
-        let after : o.timestamp < on.first.timestamp =
-        events_later o.timestamp rest on.first on.rest goes.rises.1 on.split in
+    -- no chain and no pulse is on its way, if an event comes: it would be before the account is opened
+    too_late : (e : Event) (es : List Event) → events_in rest ≡ e ∷ es → (IsInChain h ⊎ IsInPulse h) → ⊥
+    too_late e es is on =
+        let after : o.timestamp < e.timestamp = events_later o.timestamp rest e es goes.rises.1 is in
         let before : h.last < o.timestamp = goes.rises.0 in
-        omega (arith, after, before, on.next)
+        let can : CanFollow (events h) e =
+        (first_follows (events h) e es (ap (follows_on (events h)) (sym is) ∙ goes.follow)).0 in
+        let next = goes_on h e goes.sound on can in
+        omega (arith, after, before, next)
 
-    legal : IsLegal h
-    legal = by goes.mode
-      where
-        by : Mode h → IsLegal h
-        by (inl is) = is
-        by (inr (inl chain)) = absurd (too_late (chain_goes_on h (events_in rest) chain goes.follow goes.turn))
-        by (inr (inr pulse)) =
-            absurd (too_late (pulse_goes_on h (events_in rest) goes.sound pulse goes.follow goes.turn))
-
-    legal_then : IsLegal with_one
-    legal_then =
-        opens h o.timestamp o.request legal goes.is_open goes.rises.0 goes.told.0.0.within goes.told.0.0.fits
-        goes.told.0.0.unlinked unrefused_one
+    legal_then : IsLegal h → IsLegal with_one
+    legal_then legal =
+        opens h o.timestamp o.request legal goes.is_open goes.rises.0 goes.can.0.0.within goes.can.0.0.fits
+        goes.can.0.0.unlinked unrefused_one
 
     -- it is found
     found_then : opened with_one o.request.id ≡ Some o
@@ -166,32 +158,32 @@ module _ (all : List (ℕ × FixedFields)) where
     same_events : events with_one ≡ events h
     same_events = events-with_account h o goes.sound.known
 
-    goes_then : Goes with_one rest
-    goes_then = record {
+    goes_then : IsLegal h → Goes with_one rest
+    goes_then legal = record {
       sound =
           let later : h.last < o.timestamp = goes.rises.0 in
-          IsSound-with_account h o goes.sound is_new (omega (arith, later)) goes.told.0.0.within;
+          IsSound-with_account h o goes.sound is_new (omega (arith, later)) goes.can.0.0.within;
       shown = λ id.
           let later : h.last < o.timestamp = goes.rises.0 in
           ap (λ es. balances_after es id) same_events ∙ goes.shown id
           ∙ sym (balances_later h id h.last o.timestamp goes.sound.past (omega (arith, later)));
-      mode = inl legal_then;
+      mode = inl (legal_then legal);
       is_open = goes.is_open;
       rises = goes.rises.1;
-      told = goes.told.1;
+      can = goes.can.1;
       past =
           let later : h.last < o.timestamp = goes.rises.0 in
           AllByRecursion_push (IsPast o.timestamp) h.accounts o
           (past_later h.last o.timestamp h.accounts (omega (arith, later)) goes.past)
-          (goes.told.0.1, omega arith);
+          (goes.can.0.1, omega arith);
       ready = AllByRecursion-weaker (IsReady h (inl o ∷ rest)) (IsReady with_one rest) ready_then
           (accounts_in (events_in rest)) goes.ready;
       follow = subst (λ es. follows_on es (events_in rest) ≡ true) (sym same_events) goes.follow;
-      turn = subst (λ es. AreInTurn es (events_in rest)) (sym same_events) goes.turn;
+      room = subst (λ es. HaveRoom (linked_run es) (events_in rest)) (sym same_events) goes.room;
     }
 
   -- ---- an event happens
-  module _ (h : History) (e : Event) (rest : List Told) (goes : Goes h (inr e ∷ rest)) where
+  module _ (h : History) (e : Event) (rest : List Planned) (goes : Goes h (inr e ∷ rest)) where
     first : CanFollow (events h) e × (follows_on (events h ++ e ∷ []) (events_in rest) ≡ true)
     first = first_follows (events h) e (events_in rest) goes.follow
 
@@ -230,13 +222,15 @@ module _ (all : List (ℕ × FixedFields)) where
         shown = shown_then h e comes y is follows;
         is_open = goes.is_open;
         rises = goes.rises.1;
-        told = goes.told.1;
+        can = goes.can.1;
         past =
             let later : h.last < e.timestamp = goes.rises.0 in
             past_later h.last e.timestamp h.accounts (omega (arith, later)) goes.past;
         ready = goes.ready.1.1;
         follow = subst (λ es. follows_on es (events_in rest) ≡ true) (sym same_then) first.1;
-        turn = subst (λ es. AreInTurn es (events_in rest)) (sym same_then) goes.turn.1;
+        room =
+            subst (λ n. HaveRoom n (events_in rest)) (sym (ap linked_run same_then ∙ run_from-push 0 (events h) e))
+            goes.room.1;
         mode = mode;
       }
 
@@ -253,22 +247,24 @@ module _ (all : List (ℕ × FixedFields)) where
           events_then h e comes (own h e comes storing) (shows_own h e comes storing) (own_follows h e comes storing)
 
       -- a chain is on its way, or begins
-      runs : RunsOn h e.timestamp (linked_run (events h))
+      runs : RunsOn h e.timestamp (linked_run (events h)) × StartsLegal (events h) IsOfChain
       runs = by goes.mode
         where
-          by : Mode h → RunsOn h e.timestamp (linked_run (events h))
-          by (inl legal) =
-              runs-more h e.timestamp (linked_run (events h))
-              (runs-legal h e.timestamp legal goes.is_open goes.rises.0)
+          by : Mode h → RunsOn h e.timestamp (linked_run (events h)) × StartsLegal (events h) IsOfChain
+          by (inl legal) = (
+            runs-more h e.timestamp (linked_run (events h))
+                (runs-legal h e.timestamp legal goes.is_open goes.rises.0),
+            starts IsOfChain h legal,
+          )
           by (inr (inl chain)) =
               let next = chain_next h e chain first.0 in
-              subst (λ t. RunsOn h t (linked_run (events h))) (sym next.1) chain.runs
+              (subst (λ t. RunsOn h t (linked_run (events h))) (sym next.1) chain.runs, chain.start)
           by (inr (inr pulse)) =
-              let next = pulse_next h e goes.sound pulse first.0 goes.turn.0 in
+              let next = pulse_next h e goes.sound pulse first.0 in
               absurd (false≢true (sym next.storing ∙ storing))
 
       fit : NewTransferFits request
-      fit = request_fits e goes.told.0
+      fit = request_fits e goes.can.0
 
       linked_is : is_linked_transfer request ≡ is_linked e
       linked_is = ap (λ b. b && has_flag e.transfer.flags LINKED) (sym storing)
@@ -280,7 +276,7 @@ module _ (all : List (ℕ × FixedFields)) where
           by : (b : Bool) → is_linked e ≡ b → Mode with_own
           by false is =
               inl (subst (λ (x : Entry). IsLegal (pushed h x)) (entry_is h e comes storing)
-              (runs-done h e.timestamp (linked_run (events h)) request runs goes.turn.0.chain in_time (linked_is ∙ is)
+              (runs-done h e.timestamp (linked_run (events h)) request runs.0 goes.room.0 in_time (linked_is ∙ is)
               (unrefused h e comes storing) fit))
           by true is =
               inr (inl (record {
@@ -289,10 +285,13 @@ module _ (all : List (ℕ × FixedFields)) where
                     (sym (ap linked_run same_own ∙ run-push (events h) e is))
                     (subst (λ (x : Entry). RunsOn (pushed h x) (e.timestamp + 1) (linked_run (events h) + 1))
                     (entry_is h e comes storing)
-                    (runs-taken h e.timestamp (linked_run (events h)) request runs (linked_is ∙ is)
+                    (runs-taken h e.timestamp (linked_run (events h)) request runs.0 (linked_is ∙ is)
                     (unrefused h e comes storing) fit));
                 chained = ap ends_in_chain same_own ∙ chain-push (events h) e ∙ is;
                 at_end = ap last_timestamp same_own ∙ last_timestamp_from-push 0 (events h) e;
+                start =
+                    subst (λ es. StartsLegal es IsOfChain) (sym same_own)
+                    (starts-push IsOfChain (events h) e runs.1 is);
               }))
 
       goes_own : Goes with_own rest
@@ -301,7 +300,7 @@ module _ (all : List (ℕ × FixedFields)) where
 
     -- an expiry, within a pulse at its expiry time
     module _ (storing : stores e.kind ≡ false) (pulses : Pulses h (expires_at e.transfer))
-        (next : e.timestamp ≡ h.last + 1) where
+        (start : StartsLegal (events h) (IsOfPulse (expires_at e.transfer))) (next : e.timestamp ≡ h.last + 1) where
       abbrev now : ℕ
       now = expires_at e.transfer
 
@@ -323,7 +322,17 @@ module _ (all : List (ℕ × FixedFields)) where
       pulses_then =
           subst (λ (x : Entry). Pulses (pushed h x) now) (expiry_is h e comes storing)
           (pulses-expired h now e.timestamp gone pulses next
-          (next_due h e comes storing (goes.turn.0.first storing) now up e.timestamp goes.rises.0))
+          (next_due h e comes storing (none_before_expiry (events h) e first.0 storing) now up e.timestamp goes.rises.0))
+
+      -- none that is left expires sooner
+      least : AllThatExpire (events with_gone) (λ y. now ≤ expires_at y.transfer)
+      least =
+          subst (λ es. AllThatExpire es (λ y. now ≤ expires_at y.transfer)) (sym same_gone)
+          (expire_then (events h) e (λ y. now ≤ expires_at y.transfer) storing
+          (AllByRecursion-weaker (λ y. can_expire (events h) y ≡ true → is_sooner y.transfer e.transfer ≡ false)
+          (λ y. can_expire (events h) y ≡ true → now ≤ expires_at y.transfer)
+          (λ y not_sooner passes. no_earlier y e (not_sooner passes)) (events h)
+          (none_before_expiry (events h) e first.0 storing)))
 
       gone_mode : Mode with_gone
       gone_mode = by (due with_gone now) refl
@@ -336,18 +345,22 @@ module _ (all : List (ℕ × FixedFields)) where
                 next = p;
                 others = ps;
                 left = is;
+                least = least;
                 pulses = pulses_then;
                 last = e;
                 last_is = ap last_expiry same_gone ∙ expiry-push (events h) e storing;
                 time = refl;
                 at_end = refl;
+                start =
+                    subst (λ es. StartsLegal es (IsOfPulse now)) (sym same_gone)
+                    (starts-push (IsOfPulse now) (events h) e start (storing, refl));
               }))
 
       goes_gone : Goes with_gone rest
       goes_gone = goes_with gone (shows_expired h e comes storing) (expiry_follows h e comes storing) gone_mode
 
   -- before a pulse begins, the timestamp before it is taken
-  module _ (h : History) (e : Event) (rest : List Told) (goes : Goes h (inr e ∷ rest)) (legal : IsLegal h) where
+  module _ (h : History) (e : Event) (rest : List Planned) (goes : Goes h (inr e ∷ rest)) (legal : IsLegal h) where
     abbrev paused : History
     paused = timed h (e.timestamp - 1)
 
@@ -361,11 +374,11 @@ module _ (all : List (ℕ × FixedFields)) where
               ∙ sym (balances_later h id h.last (e.timestamp - 1) goes.sound.past (omega (arith, later)));
           is_open = goes.is_open;
           rises = (omega (arith, later), goes.rises.1);
-          told = goes.told;
+          can = goes.can;
           past = past_later h.last (e.timestamp - 1) h.accounts (omega (arith, later)) goes.past;
           ready = goes.ready;
           follow = goes.follow;
-          turn = goes.turn;
+          room = goes.room;
           mode = inl (timed_before h e.timestamp legal goes.is_open later within);
         }
 
@@ -380,12 +393,12 @@ module _ (all : List (ℕ × FixedFields)) where
         goes.is_open (omega (arith, same, up, later)) (omega (arith, same, up, within))
 
   -- one event more
-  record Steps (h : History) (e : Event) (rest : List Told) : Type 0 where
+  record Steps (h : History) (e : Event) (rest : List Planned) : Type 0 where
     after : History
     goes : Goes after rest
     events_are : events after ≡ events h ++ e ∷ []
 
-  steps : (h : History) (e : Event) (rest : List Told) → Goes h (inr e ∷ rest) → Steps h e rest
+  steps : (h : History) (e : Event) (rest : List Planned) → Goes h (inr e ∷ rest) → Steps h e rest
   steps h e rest goes = by (stores_or_not (stores e.kind))
     where
       expires : stores e.kind ≡ false → Mode h → Steps h e rest
@@ -394,20 +407,24 @@ module _ (all : List (ℕ × FixedFields)) where
           let start = goes_paused h e rest goes legal in
           let pulses = pulses_paused h e rest goes legal storing in
           let next : e.timestamp ≡ e.timestamp - 1 + 1 = omega (arith, later) in
+          let from = starts (IsOfPulse (expires_at e.transfer)) h legal in
           record {
-            after = with_gone (paused h e rest goes legal) e rest start storing pulses next;
-            goes = goes_gone (paused h e rest goes legal) e rest start storing pulses next;
-            events_are = same_gone (paused h e rest goes legal) e rest start storing pulses next;
+            after = with_gone (paused h e rest goes legal) e rest start storing pulses from next;
+            goes = goes_gone (paused h e rest goes legal) e rest start storing pulses from next;
+            events_are = same_gone (paused h e rest goes legal) e rest start storing pulses from next;
           }
       expires storing (inr (inl chain)) =
           absurd (false≢true (sym storing ∙ (chain_next h e chain (first h e rest goes).0).0))
       expires storing (inr (inr pulse)) =
-          let on = pulse_next h e goes.sound pulse (first h e rest goes).0 goes.turn.0 in
-          let pulses = subst (Pulses h) (sym on.time) pulse.pulses in
+          let on = pulse_next h e goes.sound pulse (first h e rest goes).0 in
+          let no_sooner = its_time h e (comes h e rest goes) storing (λ t. pulse.now ≤ t) pulse.least in
+          let time : expires_at e.transfer ≡ pulse.now = omega (arith, on.no_later, no_sooner) in
+          let pulses = subst (Pulses h) (sym time) pulse.pulses in
+          let from = subst (λ t. StartsLegal (events h) (IsOfPulse t)) (sym time) pulse.start in
           record {
-            after = with_gone h e rest goes storing pulses on.next;
-            goes = goes_gone h e rest goes storing pulses on.next;
-            events_are = same_gone h e rest goes storing pulses on.next;
+            after = with_gone h e rest goes storing pulses from on.next;
+            goes = goes_gone h e rest goes storing pulses from on.next;
+            events_are = same_gone h e rest goes storing pulses from on.next;
           }
 
       by : ((stores e.kind ≡ true) ⊎ (stores e.kind ≡ false)) → Steps h e rest
@@ -418,44 +435,45 @@ module _ (all : List (ℕ × FixedFields)) where
       }
       by (inr storing) = expires storing goes.mode
 
-  -- at the end no batch is on its way
-  done : (h : History) → Goes h [] → IsLegal h
-  done h goes = by goes.mode
+  -- so the plan is done to its end; accounts that no later event shows stay away, if a chain or a pulse is cut off
+  reaches : (rest : List Planned) (h : History) → Goes h rest → Reaches (events h ++ events_in rest)
+  reaches [] h goes =
+      record { last = h; sound = goes.sound; mode = goes.mode; same = sym (append-nil (events h)) }
+  reaches (inl o ∷ rest) h goes =
+      by goes.mode (events_in rest) refl
+      (λ legal. subst Reaches (ap (λ es. es ++ events_in rest) (same_events h o rest goes))
+      (reaches rest (with_account h o) (goes_then h o rest goes legal)))
     where
-      by : Mode h → IsLegal h
-      by (inl legal) = legal
-      by (inr (inl chain)) = absurd (false≢true (sym goes.turn.0 ∙ chain.chained))
-      by (inr (inr pulse)) = absurd (pulse_left h goes.sound pulse goes.turn.1)
-
-  -- so all of it is told
-  tells : (rest : List Told) (h : History) → Goes h rest → HasTold h rest
-  tells [] h goes = (h, done h goes, sym (append-nil (events h)))
-  tells (inl o ∷ rest) h goes =
-      let later = tells rest (with_account h o) (goes_then h o rest goes) in
-      (later.0, later.1, later.2 ∙ ap (λ es. es ++ events_in rest) (same_events h o rest goes))
-  tells (inr e ∷ rest) h goes =
+      by : Mode h → (es : List Event) → events_in rest ≡ es → (IsLegal h → Reaches (events h ++ events_in rest))
+          → Reaches (events h ++ events_in rest)
+      by (inl legal) es is more = more legal
+      by (inr on) [] is more = record {
+        last = h;
+        sound = goes.sound;
+        mode = goes.mode;
+        same = sym (append-nil (events h)) ∙ ap (λ es. events h ++ es) (sym is);
+      }
+      by (inr on) (e ∷ es) is more = absurd (too_late h o rest goes e es is on)
+  reaches (inr e ∷ rest) h goes =
       let step = steps h e rest goes in
-      let later = tells rest step.after step.goes in (
-        later.0,
-        later.1,
-        later.2 ∙ ap (λ es. es ++ events_in rest) step.events_are ∙ append_assoc (events h) (e ∷ []) (events_in rest),
-      )
+      subst Reaches
+      (ap (λ es. es ++ events_in rest) step.events_are ∙ append_assoc (events h) (e ∷ []) (events_in rest))
+      (reaches rest step.after step.goes)
 
   -- from a new ledger on
-  pub told_from_empty : (told : List Told) → Rises 0 told → AllByRecursion CanTell told
-      → AllByRecursion (IsReady empty_history told) (accounts_in (events_in told))
-      → follows_on [] (events_in told) ≡ true → AreInTurn [] (events_in told)
-      → (g : History) × IsLegal g × (events g ≡ events_in told)
-  told_from_empty told rises can ready follow turn =
-      tells told empty_history (record {
+  pub made_from_empty : (plan : List Planned) → Rises 0 plan → AllByRecursion CanMake plan
+      → AllByRecursion (IsReady empty_history plan) (accounts_in (events_in plan))
+      → follows_on [] (events_in plan) ≡ true → HaveRoom 0 (events_in plan) → Reaches (events_in plan)
+  made_from_empty plan rises can ready follow room =
+      reaches plan empty_history (record {
         sound = IsSound-empty;
         shown = λ id. refl;
         is_open = refl;
         rises = rises;
-        told = can;
+        can = can;
         past = tt;
         ready = ready;
         follow = follow;
-        turn = turn;
+        room = room;
         mode = inl IsLegal-empty;
       })

@@ -2,27 +2,28 @@
 
 ghost use Rattle.cdc_audit_laws.specs.Laws.{AChangeShows, AcceptedEventsRise, BalancesAreSums, LedgersAreAccepted, NoOtherBalances};
 ghost use Rattle.cdc_audit_laws.specs.Laws.{PrefixesAreAccepted, WhatIsLeftOutMovedNothing};
-ghost use Rattle.cdc_audit_laws.specs.Soundness.{AcceptedEventsAreALedgers, EventsAloneAreALedgers, LedgersCanBeTold, LedgersComeInTurn};
+ghost use Rattle.cdc_audit_laws.specs.Soundness.{AcceptedEventsAreALedgers, AcceptedEventsStartAsALedgers, EventsAloneAreALedgers};
+ghost use Rattle.cdc_audit_laws.specs.Soundness.{LedgersEventsAreWhole};
 
 /// Does nothing. Every stream that a ledger's events make is accepted, whole and every prefix of it.
 pub fn ledgers_are_accepted()
     ensures { LedgersAreAccepted }
 {}
 
-/// Does nothing. The converse: events that are accepted are those of a legal history, if they can be told to a ledger.
-/// Each account that they show was opened by itself. It isn't linked, and no event and no other account has its
-/// timestamp. A batch has room for each chain, and transfers expire in their turn. If no event is linked or an expiry,
-/// chains and expiries ask for nothing.
+/// Does nothing. The converse: events that are accepted are those of a legal history, if a ledger can make them. Their
+/// numbers are within their widths, none of their accounts is linked, and a batch has room for each chain. If a chain or
+/// a pulse is cut off at the end, a legal history has the events before it. If no event is linked or an expiry, only the
+/// premises on numbers and accounts are left.
 pub fn accepted_events_are_a_ledgers()
     ensures all { AcceptedEventsAreALedgers }
+    ensures start { AcceptedEventsStartAsALedgers }
     ensures alone { EventsAloneAreALedgers }
 {}
 
-/// Does nothing. The events of a ledger come in turn. They can be told, if their numbers are within their widths and none
-/// of their accounts is linked.
-pub fn ledgers_can_be_told()
-    ensures turn { LedgersComeInTurn }
-    ensures told { LedgersCanBeTold }
+/// Does nothing. A ledger's events are whole: a batch has room for each chain, and no chain and no pulse is cut off. So
+/// these premises of the converse hold of every ledger.
+pub fn ledgers_events_are_whole()
+    ensures { LedgersEventsAreWhole }
 {}
 
 /// Does nothing. Each prefix of an accepted stream is accepted. So what the other laws promise of the last event of a

@@ -1,0 +1,122 @@
+-- Each account has the same fields wherever accepted events show it.
+use Rattle.std.proofs.Common.{◌≡◌, ℕ, Bool, true, false, not, List, [], ◌∷◌, ◌++◌, Option, Some, None, if◌then◌else◌, refl, sym, ap, ap₂, ◌∙◌, subst, append_assoc}
+use Rattle.std.specs.Prelude.{◌==◌, nat_eq}
+use Rattle.std.specs.List.{AllByRecursion}
+use Rattle.std.specs.Map.{lookup}
+use Rattle.std.specs.Option.{option_or}
+use Rattle.std.proofs.lemmas.Bool.{eq-eqb, eqb-true, ne_eqb, not-false}
+use Rattle.std.proofs.lemmas.Grind.{flat_map-append}
+use Rattle.std.proofs.lemmas.List.{append-nil}
+use Rattle.cdc_types.specs.declared.events.Event.{Event}
+use Rattle.cdc_types.specs.declared.events.EventAccount.{EventAccount}
+use Rattle.cdc_ledger.proofs.Elements.{AllByRecursion-weaker}
+use Rattle.cdc_audit.specs.declared.fields.FixedFields.{FixedFields}
+use Rattle.cdc_audit.specs.Audits.{follows_on}
+use Rattle.cdc_audit.specs.Fields.{accounts_of, fields_before, fields_lines, fixed_fields, same_lines}
+use Rattle.cdc_audit_laws.specs.Soundness.{accounts_in}
+use Rattle.cdc_audit_laws.proofs.Following.{CanFollow, FixedParts, NoneApplies, fixed_parts}
+use Rattle.cdc_audit_laws.proofs.Streams.{first_follows}
+
+-- fields of which none differs are the same
+seven_same : (a b c d e f g h i j k l m n : ℕ) → a ≡ h → b ≡ i → c ≡ j → d ≡ k → e ≡ l → f ≡ m → g ≡ n
+    → ◌≡◌ {A = FixedFields} (record {
+      user_data_128 = a;
+      user_data_64 = b;
+      user_data_32 = c;
+      ledger = d;
+      code = e;
+      flags = f;
+      timestamp = g;
+    }) (record {
+      user_data_128 = h;
+      user_data_64 = i;
+      user_data_32 = j;
+      ledger = k;
+      code = l;
+      flags = m;
+      timestamp = n;
+    })
+seven_same a b c d e f g h i j k l m n one two three four five six seven = cc
+
+none_differs : (id : ℕ) (one other : FixedFields) → NoneApplies (same_lines id one other) → one ≡ other
+none_differs id one other none =
+    seven_same _ _ _ _ _ _ _ _ _ _ _ _ _ _ (same one.user_data_128 other.user_data_128 none.0)
+    (same one.user_data_64 other.user_data_64 none.1.0) (same one.user_data_32 other.user_data_32 none.1.1.0)
+    (same one.ledger other.ledger none.1.1.1.0) (same one.code other.code none.1.1.1.1.0)
+    (same one.flags other.flags none.1.1.1.1.1.0) (same one.timestamp other.timestamp none.1.1.1.1.1.1.0)
+  where
+    same : (m n : ℕ) → not (m == n) ≡ false → m ≡ n
+    same m n line = eqb-true m n (not-false _ line)
+
+-- the events show these fields of the account first
+abbrev pub IsKnown : List Event → ℕ × FixedFields → Type 0
+IsKnown es a = fields_before es a.0 ≡ Some a.1
+
+-- an account is looked up in two parts
+lookup_parts : (id : ℕ) (first second : List (ℕ × FixedFields))
+    → lookup (nat_eq id) (first ++ second) ≡ option_or (lookup (nat_eq id) first) (lookup (nat_eq id) second)
+lookup_parts id [] second = refl
+lookup_parts id (a ∷ first) second = by (id == a.0) (lookup_parts id first second)
+  where
+    by : (b : Bool) → lookup (nat_eq id) (first ++ second)
+        ≡ option_or (lookup (nat_eq id) first) (lookup (nat_eq id) second)
+        → (if b then Some a.1 else lookup (nat_eq id) (first ++ second))
+        ≡ option_or (if b then Some a.1 else lookup (nat_eq id) first) (lookup (nat_eq id) second)
+    by true later = refl
+    by false later = later
+
+all_parts : (P : ℕ × FixedFields → Type 0) (first second : List (ℕ × FixedFields)) → AllByRecursion P first
+    → AllByRecursion P second → AllByRecursion P (first ++ second)
+all_parts P [] second all others = others
+all_parts P (a ∷ first) second all others = (all.0, all_parts P first second all.1 others)
+
+-- one more event
+module _ (past : List Event) (e : Event) (can : CanFollow past e) where
+  pub then_known : (id : ℕ)
+      → fields_before (past ++ e ∷ []) id ≡ option_or (fields_before past id) (lookup (nat_eq id) (accounts_of e))
+  then_known id =
+      ap (lookup (nat_eq id)) (flat_map-append accounts_of past (e ∷ []))
+      ∙ lookup_parts id (accounts_in past) (accounts_of e)
+
+  -- an account that was known stays so
+  still_known : (a : ℕ × FixedFields) → IsKnown past a → IsKnown (past ++ e ∷ []) a
+  still_known a known = then_known a.0 ∙ ap (λ o. option_or o (lookup (nat_eq a.0) (accounts_of e))) known
+
+  -- an account of the event has the fields that it had before, if it had any
+  now_known : (a : EventAccount) → NoneApplies (fields_lines (fields_before past a.id) e.ledger a)
+      → lookup (nat_eq a.id) (accounts_of e) ≡ Some (fixed_fields e.ledger a)
+      → IsKnown (past ++ e ∷ []) (a.id, fixed_fields e.ledger a)
+  now_known a none found = then_known a.id ∙ by (fields_before past a.id) none
+    where
+      by : (o : Option FixedFields) → NoneApplies (fields_lines o e.ledger a)
+          → option_or o (lookup (nat_eq a.id) (accounts_of e)) ≡ Some (fixed_fields e.ledger a)
+      by None none = found
+      by (Some x) none = ap Some (sym (none_differs a.id (fixed_fields e.ledger a) x none))
+
+  known_then : AllByRecursion (IsKnown past) (accounts_in past)
+      → AllByRecursion (IsKnown (past ++ e ∷ [])) (accounts_in (past ++ e ∷ []))
+  known_then known =
+      let d = e.debit_account in
+      let c = e.credit_account in
+      let d_fields = fixed_fields e.ledger d in
+      let c_fields = fixed_fields e.ledger c in
+      let lines : FixedParts past e = fixed_parts past e can.fixed in
+      let d_found : lookup (nat_eq d.id) (accounts_of e) ≡ Some d_fields =
+      ap (λ b. if b then Some d_fields else if d.id == c.id then Some c_fields else None) (eq-eqb d.id d.id refl) in
+      let c_found : lookup (nat_eq c.id) (accounts_of e) ≡ Some c_fields =
+      ap₂ (λ a b. if a then Some d_fields else if b then Some c_fields else None)
+      (ne_eqb c.id d.id (λ same. can.apart (sym same))) (eq-eqb c.id c.id refl) in
+      subst (AllByRecursion (IsKnown (past ++ e ∷ []))) (sym (flat_map-append accounts_of past (e ∷ [])))
+      (all_parts (IsKnown (past ++ e ∷ [])) (accounts_in past) (accounts_of e)
+      (AllByRecursion-weaker (IsKnown past) (IsKnown (past ++ e ∷ [])) still_known (accounts_in past) known)
+      (now_known d lines.debit d_found, (now_known c lines.credit c_found, tt)))
+
+pub all_known : (past rest : List Event) → follows_on past rest ≡ true
+    → AllByRecursion (IsKnown past) (accounts_in past)
+    → AllByRecursion (IsKnown (past ++ rest)) (accounts_in (past ++ rest))
+all_known past [] follow known =
+    subst (λ es. AllByRecursion (IsKnown es) (accounts_in es)) (sym (append-nil past)) known
+all_known past (e ∷ rest) follow known =
+    let first = first_follows past e rest follow in
+    subst (λ es. AllByRecursion (IsKnown es) (accounts_in es)) (append_assoc past (e ∷ []) rest)
+    (all_known (past ++ e ∷ []) rest first.1 (known_then past e first.0 known))
