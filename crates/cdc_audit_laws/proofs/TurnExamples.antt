@@ -1,6 +1,7 @@
--- The converse law at work in a stream with a chain and a pulse.
-use Rattle.std.specs.Prelude.{◌≡◌, true, List, [], ◌∷◌}
-use Rattle.std.proofs.Common.{refl, arith}
+-- The converse law at work in a stream with a chain and a pulse, and in one whose chain is cut off.
+use Rattle.std.specs.Prelude.{◌≡◌, true, List, [], ◌∷◌, ◌++◌}
+use Rattle.std.proofs.Common.{refl, subst, arith}
+use Rattle.std.proofs.lemmas.Bool.{true≢false}
 use Rattle.cdc_types.specs.declared.events.Event.{Event}
 use Rattle.cdc_types.specs.declared.events.EventKind.TheVariants.{SinglePhase, TwoPhasePending, TwoPhaseExpired}
 use Rattle.cdc_ledger.specs.Events.{events as events_of}
@@ -9,9 +10,10 @@ use Rattle.cdc_ledger.specs.Submit.{IsLegal}
 use Rattle.cdc_message.specs.Widths.{EventFits}
 use Rattle.cdc_audit.specs.Audits.{follows_on, is_accepted}
 use Rattle.cdc_audit.specs.Rules.{refusal}
-use Rattle.cdc_audit_laws.specs.Soundness.{AreWhole, CanBeMade}
-use Rattle.cdc_audit_laws.proofs.Soundness.{accepted_events_are_a_ledgers}
+use Rattle.cdc_audit_laws.specs.Soundness.{AreCutOff, AreWhole, CanBeMade}
+use Rattle.cdc_audit_laws.proofs.Soundness.{accepted_events_are_a_ledgers, accepted_events_start_as_a_ledgers}
 use Rattle.cdc_audit_laws.proofs.SoundExamples.{account, account_fits, event, event_fits}
+use Rattle.cdc_audit_laws.proofs.Whole.{ledgers_events_are_whole}
 
 -- account 1 holds 5 for account 2 at 4, for 2 seconds. It pays 1 and 2 in a chain, at 6 and 7. It holds 7 at
 -- 1000000004, for 1 second. Both expire by a pulse, at 2000000010 and 2000000011. Then it pays 1
@@ -115,3 +117,29 @@ long_can_be_made = record {
 -- so the stream is a ledger's
 long_is_a_ledgers : (h : History) × IsLegal h × (events_of h ≡ long_stream)
 long_is_a_ledgers = accepted_events_are_a_ledgers long_stream long_can_be_made long_whole long_accepted
+
+-- ---- accepted, and no ledger's: its chain is cut off
+
+abbrev cut_stream : List Event
+cut_stream = held_long ∷ linked_one ∷ []
+
+cut_accepted : is_accepted cut_stream ≡ true
+unfolding follows_on refusal
+cut_accepted = refl
+
+cut_no_ledgers : (h : History) → IsLegal h → events_of h ≡ cut_stream → ⊥
+cut_no_ledgers h legal same =
+    let whole : AreWhole cut_stream = subst AreWhole same (ledgers_events_are_whole h legal).1 in
+    true≢false whole.chain
+
+-- but a ledger has all of it but a last part
+cut_can_be_made : CanBeMade cut_stream
+cut_can_be_made = record {
+  fit = (held_long_fits, (linked_one_fits, tt));
+  unlinked = (refl, (refl, (refl, (refl, tt))));
+  room = (omega arith, (omega arith, tt));
+}
+
+cut_starts_as_a_ledgers :
+    (h : History) × (part : List Event) × IsLegal h × (events_of h ++ part ≡ cut_stream) × AreCutOff part
+cut_starts_as_a_ledgers = accepted_events_start_as_a_ledgers cut_stream cut_can_be_made cut_accepted
