@@ -120,7 +120,7 @@ class Case:
         self.await_state(str(fault), is_so)
 
     def await_state(self, what, is_so):
-        """Waits until it is so. If that takes too long, how far the bridge and each consumer are, and what they reported, is told too."""
+        """Waits until it is so. If that takes too long, how far the bridge and each consumer are, and what they reported, is reported too."""
         try:
             wait_for(what, is_so)
         except Failed as why:
