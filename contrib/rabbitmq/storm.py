@@ -84,7 +84,7 @@ class Case:
                 self.await_turn(fault)
                 self.hits[f'{fault.how} {fault.victim}'] += self.is_hit(fault)
                 getattr(self, f'{fault.how}_{"node" if fault.victim in NODES else fault.victim}')(fault)
-            wait_for('the bridge has sent everything', self.bridge_is_done)
+            self.await_state('the bridge has sent everything', self.bridge_is_done)
             for place in self.stream.places:
                 self.compare(place)
         finally:
@@ -117,7 +117,16 @@ class Case:
                 return self.stream.applied(1) >= fault.after
             return self.bridge_is_done() or self.stream.confirmed() >= fault.after
 
-        wait_for(str(fault), is_so)
+        self.await_state(str(fault), is_so)
+
+    def await_state(self, what, is_so):
+        """Waits until it is so. If that takes too long, how far the bridge and each consumer are, and what they reported, is reported too."""
+        try:
+            wait_for(what, is_so)
+        except Failed as why:
+            bridge = f'bridge at {self.stream.confirmed()} of {self.events}: {self.bridge.failures()}'
+            consumers = (f'consumer {place} at {self.stream.applied(place)}: {it.failures()}' for place, it in self.consumers.items())
+            raise Failed('\n'.join([str(why), bridge, *consumers])) from None
 
     def is_hit(self, fault):
         """Whether a fault comes before its victim, or those that a node serves, have ended."""

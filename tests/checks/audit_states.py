@@ -11,18 +11,15 @@ import fcntl
 import json
 import os
 import re
-import shutil
 import sys
 
 sys.path.append(os.path.join(os.path.dirname(os.path.realpath(__file__)), "..", "faults"))
 import audit
-import needs
-import sweep
+import interrupted
 from audit import END, EXPIRY, HELD, PAID, POST, SECOND, THREE, TIMED, UP, account, event, expiry, text_of, with_transfer
 from commands import check, run
 
 JOBS = 2  # runs at a time
-SAVED = re.compile(r"(?m)^saved (\d+)\n")
 STORE = (1, "fault: store\n")
 
 
@@ -80,7 +77,7 @@ def by_hand(folder):
         found = run([*arguments, "--state", state], text_of(stream))
         check(f"a state's text: {name}", found[0] == 0 and read(state) == text.encode(), (found, read(state)))
         last = re.search(r" last (\d+)", text).group(1)
-        check(f"a state's last save: {name}", SAVED.findall(found[1])[-1:] == [last], found)
+        check(f"a state's last save: {name}", interrupted.SAVED.findall(found[1])[-1:] == [last], found)
         found = run([*arguments, "--state", state, "--book"], b"")
         kept = "".join(it for it in text.splitlines(True) if it.startswith(("subscriber", "account ")))
         check(f"a state that is read: {name}", found[0] == 0 and found[1].endswith(kept), found)
@@ -94,7 +91,7 @@ def by_hand(folder):
 
 
 def without_saves(printed):
-    return SAVED.sub("", printed)
+    return interrupted.SAVED.sub("", printed)
 
 
 def cut(row):
@@ -179,58 +176,32 @@ def refused(folder):
         check(f"usage: {arguments}", found[0] == 2 and not found[1] and found[2].startswith("error: "), found)
 
 
-class Killed:
-    """A stream with a state that ends at one call of the C library, and is started again."""
+class InterruptedAudit(interrupted.Interrupted):
+    """An audit that saves its state after each event."""
 
     def __init__(self, library, folder):
-        self.library, self.folder = library, folder
-        self.stream = [PAID, TIMED, THREE, expiry(30 + SECOND, TIMED, 5), expiry(30 + 2 * SECOND, THREE, 0)]
+        self.events = [PAID, TIMED, THREE, expiry(30 + SECOND, TIMED, 5), expiry(30 + 2 * SECOND, THREE, 0)]
+        self.stream = text_of(self.events)
         whole = os.path.join(folder, "whole")
-        self.whole = run(["--book", "--state", whole], text_of(self.stream))
+        self.whole = run(["--book", "--state", whole], self.stream)
         self.state = read(whole)
-        calls = os.path.join(folder, "calls")
-        self.run("counted", CALLS=calls)
-        with open(calls, encoding="ascii") as file:
-            self.calls = {kind: int(count) for kind, count in (line.split() for line in file)}
+        super().__init__(library, folder)
 
-    def run(self, name, **plan):
-        """Runs the stream over a state of this name."""
-        env = dict(os.environ, LD_PRELOAD=self.library, **plan)
-        return run(["--state", os.path.join(self.folder, name), "--every", "1"], text_of(self.stream), env)
+    def arguments(self, name):
+        return ["--state", self.path(name), "--every", "1"]
 
-    def plans(self, word):
-        return [f"{kind}:{n}{word}" for kind in ("open", "read", "write", "sync", "rename") for n in range(1, self.calls[kind] + 1)]
-
-    def complaint(self, number, plan):
-        """Returns what is wrong after the program was ended by a plan, or a call was refused."""
-        name = f"{number}.state"
-        ended = self.run(name, FAULT=plan)
-        saved = [int(it) for it in SAVED.findall(ended[1])]
-        path = os.path.join(self.folder, name)
+    def wrong_of(self, name, saved):
+        """The state has every event that was reported as saved; with those after its last one it comes to the whole."""
+        path = self.path(name)
         text = read(path) if os.path.exists(path) else b" last 0 "
         last = int(re.search(rb" last (\d+) ", text).group(1))
-        if saved != sorted(saved) or last < max(saved, default=0):
-            return f"{plan}: {ended!r}"
-        left = [it for it in self.stream if int(it["timestamp"]) > last]
-        again = run(["--book", "--state", path], text_of(left))
-        if again[0] or without_saves(again[1]) != without_saves(self.whole[1]) or read(path) != self.state:
-            return f"{plan}: {ended!r}, then {again!r}"
-        if "end" not in plan and (ended[0] not in (0, 1) or ended[0] == 1 and "write" not in plan and not ended[1].splitlines()[-1:][0].startswith("fault: ")):
-            return f"{plan}: {ended!r}"
-        return None
+        again = run(["--book", "--state", path], text_of([it for it in self.events if int(it["timestamp"]) > last]))
+        is_whole = again[0] == 0 and without_saves(again[1]) == without_saves(self.whole[1]) and read(path) == self.state
+        return None if last >= max(saved, default=0) and is_whole else (last, again)
 
 
 def killed(folder):
-    """The program is ended at each call, done and not done; and each call is refused."""
-    if not shutil.which("cc"):
-        print(f"audit: not tried: states that are killed and refused: {needs.no_command('cc')}")
-        return
-    it = Killed(sweep.built_library(folder), folder)
-    plans = [*it.plans(" end"), *it.plans(" after end"), *it.plans(""), *it.plans(" after"), "short"]
-    plans += [f"allocation:{n}" for n in range(1, it.calls["allocation"] + 1)]
-    with concurrent.futures.ThreadPoolExecutor(JOBS) as pool:
-        for wrong in pool.map(it.complaint, range(len(plans)), plans):
-            check("killed or refused", wrong is None, wrong)
+    interrupted.check_all(InterruptedAudit, folder)
 
 
 def states(folder):

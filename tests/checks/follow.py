@@ -16,9 +16,6 @@ import concurrent.futures
 import json
 import os
 import random
-import re
-import resource
-import shutil
 import subprocess
 import sys
 
@@ -26,8 +23,7 @@ sys.dont_write_bytecode = True
 sys.path += [os.path.join(os.path.dirname(os.path.realpath(__file__)), "..", it) for it in ("common", "faults")]
 import commands
 import ending
-import needs
-import sweep
+import interrupted
 from commands import check, run
 
 JOBS = 2  # runs at a time
@@ -404,8 +400,6 @@ def random_streams(count):
 # ---------------------------------------------------------------------------------------------------------------------
 # Books.
 
-SAVED = re.compile(r"(?m)^saved (\d+)\n")
-
 
 def stream_of(count):
     return queue_of(random.Random(7), count, 1)
@@ -418,7 +412,7 @@ def books(folder):
     whole = run(["--chained"], text(lines))[1]
     book = os.path.join(folder, "a.book")
     found = run(["--chained", "--book", book, "--every", "7"], text(lines[:12]))
-    check("a book's saves", found[0] == 0 and SAVED.findall(found[1]), found)
+    check("a book's saves", found[0] == 0 and interrupted.SAVED.findall(found[1]), found)
     found = run(["--chained", "--book", book], text(lines))
     check("a book goes on", found[0] == 0 and found[1].endswith(whole), found)
     check("nothing is left beside a book", sorted(os.listdir(folder)) == ["a.book"], os.listdir(folder))
@@ -474,58 +468,28 @@ def books(folder):
     os.remove(book)
 
 
-class Killed:
-    """A stream with a book that ends at one call of the C library, and is started again."""
+class InterruptedFollow(interrupted.Interrupted):
+    """A stream whose book is saved after every three events."""
 
     def __init__(self, library, folder):
-        self.library, self.folder = library, folder
         self.lines = stream_of(12)
-        self.text = "".join(f"{it}\n" for it in self.lines).encode()
-        self.whole = run(["--chained"], self.text)[1]
-        calls = os.path.join(folder, "calls")
-        self.run("counted", CALLS=calls)
-        with open(calls, encoding="ascii") as file:
-            self.calls = {kind: int(count) for kind, count in (line.split() for line in file)}
+        self.stream = "".join(f"{it}\n" for it in self.lines).encode()
+        self.whole = run(["--chained"], self.stream)[1]
+        super().__init__(library, folder)
 
-    def run(self, name, **plan):
-        """Runs the stream over a book of this name."""
-        book = os.path.join(self.folder, name)
-        env = dict(os.environ, LD_PRELOAD=self.library, **plan)
-        return run(["--chained", "--book", book, "--every", "3"], self.text, env)
+    def arguments(self, name):
+        return ["--chained", "--book", self.path(name), "--every", "3"]
 
-    def plans(self, word):
-        return [f"{kind}:{n}{word}" for kind in ("open", "read", "write", "sync", "rename") for n in range(1, self.calls[kind] + 1)]
-
-    def complaint(self, number, plan):
-        """Returns what is wrong after the program was ended by a plan, or a call was refused."""
-        name = f"{number}.book"
-        ended = self.run(name, FAULT=plan)
-        saved = [int(it) for it in SAVED.findall(ended[1])]
-        if saved != sorted(saved):
-            return f"{plan}: {ended!r}"
-        # Whoever hands on the stream begins after what was reported as saved.
+    def wrong_of(self, name, saved):
+        """Whoever hands on the stream begins after what was reported as saved; the book is then that of the whole."""
         last = saved[-1] if saved else 0
         left = [it for it in self.lines if "end" in json.loads(it) or int(json.loads(it)["body"]["timestamp"]) > last]
-        again = run(["--chained", "--book", os.path.join(self.folder, name)], "".join(f"{it}\n" for it in left).encode())
-        if again[0] or not again[1].endswith(self.whole):
-            return f"{plan}: {ended!r}, then {again!r}"
-        if "end" not in plan and (ended[0] not in (0, 1) or ended[0] == 1 and "write" not in plan and not ended[1].splitlines()[-1:][0].startswith("fault: ")):
-            return f"{plan}: {ended!r}"
-        return None
+        again = run(["--chained", "--book", self.path(name)], "".join(f"{it}\n" for it in left).encode())
+        return None if again[0] == 0 and again[1].endswith(self.whole) else again
 
 
 def killed(folder):
-    """The program is ended at each call, done and not done; and each call is refused."""
-    if not shutil.which("cc"):
-        print(f"follow: not tried: books that are killed and refused: {needs.no_command('cc')}")
-        return
-    library = sweep.built_library(folder)
-    it = Killed(library, folder)
-    plans = [*it.plans(" end"), *it.plans(" after end"), *it.plans(""), *it.plans(" after"), "short"]
-    plans += [f"allocation:{n}" for n in range(1, it.calls["allocation"] + 1)]
-    with concurrent.futures.ThreadPoolExecutor(JOBS) as pool:
-        for wrong in pool.map(it.complaint, range(len(plans)), plans):
-            check("killed or refused", wrong is None, wrong)
+    interrupted.check_all(InterruptedFollow, folder)
 
 
 def memory(folder):

@@ -10,7 +10,8 @@ import subprocess
 import threading
 
 SECONDS = 300  # that a run may take: a last guard against one that hangs
-NAMES = ["items", "batch", "results", "delivery", "packet", "binding", "body"]
+NAMES = ["items", "batch", "results", "delivery", "packet", "binding", "body", "foreign", "message", "parsed", "script",
+         "accounts", "transfers", "pulse", "publish", "next", "taken"]
 # The statuses: the value wasn't made, the arguments name no call, and something couldn't be printed.
 NOT_MADE, BAD_ARGUMENTS, NOT_PRINTED = 2, 8, 9
 MADE = b"made\n"

@@ -138,10 +138,11 @@ cut_no_ledgers h legal same =
     let whole : AreWhole cut_stream = subst AreWhole same (ledgers_events_are_whole h legal).1 in
     true≢false whole.chain
 
--- but a ledger has all of it but a last part
+-- none of its accounts is linked
 cut_unlinked : AllByRecursion IsUnlinked (accounts_in cut_stream)
 cut_unlinked = (refl, (refl, (refl, (refl, tt))))
 
+-- so a ledger has all of it but a last part
 cut_can_be_made : CanBeMade cut_stream
 cut_can_be_made = record {
   fit = (held_long_fits, (linked_one_fits, tt));

@@ -1,19 +1,25 @@
 //! Makes one call that may run out of memory on a fixed value, and makes it again if it was refused. This program is
 //! only for tests, which refuse allocations beneath it (tests/faults/sweep.py).
 //!
-//!   cdc_calls NAME    NAME: items, batch, results, delivery, packet, binding or body
+//!   cdc_calls NAME    NAME: items, batch, results, delivery, packet, binding or body, which are copied or taken;
+//!                     message, parsed, script; accounts, transfers, pulse (submitted to a ledger); publish, next (of
+//!                     a broker); taken, foreign (deliveries and bodies that a subscriber takes)
 //!
 //! Before the call it prints `made` on standard error. Then it prints what the last call gave, and how many were
 //! refused. The exit status is 0 if all this was done, 2 if the value wasn't made or the arguments weren't read, 4 if
 //! the last call was refused too, 8 for other arguments, and 9 if a write failed.
 #![tactic(auto)]
 
+mod moves;
 mod tries;
 mod values;
 
+use cdc_broker::Taken;
+use cdc_ledger::Ledger;
 use cdc_message::{Delivery, Item, Packet};
 use cdc_subscriber::Subscriber;
 use cdc_types::{Batch, BatchResults};
+use moves::{delivered, message_of, parsed_binding, parsed_script, published, submitted, taken};
 use std::alloc::AllocError;
 use std::process::ExitCode;
 use std::{env, io};
@@ -146,8 +152,8 @@ fn try_binding(rt: &HostRuntime) -> Result<(), CallsFault> {
     Ok(())
 }
 
-fn try_body(rt: &HostRuntime) -> Result<(), CallsFault> {
-    let body = made(rt, values::body(rt.alloc()))?;
+fn try_body(rt: &HostRuntime, body: Option<String>) -> Result<(), CallsFault> {
+    let body = made(rt, body)?;
     let mut subscriber = Subscriber::new(rt.alloc());
     let taken = taken_body(rt.alloc(), &mut subscriber, body.as_bytes());
     println!(rt; "refused {}", taken.refused)?;
@@ -155,6 +161,86 @@ fn try_body(rt: &HostRuntime) -> Result<(), CallsFault> {
         return Err(CallsFault::Refused);
     }
     println!(rt; "kept {}", taken.kept)?;
+    subscriber.print(&mut io::writer(rt), 1)?;
+    Ok(())
+}
+
+fn try_message(rt: &HostRuntime) -> Result<(), CallsFault> {
+    made(rt, Some(()))?;
+    let message = report(rt, message_of(rt.alloc(), &values::FIRST))?;
+    println!(rt; "{}", message.body())?;
+    Ok(())
+}
+
+fn try_parsed(rt: &HostRuntime) -> Result<(), CallsFault> {
+    made(rt, Some(()))?;
+    let binding = report(rt, parsed_binding(rt.alloc(), &values::BINDING))?;
+    println!(rt; "pairs {}", binding.pairs().len())?;
+    Ok(())
+}
+
+fn try_script(rt: &HostRuntime) -> Result<(), CallsFault> {
+    made(rt, Some(()))?;
+    let script = report(rt, parsed_script(rt.alloc(), values::SCRIPT.as_bytes()))?;
+    let (bindings, batches) = (
+        script.bindings.as_slice().len(),
+        script.batches.as_slice().len(),
+    );
+    println!(rt; "bindings {bindings} batches {batches}")?;
+    Ok(())
+}
+
+// Submits a batch, and prints what the ledger has then.
+fn try_submit(
+    rt: &HostRuntime,
+    ledger: Option<Ledger>,
+    batch: Option<Batch>,
+) -> Result<(), CallsFault> {
+    let (Some(mut ledger), Some(batch)) = (ledger, batch) else {
+        return Err(CallsFault::NotMade);
+    };
+    made(rt, Some(()))?;
+    let _results = report(rt, submitted(rt.alloc(), &mut ledger, &batch))?;
+    let (accounts, entries) = (ledger.accounts().len(), ledger.entries().len());
+    println!(rt;
+        "accounts {accounts} entries {entries} last {}",
+        ledger.last()
+    )?;
+    Ok(())
+}
+
+fn try_publish(rt: &HostRuntime) -> Result<(), CallsFault> {
+    let broker = values::broker(rt.alloc());
+    let first = values::item(rt.alloc());
+    let second = values::item(rt.alloc());
+    let (Some(mut broker), Some(first), Some(second)) = (broker, first, second) else {
+        return Err(CallsFault::NotMade);
+    };
+    made(rt, Some(()))?;
+    let taken = report(rt, published(rt.alloc(), &mut broker, first, second))?;
+    let accepted = taken == Taken::Accepted;
+    println!(rt; "accepted {accepted} length {}", values::length_of(&broker))?;
+    Ok(())
+}
+
+fn try_next(rt: &HostRuntime) -> Result<(), CallsFault> {
+    let mut broker = made(rt, values::full_broker(rt.alloc()))?;
+    if broker.queue_count() == 0 {
+        return Err(CallsFault::NotMade);
+    }
+    if let Some(delivery) = report(rt, delivered(rt.alloc(), &mut broker))? {
+        println!(rt; "position {}", delivery.position)?;
+        show_item(rt, &delivery.item)?;
+    }
+    Ok(())
+}
+
+// A subscriber takes a delivery; what it has applied is printed.
+fn try_taken(rt: &HostRuntime) -> Result<(), CallsFault> {
+    let item = made(rt, values::item(rt.alloc()))?;
+    let delivery = Delivery { position: 1, item };
+    let mut subscriber = Subscriber::new(rt.alloc());
+    let _taking = report(rt, taken(rt.alloc(), &mut subscriber, &delivery))?;
     subscriber.print(&mut io::writer(rt), 1)?;
     Ok(())
 }
@@ -174,7 +260,25 @@ fn run(rt: &HostRuntime) -> Result<(), CallsFault> {
         "delivery" => try_delivery(rt),
         "packet" => try_packet(rt),
         "binding" => try_binding(rt),
-        "body" => try_body(rt),
+        "body" => try_body(rt, values::body(rt.alloc())),
+        "foreign" => try_body(rt, values::foreign_body(rt.alloc())),
+        "message" => try_message(rt),
+        "parsed" => try_parsed(rt),
+        "script" => try_script(rt),
+        "accounts" => try_submit(
+            rt,
+            values::new_ledger(rt.alloc()),
+            values::batch(rt.alloc()),
+        ),
+        "transfers" => try_submit(
+            rt,
+            values::ledger(rt.alloc()),
+            values::transfers(rt.alloc()),
+        ),
+        "pulse" => try_submit(rt, values::pending_ledger(rt.alloc()), values::pulse()),
+        "publish" => try_publish(rt),
+        "next" => try_next(rt),
+        "taken" => try_taken(rt),
         _ => Err(CallsFault::BadWords),
     }
 }

@@ -127,7 +127,7 @@ pub fn taken_body(alloc: Global, subscriber: &mut Subscriber, body: &[u8]) -> Ta
 }
 
 // What the first call gave.
-fn first<T>(value: T) -> Tried<T>
+pub(crate) fn first<T>(value: T) -> Tried<T>
     ensures { result ≡ record { last = Ok value; refused = 0 } }
 {
     Tried {
@@ -137,7 +137,7 @@ fn first<T>(value: T) -> Tried<T>
 }
 
 // What the second call gave, after the first was refused.
-fn second<T>(last: Result<T, AllocError>) -> Tried<T>
+pub(crate) fn second<T>(last: Result<T, AllocError>) -> Tried<T>
     ensures last { result.last ≡ last }
     ensures again { OnErr last (result.refused ≡ 2) }
     ensures once { OnOk last (result.refused ≡ 1) }

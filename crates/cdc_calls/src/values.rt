@@ -1,10 +1,12 @@
 //! The fixed values that the calls are made on.
 
+use cdc_broker::{Broker, Taken};
+use cdc_ledger::Ledger;
 use cdc_match::Binding;
 use cdc_message::{Item, Message};
 use cdc_types::{
     Batch, BatchResults, Event, EventAccount, EventKind, EventTransfer, Items, NewAccount,
-    TransferResult,
+    NewTransfer, TransferFlags, TransferResult,
 };
 use std::alloc::Global;
 
@@ -23,7 +25,7 @@ const DEBITED: EventAccount = EventAccount {
 };
 
 /// A ledger's first event: at 2000, account 1 is debited by 100 and account 2 is credited.
-const FIRST: Event = Event {
+pub const FIRST: Event = Event {
     timestamp: 2000,
     kind: EventKind::SinglePhase,
     ledger: 700,
@@ -59,6 +61,26 @@ const ACCOUNT: NewAccount = NewAccount {
     flags: 0,
 };
 
+/// A transfer from account 1 to account 2 that is kept for a second.
+const PENDING: NewTransfer = NewTransfer {
+    id: 1,
+    debit_account_id: 1,
+    credit_account_id: 2,
+    amount: 100,
+    pending_id: 0,
+    user_data_128: 0,
+    user_data_64: 0,
+    user_data_32: 0,
+    timeout: 1,
+    ledger: 700,
+    code: 1,
+    flags: TransferFlags::PENDING,
+};
+
+pub const BINDING: [&str; 3] = ["any", "ledger=700", "transfer_code=1"];
+
+pub const SCRIPT: &str = "subscriber all\naccounts 1\naccount id=1 ledger=700 code=10\n";
+
 pub fn items(alloc: Global) -> Option<Items<u64>> {
     let numbers = vec![in alloc; 5, 6, 7].ok()?;
     Some(Items::from_vec(numbers))
@@ -91,5 +113,86 @@ pub fn body(alloc: Global) -> Option<String> {
 }
 
 pub fn binding(alloc: Global) -> Option<Binding> {
-    Binding::parse(alloc, &["any", "ledger=700", "transfer_code=1"]).ok()
+    Binding::parse(alloc, &BINDING).ok()
+}
+
+/// The body of the first event as others may write it: other members first, blanks, and an escape in a text.
+pub fn foreign_body(alloc: Global) -> Option<String> {
+    let message = Message::of(alloc, &FIRST).ok()?;
+    let own = message.body().strip_prefix("{")?;
+    let mut body = String::from_str(
+        alloc,
+        "{ \"note\" : [\"\\u00e9\", {\"deep\": [1, 2.5, null]}],\n ",
+    )
+    .ok()?;
+    body.push_str(own).ok()?;
+    Some(body)
+}
+
+pub fn new_ledger(alloc: Global) -> Option<Ledger> {
+    Some(Ledger::new(alloc))
+}
+
+/// A ledger with accounts 1 and 2.
+pub fn ledger(alloc: Global) -> Option<Ledger> {
+    let mut ledger = Ledger::new(alloc);
+    submit(alloc, &mut ledger, &batch(alloc)?)?;
+    Some(ledger)
+}
+
+/// One that also has four pending transfers, which expire a second later. It has no room for their expiries.
+pub fn pending_ledger(alloc: Global) -> Option<Ledger> {
+    let mut ledger = ledger(alloc)?;
+    submit(alloc, &mut ledger, &transfers(alloc)?)?;
+    Some(ledger)
+}
+
+fn submit(alloc: Global, ledger: &mut Ledger, batch: &Batch) -> Option<()> {
+    let _results = ledger.submit(alloc, batch).ok()?;
+    Some(())
+}
+
+pub fn transfers(alloc: Global) -> Option<Batch> {
+    let second = NewTransfer { id: 2, ..PENDING };
+    let third = NewTransfer { id: 3, ..PENDING };
+    let fourth = NewTransfer { id: 4, ..PENDING };
+    let items = vec![in alloc; PENDING, second, third, fourth].ok()?;
+    Some(Batch::Transfers {
+        now: 2000,
+        items: Items::from_vec(items),
+    })
+}
+
+/// An hour after the pending transfers.
+pub fn pulse() -> Option<Batch> {
+    Some(Batch::Pulse {
+        now: 3_600_000_000_000,
+    })
+}
+
+/// A broker with one queue, of all events, and a connection.
+pub fn broker(alloc: Global) -> Option<Broker> {
+    let mut bindings = Vec::new(alloc);
+    bindings.push(Binding::parse(alloc, &["all"]).ok()?).ok()?;
+    let mut broker = Broker::new(alloc, bindings).ok()?;
+    broker.connect(1);
+    Some(broker)
+}
+
+/// One that has accepted the first event.
+pub fn full_broker(alloc: Global) -> Option<Broker> {
+    let mut broker = broker(alloc)?;
+    let item = item(alloc)?;
+    match broker.publish(alloc, 1, 1, item) {
+        Ok(Taken::Accepted) => Some(broker),
+        _ => None,
+    }
+}
+
+/// How many items the first queue has.
+pub fn length_of(broker: &Broker) -> u64 {
+    if broker.queue_count() == 0 {
+        return 0;
+    }
+    broker.queue_len(1)
 }

@@ -61,7 +61,9 @@ prefix_mapped f some all front = record {
 prefix_trans : {X : Type 0} (xs ys zs : List X) → IsPrefix xs ys → IsPrefix ys zs → IsPrefix xs zs
 prefix_trans {X} xs ys zs first second = record {
   rest = first.rest ++ second.rest;
-  whole = sym (append_assoc xs first.rest second.rest) ∙ ap (λ (l : List X). l ++ second.rest) first.whole ∙ second.whole;
+  whole = sym (append_assoc xs first.rest second.rest)
+      ∙ ap (λ (l : List X). l ++ second.rest) first.whole
+      ∙ second.whole;
 }
 
 -- what is in a prefix is in the list
@@ -253,7 +255,8 @@ module _ (on : StandsOn) (d : LedgerCore) (c : ConnectorCore) (b : BrokerCore) (
         let some = (on.reception s.close_after said.taken).some in
         let replays : IsReplay said.taken (deliveries q.items) =
         subst (λ (l : List Delivery). IsReplay l (deliveries q.items)) (prefix_taken said.taken out mine)
-        (IsReplay-take (length said.taken) out (deliveries q.items) (broker_so_far.served place consumer found).replay) in
+        (IsReplay-take (length said.taken) out (deliveries q.items)
+        (broker_so_far.served place consumer found).replay) in
         subst (λ (l : List Item). IsReplay l (queue (items_of (taken_of arrived)) q.binding)) (sym some.1)
         (subst (IsReplay (items_in (take some.0 said.taken))) accepted
         (on.receives q.items said.taken some.0 replays))

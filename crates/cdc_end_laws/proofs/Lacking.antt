@@ -119,9 +119,11 @@ connectors_keep_to_runs law c (inr (old, fault, (was, failed))) = law.runs c fai
 -- the replies for one batch are one at most
 one_reply : (client : ℕ) (before : List (ℕ × Batch)) (p : ℕ × Batch) → length (named_replies_of client before p) ≤ 1
 one_reply client before p =
+    let Few : Bool → Type 0 = λ b.
+    length {A = Reply × Past} (cond b ((reply_after client before p.1, past_of before) ∷ []) []) ≤ 1 in
     elim (cases_Bool (p.0 == client)) [
-      | inl own ↦ subst (λ (b : Bool). length {A = Reply × Past} (cond b ((reply_after client before p.1, past_of before) ∷ []) []) ≤ 1) (sym own) (omega arith)
-      | inr other ↦ subst (λ (b : Bool). length {A = Reply × Past} (cond b ((reply_after client before p.1, past_of before) ∷ []) []) ≤ 1) (sym other) (omega arith)
+      | inl own ↦ subst Few (sym own) (omega arith)
+      | inr other ↦ subst Few (sym other) (omega arith)
     ]
 
 -- so what is owed to a client for a batch more is one reply more at most

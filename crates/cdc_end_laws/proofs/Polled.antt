@@ -42,7 +42,8 @@ replied_more connector past replies =
     ∙ ap (λ (polls : List Poll). polls_replied connector.sent ++ polls) (replied_with past replies)
 
 -- a poll that is asked is replied to or kept
-asked_is : (h : History) (kept : Option Poll) → polls_of (replied_of h kept) ++ kept_polls (kept_of h kept) ≡ kept_polls kept
+asked_is : (h : History) (kept : Option Poll)
+    → polls_of (replied_of h kept) ++ kept_polls (kept_of h kept) ≡ kept_polls kept
 asked_is h None = refl
 asked_is h (Some poll) =
     let Same : Bool → Type 0 = λ b.
@@ -77,7 +78,8 @@ brought sender (to_ledger.Poll poll) = refl
 brought sender to_ledger.Finish = refl
 
 received_more : (received : List (ℕ × (ToLedger × Unit {0}))) (sender : ℕ) (message : ToLedger)
-    → polls_received (received ++ (sender, (message, tt)) ∷ []) ≡ polls_received received ++ kept_polls (poll_in message)
+    → polls_received (received ++ (sender, (message, tt)) ∷ [])
+    ≡ polls_received received ++ kept_polls (poll_in message)
 received_more received sender message =
     filter_map-append (λ e. poll_in e.1.0) received ((sender, (message, tt)) ∷ [])
     ∙ ap (λ (polls : List Poll). polls_received received ++ polls) (brought sender message)
@@ -91,7 +93,8 @@ joined : (before first second kept both was more all : List Poll) → second ++ 
     → before ++ was ≡ all → (before ++ (first ++ second)) ++ kept ≡ all ++ more
 joined before first second kept both was more all then now is =
     append_assoc before (first ++ second) kept
-    ∙ ap (λ (l : List Poll). before ++ l) (append_assoc first second kept ∙ ap (λ (l : List Poll). first ++ l) then ∙ now)
+    ∙ ap (λ (l : List Poll). before ++ l)
+    (append_assoc first second kept ∙ ap (λ (l : List Poll). first ++ l) then ∙ now)
     ∙ sym (append_assoc before was more)
     ∙ ap (λ (l : List Poll). l ++ more) is
 

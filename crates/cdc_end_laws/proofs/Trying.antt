@@ -27,7 +27,8 @@ enough_tries risks tries w step answer w' past cannot =
 stops_at : (risks : Risks) (tries : ℕ) (w : WorldState) (steps left : List Step) (done : ℕ) (before w' : WorldState)
     (why : StepError) → drop done steps ≡ left → IsTrue (is_passing (Err why))
     → StopsAt (NextPast risks tries) before left (Some why) w'
-    → (step : Step) × (rest : List Step) × ((drop done steps ≡ step ∷ rest) × FailsTimes risks (suc tries) before step w')
+    → (step : Step) × (rest : List Step)
+    × ((drop done steps ≡ step ∷ rest) × FailsTimes risks (suc tries) before step w')
 stops_at risks tries w steps [] done before w' why is passing stops = absurd stops
 stops_at risks tries w steps (step ∷ rest) done before w' why is passing stops =
     (step, rest, (is, steps_failed risks tries before step (Err why) w' stops passing))

@@ -17,8 +17,8 @@ use Rattle.cdc_actors.specs.Subscriber.SoFar as subscriber
 use Rattle.cdc_actors.specs.declared.broker.consumers.Consumer.{Consumer}
 use Rattle.cdc_end_laws.specs.Said.{AtAnyTime}
 
--- a ledger's actor, a connector and a broker at any time, whichever of them have failed; over each link the first of the
--- messages that were sent were received. The connector's store is honest, and the run began at its start
+-- a ledger's actor, a connector and a broker at any time, whichever of them have failed. Over each link a prefix of
+-- what was sent was received. The connector's store is honest, and the run began at its start
 pub record AreCutOff (d : LedgerCore) (c : ConnectorCore) (b : BrokerCore) : Type 0 where
   pub ledger : AtAnyTime IsLedgerActor ledger.HasFailed d
   pub connector : AtAnyTime IsConnectorActor connector.HasFailed c

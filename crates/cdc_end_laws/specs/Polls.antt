@@ -42,7 +42,8 @@ pub record HasWorked (d : LedgerCore) : Type 0 where
 
 -- it has replied to each poll that it has received, in their order, but for the last one perhaps
 abbrev pub PollsLackOne : Type 0
-PollsLackOne = (d : LedgerCore) → HasWorked d → Lacks 1 (polls_replied d.connector.sent) (polls_received d.inbox.received)
+PollsLackOne = (d : LedgerCore) → HasWorked d
+    → Lacks 1 (polls_replied d.connector.sent) (polls_received d.inbox.received)
 
 -- and to each one once it has finished
 abbrev pub FinishedLedgersReplyToAll : Type 0

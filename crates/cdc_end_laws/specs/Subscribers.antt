@@ -68,8 +68,8 @@ AllClosesDecide = (h : History) (start : ℕ) (bindings : List Arguments) (close
 abbrev pub TakesAll : History → Arguments → Type 0
 TakesAll h binding = All (λ e. takes_event binding e ≡ true) (events h)
 
--- a subscriber's book has for every number the balances that the ledger had at the subscriber's last timestamp; a number
--- that isn't in the book counts as four zeros
+-- a subscriber's book has for every number the balances that the ledger had at the subscriber's last timestamp; a
+-- number that isn't in the book counts as four zeros
 abbrev pub HasLedgersBalances : History → SubscriberState → Type 0
 HasLedgersBalances h kept = (id : ℕ) → balances_held kept.book id ≡ as_of h kept.last id
 

@@ -9,8 +9,8 @@ ghost use Rattle.serde_json.specs.Data.{member, no_members, string};
 
 use crate::lines::{Field, Lines, Member};
 use crate::refusals::{
-    push_amount, push_at_event, push_created, push_end, push_excess, push_expiry, push_field, push_mismatch,
-    push_together, push_transfer_time,
+    push_amount, push_at_event, push_created, push_end, push_excess, push_expiry, push_field,
+    push_mismatch, push_together, push_transfer_time,
 };
 use crate::streams::push_bad_line;
 use cdc_audit::{AuditStop, Refusal};
