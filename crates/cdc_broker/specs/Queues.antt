@@ -2,6 +2,8 @@
 use Rattle.std.specs.Prelude.{ℕ, ◌==◌, ◌||◌, max, nat_lt, Bool, Option, Some, None, List, [], ◌∷◌, ◌++◌, if◌then◌else◌}
 use Rattle.cdc_match.specs.Arguments.{Arguments}
 use Rattle.cdc_match.specs.Queue.{takes_item}
+use Rattle.cdc_types.specs.declared.events.Event.{Event}
+use Rattle.cdc_message.specs.Items.{item_event}
 use Rattle.cdc_message.specs.declared.items.Item.{Item}
 use Rattle.cdc_message.specs.declared.items.Delivery.{Delivery}
 use Rattle.cdc_broker.specs.Cursors.{Cursor, after_ack, after_delivery, delivery_at, first_cursor, rewound}
@@ -34,6 +36,11 @@ queued item q = with_item (item_for q.binding item) q
 -- the next delivery: the item at the cursor, with its position
 abbrev pub next_delivery : QueueState → Option Delivery
 next_delivery q = delivery_at q.cursor q.items
+
+-- the event of a delivery, unless there is none or it is an end mark
+abbrev pub delivered_event : Option Delivery → Option Event
+delivered_event None = None
+delivered_event (Some delivery) = item_event delivery.item
 
 -- the queue after a delivery, if there was one
 abbrev pub with_delivery : Option Delivery → QueueState → QueueState

@@ -1,12 +1,12 @@
 //! The public interface of the broker.
 
-ghost use Rattle.std.specs.Prelude.{◌≡◌, ◌^◌, ◌<◌, ◌≤◌, IsTrue, List, [], All, IfOk, OnOk, OnErr, is_some, not, if◌then◌else◌, length, map};
+ghost use Rattle.std.specs.Prelude.{◌≡◌, ◌^◌, ◌<◌, ◌≤◌, List, [], All, IfOk, IsSome, OnOk, OnErr, is_some, not, if◌then◌else◌, length, map};
 ghost use Rattle.cdc_message.specs.declared.items.Item.{Item as SomeItem};
 ghost use Rattle.cdc_message.specs.declared.packets.Packet.TheVariants.{Connect};
 ghost use Rattle.cdc_broker.specs.Broker.{HasAccepted, Publishes, accepted_after, connected, empty_broker, queue_of, takes_packet, with_queue};
 ghost use Rattle.cdc_broker.specs.Kept.{counting};
 ghost use Rattle.cdc_broker.specs.Packets.{tag_after as next_tag};
-ghost use Rattle.cdc_broker.specs.Queues.{acknowledged, is_unknown, next_delivery, rewound_queue, with_delivery};
+ghost use Rattle.cdc_broker.specs.Queues.{acknowledged, delivered_event, is_unknown, next_delivery, rewound_queue, with_delivery};
 
 use crate::queue::Queue;
 use cdc_match::Binding;
@@ -93,10 +93,12 @@ fn count_in(queues: &mut [Queue], item: &Item)
 }
 
 impl Broker {
-    /// A broker with an empty queue for each binding, and no connection. The error is out of memory.
+    /// A broker with an empty queue for each binding, and no connection. The error is out of memory; without bindings
+    /// nothing is allocated.
     pub fn new(alloc: Global, bindings: Vec<Binding>) -> Result<Broker, AllocError>
         ensures state { IfOk result (λ broker. broker ≡ empty_broker bindings.items) }
         ensures accepted { IfOk result (λ broker. HasAccepted broker []) }
+        ensures memory { OnErr result (0 < length bindings.items) }
     {
         let mut queues = Vec::with_capacity(alloc, bindings.len())?;
         for binding in bindings {
@@ -163,8 +165,8 @@ impl Broker {
         self.queues[i - 1].has_next()
     }
 
-    /// Delivers the item at the cursor of queue `i`, with its position, and advances the cursor. Returns `None`,
-    /// without allocating, if there is no item at the cursor. If memory runs out, nothing changes.
+    /// Delivers the item at the cursor of queue `i`, with its position, and advances the cursor. Returns `None` if
+    /// there is no item at the cursor. Only the copy of an event allocates; if memory runs out, nothing changes.
     pub fn next_for(&mut self, alloc: Global, i: usize) -> Result<Option<Delivery>, AllocError>
         requires first { 0 < i }
         requires last { i ≤ length self.old.queues }
@@ -173,8 +175,7 @@ impl Broker {
             with_queue i
             (with_delivery (next_delivery (queue_of self.old i)) (queue_of self.old i)) self.old) }
         ensures err { OnErr result (self.new ≡ self.old) }
-        ensures memory { OnErr result
-            (IsTrue (is_some (next_delivery (queue_of self.old i)))) }
+        ensures memory { OnErr result (IsSome (delivered_event (next_delivery (queue_of self.old i)))) }
         ensures accepted { (accepted : List SomeItem) → HasAccepted self.old accepted
             → HasAccepted self.new accepted }
     {

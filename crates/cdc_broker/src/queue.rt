@@ -1,8 +1,8 @@
 //! One queue: the items of a shared list that belong to its binding.
 
-ghost use Rattle.std.specs.Prelude.{◌≡◌, ◌+◌, ◌-◌, ◌^◌, ◌<◌, ◌≤◌, IsTrue, [], max, nat_lt, not, is_some, length, slice_get, IfOk, OnOk, OnErr, if◌then◌else◌};
+ghost use Rattle.std.specs.Prelude.{◌≡◌, ◌+◌, ◌-◌, ◌^◌, ◌<◌, ◌≤◌, IsSome, [], max, nat_lt, not, length, slice_get, IfOk, OnOk, OnErr, if◌then◌else◌};
 ghost use Rattle.cdc_match.specs.Queue.{queue, takes_item};
-ghost use Rattle.cdc_broker.specs.Queues.{acknowledged, empty_queue, is_unknown, next_delivery, rewound_queue, with_delivery};
+ghost use Rattle.cdc_broker.specs.Queues.{acknowledged, delivered_event, empty_queue, is_unknown, next_delivery, rewound_queue, with_delivery};
 ghost use Rattle.cdc_broker.specs.Kept.{counting, queue_state, IsInOrder, IsMark};
 
 use cdc_match::Binding;
@@ -117,7 +117,7 @@ impl Queue {
             (queue_state accepted.now self.old)) }
         ensures err { OnErr result (self.new ≡ self.old) }
         ensures memory { OnErr result
-            (IsTrue (is_some (next_delivery (queue_state accepted.now self.old)))) }
+            (IsSome (delivered_event (next_delivery (queue_state accepted.now self.old)))) }
         ensures in_order { IsInOrder accepted.now self.new }
     {
         if !self.has_next() {

@@ -1,8 +1,8 @@
 use Rattle.std.proofs.Common.{◌≡◌, ◌-◌, ◌<◌, sym, ap, ◌∙◌, length, subst, arith}
-use Rattle.std.specs.Prelude.{IfOk, IsTrue, OnErr, is_some}
+use Rattle.std.specs.Prelude.{IfOk, IsSome, OnErr}
 use Rattle.std.proofs.lemmas.Result.{on_ok_weaker, on_err_weaker}
 use Rattle.cdc_broker.specs.Broker.{BrokerState, HasAccepted, queue_of, with_queue}
-use Rattle.cdc_broker.specs.Queues.{QueueState, next_delivery, with_delivery}
+use Rattle.cdc_broker.specs.Queues.{QueueState, delivered_event, next_delivery, with_delivery}
 use Rattle.std.proofs.lemmas.List.Elements.{All-set}
 use Rattle.cdc_broker.specs.Kept.{IsInOrder, queue_state}
 use Rattle.cdc_broker.proofs.Accepted.{HasAccepted-with_delivery, either_way}
@@ -78,7 +78,7 @@ returns-clause-answer c =
 
 pub returns-clause-memory : goal.returns-clause-memory
 returns-clause-memory c =
-    subst (λ (x : QueueState). OnErr c.deliver.result (IsTrue (is_some (next_delivery x))))
+    subst (λ (x : QueueState). OnErr c.deliver.result (IsSome (delivered_event (next_delivery x))))
     (queue_seen c.self.inside.connection c.self.inside.expected c.self.inside.accepted.items
     c.as_slice-accepted.result.now c.self.inside.queues.items c.args.self.now c.args.i c.index_mut-queue.result.now
     c.self.view_is c.as_slice-accepted.ensures.value c.requires.first c.requires.last c.index_mut-queue.ensures.value)
