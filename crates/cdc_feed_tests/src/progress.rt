@@ -160,7 +160,7 @@ fn a_save_goes_by_way_of_a_new_file(rt: HostRuntime) -> Result<(), Fail> {
 }
 
 // While a store has a file locked, another one is refused; and a store that finds another record than its own
-// replaces nothing until it has loaded that.
+// replaces nothing, and still loads its own.
 #[test]
 fn a_store_goes_by_its_file(rt: HostRuntime) -> Result<(), Fail> {
     let folder = scratch(&rt)?;
@@ -175,7 +175,8 @@ fn a_store_goes_by_its_file(rt: HostRuntime) -> Result<(), Fail> {
     assert_eq!(rt; store.load(), Ok(Some(first)));
     fs::write(&rt, path.as_str(), "tb-cdc 2 2 20 10\n")?;
     assert_eq!(rt; store.save(first), Err(StoreError::WriteFault));
-    assert_eq!(rt; store.load(), Ok(Some(second)));
+    assert_eq!(rt; store.load(), Ok(Some(first)));
+    assert_eq!(rt; text_at(&rt, path.as_str())?.as_str(), "tb-cdc 2 2 20 10\n");
     fs::remove_file(&rt, path.as_str())?;
     assert_eq!(rt; store.save(second), Ok(()));
     assert_eq!(rt; text_at(&rt, path.as_str())?.as_str(), "tb-cdc 2 2 20 10\n");
@@ -199,9 +200,54 @@ fn a_loaded_file_stays_locked(rt: HostRuntime) -> Result<(), Fail> {
     assert_eq!(rt; answer, Err(StoreError::WriteFault));
     assert_eq!(rt; text_at(&rt, path.as_str())?.as_str(), "tb-cdc 2 1 10 0\n");
     fs::write(&rt, path.as_str(), "no record\n")?;
-    assert_eq!(rt; store.load(), Err(StoreError::BadRecord));
+    assert_eq!(rt; store.save(second), Err(StoreError::WriteFault));
     fs::write(&rt, path.as_str(), "tb-cdc 2 2 20 10\n")?;
     assert_eq!(rt; load_at(&rt, path.as_str()), Ok(Some(second)));
+    fs::remove_dir_all(&rt, folder.as_str())?;
+    Ok(())
+}
+
+// A store loads what it read when it was made, whatever has become of the file, and replaces nothing else.
+#[test]
+fn a_store_keeps_what_it_read(rt: HostRuntime) -> Result<(), Fail> {
+    let folder = scratch(&rt)?;
+    let path = format!(in rt.alloc(); "{folder}/read")?;
+    let first = Progress::new(1, 10, 0);
+    let second = Progress::new(2, 20, 10);
+    for text in ["tb-cdc 2 2 20 10\n", "subscriber all\n", ""] {
+        fs::write(&rt, path.as_str(), "tb-cdc 2 1 10 0\n")?;
+        let mut store = FileStore::at(&rt, path.as_str());
+        fs::write(&rt, path.as_str(), text)?;
+        assert_eq!(rt; store.load(), Ok(Some(first)), "{text}");
+        let answer = store.save(second);
+        assert_eq!(rt; answer, Err(StoreError::WriteFault), "{text}");
+        assert_eq!(rt; text_at(&rt, path.as_str())?.as_str(), text);
+        assert_eq!(rt; store.load(), Ok(Some(first)), "{text}");
+        fs::remove_file(&rt, path.as_str())?;
+        assert_eq!(rt; store.load(), Ok(Some(first)), "{text}");
+        assert_eq!(rt; store.save(second), Ok(()));
+        assert_eq!(rt; store.load(), Ok(Some(second)));
+    }
+    fs::remove_dir_all(&rt, folder.as_str())?;
+    Ok(())
+}
+
+// A store that couldn't read its file as a record refuses each load, whatever the file holds later; it saves once nothing
+// else is in the way.
+#[test]
+fn what_was_no_record_is_never_loaded(rt: HostRuntime) -> Result<(), Fail> {
+    let folder = scratch(&rt)?;
+    let path = format!(in rt.alloc(); "{folder}/unread")?;
+    fs::write(&rt, path.as_str(), "subscriber all\n")?;
+    let mut store = FileStore::at(&rt, path.as_str());
+    assert_eq!(rt; store.load(), Err(StoreError::BadRecord));
+    let answer = store.save(Progress::new(1, 10, 0));
+    assert_eq!(rt; answer, Err(StoreError::WriteFault));
+    fs::write(&rt, path.as_str(), "tb-cdc 2 1 10 0\n")?;
+    assert_eq!(rt; store.load(), Err(StoreError::BadRecord));
+    assert_eq!(rt; store.save(Progress::new(2, 20, 10)), Ok(()));
+    assert_eq!(rt; store.load(), Err(StoreError::BadRecord));
+    assert_eq!(rt; store.failures(), 1);
     fs::remove_dir_all(&rt, folder.as_str())?;
     Ok(())
 }

@@ -1,5 +1,5 @@
 -- What a store may answer.
-use Rattle.std.specs.Prelude.{◌≡◌, ◌⊎◌, ℕ, ◌<◌, Bool, false, IsTrue, Option, Result, Ok, Err, List}
+use Rattle.std.specs.Prelude.{◌≡◌, ◌⊎◌, ℕ, ◌<◌, Bool, false, IsTrue, Option, Some, None, Result, Ok, Err, List}
 use Rattle.cdc_types.specs.Widths.{max_64}
 use Rattle.cdc_progress.specs.Records.{Fits, IsTextOf, Saved}
 use Rattle.cdc_progress.specs.declared.errors.StoreError.{StoreError}
@@ -49,6 +49,16 @@ MayRefuseSave before after ReadFault = ⊥
 MayRefuseSave before after WriteFault = IsCounted before after
 MayRefuseSave before after BadRecord = ⊥
 MayRefuseSave before after OutOfMemory = after ≡ before
+
+-- what a store knows of its file once it was read with this result: the record, if there is one
+abbrev pub known_of : Result (Option Saved) StoreError → Option Saved
+known_of (Ok known) = known
+known_of (Err error) = None
+
+-- why the file couldn't be read as a record, if it couldn't
+abbrev pub unread_of : Result (Option Saved) StoreError → Option StoreError
+unread_of (Ok known) = None
+unread_of (Err error) = Some error
 
 -- what a file can be found to be in place of a record
 abbrev pub IsLoadFault : StoreError → Type 0

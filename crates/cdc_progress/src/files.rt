@@ -1,9 +1,9 @@
 //! Progress in a file.
 
-ghost use Rattle.std.specs.Prelude.{◌≡◌, ◌<◌, ◌≤◌, ◌++◌, length, take, codes, None, IfOk, IfErr, IfSome, OnOk, false, true, string_bytes};
+ghost use Rattle.std.specs.Prelude.{◌≡◌, ◌<◌, ◌≤◌, ◌++◌, length, take, codes, IfOk, IfErr, IfSome, OnOk, Some, is_none, true, string_bytes};
 ghost use Rattle.std.specs.Io.KnownBytes.{Appends, Consumes, IsAtEnd};
 ghost use Rattle.cdc_progress.specs.Leftovers.{is_leftover as may_be_left};
-ghost use Rattle.cdc_progress.specs.Stores.{IsCounted, IsLoadFault, ReadsAs};
+ghost use Rattle.cdc_progress.specs.Stores.{IsCounted, IsLoadFault, ReadsAs, known_of, unread_of};
 
 use crate::errors::StoreError;
 use crate::progress::Progress;
@@ -19,19 +19,24 @@ use std::{fs, io};
 /// interrupted save leaves the old record. If PATH is a link, both names refer to the link's target, and the link
 /// stays. The file's mode is kept, its owner isn't.
 ///
+/// A store reads its file once, when it is made. `held` is the record that it read then or has saved since, and a load
+/// returns that: nothing that something else writes to the file meanwhile. So a store is honest if the file could be
+/// read as a record, or wasn't there; otherwise each of its loads reports why.
+///
 /// A save replaces only a record that it may replace. It is refused if `PATH.new` exists and can't be the leftover of
 /// an interrupted save, if PATH is not a record or is a file that nobody may write, and if PATH holds another record
-/// than this store has last loaded or saved. After a successful load or save, and until its next call, a store keeps
-/// the file locked, if there is one; another store that uses the file in the meantime is refused.
+/// than this store has read or saved. After a successful load or save, and until its next call, a store keeps the file
+/// locked, if there is one; another store that uses the file in the meantime is refused.
 ///
-/// No contract can state what a file holds. `held` is the record that this store has last saved or loaded. That the
-/// file returns it is an assumption of the store's user; nothing here proves it.
+/// No contract can state what a file holds. That the next store at this path reads what this one saved is an
+/// assumption; nothing here proves it.
 #[derive(Drop)]
 pub struct FileStore<'a, R> {
     rt: &'a R,
     path: &'a str,
-    // Whether this store has loaded or saved, and so knows what the file holds.
-    has_looked: bool,
+    // Why the file couldn't be read as a record when the store was made, if it couldn't.
+    unread: Option<StoreError>,
+    // The record that was read when the store was made, or saved since.
     known: Option<Progress>,
     // The record's file, locked.
     file: Option<File>,
@@ -39,16 +44,33 @@ pub struct FileStore<'a, R> {
 }
 
 impl<'a, R: Files<File = File> + AllocGlobal> FileStore<'a, R> {
-    /// A store in the file at this path. It doesn't open the file yet.
+    /// A store in the file at this path. It reads the file, without a lock, and keeps what it has read; if it can't
+    /// read it as a record, the loads report that.
     pub fn at(rt: &'a R, path: &'a str) -> FileStore<'a, R>
-        ensures held { result.known ≡ None }
         ensures failures { result.failures ≡ 0 }
     {
+        FileStore::over(rt, path, first_record(rt, path))
+    }
+
+    // A store in the file at this path, which was read with this result.
+    fn over(
+        rt: &'a R,
+        path: &'a str,
+        read: Result<Option<Progress>, StoreError>,
+    ) -> FileStore<'a, R>
+        ensures known { result.known ≡ known_of read }
+        ensures unread { result.unread ≡ unread_of read }
+        ensures failures { result.failures ≡ 0 }
+    {
+        let (known, unread) = match read {
+            Ok(known) => (known, None),
+            Err(error) => (None, Some(error)),
+        };
         FileStore {
             rt,
             path,
-            has_looked: false,
-            known: None,
+            unread,
+            known,
             file: None,
             failures: 0,
         }
@@ -59,35 +81,37 @@ impl<'a, R: Files<File = File> + AllocGlobal> FileStore<'a, R> {
         ensures counted { IsCounted self.old.failures self.new.failures }
         ensures more { self.old.failures ≤ self.new.failures }
         ensures kept { self.new.known ≡ self.old.known }
+        ensures unread { self.new.unread ≡ self.old.unread }
     {
         self.failures = self.failures.saturating_add(1);
     }
 
-    // Sets what the file holds, as far as this store knows, and the locked file.
-    fn note(&mut self, known: Option<Progress>, file: Option<File>)
-        ensures known { self.new.known ≡ known }
+    // Keeps the record that was saved, and its locked file.
+    fn note(&mut self, saved: Progress, file: File)
+        ensures known { self.new.known ≡ Some saved }
+        ensures unread { self.new.unread ≡ self.old.unread }
         ensures failures { self.new.failures ≡ self.old.failures }
     {
-        self.has_looked = true;
-        self.known = known;
-        self.file = file;
+        self.known = Some(saved);
+        self.file = Some(file);
     }
 
     // Closes the file, which unlocks it.
     fn let_go(&mut self)
         ensures known { self.new.known ≡ self.old.known }
+        ensures unread { self.new.unread ≡ self.old.unread }
         ensures failures { self.new.failures ≡ self.old.failures }
     {
         self.file = None;
     }
 
-    // What the file must hold, if it exists, so that it may be replaced. `None`: anything, since this store hasn't
-    // looked.
+    // What the file must hold, if it exists, so that it may be replaced. `None`: any record, since this store hasn't
+    // read or saved one.
     fn expected(&self) -> Option<Option<Progress>> {
-        if self.has_looked {
-            Some(self.known)
-        } else {
+        if self.unread.is_some() && self.known.is_none() {
             None
+        } else {
+            Some(self.known)
         }
     }
 }
@@ -149,18 +173,28 @@ fn is_taken(file: &File) -> bool {
     }
 }
 
-// Opens a file and locks it; `None` if there is no file. Anything but a plain file, such as a folder or a pipe, isn't
-// opened, since that might block.
-fn open_record<R: Files<File = File>>(rt: &R, path: &str) -> Result<Option<File>, StoreError>
-    ensures { IfErr result IsLoadFault }
+// Opens a file; `None` if there is no file. Anything but a plain file, such as a folder or a pipe, isn't opened, since
+// that might block.
+fn open_plain<R: Files<File = File>>(rt: &R, path: &str) -> Result<Option<File>, StoreError>
+    ensures { IfErr result (λ error. error ≡ StoreError.ReadFault) }
 {
     match fs::metadata(rt, path) {
         Ok(metadata) if metadata.is_file() => {}
         Err(error) if error.kind() == ErrorKind::NotFound => return Ok(None),
         _ => return Err(StoreError::ReadFault),
     }
-    let Ok(file) = File::open(rt, path) else {
-        return Err(StoreError::ReadFault);
+    match File::open(rt, path) {
+        Ok(file) => Ok(Some(file)),
+        Err(_) => Err(StoreError::ReadFault),
+    }
+}
+
+// Opens a file as `open_plain` does, and locks it.
+fn open_locked<R: Files<File = File>>(rt: &R, path: &str) -> Result<Option<File>, StoreError>
+    ensures { IfErr result (λ error. error ≡ StoreError.ReadFault) }
+{
+    let Some(file) = open_plain(rt, path)? else {
+        return Ok(None);
     };
     if is_taken(&file) {
         return Err(StoreError::ReadFault);
@@ -168,11 +202,21 @@ fn open_record<R: Files<File = File>>(rt: &R, path: &str) -> Result<Option<File>
     Ok(Some(file))
 }
 
-// Reads the record of a file; `None` if there is no file.
+// Reads the record of a file without a lock; `None` if there is no file.
+fn first_record<R: Files<File = File>>(rt: &R, path: &str) -> Result<Option<Progress>, StoreError>
+    ensures { IfErr result IsLoadFault }
+{
+    match open_plain(rt, path)? {
+        Some(mut file) => Ok(Some(record_in(&mut file)?)),
+        None => Ok(None),
+    }
+}
+
+// Locks a file and reads its record; `None` if there is no file.
 fn read_record<R: Files<File = File>>(rt: &R, path: &str) -> Result<Option<Found>, StoreError>
     ensures { IfErr result IsLoadFault }
 {
-    let Some(mut file) = open_record(rt, path)? else {
+    let Some(mut file) = open_locked(rt, path)? else {
         return Ok(None);
     };
     let progress = record_in(&mut file)?;
@@ -323,27 +367,21 @@ impl<'a, R: Files<File = File> + AllocGlobal> ProgressStore for FileStore<'a, R>
 
     ghost failed = { λ store. store.failures };
 
-    // The system decides what a read returns, so no contract can promise it in advance.
-    ghost is_honest = { λ _. false };
+    ghost is_honest = { λ store. is_none store.unread };
 
     ghost risks = { λ _. record { memory = true; faults = true } };
 
     fn load(&mut self) -> Result<Option<Progress>, StoreError> {
         self.let_go();
-        match read_record(self.rt, self.path) {
-            Ok(None) => {
-                self.note(None, None);
-                Ok(None)
+        match (open_locked(self.rt, self.path), self.unread) {
+            (Ok(file), None) => {
+                self.file = file;
+                Ok(self.known)
             }
-            Ok(Some(Found { progress, file })) => {
-                self.note(Some(progress), Some(file));
-                Ok(Some(progress))
-            }
-            Err(error) => {
-                if error == StoreError::ReadFault {
-                    self.count_failure();
-                }
-                Err(error)
+            (Ok(_), Some(StoreError::BadRecord)) => Err(StoreError::BadRecord),
+            _ => {
+                self.count_failure();
+                Err(StoreError::ReadFault)
             }
         }
     }
@@ -354,7 +392,7 @@ impl<'a, R: Files<File = File> + AllocGlobal> ProgressStore for FileStore<'a, R>
         self.let_go();
         match replace(self.rt, self.path, expected, text.as_str()) {
             Ok(file) => {
-                self.note(Some(progress), Some(file));
+                self.note(progress, file);
                 Ok(())
             }
             Err(StoreError::OutOfMemory) => Err(StoreError::OutOfMemory),

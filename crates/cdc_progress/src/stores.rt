@@ -15,7 +15,7 @@ pub trait ProgressStore {
     // How often a read or a write has failed. Only those two faults change it.
     ghost failed: { Self → ℕ };
 
-    // Whether a load returns what is held. No call changes it.
+    // Whether a load returns what is held. If it doesn't, each load is refused. No call changes it.
     ghost is_honest: { Self → Bool };
 
     // The reasons why a load or a save can be refused at all. No call changes them.
@@ -24,13 +24,15 @@ pub trait ProgressStore {
     /// Returns the record that is held, or `None` if nothing was saved yet.
     ///
     /// A refused load doesn't change what is held. `ReadFault`: it can't be read; only this error adds to `failures`.
-    /// `BadRecord`: it is not a record; an honest store never returns this. `OutOfMemory`: memory ran out.
+    /// `BadRecord`: it is not a record; an honest store never returns this. `OutOfMemory`: memory ran out. A store that
+    /// isn't honest refuses each load.
     fn load(&mut self) -> Result<Option<Progress>, StoreError>
         ensures given { IfOk result (λ given. held self.new ≡ given) }
         ensures honest_load { IsTrue (is_honest self.old)
             → IfOk result (λ given. given ≡ held self.old) }
         ensures honest_record { IsTrue (is_honest self.old)
             → ¬ (result ≡ Err StoreError.BadRecord) }
+        ensures loads { OnOk result (IsTrue (is_honest self.old)) }
         ensures refused { OnErr result (held self.new ≡ held self.old) }
         ensures refusals { IfErr result (MayRefuseLoad (failed self.old) (failed self.new)) }
         ensures uncounted { OnOk result (failed self.new ≡ failed self.old) }
