@@ -1,6 +1,6 @@
 //! The book that a subscriber keeps: the balances of each account, as its last event gave them.
 
-ghost use Rattle.std.specs.Prelude.{◌≡◌, ◌==◌, ◌+◌, ◌<◌, ◌≤◌, [], ◌∷◌, ◌++◌, List, length, not, true, if◌then◌else◌, IfOk, OnOk, OnErr, option_map, slice_get};
+ghost use Rattle.std.specs.Prelude.{◌≡◌, ◌==◌, ◌+◌, ◌<◌, ◌≤◌, [], ◌∷◌, ◌++◌, List, length, not, false, true, if◌then◌else◌, IfOk, OnOk, OnErr, option_map, slice_get};
 ghost use Rattle.indexmap.specs.IndexMap.{spare};
 ghost use Rattle.cdc_types.specs.declared.events.Event.{Event as Emitted};
 ghost use Rattle.cdc_subscriber.specs.Book.{are_distinct, balances_in, balances_shown, entries_of, entry_of as shown_entry, book_of, id_and_balances, ids_of, is_among, put as put_entry};
@@ -81,13 +81,14 @@ impl Book {
         self.accounts.is_empty()
     }
 
-    /// Adds an account after all others, unless the book has its id; returns whether it was added. If memory runs out
-    /// the book is unchanged.
+    /// Adds an account after all others, unless the book has its id; returns whether it was added. If memory runs out,
+    /// for an id that the book doesn't have, the book is unchanged.
     pub fn push(&mut self, entry: BookEntry) -> Result<bool, AllocError>
         ensures added { IfOk result (λ added. added ≡ not (is_among entry.id (ids_of self.old))) }
         ensures ok { IfOk result (λ added.
             self.new ≡ (if added then (self.old ++ entry ∷ []) else self.old)) }
         ensures err { OnErr result (self.new ≡ self.old) }
+        ensures memory { OnErr result (is_among entry.id (ids_of self.old) ≡ false) }
     {
         if self.accounts.contains_key(&entry.id) {
             return Ok(false);

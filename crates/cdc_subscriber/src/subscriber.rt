@@ -1,6 +1,6 @@
 //! The subscriber itself.
 
-ghost use Rattle.std.specs.Prelude.{◌≡◌, false, true, OnOk, OnErr};
+ghost use Rattle.std.specs.Prelude.{◌≡◌, ◌<◌, false, true, OnOk, OnErr};
 ghost use Rattle.std.specs.Io.KnownBytes.{Appends};
 ghost use Rattle.cdc_message.specs.Reading.{read};
 ghost use Rattle.cdc_subscriber.specs.Lines.{subscriber_text};
@@ -134,13 +134,15 @@ impl Subscriber {
         self.receive(&event)
     }
 
-    /// Takes an event that was read before. The only error is that memory runs out, under the same conditions.
+    /// Takes an event that was read before. The only error is that memory runs out, under the same conditions, and only
+    /// for an event that is later than the last one applied.
     pub fn take_event(&mut self, event: &Event) -> Result<Taking, TakeError>
         ensures answer { TakesItem self.old (Item.Event event.now) result }
         ensures stands { (reception : Reception) → self.old ≡ kept_of reception
             → OnOk result (self.new ≡ kept_of (next reception (Item.Event event.now))) }
         ensures state { OnOk result (self.new ≡ next_state self.old (Item.Event event.now)) }
         ensures err { OnErr result (self.new ≡ self.old) }
+        ensures memory { OnErr result (self.old.last < event.now.timestamp) }
     {
         if let Some(answer) = self.settled() {
             return Ok(answer);
@@ -237,6 +239,7 @@ impl Subscriber {
             → OnOk result (self.new ≡ kept_of (next reception (Item.Event event.now))) }
         ensures state { OnOk result (self.new ≡ taken self.old (Item.Event event.now)) }
         ensures err { OnErr result (self.new ≡ self.old) }
+        ensures memory { OnErr result (self.old.last < event.now.timestamp) }
     {
         if event.timestamp <= self.last {
             return Ok(Taking::Repeat);
