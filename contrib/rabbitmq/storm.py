@@ -77,7 +77,7 @@ class Case:
     def run(self):
         """Sends everything, with all faults, and compares the books."""
         try:
-            self.start_bridge()
+            self.begin()
             for place in self.stream.places:
                 self.start_consumer(place)
             for fault in self.faults:
@@ -89,6 +89,14 @@ class Case:
                 self.compare(place)
         finally:
             self.stream.close()
+
+    def begin(self):
+        """Starts the bridge, and waits until its queues are declared. No node is down meanwhile: RabbitMQ may leave a queue half made
+        whose node dies while it is declared, and such a queue never answers."""
+        with self.nodes:
+            self.start_bridge()
+            for queue in [queue_of(self.stream.name, it) for it in self.stream.places] + [f'{self.stream.name}.progress']:
+                self.cluster.leader_of(queue)
 
     def start_bridge(self):
         self.starts['bridge'] += 1

@@ -10,8 +10,10 @@ import subprocess
 import threading
 
 SECONDS = 300  # that a run may take: a last guard against one that hangs
-NAMES = ["items", "batch", "results", "delivery", "packet", "binding", "body", "foreign", "message", "parsed", "script",
-         "accounts", "transfers", "pulse", "publish", "next", "taken"]
+NAMES = ["items", "batch", "results", "delivery", "packet", "binding", "body", "foreign", "message", "parsed", "script", "steps",
+         "accounts", "transfers", "pulse", "log", "index", "read", "queue", "messages", "predecessors", "broker", "publish", "next",
+         "session", "world", "submit", "start", "poll", "send", "arrive", "deliver", "take", "taken", "entry", "follow", "book",
+         "audit", "state", "resume"]
 # The statuses: the value wasn't made, the arguments name no call, and something couldn't be printed.
 NOT_MADE, BAD_ARGUMENTS, NOT_PRINTED = 2, 8, 9
 MADE = b"made\n"

@@ -2,16 +2,23 @@
 //! only for tests, which refuse allocations beneath it (tests/faults/sweep.py).
 //!
 //!   cdc_calls NAME    NAME: items, batch, results, delivery, packet, binding or body, which are copied or taken;
-//!                     message, parsed, script; accounts, transfers, pulse (submitted to a ledger); publish, next (of
-//!                     a broker); taken, foreign (deliveries and bodies that a subscriber takes)
+//!                     message, parsed, script, steps; accounts, transfers, pulse (submitted to a ledger); log, index,
+//!                     read (of a log), queue, messages, predecessors; broker, publish, next; session; world, submit,
+//!                     start, poll, send, arrive, deliver, take (steps of a world); taken, foreign (deliveries and
+//!                     bodies that a subscriber takes); entry, follow, book; audit, state, resume
 //!
 //! Before the call it prints `made` on standard error. Then it prints what the last call gave, and how many were
 //! refused. The exit status is 0 if all this was done, 2 if the value wasn't made or the arguments weren't read, 4 if
 //! the last call was refused too, 8 for other arguments, and 9 if a write failed.
 #![tactic(auto)]
 
+mod feeds;
+mod logs;
 mod moves;
+mod reports;
+mod streams;
 mod tries;
+mod trying;
 mod values;
 
 use cdc_broker::Taken;
@@ -20,65 +27,13 @@ use cdc_message::{Delivery, Item, Packet};
 use cdc_subscriber::Subscriber;
 use cdc_types::{Batch, BatchResults};
 use moves::{delivered, message_of, parsed_binding, parsed_script, published, submitted, taken};
-use std::alloc::AllocError;
+use reports::{CallsFault, made, report};
 use std::process::ExitCode;
 use std::{env, io};
 use tries::{
-    Tried, copied_batch, copied_binding, copied_delivery, copied_items, copied_packet,
-    copied_results, taken_body,
+    copied_batch, copied_binding, copied_delivery, copied_items, copied_packet, copied_results,
+    taken_body,
 };
-
-/// Why the program didn't do what it was asked for.
-#[derive(Clone, Copy)]
-enum CallsFault {
-    /// There was no memory for the arguments, or the value wasn't made.
-    NotMade,
-    /// The last call was refused.
-    Refused,
-    /// The arguments name no call.
-    BadWords,
-    /// A write to standard output or standard error failed.
-    NotReported,
-}
-
-impl From<io::Error> for CallsFault {
-    fn from(_error: io::Error) -> CallsFault {
-        CallsFault::NotReported
-    }
-}
-
-impl From<AllocError> for CallsFault {
-    fn from(_error: AllocError) -> CallsFault {
-        CallsFault::Refused
-    }
-}
-
-impl CallsFault {
-    fn status(self) -> u8 {
-        match self {
-            CallsFault::NotMade => 2,
-            CallsFault::Refused => 4,
-            CallsFault::BadWords => 8,
-            CallsFault::NotReported => 9,
-        }
-    }
-}
-
-// Reports that the value was made. From here on the allocations are the call's own.
-fn made<T: Drop>(rt: &HostRuntime, value: Option<T>) -> Result<T, CallsFault> {
-    let Some(value) = value else {
-        return Err(CallsFault::NotMade);
-    };
-    eprintln!(rt; "made")?;
-    Ok(value)
-}
-
-// Prints the number of refused calls. Returns what the last call gave, if it wasn't refused.
-fn report<T: Drop>(rt: &HostRuntime, tried: Tried<T>) -> Result<T, CallsFault> {
-    let Tried { last, refused } = tried;
-    println!(rt; "refused {refused}")?;
-    Ok(last?)
-}
 
 fn try_items(rt: &HostRuntime) -> Result<(), CallsFault> {
     let items = made(rt, values::items(rt.alloc()))?;
@@ -279,7 +234,7 @@ fn run(rt: &HostRuntime) -> Result<(), CallsFault> {
         "publish" => try_publish(rt),
         "next" => try_next(rt),
         "taken" => try_taken(rt),
-        _ => Err(CallsFault::BadWords),
+        other => trying::run(rt, other),
     }
 }
 

@@ -1,13 +1,19 @@
 //! The fixed values that the calls are made on.
 
+use cdc_audit::Auditor;
+use cdc_audit_state::push_state;
 use cdc_broker::{Broker, Taken};
+use cdc_follow::{Content, Entry, Follower, write_book};
 use cdc_ledger::Ledger;
 use cdc_match::Binding;
 use cdc_message::{Item, Message};
+use cdc_progress::MemoryStore;
+use cdc_subscriber::Subscriber;
 use cdc_types::{
     Batch, BatchResults, Event, EventAccount, EventKind, EventTransfer, Items, NewAccount,
     NewTransfer, TransferFlags, TransferResult,
 };
+use cdc_world::{Step, World};
 use std::alloc::Global;
 
 const DEBITED: EventAccount = EventAccount {
@@ -80,6 +86,14 @@ const PENDING: NewTransfer = NewTransfer {
 pub const BINDING: [&str; 3] = ["any", "ledger=700", "transfer_code=1"];
 
 pub const SCRIPT: &str = "subscriber all\naccounts 1\naccount id=1 ledger=700 code=10\n";
+
+pub const STEPS: &str = "submit 1\nstart\npoll\n";
+
+/// The first event, in a stream that isn't chained.
+pub const ENTRY: Entry = Entry {
+    content: Content::Event(FIRST),
+    previous: None,
+};
 
 pub fn items(alloc: Global) -> Option<Items<u64>> {
     let numbers = vec![in alloc; 5, 6, 7].ok()?;
@@ -195,4 +209,84 @@ pub fn length_of(broker: &Broker) -> u64 {
         return 0;
     }
     broker.queue_len(1)
+}
+
+/// A ledger with the first event.
+pub fn event_ledger(alloc: Global) -> Option<Ledger> {
+    let mut ledger = ledger(alloc)?;
+    submit(alloc, &mut ledger, &single(alloc)?)?;
+    Some(ledger)
+}
+
+/// The transfer of the first event.
+fn single(alloc: Global) -> Option<Batch> {
+    let transfer = NewTransfer {
+        timeout: 0,
+        flags: 0,
+        ..PENDING
+    };
+    let items = vec![in alloc; transfer].ok()?;
+    Some(Batch::Transfers {
+        now: 2000,
+        items: Items::from_vec(items),
+    })
+}
+
+/// A binding that takes all events, and another one.
+pub fn bindings(alloc: Global) -> Option<Vec<Binding>> {
+    let all = Binding::parse(alloc, &["all"]).ok()?;
+    vec![in alloc; all, binding(alloc)?].ok()
+}
+
+/// The steps that take the first event from the ledger to a subscriber.
+pub fn step(alloc: Global, place: usize) -> Option<Step> {
+    match place {
+        0 => Some(Step::Submit(batch(alloc)?)),
+        1 => Some(Step::Submit(single(alloc)?)),
+        2 => Some(Step::Start),
+        3 => Some(Step::Poll),
+        4 | 5 => Some(Step::Publish),
+        6 => Some(Step::Arrive(1)),
+        7 => Some(Step::Arrive(2)),
+        8 => Some(Step::Send(1)),
+        9 => Some(Step::Take(1)),
+        _ => None,
+    }
+}
+
+/// A world in which the steps before this one were taken.
+pub fn world(alloc: Global, place: usize) -> Option<World<MemoryStore>> {
+    let mut world = World::new(alloc, bindings(alloc)?, 64, MemoryStore::new()).ok()?;
+    for before in 0..place {
+        let _did = world.step(alloc, &step(alloc, before)?).ok()?;
+    }
+    Some(world)
+}
+
+/// The text of a book that has the first event.
+pub fn book_text(alloc: Global) -> Option<Vec<u8>> {
+    let mut follower = Follower::new(Subscriber::new(alloc), 0);
+    let _outcome = follower.take(&binding(alloc)?, &ENTRY).ok()?;
+    let mut text = Vec::new(alloc);
+    write_book(&mut text, false, b"all", &follower).ok()?;
+    Some(text)
+}
+
+pub fn new_auditor(alloc: Global) -> Auditor {
+    Auditor::new(alloc, false)
+}
+
+/// An auditor that has taken the first event.
+pub fn auditor(alloc: Global) -> Option<Auditor> {
+    let mut auditor = new_auditor(alloc);
+    let _refusal = auditor.take(&ENTRY.content).ok()?;
+    Some(auditor)
+}
+
+/// The text of its state.
+pub fn state_text(alloc: Global) -> Option<Vec<u8>> {
+    let auditor = auditor(alloc)?;
+    let mut text = Vec::new(alloc);
+    push_state(alloc, &mut text, &auditor).ok()?;
+    Some(text)
 }
