@@ -132,8 +132,8 @@ class Hostile(checked.Checks):
 
     # -- runs
 
-    def start(self, folder, saved, script="script", env=None, **limits):
-        arguments = [self.program, "run", script, "--progress", saved]
+    def start(self, folder, saved, script="script", env=None, options=(), **limits):
+        arguments = [self.program, "run", script, "--progress", saved, *options]
         how = {"stdin": subprocess.DEVNULL, "stdout": subprocess.PIPE, "stderr": subprocess.PIPE, "env": env}
         return subprocess.Popen(arguments, cwd=folder, preexec_fn=lambda: as_nobody(**limits), **how)
 
@@ -375,16 +375,21 @@ def a_run_while_another_is_on(hostile):
 
 
 def a_file_that_something_else_writes(hostile):
-    """Something that knows no locks writes the file: as the run is held between two saves, or between the load that found no
-    file and the first save. The run is refused, and what was written stays."""
+    """Something that knows no locks writes the file: as the run is held between two saves, between a save and the load of a
+    restart, or between the load that found no file and the first save. The run is refused, and what was written stays."""
     library = holding.library_in(hostile.room, "hostile", "a file that something else writes")
     if library is None:
         return
-    for call, when in (("rename", "after a save"), ("look", "after a load that found none")):
+    moments = (
+        ("rename", "after a save", ()),
+        ("rename", "before a restart", ("--restart-after", "1")),
+        ("look", "after a load that found none", ()),
+    )
+    for call, when, options in moments:
         for text in (record(7, 2000), record(0, 0), SCRIPT, b""):
             what, folder = f"{text[:20]!r} is written {when}", hostile.folder()
             hostile.make(folder, "hold", os.mkfifo)
-            run = hostile.start(folder, "saved", env=holding.environment(library, call=call))
+            run = hostile.start(folder, "saved", env=holding.environment(library, call=call), options=options)
             held = holding.wait_until_held(run, f"{folder}/hold")
             hostile.same(f"{what}: it is held", (True, call == "rename"), (held is not None, os.path.exists(f"{folder}/saved")))
             hostile.write(folder, "saved", text)
