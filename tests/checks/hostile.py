@@ -380,12 +380,12 @@ def a_file_that_something_else_writes(hostile):
     library = holding.library_in(hostile.room, "hostile", "a file that something else writes")
     if library is None:
         return
-    moments = (
+    cases = (
         ("rename", "after a save", ()),
         ("rename", "before a restart", ("--restart-after", "1")),
         ("look", "after a load that found none", ()),
     )
-    for call, when, options in moments:
+    for call, when, options in cases:
         for text in (record(7, 2000), record(0, 0), SCRIPT, b""):
             what, folder = f"{text[:20]!r} is written {when}", hostile.folder()
             hostile.make(folder, "hold", os.mkfifo)
