@@ -1,5 +1,5 @@
 -- What a pulse answers: a refusal, how many expired, or that memory ran out.
-use Rattle.std.proofs.Common.{ℕ, Bool, true, false, Some, None, Result, Ok, Err, [], ◌∷◌, ◌≡◌, length, refl, ap, ap₂, sym, subst, ◌∙◌}
+use Rattle.std.proofs.Common.{ℕ, Bool, true, false, Some, None, Result, Ok, Err, [], ◌∷◌, ◌≡◌, ◌<◌, length, refl, ap, ap₂, sym, subst, ◌∙◌}
 use Rattle.std.specs.Result.{IsErrAnd, IsOk}
 use Rattle.cdc_types.specs.declared.batches.Batch.TheVariants.{Pulse}
 use Rattle.cdc_types.specs.declared.batches.BatchResults.TheVariants.{Pulsed}
@@ -68,10 +68,11 @@ module _ (h : History) (now count : ℕ) (counted : count ≡ length (due h now)
       → submit h (Pulse now) ≡ Ok (Pulsed count, g)
   pulse-taken g unrefused made = taken unrefused ∙ ap₂ (λ n after. Ok (Pulsed n, after)) (sym counted) (sym made)
 
-  -- if memory runs out before that, the history stays the same
+  -- if some are due and memory runs out before that, the history stays the same
   pub pulse-unmade : (g : History) (result : Result ℕ BatchError) → refusal_at h false now count ≡ None → g ≡ h
-      → IsErrAnd result (λ e. e ≡ OutOfMemory)
+      → 0 < count → IsErrAnd result (λ e. e ≡ OutOfMemory)
       → Answers Pulsed h (Pulse now) result g
-  pulse-unmade g (Ok n) unrefused same out = absurd out
-  pulse-unmade g (Err e) unrefused same out =
-      subst (λ x. Answers Pulsed h (Pulse now) (Err x) g) (sym out) (subst IsOk (sym (taken unrefused)) refl, same)
+  pulse-unmade g (Ok n) unrefused same some out = absurd out
+  pulse-unmade g (Err e) unrefused same some out =
+      subst (λ x. Answers Pulsed h (Pulse now) (Err x) g) (sym out)
+      ((subst IsOk (sym (taken unrefused)) refl, subst (λ n. 0 < n) counted some), same)

@@ -51,7 +51,8 @@ pub(crate) fn transfer_chain_len(requests: &[NewTransfer]) -> usize
 /// The number of requests that memory has to be reserved for until their chain is accepted: 0 if no request is
 /// linked.
 pub(crate) fn tail_len(requests: &[NewTransfer]) -> usize
-    ensures { All (λ r. is_linked_transfer r ≡ true → length requests.now ≤ result) requests.now }
+    ensures enough { All (λ r. is_linked_transfer r ≡ true → length requests.now ≤ result) requests.now }
+    ensures most { result ≤ length requests.now }
 {
     if requests.iter().any(|request| request.is_linked()) {
         requests.len()

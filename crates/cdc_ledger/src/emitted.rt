@@ -1,6 +1,6 @@
 //! What the ledger derives from its entries: the log of events, and the index of pending transfers that may expire.
 
-ghost use Rattle.std.specs.Prelude.{◌≡◌, ◌+◌, ◌≤◌, ◌<◌, ◌^◌, ◌++◌, [], ◌∷◌, true, IfSome, IfErr, OnOk};
+ghost use Rattle.std.specs.Prelude.{◌≡◌, ◌+◌, ◌≤◌, ◌<◌, ◌^◌, ◌++◌, [], ◌∷◌, true, IfSome, IfErr, OnErr, OnOk};
 ghost use Rattle.std.specs.FinSet as set;
 ghost use Rattle.cdc_expiry.specs.Triples.{IsNewTimestamp};
 ghost use Rattle.cdc_types.specs.Timestamps.{last_timestamp};
@@ -79,6 +79,7 @@ impl Emitted {
         ensures triples { self.new.index.triples ≡ self.old.index.triples }
         ensures room { OnOk result (additional ≤ self.new.log.room) }
         ensures memory { IfErr result (λ e. e ≡ BatchError.OutOfMemory) }
+        ensures needed { OnErr result (0 < additional) }
     {
         self.log.reserve(additional)?;
         Ok(())
@@ -91,6 +92,7 @@ impl Emitted {
         ensures room { OnOk result (additional ≤ self.new.log.room) }
         ensures end_room { OnOk result (additional ≤ self.new.index.room) }
         ensures memory { IfErr result (λ e. e ≡ BatchError.OutOfMemory) }
+        ensures needed { OnErr result (0 < additional) }
     {
         self.reserve_events(additional)?;
         self.index.reserve(additional)?;

@@ -1,6 +1,6 @@
 //! Maps from the ids of accounts and transfers to their indices: hash maps with memory reserved ahead.
 
-ghost use Rattle.std.specs.Prelude.{◌≡◌, ◌+◌, ◌≤◌, ◌<◌, ◌==◌, ℕ, [], None, Some, if◌then◌else◌, OnOk};
+ghost use Rattle.std.specs.Prelude.{◌≡◌, ◌+◌, ◌≤◌, ◌<◌, ◌==◌, ℕ, [], None, Some, if◌then◌else◌, OnErr, OnOk};
 ghost use Rattle.cdc_ledger.specs.PlacesById.{place_of};
 
 use indexmap::IndexMap;
@@ -46,10 +46,11 @@ impl IdPlaces {
         self.map.get(&id).copied()
     }
 
-    /// Reserves memory for `additional` more ids. An error means out of memory.
+    /// Reserves memory for `additional` more ids. An error means out of memory, and nothing is allocated for 0 ids.
     pub(crate) fn reserve(&mut self, additional: usize) -> Result<(), AllocError>
         ensures places { self.new.places ≡ self.old.places }
         ensures room { OnOk result (additional ≤ self.new.room) }
+        ensures needed { OnErr result (0 < additional) }
     {
         self.map.reserve(additional)?;
         self.room = self.room.max(additional);

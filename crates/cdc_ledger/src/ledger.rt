@@ -68,7 +68,7 @@ impl Ledger {
     /// Opens accounts at the timestamp `now`, in nanoseconds, and returns a result for each request, in order
     /// (TigerBeetle, `create_accounts`). The batch is refused as a whole if the ledger is closed, if there are more
     /// than 1,000 requests, if their timestamps would exceed 2^63-1, or if memory runs out; the first of these that
-    /// applies is the error.
+    /// applies is the error. Without requests nothing is allocated.
     pub fn create_accounts(
         &mut self,
         alloc: Global,
@@ -100,7 +100,7 @@ impl Ledger {
     /// Expires the pending transfers that are due at the timestamp `now`, in nanoseconds, and returns their number,
     /// which has no limit (TigerBeetle, Two-Phase Transfers, `timeout`). The pulse is refused as a whole if the
     /// ledger is closed, if the timestamps would exceed 2^63-1, or if memory runs out; the first of these that
-    /// applies is the error.
+    /// applies is the error. If none is due nothing is allocated.
     pub fn pulse(&mut self, now: u64) -> Result<u64, BatchError>
         ensures { Answers BatchResults.Pulsed self.old (Batch.Pulse now) result self.new }
     {

@@ -1,6 +1,6 @@
 //! The state of a ledger between two batches.
 
-ghost use Rattle.std.specs.Prelude.{◌≡◌, ◌<◌, ◌≤◌, true, Some, length, option_map, slice_get, OnOk, IfErr};
+ghost use Rattle.std.specs.Prelude.{◌≡◌, ◌<◌, ◌≤◌, true, Some, length, option_map, slice_get, OnErr, OnOk, IfErr};
 ghost use Rattle.std.specs.Option.{option_copied};
 ghost use Rattle.cdc_ledger.specs.Endings.{ending_of};
 ghost use Rattle.cdc_ledger.specs.Events.{account_now, accounts_now};
@@ -146,6 +146,7 @@ impl Tables {
         ensures history { self.new.history ≡ self.old.history }
         ensures room { OnOk result (additional ≤ self.new.account_room) }
         ensures memory { IfErr result (λ e. e ≡ BatchError.OutOfMemory) }
+        ensures needed { OnErr result (0 < additional) }
     {
         self.account_places.reserve(additional)?;
         self.accounts.reserve(additional)?;
@@ -157,6 +158,7 @@ impl Tables {
         ensures history { self.new.history ≡ self.old.history }
         ensures room { OnOk result (additional ≤ self.new.entry_room) }
         ensures memory { IfErr result (λ e. e ≡ BatchError.OutOfMemory) }
+        ensures needed { OnErr result (0 < additional) }
     {
         self.entries.reserve(additional)?;
         self.endings.reserve(additional)?;
@@ -169,6 +171,7 @@ impl Tables {
         ensures room { OnOk result (additional ≤ self.new.entry_room) }
         ensures place_room { OnOk result (additional ≤ self.new.place_room) }
         ensures memory { IfErr result (λ e. e ≡ BatchError.OutOfMemory) }
+        ensures needed { OnErr result (0 < additional) }
     {
         self.reserve_entries(additional)?;
         self.transfer_places.reserve(additional)?;

@@ -165,8 +165,9 @@ impl Session {
     ///
     /// If the store holds nothing, the session begins after `at`, or after 0 if `at` is `None`, and the store keeps
     /// this as the start. If the store holds progress, `at` must be `None`; otherwise the error is `StartNotAllowed`.
-    /// It is found after the load and before `SessionsExhausted`, and nothing is saved. `Store`: the load failed, and
-    /// the store holds what it held; or the save failed, and the store holds what it loaded or the new record.
+    /// It is found after the load and before `SessionsExhausted`, and nothing is saved. `Store`: the load failed, as it
+    /// always does for a store that isn't honest, and the store holds what it held; or the save failed, and the store
+    /// holds what it loaded or the new record.
     /// `OutOfMemory`: memory ran out, here or in the store, and nothing is saved.
     pub fn start<S: ProgressStore>(
         alloc: Global,
@@ -190,6 +191,7 @@ impl Session {
           failed_after = S.failed store.new;
         }) at) }
         ensures risked { IfErr result (IsStartRisked (S.risks store.old)) }
+        ensures loads { OnOk result (IsTrue (S.is_honest store.old)) }
         ensures honest { S.is_honest store.new ≡ S.is_honest store.old }
         ensures same_risks { S.risks store.new ≡ S.risks store.old }
     {

@@ -1,5 +1,5 @@
-use Rattle.std.proofs.Common.{◌≡◌, length, ap, sym, subst, ◌∙◌}
-use Rattle.std.specs.Result.{IfErr, IsErrAnd}
+use Rattle.std.proofs.Common.{◌≡◌, ◌<◌, length, ap, sym, subst, ◌∙◌}
+use Rattle.std.specs.Result.{IfErr, IsErrAnd, OnErr}
 use Rattle.cdc_ledger.specs.declared.errors.BatchError.TheVariants.{OutOfMemory}
 use Rattle.cdc_ledger.specs.Due.{due}
 use Rattle.cdc_ledger.specs.History.{History}
@@ -23,6 +23,7 @@ returns-in_err-reserve_entries-clause-answers c =
     c.due_count-count.ensures
     c.reserve_entries.new.self.history c.from_residual.result (sym c.batch_refusal.ensures ∙ c.in_default.is)
     c.reserve_entries.ensures.history
+    (subst (λ r. OnErr r (0 < c.due_count-count.result)) c.in_err-reserve_entries.was c.reserve_entries.ensures.needed)
     (subst (λ x. IsErrAnd c.from_residual.result (λ e. e ≡ x)) out same)
 
 pub expire_all-requires-clause-count : goal.expire_all-requires-clause-count
