@@ -1,5 +1,6 @@
 -- Bytes that a reader loses, piece by piece.
-use Rattle.std.proofs.Common.{ℕ, ◌+◌, ◌≤◌, List, ◌++◌, length, Option, Some, None, arith, length-append, append_assoc, refl}
+use Rattle.std.proofs.Common.{ℕ, ◌+◌, ◌≤◌, ◌<◌, List, ◌++◌, length, Option, Some, None, arith, length-append, append_assoc, refl}
+use Rattle.std.specs.Prelude.{IfSome}
 use Rattle.std.specs.Io.KnownBytes.{Consumes}
 use Rattle.cdc_script.specs.Reading.{ConsumesAtMost}
 
@@ -16,3 +17,12 @@ pub consumes_at_most : (most : ℕ) (a b c : Option (List ℕ)) (xs ys : List �
     → length xs + length ys ≤ most → ConsumesAtMost most a c
 consumes_at_most most a b c xs ys h k bound =
     (xs ++ ys, omega (arith, length-append xs ys), consumes_more a b c xs ys h k)
+
+-- known bytes that lose two pieces, of which the second isn't empty, aren't none
+pub some_lost : (a b c : Option (List ℕ)) (xs ys : List ℕ) → Consumes a b xs → Consumes b c ys → 0 < length ys
+    → IfSome a (λ bytes. 0 < length bytes)
+some_lost None b c xs ys h k some = tt
+some_lost (Some as') None c xs ys h k some = absurd h
+some_lost (Some as') (Some bs) None xs ys h k some = absurd k
+some_lost (Some as') (Some bs) (Some cs) xs ys h k some =
+    rw (h, k) (omega (arith, length-append xs (ys ++ cs), length-append ys cs, some))

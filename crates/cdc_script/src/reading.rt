@@ -1,6 +1,6 @@
 //! Reading the bytes of scripts and step files.
 
-ghost use Rattle.std.specs.Prelude.{◌≡◌, ◌+◌, ◌≤◌, length, IfOk, IfSome};
+ghost use Rattle.std.specs.Prelude.{◌≡◌, ◌+◌, ◌≤◌, ◌<◌, length, Err, IfOk, IfSome};
 ghost use Rattle.std.specs.Io.KnownBytes.{Consumes, IsAtEnd};
 ghost use Rattle.cdc_script.specs.Reading.{ConsumesAtMost};
 ghost use Rattle.cdc_script.specs.Scripts.{max_bytes, script_of};
@@ -15,8 +15,8 @@ use std::io::Read;
 const PIECE: usize = 8192;
 
 /// Reads the bytes of a script or a step file, and stops after one byte more than is allowed. The result parses as
-/// all bytes of the reader would. The error is the reader's or out of memory. After an error the reader isn't read
-/// again.
+/// all bytes of the reader would. The error is the reader's or out of memory, and memory is allocated only once a byte
+/// was read. After an error the reader isn't read again.
 pub fn read_text<R: Read>(alloc: Global, reader: &mut R) -> Result<Vec<u8>, ReadError>
     ensures bounded { ConsumesAtMost (max_bytes + 1)
         (R.remaining reader.old) (R.remaining reader.new) }
@@ -24,6 +24,8 @@ pub fn read_text<R: Read>(alloc: Global, reader: &mut R) -> Result<Vec<u8>, Read
         (R.remaining reader.old) (R.remaining reader.new) text.items) }
     ensures whole { IfOk result (λ text. length text.items ≤ max_bytes
         → IsAtEnd (R.remaining reader.new)) }
+    ensures memory { result ≡ Err ReadError.OutOfMemory
+        → IfSome (R.remaining reader.old) (λ bytes. 0 < length bytes) }
     ensures script { IfSome (R.remaining reader.old) (λ bytes.
         IfOk result (λ text. script_of text.items ≡ script_of bytes)) }
     ensures steps { IfSome (R.remaining reader.old) (λ bytes.
@@ -40,6 +42,8 @@ fn read_pieces<R: Read>(alloc: Global, reader: &mut R) -> Result<Vec<u8>, ReadEr
         (R.remaining reader.old) (R.remaining reader.new) text.items) }
     ensures whole { IfOk result (λ text. length text.items ≤ max_bytes
         → IsAtEnd (R.remaining reader.new)) }
+    ensures memory { result ≡ Err ReadError.OutOfMemory
+        → IfSome (R.remaining reader.old) (λ bytes. 0 < length bytes) }
 {
     let mut text = Vec::new(alloc);
     let mut piece = [0u8; PIECE];
