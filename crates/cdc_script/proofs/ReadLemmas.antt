@@ -1,8 +1,7 @@
 -- Bytes that a reader loses, piece by piece.
-use Rattle.std.proofs.Common.{ℕ, ◌+◌, ◌≤◌, ◌<◌, List, ◌++◌, length, Option, Some, None, arith, length-append, append_assoc, refl}
-use Rattle.std.specs.Prelude.{IfSome}
+use Rattle.std.proofs.Common.{ℕ, ◌+◌, ◌≤◌, List, ◌++◌, length, Option, Some, None, arith, length-append, append_assoc, refl}
 use Rattle.std.specs.Io.KnownBytes.{Consumes}
-use Rattle.cdc_script.specs.Reading.{ConsumesAtMost}
+use Rattle.cdc_script.specs.Reading.{ConsumesAtMost, ConsumesSome}
 
 -- two pieces, one after the other, are one
 pub consumes_more : (a b c : Option (List ℕ)) (xs ys : List ℕ) → Consumes a b xs → Consumes b c ys
@@ -18,11 +17,7 @@ pub consumes_at_most : (most : ℕ) (a b c : Option (List ℕ)) (xs ys : List �
 consumes_at_most most a b c xs ys h k bound =
     (xs ++ ys, omega (arith, length-append xs ys), consumes_more a b c xs ys h k)
 
--- known bytes that lose two pieces, of which the second isn't empty, aren't none
-pub some_lost : (a b c : Option (List ℕ)) (xs ys : List ℕ) → Consumes a b xs → Consumes b c ys → 0 < length ys
-    → IfSome a (λ bytes. 0 < length bytes)
-some_lost None b c xs ys h k some = tt
-some_lost (Some as') None c xs ys h k some = absurd h
-some_lost (Some as') (Some bs) None xs ys h k some = absurd k
-some_lost (Some as') (Some bs) (Some cs) xs ys h k some =
-    rw (h, k) (omega (arith, length-append xs (ys ++ cs), length-append ys cs, some))
+-- two pieces, of which the second isn't empty, aren't empty together
+pub consumes_some : (a b c : Option (List ℕ)) (xs : List ℕ) → Consumes a b xs → ConsumesSome b c → ConsumesSome a c
+consumes_some a b c xs h (ys, some, k) =
+    (xs ++ ys, omega (arith, length-append xs ys), consumes_more a b c xs ys h k)
