@@ -41,3 +41,16 @@ are_distinct-keys [] distinct = refl
 are_distinct-keys (account ∷ rest) distinct =
     let first = apart account.0 rest (IsDistinct-head nat_eq account.0 (keys_of rest) distinct) in
     rw first (are_distinct-keys rest (IsDistinct-tail nat_eq account.0 (keys_of rest) distinct))
+
+-- an account of the book is still there after another is put
+pub is_among-put : (id : ℕ) (entry : BookEntry) (book : List BookEntry) → is_among id (ids_of book) ≡ true
+    → is_among id (ids_of (put entry book)) ≡ true
+is_among-put id entry [] here = cc
+is_among-put id entry (other ∷ rest) here =
+    elim (eqb_tells other.id entry.id) [
+      | inl same ↦ rw (same.0, ← same.1) here
+      | inr apart ↦ elim (eqb_tells other.id id) [
+        | inl first ↦ rw (apart.0, first.0) refl
+        | inr later ↦ rw (apart.0, later.0) (is_among-put id entry rest (rw later.0 at here))
+      ]
+    ]

@@ -35,6 +35,10 @@ are_distinct (id ∷ ids) = not (is_among id ids) && are_distinct ids
 abbrev pub ids_of : List BookEntry → List ℕ
 ids_of entries = map (λ entry. entry.id) entries
 
+-- the book has both accounts of an event
+abbrev pub has_both : List BookEntry → Event → Bool
+has_both book e = is_among e.debit_account.id (ids_of book) && is_among e.credit_account.id (ids_of book)
+
 -- numbers in the order of their first appearance
 abbrev pub first_appearances : List ℕ → List ℕ
 first_appearances ids = fold (λ seen id. if is_among id seen then seen else (seen ++ id ∷ [])) [] ids

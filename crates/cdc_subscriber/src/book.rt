@@ -3,7 +3,7 @@
 ghost use Rattle.std.specs.Prelude.{◌≡◌, ◌==◌, ◌+◌, ◌<◌, ◌≤◌, [], ◌∷◌, ◌++◌, List, length, not, false, true, if◌then◌else◌, IfOk, OnOk, OnErr, option_map, slice_get};
 ghost use Rattle.indexmap.specs.IndexMap.{spare};
 ghost use Rattle.cdc_types.specs.declared.events.Event.{Event as Emitted};
-ghost use Rattle.cdc_subscriber.specs.Book.{are_distinct, balances_in, balances_shown, entries_of, entry_of as shown_entry, book_of, id_and_balances, ids_of, is_among, put as put_entry};
+ghost use Rattle.cdc_subscriber.specs.Book.{are_distinct, balances_in, balances_shown, entries_of, entry_of as shown_entry, book_of, id_and_balances, ids_of, has_both as has_both_in, is_among, put as put_entry};
 ghost use Rattle.cdc_subscriber.specs.Steps.{book_after};
 
 use cdc_types::{Balances, Event, EventAccount};
@@ -105,14 +105,15 @@ impl Book {
         self.accounts.iter()
     }
 
-    /// Applies one event to both of its accounts. On an error the book is unchanged.
+    /// Applies one event to both of its accounts. If memory runs out, the book lacks one of them, and is unchanged.
     pub(crate) fn apply(&mut self, event: &Event) -> Result<(), AllocError>
         ensures ok { OnOk result ((events : List Emitted) → self.old ≡ book_of events
             → self.new ≡ book_of (events ++ event.now ∷ [])) }
         ensures after { OnOk result (self.new ≡ book_after self.old event.now) }
         ensures err { OnErr result (self.new ≡ self.old) }
+        ensures memory { OnErr result (has_both_in self.old event.now ≡ false) }
     {
-        self.accounts.reserve(2)?;
+        reserve_for(&mut self.accounts, event)?;
         put(&mut self.accounts, entry_of(&event.debit_account));
         put(&mut self.accounts, entry_of(&event.credit_account));
         Ok(())
@@ -133,9 +134,31 @@ fn entry_of(account: &EventAccount) -> BookEntry
     }
 }
 
-/// Replaces the entry with the same number, or adds the entry last.
+/// Makes room for the accounts of an event. It allocates only if one of them is missing.
+fn reserve_for(accounts: &mut IndexMap<u128, Balances>, event: &Event) -> Result<(), AllocError>
+    ensures entries { accounts.new.entries ≡ accounts.old.entries }
+    ensures room { OnOk result (has_both_in (entries_of accounts.old.entries) event.now ≡ false
+        → 2 ≤ spare accounts.new) }
+    ensures memory { OnErr result (has_both_in (entries_of accounts.old.entries) event.now ≡ false) }
+{
+    let spare = accounts.capacity() - accounts.len();
+    if spare < 2 && !has_both(accounts, event) {
+        accounts.reserve(2)?;
+    }
+    Ok(())
+}
+
+/// Whether both accounts of an event are there.
+fn has_both(accounts: &IndexMap<u128, Balances>, event: &Event) -> bool
+    ensures { result ≡ has_both_in (entries_of accounts.now.entries) event.now }
+{
+    accounts.contains_key(&event.debit_account.id)
+        && accounts.contains_key(&event.credit_account.id)
+}
+
+/// Replaces the entry with the same number, or adds the entry last. Only a new number needs room.
 fn put(accounts: &mut IndexMap<u128, Balances>, entry: BookEntry)
-    requires { 0 < spare accounts.old }
+    requires { is_among entry.id (ids_of (entries_of accounts.old.entries)) ≡ false → 0 < spare accounts.old }
     ensures entries { entries_of accounts.new.entries
         ≡ put_entry entry (entries_of accounts.old.entries) }
     ensures room { spare accounts.old ≤ spare accounts.new + 1 }

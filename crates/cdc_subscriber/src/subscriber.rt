@@ -3,6 +3,7 @@
 ghost use Rattle.std.specs.Prelude.{◌≡◌, ◌<◌, false, true, OnOk, OnErr};
 ghost use Rattle.std.specs.Io.KnownBytes.{Appends};
 ghost use Rattle.cdc_message.specs.Reading.{read};
+ghost use Rattle.cdc_subscriber.specs.Book.{has_both};
 ghost use Rattle.cdc_subscriber.specs.Lines.{subscriber_text};
 ghost use Rattle.cdc_subscriber.specs.Reception.{Reception, nothing, next, next_read, kept_of};
 ghost use Rattle.cdc_subscriber.specs.Steps.{next_state, next_state_read, taken};
@@ -135,7 +136,7 @@ impl Subscriber {
     }
 
     /// Takes an event that was read before. The only error is that memory runs out, under the same conditions, and only
-    /// for an event that is later than the last one applied.
+    /// for an event that is later than the last one applied and has an account that the book lacks.
     pub fn take_event(&mut self, event: &Event) -> Result<Taking, TakeError>
         ensures answer { TakesItem self.old (Item.Event event.now) result }
         ensures stands { (reception : Reception) → self.old ≡ kept_of reception
@@ -143,6 +144,7 @@ impl Subscriber {
         ensures state { OnOk result (self.new ≡ next_state self.old (Item.Event event.now)) }
         ensures err { OnErr result (self.new ≡ self.old) }
         ensures memory { OnErr result (self.old.last < event.now.timestamp) }
+        ensures known { OnErr result (has_both self.old.book event.now ≡ false) }
     {
         if let Some(answer) = self.settled() {
             return Ok(answer);
@@ -240,6 +242,7 @@ impl Subscriber {
         ensures state { OnOk result (self.new ≡ taken self.old (Item.Event event.now)) }
         ensures err { OnErr result (self.new ≡ self.old) }
         ensures memory { OnErr result (self.old.last < event.now.timestamp) }
+        ensures known { OnErr result (has_both self.old.book event.now ≡ false) }
     {
         if event.timestamp <= self.last {
             return Ok(Taking::Repeat);
