@@ -1,17 +1,20 @@
--- What is sent to the JSON crate's writer for an event. Cited by private contracts alone.
-use Rattle.std.specs.Prelude.{ℕ, List}
-use Rattle.serde.specs.Event.{Log, Logs, field_key}
-use Rattle.serde.specs.declared.name.Case.TheVariants.{AsIs}
+-- What is written for an event, as tokens of the JSON crate's writer. Cited by private contracts alone.
+use Rattle.std.specs.Prelude.{◌≡◌, ℕ, List, ◌∷◌, ◌++◌}
+use Rattle.json.specs.Token.{Token, key}
+use Rattle.json.specs.Tree.{json_tokens}
+use Rattle.json.specs.Written.{Written}
 use Rattle.serde_json.specs.Data.{Data}
-use Rattle.serde_json.specs.Events.{SendsValue}
-use Rattle.cdc_types.specs.declared.events.Event.{Event}
-use Rattle.cdc_message.specs.Values.{event_value}
-use Rattle.cdc_message.specs.Widths.{EventFits}
+use Rattle.serde_json.specs.Written.{outline}
 
--- a member of an object: its name, and then its value
-abbrev pub SendsMember : List ℕ → Data → Log → Log → Type 0
-SendsMember name value old new = (named : Log) × Logs old named (field_key name AsIs) × SendsValue value named new
+-- the tokens of a value
+abbrev pub value_tokens : Data → List Token
+value_tokens value = json_tokens (outline value)
 
--- the value of an event, whose numbers fit their fields
-abbrev pub SendsEvent : Event → Log → Log → Type 0
-SendsEvent event old new = EventFits event × SendsValue (event_value event) old new
+-- the tokens of a member of an object: its name, and then its value
+abbrev pub member_tokens : List ℕ → Data → List Token
+member_tokens name value = key name ∷ value_tokens value
+
+-- the writer has these tokens after its earlier ones, in the same buffer
+pub record Sends (old new : Written) (sent : List Token) : Type 0 where
+  pub tokens_are : new.tokens ≡ old.tokens ++ sent
+  pub before_is : new.before ≡ old.before
