@@ -34,11 +34,11 @@ is_decimal-decimal n h =
     rw (no_zero (length (decimal n)) numeral.0, digits)
 
 -- an amount or an id written as a decimal string is read as that number
-whole_number-wide : (n : ℕ) → n < 10 ^ 64 → whole_number (wide n) ≡ Some n
+pub whole_number-wide : (n : ℕ) → n < 10 ^ 64 → whole_number (wide n) ≡ Some n
 whole_number-wide n h = rw (is_decimal-decimal n h, (decimal_is_IsNumeral_wide n h).1)
 
 -- a number that fits the bits of its field isn't refused as out of range
-up_to_width : (bits : ℕ) (at : Field) (n : ℕ) → n < 2 ^ bits → up_to (2 ^ bits - 1) at n ≡ Ok n
+pub up_to_width : (bits : ℕ) (at : Field) (n : ℕ) → n < 2 ^ bits → up_to (2 ^ bits - 1) at n ≡ Ok n
 up_to_width bits at n h = let le : n ≤ 2 ^ bits - 1 = omega arith in rw (le-leb n (2 ^ bits - 1) le)
 
 -- a field that was written as a decimal string gives back its number

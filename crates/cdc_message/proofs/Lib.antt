@@ -14,4 +14,7 @@ pub mod Same
 pub mod Sent
 pub mod ShortNumbers
 pub mod Texts
+pub mod Unordered
+pub mod UnorderedLaw
+pub mod UnorderedParts
 pub mod Utf8

@@ -21,7 +21,7 @@ use Rattle.cdc_message.specs.Widths.{AccountFits, TransferFits, EventFits}
 -- ---- strings that need no escape
 
 -- a string's text, without the first quote
-abbrev after_quote : List ℕ → List ℕ
+abbrev pub after_quote : List ℕ → List ℕ
 after_quote s = drop 1 (compact_text (string s))
 
 -- this byte represents itself
@@ -53,7 +53,7 @@ plain_digits (d ∷ ds) h =
     subst IsPlainByte is (plain_digit (d - 48) small) ds ∙ ap (λ s. d ∷ s) (plain_digits ds h.1)
 
 -- a number's digits need no escape
-plain_decimal : (n : ℕ) → n < 10 ^ 64 → after_quote (decimal n) ≡ decimal n ++ 34 ∷ []
+pub plain_decimal : (n : ℕ) → n < 10 ^ 64 → after_quote (decimal n) ≡ decimal n ++ 34 ∷ []
 plain_decimal n h = plain_digits (decimal n) (decimal_is_IsNumeral_wide n h).0.1
 
 -- ---- objects
@@ -145,7 +145,7 @@ compact_text-transfer transfer fits =
     )
 
 -- the name of no kind needs an escape
-plain_kind : (kind : EventKind) → after_quote (kind_text kind) ≡ kind_text kind ++ 34 ∷ []
+pub plain_kind : (kind : EventKind) → after_quote (kind_text kind) ≡ kind_text kind ++ 34 ∷ []
 unfolding serde_json_on_literals
 plain_kind SinglePhase = refl
 plain_kind TwoPhasePending = refl

@@ -12,5 +12,6 @@ pub mod Packets
 pub mod Reading
 pub mod Replays
 pub mod Sending
+pub mod Unordered
 pub mod Values
 pub mod Widths

@@ -14,6 +14,8 @@ mod laws;
 mod message;
 mod own_bodies;
 mod packets;
+mod part_numbers;
+mod unordered_bodies;
 mod words;
 
 pub use decimals::{decimal_up_to, is_decimal};
@@ -28,3 +30,4 @@ pub use laws::replay_laws;
 pub use message::Message;
 pub use own_bodies::own_event;
 pub use packets::{Answer, Confirm, Packet};
+pub use unordered_bodies::documented_event;

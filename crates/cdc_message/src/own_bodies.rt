@@ -14,13 +14,13 @@ use itoa::Buffer;
 
 // The rest of a body that is still to be read.
 #[derive(Drop)]
-struct Cursor<'a> {
-    rest: &'a [u8],
+pub(crate) struct Cursor<'a> {
+    pub(crate) rest: &'a [u8],
 }
 
 impl Cursor<'_> {
     // Skips this text. `None` if another text comes next.
-    fn literal(&mut self, text: &[u8]) -> Option<()>
+    pub(crate) fn literal(&mut self, text: &[u8]) -> Option<()>
         ensures { OnSome result (self.old.rest.now ≡ text.now ++ self.new.rest.now) }
     {
         let (front, rest) = self.rest.split_at_checked(text.len())?;
@@ -32,7 +32,7 @@ impl Cursor<'_> {
     }
 
     // Skips this byte. `None` if another one comes next.
-    fn byte(&mut self, byte: u8) -> Option<()>
+    pub(crate) fn byte(&mut self, byte: u8) -> Option<()>
         ensures { OnSome result (self.old.rest.now ≡ byte ∷ self.new.rest.now) }
     {
         let (first, rest) = self.rest.split_first()?;
@@ -44,7 +44,7 @@ impl Cursor<'_> {
     }
 
     // Reads a number without leading zeros. Most have at most 19 digits; the text of a longer one is compared with it.
-    fn number(&mut self) -> Option<u128>
+    pub(crate) fn number(&mut self) -> Option<u128>
         ensures { IfSome result (λ n. self.old.rest.now ≡ decimal n ++ self.new.rest.now) }
     {
         if let Some((number, count)) = short_number(self.rest) {
@@ -57,7 +57,7 @@ impl Cursor<'_> {
     }
 
     // Reads a number of 128 bits in quotes.
-    fn number_128(&mut self) -> Option<u128>
+    pub(crate) fn number_128(&mut self) -> Option<u128>
         ensures fits { IfSome result (λ n. n < 2 ^ 128) }
         ensures text { IfSome result (λ n. self.old.rest.now ≡ in_quotes (decimal n) ++ self.new.rest.now) }
     {
