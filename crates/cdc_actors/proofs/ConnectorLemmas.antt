@@ -3,6 +3,7 @@ pub mod Failing
 pub mod Histories
 pub mod Messages
 pub mod Receiving
+pub mod Restarts
 pub mod Rounds
 pub mod Sessions
 pub mod Steps

@@ -6,5 +6,6 @@ mod FixedOrders
 mod Keeping
 mod LedgerLemmas
 mod PassedOn
+mod RestartExamples
 mod Seated
 mod SubscriberLemmas

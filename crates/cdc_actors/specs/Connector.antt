@@ -2,7 +2,7 @@
 pub mod Fails
 pub mod Moves
 pub mod SoFar
-use Rattle.std.specs.Prelude.{◌≡◌, ◌==◌, ◌⊎◌, ℕ, zero, suc, ◌+◌, ◌<◌, ◌≤◌, ◌&&◌, Bool, is_some, true, false, Option, Some, None, List, [], ◌∷◌, ◌++◌, Contains, length, map, unwrap_or, if◌then◌else◌}
+use Rattle.std.specs.Prelude.{◌≡◌, ◌==◌, ◌⊎◌, ℕ, zero, suc, ◌+◌, ◌-◌, ◌<◌, ◌≤◌, ◌&&◌, Bool, is_some, true, false, Option, Some, None, List, [], ◌∷◌, ◌++◌, Contains, length, map, slice_get, unwrap_or, if◌then◌else◌}
 use Rattle.std.specs.List.{filter, filter_map, list_any}
 use Rattle.std.specs.Option.{option_map}
 use Rattle.cdc_laws.specs.Connectors.{ConnectorState, held_number, held_start, held_timestamp}
@@ -108,6 +108,73 @@ abbrev pub RisesBy : ℕ → ConnectorCore → ConnectorCore → Type 0
 RisesBy n old new = old.honest ≡ true →
     held_number new.held + planned_up_to old.restarts old.published
     ≡ held_number old.held + planned_up_to new.restarts new.published + n
+
+-- a packet's session
+abbrev pub session_of : Packet → ℕ
+session_of (Connect session) = session
+session_of (Publish session tag item) = session
+
+-- the last of some packets, if there is one
+abbrev pub last_of : List Packet → Option Packet
+last_of packets = slice_get packets (length packets - 1)
+
+-- the plan names the last of these packets: it publishes an item, and with it so many publish packets were sent
+abbrev pub is_planned : List ℕ → List Packet → Packet → Bool
+is_planned plan sent last =
+    is_publish last && list_any (λ number. number == length (filter is_publish sent)) plan
+
+-- one of the confirms reports that a packet of this session was lost
+abbrev pub IsBroken : List Confirm → ℕ → Type 0
+IsBroken confirms session = Contains confirms (record { session = session; answer = Broken })
+
+-- a session may publish right after these packets: the last of them is its own, and the plan doesn't name that
+pub record MayPublish (plan : List ℕ) (sent : List Packet) (session : ℕ) : Type 0 where
+  pub last : Packet
+  pub is_last : last_of sent ≡ Some last
+  pub own : session_of last ≡ session
+  pub unplanned : is_planned plan sent last ≡ false
+
+-- a session may begin right after this last packet: the plan names it, or a packet of its session was lost. If the
+-- store is honest, the number of the session is a later one, and of each session in between a packet was lost
+pub record MayRestart (plan : List ℕ) (honest : Bool) (confirms : List Confirm) (sent : List Packet) (session : ℕ)
+    (last : Packet) : Type 0 where
+  pub cause : (is_planned plan sent last ≡ true) ⊎ IsBroken confirms (session_of last)
+  pub later : honest ≡ true → session_of last < session
+  pub between : honest ≡ true → (other : ℕ) → session_of last < other → other < session → IsBroken confirms other
+
+-- a session may connect right after these packets: as the first of all, or where it may begin
+abbrev pub MayConnect : List ℕ → Bool → List Confirm → List Packet → ℕ → Type 0
+MayConnect plan honest confirms sent session =
+    (last : Packet) → last_of sent ≡ Some last → MayRestart plan honest confirms sent session last
+
+abbrev pub MayBeSent : List ℕ → Bool → List Confirm → List Packet → Packet → Type 0
+MayBeSent plan honest confirms sent (Connect session) = MayConnect plan honest confirms sent session
+MayBeSent plan honest confirms sent (Publish session tag item) = MayPublish plan sent session
+
+-- each packet may be sent right after those before it. So the packet after a publish packet that the plan names is
+-- the connect packet of a new session, and a connect packet comes only there, first of all, or once a packet was lost
+abbrev pub RestartsAsPlanned : List ℕ → Bool → List Confirm → List Packet → Type 0
+RestartsAsPlanned plan honest confirms sent = (earlier : List Packet) (packet : Packet) (later : List Packet)
+    → sent ≡ earlier ++ packet ∷ later → MayBeSent plan honest confirms earlier packet
+
+-- the plan doesn't name the last of these packets, so no restart is due after them
+abbrev pub IsUnplanned : List ℕ → List Packet → Type 0
+IsUnplanned plan sent = (last : Packet) → last_of sent ≡ Some last → is_planned plan sent last ≡ false
+
+-- a session is in turn: it has sent nothing and may connect, or it has connected and may publish
+pub record IsInTurn (plan : List ℕ) (honest : Bool) (confirms : List Confirm) (sent : List Packet) (course : Course)
+    : Type 0 where
+  pub connects : course.sent ≡ 0 → MayConnect plan honest confirms sent course.number
+  pub publishes : 0 < course.sent → MayPublish plan sent course.number
+
+-- so has a connector restarted up to now, and so is its session in turn
+abbrev pub HasRestarted : ConnectorCore → Type 0
+HasRestarted c =
+    RestartsAsPlanned c.restarts c.honest (confirms_in (of_sender 1 c.inbox.received)) (packets_in c.packets.sent)
+
+abbrev pub IsTurnOf : ConnectorCore → Course → Type 0
+IsTurnOf c course =
+    IsInTurn c.restarts c.honest (confirms_in (of_sender 1 c.inbox.received)) (packets_in c.packets.sent) course
 
 -- how many sessions a message ends: one, if it reports that a packet of the session that is held was lost
 abbrev pub broken_by : Bool → Answer → ℕ
@@ -229,7 +296,8 @@ connector_of c course = record {
 }
 
 -- at any time: if its store is honest and the run began at its start, it keeps to every history of which the replies
--- to polls that it has received are readings. An open poll is the latest of its session, for what that wants
+-- to polls that it has received are readings. An open poll is the latest of its session, for what that wants. It has
+-- restarted as planned
 pub record IsPublishing (c : ConnectorCore) (course : Option Course) : Type 0 where
   pub wired : IsWired c.inbox.senders c.polls.number c.packets.number c.window
   pub dispatched : HasSent c.polls.sent c.packets.sent c.published c.finished
@@ -239,16 +307,18 @@ pub record IsPublishing (c : ConnectorCore) (course : Option Course) : Type 0 wh
   pub runs : IsRunningIn c.held course
   pub first : IsFirstIn c.first course
   pub poll : (poll : Poll) → c.poll ≡ Some poll → IsPollIn course c.asked poll
+  pub restarted : HasRestarted c
   pub keeps : c.honest ≡ true → IsAtStart (origin_of c)
       → KeepsToReadings (readings_of (of_sender 0 c.inbox.received)) (connector_of c course)
 
 -- between two turns nothing is left to send. Before the first one nothing was sent or received. After it a session
 -- runs. A poll is open exactly if the session wants events. The session has no packet to send, or there is no room
--- for one. The connector has finished exactly if the end mark of its session was confirmed and every packet has its
--- confirm
+-- for one, and no restart is due. The connector has finished exactly if the end mark of its session was confirmed and
+-- every packet has its confirm
 pub record HasFollowed (c : ConnectorCore) (course : Course) : Type 0 where
   pub asked : is_some c.poll ≡ is_some (next_poll course)
   pub sent : (next_packet course ≡ None) ⊎ (c.unanswered ≡ c.window + 1)
+  pub turn : IsTurnOf c course
   pub finished : c.finished ≡ (is_done course && (c.unanswered == 0))
 
 pub record IsSilent (c : ConnectorCore) : Type 0 where
@@ -318,7 +388,8 @@ pub record ArePartsOf (c : ConnectorCore) (inbox : Incoming ToConnector (Option 
 
 -- a connector that has finished. Its last session is done, each of its packets has its confirm, and its last messages
 -- follow its polls and its packets. The start of the run is held. If its store is honest and the run began at its
--- start, it keeps to every history of which the replies that it has received are readings
+-- start, it keeps to every history of which the replies that it has received are readings. It has restarted right
+-- after each publish packet that its plan names, so the last packet is none of them
 pub record IsDone (c : ConnectorCore) : Type 0 where
   pub course : Course
   pub done : is_done course ≡ true
@@ -328,6 +399,8 @@ pub record IsDone (c : ConnectorCore) : Type 0 where
   pub sent : map (λ m. m.0) c.packets.sent
       ≡ map to_broker.Packet (packets_in c.packets.sent) ++ to_broker.Finish ∷ []
   pub start : held_start c.held ≡ (origin_of c).start
+  pub restarted : HasRestarted c
+  pub last : IsUnplanned c.restarts (packets_in c.packets.sent)
   pub keeps : c.honest ≡ true → IsAtStart (origin_of c)
       → KeepsToReadings (readings_of (of_sender 0 c.inbox.received)) (connector_of c (Some course))
 

@@ -29,8 +29,8 @@ pub type ConnectorEnd<S> = End<ConnectorCore<S>>;
 impl<S: ProgressStore> ConnectorEnd<S> {
     /// A connector actor over its store that has sent nothing yet. Its first session starts after the timestamp
     /// `start`, if there is one; later sessions don't use it. A session waits for `window` events at a time. The
-    /// connector restarts after its publish packets of the numbers in `restart_after`, which are counted from 1 over
-    /// the whole run: it drops its session and starts the next.
+    /// connector restarts right after its publish packets of the numbers in `restart_after`, which are counted from 1
+    /// over the whole run: it drops its session and starts the next.
     pub fn new(
         system: u64,
         inbox: LinkIn<ToConnector>,

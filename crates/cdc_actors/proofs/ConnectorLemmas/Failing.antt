@@ -2,7 +2,7 @@
 use Rattle.std.proofs.Common.{◌≡◌, ℕ, ◌+◌, true, false, List, [], ◌∷◌, inl, inr, refl, sym, ap, ◌∙◌, subst, length, arith}
 use Rattle.std.specs.Prelude.{◌⊎◌, IsTrue, Bool, Option, Some, None}
 use Rattle.std.proofs.lemmas.List.{length-append}
-use Rattle.cdc_actors.specs.Connector.{HasSent, IsAtStart, IsOfSame, IsPublishing, ConnectorCore, confirms_in, connector_of, origin_of}
+use Rattle.cdc_actors.specs.Connector.{HasSent, IsAtStart, IsOfSame, IsPublishing, ConnectorCore, RestartsAsPlanned, confirms_in, connector_of, origin_of, packets_in}
 use Rattle.cdc_publisher.specs.Stands.{SessionStands}
 use Rattle.cdc_actors.specs.Connector.Fails.{IsAnswerFailed, IsConfirmFailed, IsCutShort, IsHeldOrNext, IsNotBegun, IsSaveRisked, IsUnfinished, IsUnsaved, IsUnsent}
 use Rattle.cdc_actors.specs.Connector.Moves.{GoesOn, IsAdvanced, IsBegunOrReceived, IsSending}
@@ -12,6 +12,7 @@ use Rattle.cdc_actors.specs.declared.faults.RunFault.{RunFault}
 use Rattle.cdc_actors.specs.declared.faults.RunFault.TheVariants.{PeerGone, OutOfMemory, Store, SessionsExhausted, NotOneSystem, StartNotAllowed}
 use Rattle.cdc_actors.proofs.ConnectorLemmas.Receiving.{IsConfirmOf, IsPublishing-answered, IsPublishing-saved, confirm_came, origin_saved}
 use Rattle.cdc_actors.proofs.ConnectorLemmas.Messages.{HasSent-finished}
+use Rattle.cdc_actors.proofs.ConnectorLemmas.Restarts.{RestartsAsPlanned-confirmed}
 use Rattle.cdc_actors.proofs.ConnectorLemmas.Steps.{origin_kept}
 use Rattle.cdc_actors.proofs.ConnectorLemmas.Turns.{GoesOn-same, GoesOn-trans, same_of, same_trans}
 use Rattle.cdc_laws.specs.Connectors.{ConnectorState, KeepsTo}
@@ -51,6 +52,7 @@ publishing_so_far c course is = record {
     order = λ over. over;
   };
   answers = inl is.answers.exact;
+  restarted = is.restarted;
   keeps = λ gives zero h are. KeepsTo-end h (connector_of c course) (is.keeps gives zero h are);
 }
 
@@ -58,7 +60,13 @@ publishing_so_far c course is = record {
 moved_so_far : (c : ConnectorCore) (session : Option SessionState) → IsConnectorSoFar c
     → IsConnectorSoFar (record c { session = session })
 moved_so_far c session is =
-    record { wired = is.wired; dispatched = is.dispatched; answers = is.answers; keeps = is.keeps }
+    record {
+      wired = is.wired;
+      dispatched = is.dispatched;
+      answers = is.answers;
+      restarted = is.restarted;
+      keeps = is.keeps;
+    }
 
 -- ---- a step fails
 
@@ -100,6 +108,7 @@ module _ (old : ConnectorCore) (held : Option Saved) where
       wired = is.wired;
       dispatched = is.dispatched;
       answers = is.answers;
+      restarted = is.restarted;
       keeps = λ gives zero. half_keeps gives (next gives) zero;
     }
 
@@ -235,6 +244,7 @@ module _ (old : ConnectorCore) (sends : IsSending old) where
           order = λ _. refl;
         };
         answers = inl is.answers.exact;
+        restarted = is.restarted;
         keeps = λ gives zero h are. KeepsTo-end h (connector_of old (Some sends.course)) (is.keeps gives zero h are);
       }
 
@@ -401,6 +411,10 @@ module _ (old : ConnectorCore) (course : Course) (is : IsPublishing old (Some co
         };
         dispatched = (publishing_so_far old (Some course) is).dispatched;
         answers = inr (none, omega (arith, is.answers.exact, count, none));
+        restarted = subst (λ cs. RestartsAsPlanned old.restarts old.honest cs (packets_in old.packets.sent))
+            (sym came.confirms)
+            (RestartsAsPlanned-confirmed old.restarts old.honest (confirms_in (of_sender 1 old.inbox.received)) confirm
+            (packets_in old.packets.sent) is.restarted);
         keeps = λ gives zero h are.
             let state : ConnectorState = connector_of old (Some course) in
             subst (λ cs. KeepsTo h (record state { session = None; confirms = cs })) (sym came.confirms)

@@ -63,7 +63,7 @@ one_count : (b : Bool) (packet : Packet) → length (cond b (packet ∷ []) []) 
 one_count true packet = refl
 one_count false packet = refl
 
-count_more : (packets : List Packet) (packet : Packet)
+pub count_more : (packets : List Packet) (packet : Packet)
     → length (filter is_publish (packets ++ packet ∷ [])) ≡ length (filter is_publish packets) + publish_count packet
 count_more packets packet =
     ap (λ (l : List Packet). length l) (filter-append is_publish packets (packet ∷ []))

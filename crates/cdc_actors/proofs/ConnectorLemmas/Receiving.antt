@@ -5,10 +5,11 @@ use Rattle.std.proofs.lemmas.List.{length-append}
 use Rattle.std.proofs.lemmas.List.Elements.{Contains-append_cases}
 use Rattle.std.proofs.lemmas.List.Sums.{fold-append}
 use Rattle.std.proofs.lemmas.Option.{none-some, same_Some}
-use Rattle.cdc_actors.specs.Connector.{AreUnanswered, IsAtStart, IsPollOf, IsPublishing, ConnectorCore, confirms_in, connector_of, first_origin, origin_of, packets_in}
+use Rattle.cdc_actors.specs.Connector.{AreUnanswered, IsAtStart, IsInTurn, IsPollOf, IsPublishing, IsTurnOf, ConnectorCore, RestartsAsPlanned, confirms_in, connector_of, first_origin, origin_of, packets_in}
 use Rattle.cdc_publisher.specs.Stands.{SessionStands}
 use Rattle.cdc_actors.specs.Connector.Moves.{wanted_by}
 use Rattle.cdc_actors.proofs.ConnectorLemmas.Messages.{confirms-more}
+use Rattle.cdc_actors.proofs.ConnectorLemmas.Restarts.{IsInTurn-confirmed, IsInTurn-same, RestartsAsPlanned-confirmed}
 use Rattle.cdc_actors.proofs.ConnectorLemmas.Steps.{kept_of, start_held}
 use Rattle.cdc_laws.proofs.WholeReads.{Contains-read, IsReply-read}
 use Rattle.cdc_laws.specs.Connectors.{ConnectorState, KeepsTo, held_number}
@@ -164,6 +165,8 @@ module _ (c : ConnectorCore) (course : Course) (is : IsPublishing c (Some course
     runs = is.runs;
     first = is.first;
     poll = is.poll;
+    restarted = subst (λ cs. RestartsAsPlanned c.restarts c.honest cs (packets_in c.packets.sent))
+        (sym came.confirms) is.restarted;
     keeps = λ gives zero h are.
         let state : ConnectorState = connector_of c (Some course) in
         subst (λ cs. KeepsTo h (record state { confirms = cs })) (sym came.confirms)
@@ -221,6 +224,8 @@ module _ (c : ConnectorCore) (course : Course) (is : IsPublishing c (Some course
           };
           first = is.first;
           poll = λ poll there. absurd (none-some poll there);
+          restarted = subst (λ cs. RestartsAsPlanned c.restarts c.honest cs (packets_in c.packets.sent))
+              (sym came.confirms) is.restarted;
           keeps = λ gives zero h are.
               let state : ConnectorState = connector_of c (Some course) in
               subst (λ cs. KeepsTo h (record state { session = Some next; confirms = cs })) (sym came.confirms)
@@ -230,9 +235,19 @@ module _ (c : ConnectorCore) (course : Course) (is : IsPublishing c (Some course
               (subst (λ rs. AreReadings rs h) came.readings are));
         }
 
+-- a reply leaves a session in turn
+pub turn_offered : (c : ConnectorCore) (inbox : Incoming ToConnector (Option Past)) (reply : PollReply)
+    → IsReplyOf c.inbox inbox reply → (course next : Course) → next.sent ≡ course.sent → next.number ≡ course.number
+    → IsTurnOf c course
+    → IsInTurn c.restarts c.honest (confirms_in (of_sender 1 inbox.received)) (packets_in c.packets.sent) next
+turn_offered c inbox reply came course next same number turn =
+    subst (λ cs. IsInTurn c.restarts c.honest cs (packets_in c.packets.sent) next) (sym came.confirms)
+    (IsInTurn-same c.restarts c.honest (confirms_in (of_sender 1 c.inbox.received)) (packets_in c.packets.sent) course
+    next same number turn)
+
 -- ---- a confirm
 
--- an answer leaves a session its number, its start and what it was offered
+-- an answer leaves a session its number, its start, how much it has sent and what it was offered
 pub number_kept : (course : Course) (session : ℕ) (answer : Answer)
     → (after_answer course session answer).number ≡ course.number
 number_kept course session (Confirmed tag) = go (takes_confirm course session tag)
@@ -244,6 +259,18 @@ number_kept course session (Confirmed tag) = go (takes_confirm course session ta
 number_kept course session Connected = refl
 number_kept course session Ignored = refl
 number_kept course session Broken = refl
+
+pub sent_stays : (course : Course) (session : ℕ) (answer : Answer)
+    → (after_answer course session answer).sent ≡ course.sent
+sent_stays course session (Confirmed tag) = go (takes_confirm course session tag)
+  where
+    go : (b : Bool) → (if b then record course { confirmed = course.confirmed ++ tag ∷ [] } else course).sent
+        ≡ course.sent
+    go true = refl
+    go false = refl
+sent_stays course session Connected = refl
+sent_stays course session Ignored = refl
+sent_stays course session Broken = refl
 
 start_stays : (course : Course) (session : ℕ) (answer : Answer)
     → (after_answer course session answer).start ≡ course.start
@@ -287,6 +314,25 @@ module _ (c : ConnectorCore) (course : Course) (is : IsPublishing c (Some course
   abbrev answered : Course
   answered = after_answer course confirm.session confirm.answer
 
+  -- it has restarted no more than before
+  pub restarted_answered :
+      RestartsAsPlanned c.restarts c.honest (confirms_in (of_sender 1 inbox.received)) (packets_in c.packets.sent)
+  restarted_answered =
+      subst (λ cs. RestartsAsPlanned c.restarts c.honest cs (packets_in c.packets.sent)) (sym came.confirms)
+      (RestartsAsPlanned-confirmed c.restarts c.honest (confirms_in (of_sender 1 c.inbox.received)) confirm
+      (packets_in c.packets.sent) is.restarted)
+
+  -- its session is in turn if it was
+  pub turn_answered : IsTurnOf c course
+      → IsInTurn c.restarts c.honest (confirms_in (of_sender 1 inbox.received)) (packets_in c.packets.sent) answered
+  turn_answered turn =
+      IsInTurn-same c.restarts c.honest (confirms_in (of_sender 1 inbox.received)) (packets_in c.packets.sent) course
+      answered (sent_stays course confirm.session confirm.answer)
+      (number_kept course confirm.session confirm.answer)
+      (subst (λ cs. IsInTurn c.restarts c.honest cs (packets_in c.packets.sent) course) (sym came.confirms)
+      (IsInTurn-confirmed c.restarts c.honest (confirms_in (of_sender 1 c.inbox.received)) confirm
+      (packets_in c.packets.sent) course turn))
+
   -- the session takes it
   pub IsPublishing-answered : (session : Option SessionState) → SessionStands session (Some answered)
       → IsPublishing (record c { inbox = inbox; unanswered = unanswered; session = session }) (Some answered)
@@ -320,6 +366,7 @@ module _ (c : ConnectorCore) (course : Course) (is : IsPublishing c (Some course
         first = is.first;
         poll = λ poll there.
             poll_stays course c.asked poll confirm.session confirm.answer (is.poll poll there);
+        restarted = restarted_answered;
         keeps = λ gives zero h are.
             let state : ConnectorState = connector_of c (Some course) in
             subst (λ cs. KeepsTo h (record state { session = Some answered; confirms = cs })) (sym came.confirms)
@@ -350,6 +397,7 @@ IsPublishing-saved c course is =
       runs = record { number = is.runs.number; held = refl; start = refl; emitted = is.runs.emitted };
       first = is.first;
       poll = is.poll;
+      restarted = is.restarted;
       keeps = λ gives zero h are.
           KeepsTo-save h (connector_of c (Some course)) course
           (is.keeps gives (subst IsAtStart (origin_saved c course is) zero) h are) refl;

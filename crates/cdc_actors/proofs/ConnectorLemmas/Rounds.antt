@@ -1,14 +1,16 @@
 -- A whole turn of a connector.
 use Rattle.std.proofs.Common.{◌≡◌, ◌==◌, ℕ, ◌+◌, ◌<◌, ◌≤◌, Bool, true, false, true≢false, List, [], inl, inr, refl, sym, ap, ap₂, ◌∙◌, subst, length, map, ◌++◌, arith}
-use Rattle.std.specs.Prelude.{◌&&◌, Option, Some, None, is_some, if◌then◌else◌}
-use Rattle.std.proofs.lemmas.Bool.{and_parts, eqb-true}
+use Rattle.std.specs.Prelude.{◌&&◌, ◌-◌, Contains, nat_le, nat_lt, Option, Some, None, is_some, if◌then◌else◌}
+use Rattle.std.proofs.lemmas.Bool.{and_parts, eqb-true, leb-true}
 use Rattle.std.proofs.lemmas.Bool.Decides.{nat_tests}
+use Rattle.std.proofs.lemmas.List.Elements.{Contains-push}
 use Rattle.std.proofs.lemmas.Option.{none-some}
-use Rattle.cdc_actors.specs.Connector.{FinishedConnectorsAreDone, HasFollowed, HasSent, IsAtRest, IsConnectorActor, IsDone, IsOfSame, IsPublishing, IsWorkingTurn, ConnectorCore, RisesBy, broken_by, confirms_in, ended_by, finish_if, first_origin, first_connector, packets_in, planned_up_to, polls_in, IsAtStart, origin_of, timestamp_after, saved_by}
+use Rattle.cdc_actors.specs.Connector.{FinishedConnectorsAreDone, HasFollowed, HasSent, IsAtRest, IsBroken, IsConnectorActor, IsDone, IsInTurn, IsOfSame, IsPublishing, IsTurnOf, IsWorkingTurn, MayConnect, ConnectorCore, RestartsAsPlanned, RisesBy, broken_by, confirms_in, ended_by, finish_if, first_origin, first_connector, packets_in, planned_up_to, polls_in, IsAtStart, origin_of, timestamp_after, saved_by}
 use Rattle.cdc_publisher.specs.Stands.{SessionStands}
 use Rattle.cdc_actors.specs.Connector.Moves.{IsAdvanced, IsAnswerTaken, IsBegun, IsBegunOrReceived, IsBrokenOff, IsConfirmTaken, IsFollowed, IsReplyReceived, IsReplyTaken, IsSending}
-use Rattle.cdc_actors.proofs.ConnectorLemmas.Receiving.{IsPublishing-answered, IsPublishing-offered, IsPublishing-saved, IsPublishing-unused, confirm_came, number_kept, origin_saved, reply_came}
-use Rattle.cdc_actors.proofs.ConnectorLemmas.Steps.{GoesOn-begun, IsPublishing-begun, finished-begun, start_held}
+use Rattle.cdc_actors.proofs.ConnectorLemmas.Receiving.{IsPublishing-answered, IsPublishing-offered, IsPublishing-saved, IsPublishing-unused, confirm_came, number_kept, origin_saved, reply_came, turn_answered, turn_offered}
+use Rattle.cdc_actors.proofs.ConnectorLemmas.Restarts.{MayConnect-broken, MayConnect-first, RestartsAsPlanned-none, unplanned_last}
+use Rattle.cdc_actors.proofs.ConnectorLemmas.Steps.{GoesOn-begun, IsPublishing-begun, finished-begun, number_begun, start_held, turn_begun}
 use Rattle.cdc_actors.proofs.ConnectorLemmas.Turns.{KeepsTimestamp-begun, RisesBy-begun, RisesBy-same, RisesBy-trans, same_of, same_trans}
 use Rattle.cdc_laws.specs.Connectors.{KeepsTo, held_number, held_start, held_timestamp}
 use Rattle.cdc_laws.proofs.Connectors.{KeepsTo-begin}
@@ -19,7 +21,7 @@ use Rattle.cdc_message.specs.declared.packets.Confirm.{Confirm}
 use Rattle.cdc_message.specs.declared.packets.Packet.{Packet}
 use Rattle.cdc_progress.specs.Records.{Saved}
 use Rattle.cdc_progress.specs.Stores.{Risks}
-use Rattle.cdc_publisher.specs.Courses.{Course, after_answer, confirmed_timestamp, is_done, new_course, progress_of, with_confirm, with_offer}
+use Rattle.cdc_publisher.specs.Courses.{Course, after_answer, confirmed_timestamp, is_confirmed, is_done, new_course, progress_of, tags_sent, with_confirm, with_offer}
 use Rattle.cdc_publisher.specs.SessionState.{SessionState}
 use Rattle.cdc_traffic.specs.Following.{FollowsToConnector}
 use Rattle.cdc_traffic.specs.declared.messages.ToBroker.{ToBroker}
@@ -67,6 +69,8 @@ module _ (old : ConnectorCore) (course : Course) (is : IsPublishing old (Some co
           next = next;
           publishing = subst (λ (c : ConnectorCore). IsPublishing c (Some next)) (sym after)
               (IsPublishing-offered old course is inbox reply came asked new.session (offered course is.stands));
+          turn = λ turn. subst (λ (c : ConnectorCore). IsTurnOf c next) (sym after)
+              (turn_offered old inbox reply came course next refl refl turn);
           working = ap (λ (c : ConnectorCore). c.finished) after;
           sessions = rises_as 0 old new old.held (ap (λ (c : ConnectorCore). c.held) after)
               (add_none (held_number old.held)) (ap (λ (c : ConnectorCore). c.restarts) after)
@@ -94,6 +98,8 @@ module _ (old : ConnectorCore) (course : Course) (is : IsPublishing old (Some co
           next = course;
           publishing = subst (λ (c : ConnectorCore). IsPublishing c (Some course)) (sym after)
               (IsPublishing-unused old course is inbox reply came);
+          turn = λ turn. subst (λ (c : ConnectorCore). IsTurnOf c course) (sym after)
+              (turn_offered old inbox reply came course course refl refl turn);
           working = ap (λ (c : ConnectorCore). c.finished) after;
           sessions = rises_as 0 old new old.held (ap (λ (c : ConnectorCore). c.held) after)
               (add_none (held_number old.held)) (ap (λ (c : ConnectorCore). c.restarts) after)
@@ -127,16 +133,18 @@ module _ (old : ConnectorCore) (course : Course) (is : IsPublishing old (Some co
     counted = record old { inbox = inbox; unanswered = unanswered }
 
     -- so much is known of what comes of it
-    received_of : (new : ConnectorCore) (next : Course) (n : ℕ) → IsPublishing new (Some next) → new.inbox ≡ inbox
+    received_of : (new : ConnectorCore) (next : Course) (n : ℕ) → IsPublishing new (Some next)
+        → (IsTurnOf old course → IsTurnOf new next) → new.inbox ≡ inbox
         → new.finished ≡ old.finished → RisesBy n old new → broken_by (session == held_number old.held) answer ≡ n
         → (old.honest ≡ true
         → held_timestamp new.held ≡ saved_by (held_timestamp old.held) course (to_connector.Confirm confirm))
         → IsOfSame old new → IsReplyReceived old course true new
-    received_of new next n publishing here working rises ends saves same = record {
+    received_of new next n publishing turn here working rises ends saves same = record {
       message = to_connector.Confirm confirm;
       takes = subst (Takes FollowsToConnector old.inbox (to_connector.Confirm confirm)) (sym here) takes;
       next = next;
       publishing = publishing;
+      turn = turn;
       working = working;
       sessions = subst (λ m. RisesBy m old new) (sym ends) rises;
       saves = saves;
@@ -152,13 +160,23 @@ module _ (old : ConnectorCore) (course : Course) (is : IsPublishing old (Some co
         IsPublishing-answered old course is inbox confirm (confirm_came old.inbox inbox confirm takes) unanswered less
         s stands
 
+    -- so it is in turn if it was
+    turn_as : IsTurnOf old course
+        → IsInTurn old.restarts old.honest (confirms_in (of_sender 1 inbox.received)) (packets_in old.packets.sent)
+        (after_answer course session answer)
+    turn_as turn =
+        turn_answered old course is inbox confirm (confirm_came old.inbox inbox confirm takes) unanswered less turn
+
     -- nothing else comes of it
     received_only : (new : ConnectorCore) → new ≡ counted → IsPublishing counted (Some course)
         → broken_by (session == held_number old.held) answer ≡ 0 → after_answer course session answer ≡ course
         → IsReplyReceived old course true new
     received_only new after publishing ends same_course =
         subst (IsReplyReceived old course true) (sym after)
-        (received_of counted course 0 publishing refl refl (RisesBy-same old counted refl refl refl) ends
+        (received_of counted course 0 publishing
+        (λ turn. subst
+        (IsInTurn old.restarts old.honest (confirms_in (of_sender 1 inbox.received)) (packets_in old.packets.sent))
+        same_course (turn_as turn)) refl refl (RisesBy-same old counted refl refl refl) ends
         (λ gives.
         unmoved (held_timestamp old.held) (confirmed_timestamp course)
         (confirmed_timestamp (after_answer course session answer)) (ap confirmed_timestamp same_course))
@@ -220,7 +238,7 @@ module _ (old : ConnectorCore) (course : Course) (is : IsPublishing old (Some co
       (received_of old course is inbox session (Confirmed tag) takes unanswered less state next 0
       (saved_if next new.session
       (answered_as old course is inbox session (Confirmed tag) takes unanswered less new.session stands) moved)
-      refl refl
+      (λ turn. turn_as old course is inbox session (Confirmed tag) takes unanswered less turn) refl refl
       (rises_as 0 old state held refl (number_if next (number_kept course session (Confirmed tag)) moved) refl refl)
       refl (λ gives. timestamp_if next moved)
       (record {
@@ -235,6 +253,24 @@ module _ (old : ConnectorCore) (course : Course) (is : IsPublishing old (Some co
         restarts = refl;
       }))
 
+  -- a packet of the session was lost, so the next one may connect
+  turn_broken : TakesAnswer Broken → session ≡ course.number → (begun : IsBegun answered new) → IsTurnOf old course
+      → IsTurnOf new (new_course begun.saved old.window)
+  turn_broken takes own begun turn =
+      let confirm : Confirm = record { session = session; answer = Broken } in
+      let confirms : List Confirm = confirms_in (of_sender 1 inbox.received) in
+      let came = confirm_came old.inbox inbox confirm takes in
+      let there : IsBroken confirms session =
+      subst (λ cs. Contains cs confirm) (sym came.confirms)
+      (Contains-push (confirms_in (of_sender 1 old.inbox.received)) confirm) in
+      turn_begun answered new begun
+      (MayConnect-broken old.restarts old.honest confirms (packets_in old.packets.sent) course.number
+      begun.saved.session
+      (number_begun answered new course
+      (answered_as old course is inbox session Broken takes unanswered less old.session is.stands) begun)
+      (subst (IsBroken confirms) own there) course refl
+      (turn_as old course is inbox session Broken takes unanswered less turn))
+
   -- a packet of a session was lost
   received_broken : TakesAnswer Broken → (b : Bool) → (session == course.number) ≡ b → IsBrokenOff b answered new
       → IsReplyReceived old course true new
@@ -247,7 +283,7 @@ module _ (old : ConnectorCore) (course : Course) (is : IsPublishing old (Some co
       received_of old course is inbox session Broken takes unanswered less new (new_course begun.saved old.window) 1
       (IsPublishing-begun answered new (Some course)
       (answered_as old course is inbox session Broken takes unanswered less old.session is.stands) begun)
-      goes.inbox (finished-begun answered new begun) (RisesBy-begun answered new begun)
+      (λ turn. turn_broken takes (eqb-true session course.number own) begun turn) goes.inbox (finished-begun answered new begun) (RisesBy-begun answered new begun)
       (ap (λ n. if session == n then 1 else 0) is.runs.held ∙ ap (λ b. if b then 1 else 0) own)
       (λ gives.
       (KeepsTimestamp-begun answered new begun).time gives (subst (λ n. 0 < n) (sym is.runs.held) is.runs.number)
@@ -303,16 +339,20 @@ module _ (old : ConnectorCore) (end : IsConnectorActor old) (working : old.finis
     runs : (c : Course) × (end.course ≡ Some c)
     runs = course_of old.session end.course end.publishing.stands up
 
+    followed_by : HasFollowed old runs.0
+    followed_by = subst (IsAtRest old) runs.1 end.rest
+
     pub running : IsSending old
     running = record {
       course = runs.0;
       publishing = subst (IsPublishing old) runs.1 end.publishing;
+      turn = followed_by.turn;
       working = working;
     }
 
     followed : HasFollowed old running.course
     unfolding running runs
-    followed = subst (IsAtRest old) runs.1 end.rest
+    followed = followed_by
 
     -- a message was received
     received_moves : (moved : Bool) (new : ConnectorCore) → IsReplyReceived old running.course moved new
@@ -332,9 +372,9 @@ module _ (old : ConnectorCore) (end : IsConnectorActor old) (working : old.finis
     }
 
     -- if the message had no effect, it is as before
-    stays : (new : ConnectorCore) (next : Course) → next ≡ running.course → new ≡ record old { inbox = new.inbox }
-        → HasFollowed new next
-    stays new next same after =
+    stays : (new : ConnectorCore) (next : Course) → IsTurnOf new next → next ≡ running.course
+        → new ≡ record old { inbox = new.inbox } → HasFollowed new next
+    stays new next turn same after =
         subst (λ c. HasFollowed new c) (sym same)
         (record {
           asked = ap (λ (c : ConnectorCore). is_some c.poll) after ∙ followed.asked;
@@ -345,6 +385,7 @@ module _ (old : ConnectorCore) (end : IsConnectorActor old) (working : old.finis
                 ∙ full
                 ∙ ap (λ n. n + 1) (sym (ap (λ (c : ConnectorCore). c.window) after)))
           ];
+          turn = subst (IsTurnOf new) same turn;
           finished = ap (λ (c : ConnectorCore). c.finished) after
               ∙ followed.finished
               ∙ ap (λ n. is_done running.course && (n == 0)) (sym (ap (λ (c : ConnectorCore). c.unanswered) after));
@@ -355,9 +396,10 @@ module _ (old : ConnectorCore) (end : IsConnectorActor old) (working : old.finis
     received_so moved new is = record {
       next = is.next;
       publishing = is.publishing;
+      turn = is.turn running.turn;
       working = is.working ∙ working;
       moves = received_moves moved new is old.session refl;
-      still = λ quiet. let same = is.still quiet in stays new is.next same.0 same.1;
+      still = λ quiet. let same = is.still quiet in stays new is.next (is.turn running.turn) same.0 same.1;
     }
 
   -- the first session has begun
@@ -368,10 +410,21 @@ module _ (old : ConnectorCore) (end : IsConnectorActor old) (working : old.finis
       record { inbox = goes.inbox; sessions = RisesBy-begun old new begun; same = same_of old new goes }
   first_moves new begun (Some kept) is down = cc
 
+  -- before that nothing was sent
+  none_sent : (course : Option Course) → SessionStands old.session course → IsAtRest old course → old.session ≡ None
+      → packets_in old.packets.sent ≡ []
+  none_sent None stands rest down = ap (λ (l : List (ToBroker × Unit {0})). packets_in l) rest.packets
+  none_sent (Some course) stands rest down =
+      absurd (subst (λ (s : Option SessionState). SessionStands s (Some course)) down stands)
+
   pub first_so : (new : ConnectorCore) → is_some old.session ≡ false → IsBegun old new → IsAdvanced old true new
   first_so new down begun = record {
     next = new_course begun.saved old.window;
     publishing = IsPublishing-begun old new end.course end.publishing begun;
+    turn = turn_begun old new begun
+        (subst (λ ps. MayConnect old.restarts old.honest (confirms_in (of_sender 1 old.inbox.received)) ps
+        begun.saved.session) (sym (none_sent end.course end.publishing.stands end.rest (none_of old.session down)))
+        (MayConnect-first old.restarts old.honest (confirms_in (of_sender 1 old.inbox.received)) begun.saved.session));
     working = finished-begun old new begun ∙ working;
     moves = first_moves new begun old.session refl (none_of old.session down);
     still = λ quiet. cc;
@@ -476,6 +529,9 @@ begins inbox polls packets held honest risks start window restarts fresh two to_
         runs = tt;
         first = refl;
         poll = λ poll there. absurd (none-some poll there);
+        restarted = subst (RestartsAsPlanned restarts honest (confirms_in (of_sender 1 inbox.received)))
+            (sym no_packets)
+            (RestartsAsPlanned-none restarts honest (confirms_in (of_sender 1 inbox.received)));
         keeps = λ gives zero h are.
             subst (λ ps. KeepsTo h (record {
               held = held;
@@ -493,6 +549,17 @@ begins inbox polls packets held honest risks start window restarts fresh two to_
     zero_first n = omega arith
 
 -- ---- it is done
+
+-- a session that is done has connected
+connected : (s : Option SessionState) (course : Course) → SessionStands s (Some course) → is_done course ≡ true
+    → 0 < course.sent
+connected None course stands done = absurd stands
+connected (Some kept) course stands done =
+    let tag : ℕ = length course.offered + 1 in
+    let confirmed = and_parts course.complete (is_confirmed course tag) done in
+    let both = and_parts (nat_lt 0 tag) (nat_le tag (tags_sent course)) (stands.confirmed_sent tag confirmed.1) in
+    let within : tag ≤ course.sent - 1 = leb-true tag (tags_sent course) both.1 in
+    omega (arith, within)
 
 -- a connector that has finished isn't silent, so its session runs
 pub finished_done : FinishedConnectorsAreDone
@@ -512,5 +579,8 @@ finished_done c end finished = go end.course end.publishing end.rest
           sent = is.dispatched.sent
               ∙ ap (λ b. map to_broker.Packet (packets_in c.packets.sent) ++ finish_if to_broker.Finish b) finished;
           start = sym (start_held c.start c.held (subst (λ n. 0 < n) (sym is.runs.held) is.runs.number));
+          restarted = is.restarted;
+          last = unplanned_last c.restarts c.honest (confirms_in (of_sender 1 c.inbox.received))
+              (packets_in c.packets.sent) course (connected c.session course is.stands both.0) rest.turn;
           keeps = is.keeps;
         }

@@ -4,13 +4,15 @@ use Rattle.std.specs.Prelude.{◌==◌, ◌<◌, Option, Some, None, Result, Ok,
 use Rattle.std.specs.Option.{option_map}
 use Rattle.std.proofs.lemmas.List.{length-append}
 use Rattle.std.proofs.lemmas.Option.{none-some, same_Some}
-use Rattle.cdc_actors.specs.Connector.{AreUnanswered, HasSent, IsAtStart, IsPollOf, IsPublishing, Origin, ConnectorCore, confirms_in, connector_of, packets_in, first_origin, origin_of, poll_for}
+use Rattle.cdc_actors.specs.Connector.{AreUnanswered, HasSent, IsAtStart, IsPollOf, IsPublishing, IsTurnOf, MayConnect, Origin, ConnectorCore, RestartsAsPlanned, confirms_in, connector_of, packets_in, first_origin, origin_of, poll_for}
 use Rattle.cdc_actors.specs.Connector.Moves.{GoesOn, IsBegun, finished_if, publish_count, with_poll}
 use Rattle.cdc_actors.proofs.ConnectorLemmas.Messages.{HasSent-finished, HasSent-packet, HasSent-poll, IsPacket-next, packets-finished, packets-more, to_broker_goes_on, to_ledger_goes_on}
+use Rattle.cdc_actors.proofs.ConnectorLemmas.Restarts.{IsInTurn-begun, MayBeSent-next, RestartsAsPlanned-sent}
 use Rattle.cdc_laws.specs.Connectors.{ConnectorState, KeepsTo, held_number, held_start}
 use Rattle.cdc_laws.proofs.Connectors.{KeepsTo-sent, KeepsTo-start}
 use Rattle.cdc_laws.proofs.ListElements.{none_there}
 use Rattle.cdc_links.specs.Links.{of_sender, with_sent as with_message}
+use Rattle.cdc_message.specs.declared.packets.Confirm.{Confirm}
 use Rattle.cdc_message.specs.declared.packets.Packet.{Packet}
 use Rattle.cdc_progress.specs.Records.{Saved}
 use Rattle.cdc_publisher.specs.Courses.{Course, begun, first_saved, last_session, new_course, next_packet, next_poll, with_sent}
@@ -101,11 +103,30 @@ IsPublishing-begun old new course is on =
       };
       first = (unwrap_or old.first on.saved.timestamp, refl);
       poll = λ poll there. absurd (none-some poll there);
+      restarted = is.restarted;
       keeps = λ gives zero h are.
           let begins = begins_over old new on gives in
           KeepsTo-start h (connector_of old course) old.start on.saved old.window
           (is.keeps gives (subst IsAtStart (origin_kept old on.saved begins) zero) h are) begins;
     })
+
+-- its number is the one after the session that ran
+pub number_begun : (old new : ConnectorCore) (course : Course) → IsPublishing old (Some course) → (on : IsBegun old new)
+    → old.honest ≡ true → on.saved.session ≡ course.number + 1
+number_begun old new course is on gives =
+    (next_saved_is old.start on.loaded on.saved on.begins).number
+    ∙ ap (λ o. held_number o + 1) (on.given gives)
+    ∙ ap (λ n. n + 1) is.runs.held
+
+-- it is in turn, if it may connect
+pub turn_begun : (old new : ConnectorCore) (on : IsBegun old new)
+    → MayConnect old.restarts old.honest (confirms_in (of_sender 1 old.inbox.received)) (packets_in old.packets.sent)
+    on.saved.session → IsTurnOf new (new_course on.saved old.window)
+turn_begun old new on may =
+    let next : Course = new_course on.saved old.window in
+    subst (λ (c : ConnectorCore). IsTurnOf c next) (sym on.after)
+    (IsInTurn-begun old.restarts old.honest (confirms_in (of_sender 1 old.inbox.received))
+    (packets_in old.packets.sent) next refl may)
 
 pub GoesOn-begun : (old new : ConnectorCore) → IsBegun old new → GoesOn old new
 GoesOn-begun old new on =
@@ -164,6 +185,7 @@ module _ (c : ConnectorCore) (course : Course) (is : IsPublishing c (Some course
     runs = is.runs;
     first = is.first;
     poll = is.poll;
+    restarted = is.restarted;
     keeps = is.keeps;
   }
 
@@ -201,16 +223,17 @@ module _ (c : ConnectorCore) (course : Course) (is : IsPublishing c (Some course
 
     -- its next packet was sent
     pub IsPublishing-sent : (session : Option SessionState) (packet : Packet) → next_packet course ≡ Some packet
-        → SessionStands session (Some (with_sent (Some packet) course)) → c.unanswered ≤ c.window
+        → SessionStands session (Some (with_sent (Some packet) course)) → c.unanswered ≤ c.window → IsTurnOf c course
         → IsPublishing (record c {
           session = session;
           packets = with_message c.packets (to_broker.Packet packet, tt);
           unanswered = c.unanswered + 1;
           published = c.published + publish_count packet;
         }) (Some (with_sent (Some packet) course))
-    IsPublishing-sent session packet next stands room =
+    IsPublishing-sent session packet next stands room turn =
         let next_course : Course = with_sent (Some packet) course in
         let more = packets-more c.packets.sent packet in
+        let confirms : List Confirm = confirms_in (of_sender 1 c.inbox.received) in
         let count : length (packets_in (c.packets.sent ++ (to_broker.Packet packet, tt) ∷ []))
         ≡ length (packets_in c.packets.sent) + 1 =
         ap (λ (l : List Packet). length l) more ∙ length-append (packets_in c.packets.sent) (packet ∷ []) in
@@ -230,6 +253,9 @@ module _ (c : ConnectorCore) (course : Course) (is : IsPublishing c (Some course
           };
           first = is.first;
           poll = λ poll there. poll_kept course c.asked poll packet next (is.poll poll there);
+          restarted = subst (RestartsAsPlanned c.restarts c.honest confirms) (sym more)
+              (RestartsAsPlanned-sent c.restarts c.honest confirms (packets_in c.packets.sent) packet is.restarted
+              (MayBeSent-next c.restarts c.honest confirms (packets_in c.packets.sent) course turn packet next));
           keeps = λ gives zero h are.
               let state : ConnectorState = connector_of c (Some course) in
               subst (λ ps. KeepsTo h (record state { session = Some next_course; sent = ps })) (sym more)
@@ -250,6 +276,7 @@ module _ (c : ConnectorCore) (course : Course) (is : IsPublishing c (Some course
       runs = is.runs;
       first = is.first;
       poll = λ other there. poll_of_for course (c.asked + 1) other (is_for ∙ there);
+      restarted = is.restarted;
       keeps = is.keeps;
     }
 
@@ -268,6 +295,9 @@ module _ (c : ConnectorCore) (course : Course) (is : IsPublishing c (Some course
           runs = is.runs;
           first = is.first;
           poll = is.poll;
+          restarted = subst
+              (RestartsAsPlanned c.restarts c.honest (confirms_in (of_sender 1 c.inbox.received)))
+              (sym same) is.restarted;
           keeps = λ gives zero h are.
               let state : ConnectorState = connector_of c (Some course) in
               subst (λ ps. KeepsTo h (record state { sent = ps })) (sym same) (is.keeps gives zero h are);

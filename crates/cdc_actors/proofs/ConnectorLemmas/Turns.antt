@@ -1,16 +1,21 @@
 -- What the parts of a connector's turn come to.
-use Rattle.std.proofs.Common.{◌≡◌, ◌==◌, ℕ, zero, suc, ◌+◌, ◌<◌, ◌≤◌, Bool, true, false, List, inl, inr, refl, sym, ap, ap₂, ◌∙◌, subst, arith}
+use Rattle.std.proofs.Common.{◌≡◌, ◌==◌, ℕ, zero, suc, ◌+◌, ◌<◌, ◌≤◌, Bool, true, false, true≢false, List, [], ◌∷◌, ◌++◌, length, inl, inr, refl, sym, ap, ap₂, ◌∙◌, subst, arith}
 use Rattle.std.specs.Prelude.{◌&&◌, ◌⊎◌, is_some, not, IfOk, Option, Some, None, Result, Ok, Err, if◌then◌else◌}
 use Rattle.std.specs.Option.{option_map}
 use Rattle.std.proofs.lemmas.Bool.Decides.{nat_tests}
-use Rattle.std.specs.List.{list_any}
-use Rattle.cdc_actors.specs.Connector.{HasFollowed, IsOfSame, IsPublishing, Origin, ConnectorCore, RisesBy, first_origin, is_publish, planned_up_to, poll_for}
+use Rattle.std.specs.List.{filter, list_any}
+use Rattle.cdc_actors.specs.Connector.{HasFollowed, IsInTurn, IsOfSame, IsPublishing, IsTurnOf, MayConnect, Origin, ConnectorCore, RisesBy, confirms_in, first_origin, is_planned, is_publish, packets_in, planned_up_to, poll_for, session_of}
 use Rattle.cdc_actors.specs.Connector.Moves.{AreSent, GoesOn, KeepsTimestamp, IsBegun, IsFollowed, IsPacketSent, IsSending, IsSentNext, asked_if, finished_if, publish_count, with_poll}
-use Rattle.cdc_actors.proofs.ConnectorLemmas.Steps.{GoesOn-begun, IsPublishing-asked, IsPublishing-begun, IsPublishing-finished, IsPublishing-none, IsPublishing-sent, finished-begun, next_saved_is}
+use Rattle.cdc_actors.proofs.ConnectorLemmas.Messages.{count_more, packets-finished, packets-more}
+use Rattle.cdc_actors.proofs.ConnectorLemmas.Restarts.{IsInTurn-sent, MayConnect-planned, last_of-snoc, session_of-next}
+use Rattle.cdc_actors.proofs.ConnectorLemmas.Steps.{GoesOn-begun, IsPublishing-asked, IsPublishing-begun, IsPublishing-finished, IsPublishing-none, IsPublishing-sent, finished-begun, next_saved_is, number_begun, turn_begun}
 use Rattle.cdc_laws.specs.Connectors.{held_number, held_timestamp}
+use Rattle.cdc_links.specs.Links.{of_sender}
+use Rattle.cdc_message.specs.declared.packets.Confirm.{Confirm}
 use Rattle.cdc_message.specs.declared.packets.Packet.{Packet}
+use Rattle.cdc_message.specs.declared.packets.Packet.TheVariants.{Connect, Publish}
 use Rattle.cdc_progress.specs.Records.{Saved}
-use Rattle.cdc_publisher.specs.Courses.{Course, is_done, new_course, next_packet, next_poll}
+use Rattle.cdc_publisher.specs.Courses.{Course, is_done, new_course, next_packet, next_poll, with_sent}
 use Rattle.cdc_publisher.specs.declared.session.Poll.{Poll as Wanted}
 use Rattle.cdc_traffic.specs.declared.polls.Poll.{Poll}
 
@@ -114,10 +119,43 @@ KeepsTimestamp-begun old new on =
 
 -- ---- a packet is sent
 
--- a packet was sent, or there was none, and no session has begun yet
+-- a publish packet was counted, and the plan names it
+abbrev pub is_due : List ℕ → ℕ → ℕ → Bool
+is_due plan before published = not (published == before) && list_any (λ number. number == published) plan
+
+-- none is due if no packet was counted
+due_none : (plan : List ℕ) (before published : ℕ) → published ≡ before → is_due plan before published ≡ false
+due_none plan before published same =
+    let here : (published == before) ≡ true = grind (arith, nat_tests) in
+    ap (λ b. not b && list_any (λ number. number == published) plan) here
+
+-- if one was, a restart is due exactly if the plan names that packet
+due_planned : (plan : List ℕ) (sent : List Packet) (packet : Packet) (before : ℕ) → before ≡ length (filter is_publish sent)
+    → is_due plan before (before + publish_count packet) ≡ is_planned plan (sent ++ packet ∷ []) packet
+due_planned plan sent packet before counted =
+    let count : before + publish_count packet ≡ length (filter is_publish (sent ++ packet ∷ [])) =
+    ap (λ n. n + publish_count packet) counted ∙ sym (count_more sent packet) in
+    by_kind packet ∙ ap (λ n. is_publish packet && list_any (λ number. number == n) plan) count
+  where
+    by_kind : (packet : Packet) → is_due plan before (before + publish_count packet)
+        ≡ (is_publish packet && list_any (λ number. number == before + publish_count packet) plan)
+    by_kind (Connect session) = due_none plan before (before + 0) (omega arith)
+    by_kind (Publish session tag item) =
+        let other : (before + 1 == before) ≡ false = grind (arith, nat_tests) in
+        ap (λ b. not b && list_any (λ number. number == before + 1) plan) other
+
+-- a packet was sent, or there was none, and no session has begun yet. Its session is in turn, if no restart is due; if
+-- one is, the next session may connect
 pub record IsSentBefore (old : ConnectorCore) (sent : Bool) (new : ConnectorCore) : Type 0 where
-  pub sends : IsSending new
-  pub none : sent ≡ false → next_packet sends.course ≡ None
+  pub course : Course
+  pub publishing : IsPublishing new (Some course)
+  pub working : new.finished ≡ false
+  pub turn : is_due old.restarts old.published new.published ≡ false → IsTurnOf new course
+  pub restarts : is_due old.restarts old.published new.published ≡ true → (session : ℕ)
+      → (new.honest ≡ true → session ≡ course.number + 1)
+      → MayConnect new.restarts new.honest (confirms_in (of_sender 1 new.inbox.received)) (packets_in new.packets.sent)
+      session
+  pub none : sent ≡ false → next_packet course ≡ None
   pub one : sent ≡ true → new.unanswered ≡ old.unanswered + 1
   pub goes_on : GoesOn old new
   pub held : new.held ≡ old.held
@@ -137,11 +175,11 @@ module _ (old mid : ConnectorCore) (sending : IsSending old) (room : old.unanswe
   sent_by_packet None sent is (nothing, stands, after) =
       subst (IsSentBefore old sent) (sym after)
       (record {
-        sends = record {
-          course = sending.course;
-          publishing = IsPublishing-none old sending.course sending.publishing mid.session stands;
-          working = sending.working;
-        };
+        course = sending.course;
+        publishing = IsPublishing-none old sending.course sending.publishing mid.session stands;
+        working = sending.working;
+        turn = λ _. sending.turn;
+        restarts = λ due. absurd (true≢false (sym due ∙ due_none old.restarts old.published old.published refl));
         none = λ _. is;
         one = λ is_sent. cc;
         goes_on = record {
@@ -161,14 +199,25 @@ module _ (old mid : ConnectorCore) (sending : IsSending old) (room : old.unanswe
         quiet = λ _. refl;
       })
   sent_by_packet (Some packet) sent is (there, stands, after) =
+      let packets : List Packet = packets_in old.packets.sent in
+      let confirms : List Confirm = confirms_in (of_sender 1 old.inbox.received) in
+      let more = packets-more old.packets.sent packet in
+      let counted = sending.publishing.dispatched.counted in
+      let own : session_of packet ≡ sending.course.number =
+      session_of-next old.restarts old.honest confirms packets sending.course sending.turn packet is in
       subst (IsSentBefore old sent) (sym after)
       (record {
-        sends = record {
-          course = record sending.course { sent = sending.course.sent + 1 };
-          publishing = IsPublishing-sent old sending.course sending.publishing sending.working mid.session packet is
-              stands room;
-          working = sending.working;
-        };
+        course = with_sent (Some packet) sending.course;
+        publishing = IsPublishing-sent old sending.course sending.publishing sending.working mid.session packet is
+            stands room sending.turn;
+        working = sending.working;
+        turn = λ due. subst (λ ps. IsInTurn old.restarts old.honest confirms ps (with_sent (Some packet) sending.course)) (sym more)
+            (IsInTurn-sent old.restarts old.honest confirms packets sending.course packet own
+            (sym (due_planned old.restarts packets packet old.published counted) ∙ due));
+        restarts = λ due session next. subst (λ ps. MayConnect old.restarts old.honest confirms ps session) (sym more)
+            (MayConnect-planned old.restarts old.honest confirms (packets ++ packet ∷ []) sending.course.number session
+            next packet (last_of-snoc packets packet) own
+            (sym (due_planned old.restarts packets packet old.published counted) ∙ due));
         none = λ unsent. cc;
         one = λ _. refl;
         goes_on = record {
@@ -195,7 +244,13 @@ module _ (old mid : ConnectorCore) (sending : IsSending old) (room : old.unanswe
 -- nothing was sent
 pub sent_none : (old mid : ConnectorCore) → IsSentBefore old false mid → IsSentNext old false mid
 sent_none old mid is = record {
-  sends = is.sends;
+  sends = record {
+    course = is.course;
+    publishing = is.publishing;
+    turn = is.turn
+        (due_none old.restarts old.published mid.published (published_same is.count (is.quiet refl) is.published));
+    working = is.working;
+  };
   none = is.none;
   one = is.one;
   goes_on = is.goes_on;
@@ -207,10 +262,6 @@ sent_none old mid is = record {
     published_same n none same = omega (arith, none, same)
 
 -- ---- a session begins if it is due
-
--- a publish packet was counted, and the plan names it
-abbrev pub is_due : List ℕ → ℕ → ℕ → Bool
-is_due plan before published = not (published == before) && list_any (λ number. number == published) plan
 
 -- so the plan names one more of those that were sent
 planned_more : (plan : List ℕ) (before count published : ℕ) → count ≤ 1 → published ≡ before + count
@@ -259,7 +310,12 @@ module _ (old mid : ConnectorCore) (is : IsSentBefore old true mid) where
       let planned = planned_then ∙ ap (λ b. planned_up_to old.restarts old.published + (if b then 1 else 0)) due in
       let number : held_number mid.held ≡ held_number old.held = ap held_number is.held in
       record {
-        sends = is.sends;
+        sends = record {
+          course = is.course;
+          publishing = is.publishing;
+          turn = is.turn due;
+          working = is.working;
+        };
         none = is.none;
         one = is.one;
         goes_on = is.goes_on;
@@ -277,8 +333,10 @@ module _ (old mid : ConnectorCore) (is : IsSentBefore old true mid) where
       record {
         sends = record {
           course = new_course on.saved mid.window;
-          publishing = IsPublishing-begun mid new (Some is.sends.course) is.sends.publishing on;
-          working = finished-begun mid new on ∙ is.sends.working;
+          publishing = IsPublishing-begun mid new (Some is.course) is.publishing on;
+          turn = turn_begun mid new on
+              (is.restarts due on.saved.session (number_begun mid new is.course is.publishing on));
+          working = finished-begun mid new on ∙ is.working;
         };
         none = λ unsent. cc;
         one = λ sent. unanswered ∙ is.one sent;
@@ -318,6 +376,7 @@ asked_where course asked = there (next_poll course)
 -- what an ask leaves
 pub record IsAskedFor (old : ConnectorCore) (course : Course) (new : ConnectorCore) : Type 0 where
   pub publishing : IsPublishing new (Some course)
+  pub turn : IsTurnOf new course
   pub working : new.finished ≡ false
   pub poll : is_some new.poll ≡ is_some (next_poll course)
   pub unanswered : new.unanswered ≡ old.unanswered
@@ -331,6 +390,7 @@ module _ (c : ConnectorCore) (sends : IsSending c) where
       → IsAskedFor c sends.course (with_poll o c)
   asked_with None none is = record {
     publishing = sends.publishing;
+    turn = sends.turn;
     working = sends.working;
     poll = ap is_some none ∙ sym (ap is_some is) ∙ asked_where sends.course (c.asked + 1);
     unanswered = refl;
@@ -342,6 +402,7 @@ module _ (c : ConnectorCore) (sends : IsSending c) where
       let new : ConnectorCore = with_poll (Some poll) c in
       record {
         publishing = IsPublishing-asked c sends.course sends.publishing sends.working (Some poll) is;
+        turn = sends.turn;
         working = sends.working;
         poll = sym (ap is_some is) ∙ asked_where sends.course (c.asked + 1);
         unanswered = refl;
@@ -363,6 +424,7 @@ module _ (c : ConnectorCore) (sends : IsSending c) where
   asked_over None is = asked_with (poll_for (Some sends.course) (c.asked + 1)) is refl
   asked_over (Some poll) is = record {
     publishing = sends.publishing;
+    turn = sends.turn;
     working = sends.working;
     poll = ap is_some is ∙ sym (ap is_some (sends.publishing.poll poll is).wanted.wants);
     unanswered = refl;
@@ -377,7 +439,7 @@ module _ (c : ConnectorCore) (sends : IsSending c) where
 -- so it goes on sending
 pub IsSending-asked : (c new : ConnectorCore) (sends : IsSending c) → IsAskedFor c sends.course new → IsSending new
 IsSending-asked c new sends is =
-    record { course = sends.course; publishing = is.publishing; working = is.working }
+    record { course = sends.course; publishing = is.publishing; turn = is.turn; working = is.working }
 
 -- ---- what follows
 
@@ -426,8 +488,16 @@ module _ (old sent asked : ConnectorCore) (are : AreSent old sent) (is : IsAsked
 
       followed : (b : Bool) → (is_done are.sends.course && (asked.unanswered == 0)) ≡ b
           → HasFollowed (finished_if b asked) are.sends.course
-      followed true ends = record { asked = is.poll; sent = all; finished = sym ends }
-      followed false ends = record { asked = is.poll; sent = all; finished = is.working ∙ sym ends }
+      followed true ends = record {
+        asked = is.poll;
+        sent = all;
+        turn = subst
+            (λ ps. IsInTurn asked.restarts asked.honest (confirms_in (of_sender 1 asked.inbox.received)) ps
+            are.sends.course) (sym (packets-finished asked.packets.sent)) is.turn;
+        finished = sym ends;
+      }
+      followed false ends =
+          record { asked = is.poll; sent = all; turn = is.turn; finished = is.working ∙ sym ends }
 
   pub followed_so : (new : ConnectorCore)
       → new ≡ finished_if (is_done are.sends.course && (asked.unanswered == 0)) asked → IsFollowed old new

@@ -1,6 +1,6 @@
 -- What the parts of a connector's turn do. Private contracts and proofs alone cite this file.
 use Rattle.std.specs.Prelude.{◌≡◌, ◌==◌, ◌⊎◌, ℕ, ◌+◌, ◌<◌, ◌≤◌, Bool, true, false, Option, Some, None, Ok, cond, unwrap_or, if◌then◌else◌}
-use Rattle.cdc_actors.specs.Connector.{HasFollowed, IsFirstTurn, IsOfSame, IsPublishing, IsUnasked, ConnectorCore, RisesBy, ended_by, is_publish, origin_of, poll_for, saved_by}
+use Rattle.cdc_actors.specs.Connector.{HasFollowed, IsFirstTurn, IsOfSame, IsPublishing, IsTurnOf, IsUnasked, ConnectorCore, RisesBy, ended_by, is_publish, origin_of, poll_for, saved_by}
 use Rattle.cdc_publisher.specs.Stands.{SessionStands}
 use Rattle.cdc_laws.specs.Connectors.{held_number, held_timestamp}
 use Rattle.cdc_links.specs.Links.{Takes, with_sent as with_message}
@@ -20,10 +20,11 @@ use Rattle.cdc_traffic.specs.declared.messages.ToLedger.TheVariants as to_ledger
 use Rattle.cdc_traffic.specs.declared.polls.Poll.{Poll}
 use Rattle.cdc_traffic.specs.declared.polls.PollReply.{PollReply}
 
--- a session runs, for some course, and the connector hasn't finished
+-- a session runs, for some course, and is in turn, and the connector hasn't finished
 pub record IsSending (c : ConnectorCore) : Type 0 where
   pub course : Course
   pub publishing : IsPublishing c (Some course)
+  pub turn : IsTurnOf c course
   pub working : c.finished ≡ false
 
 -- nothing but its session, its store and what it has sent is another one
@@ -180,6 +181,7 @@ pub record IsReplyReceived (old : ConnectorCore) (course : Course) (moved : Bool
   pub takes : Takes FollowsToConnector old.inbox message new.inbox
   pub next : Course
   pub publishing : IsPublishing new (Some next)
+  pub turn : IsTurnOf old course → IsTurnOf new next
   pub working : new.finished ≡ old.finished
   pub sessions : RisesBy (ended_by (held_number old.held) message) old new
   pub saves : old.honest ≡ true
@@ -210,6 +212,7 @@ IsBegunOrReceived (Some kept) old moved new = IsReceived old moved new
 pub record IsAdvanced (old : ConnectorCore) (moved : Bool) (new : ConnectorCore) : Type 0 where
   pub next : Course
   pub publishing : IsPublishing new (Some next)
+  pub turn : IsTurnOf new next
   pub working : new.finished ≡ false
   pub moves : IsBegunOrReceived old.session old moved new
   pub still : moved ≡ false → HasFollowed new next

@@ -1,7 +1,7 @@
 -- How far a connector actor has come, whether it has met a fault or not.
 use Rattle.std.specs.Prelude.{◌≡◌, ◌⊎◌, ℕ, ◌+◌, Bool, IsTrue, true, false, Option, None, Err, List, ◌++◌, length, map}
 use Rattle.std.specs.List.{filter}
-use Rattle.cdc_actors.specs.Connector.{IsAtStart, IsConnectorActor, IsOfSame, IsWired, ConnectorCore, confirms_in, connector_of, finish_if, is_publish, origin_of, packets_in, polls_in}
+use Rattle.cdc_actors.specs.Connector.{HasRestarted, IsAtStart, IsConnectorActor, IsOfSame, IsWired, ConnectorCore, confirms_in, connector_of, finish_if, is_publish, origin_of, packets_in, polls_in}
 use Rattle.cdc_actors.specs.declared.faults.RunFault.{RunFault}
 use Rattle.cdc_actors.specs.declared.faults.RunFault.TheVariants.{PeerGone, OutOfMemory, Store, SessionsExhausted, NotOneSystem, StartNotAllowed}
 use Rattle.cdc_laws.specs.ConnectorRuns.{IsConnectorRun}
@@ -53,12 +53,14 @@ AreUnansweredSoFar sent received unanswered =
     (unanswered + received ≡ sent) ⊎ ((unanswered ≡ 0) × (received ≡ sent + 1))
 
 -- with a fault or without one: if its store is honest and the run began at its start, what it has sent and received,
--- and what is held, keeps to every history of which the replies to polls that it has received are readings
+-- and what is held, keeps to every history of which the replies to polls that it has received are readings. It has
+-- restarted as planned
 pub record IsConnectorSoFar (c : ConnectorCore) : Type 0 where
   pub wired : IsWired c.inbox.senders c.polls.number c.packets.number c.window
   pub dispatched : HasSentSoFar c.polls.sent c.packets.sent c.published c.finished
   pub answers : AreUnansweredSoFar (length (packets_in c.packets.sent))
       (length (confirms_in (of_sender 1 c.inbox.received))) c.unanswered
+  pub restarted : HasRestarted c
   pub keeps : c.honest ≡ true → IsAtStart (origin_of c)
       → KeepsToReadings (readings_of (of_sender 0 c.inbox.received)) (connector_of c None)
 

@@ -66,4 +66,4 @@ returns-in_err-begin-clause-failed g c =
     c.in_err-begin.field-0.0 c.from_residual-in_err-begin.ensures.1
     (cut_trans now mid c.begin.new.self c.in_err-begin.field-0.0 before.goes_on
     (cut_begin mid c.begin.new.self c.in_err-begin.field-0.0
-    (publishing_so_far mid (Some before.sends.course) before.sends.publishing) c.in_err-begin.ensures.failed))
+    (publishing_so_far mid (Some before.course) before.publishing) c.in_err-begin.ensures.failed))
