@@ -163,6 +163,7 @@ module _ (c : ConnectorCore) (course : Course) (is : IsPublishing c (Some course
     stands = is.stands;
     runs = is.runs;
     first = is.first;
+    honest = is.honest;
     poll = is.poll;
     keeps = λ gives zero h are.
         let state : ConnectorState = connector_of c (Some course) in
@@ -220,6 +221,7 @@ module _ (c : ConnectorCore) (course : Course) (is : IsPublishing c (Some course
                 ];
           };
           first = is.first;
+          honest = is.honest;
           poll = λ poll there. absurd (none-some poll there);
           keeps = λ gives zero h are.
               let state : ConnectorState = connector_of c (Some course) in
@@ -318,6 +320,7 @@ module _ (c : ConnectorCore) (course : Course) (is : IsPublishing c (Some course
               (offered_kept course confirm.session confirm.answer) there);
         };
         first = is.first;
+        honest = is.honest;
         poll = λ poll there.
             poll_stays course c.asked poll confirm.session confirm.answer (is.poll poll there);
         keeps = λ gives zero h are.
@@ -349,6 +352,7 @@ IsPublishing-saved c course is =
       stands = is.stands;
       runs = record { number = is.runs.number; held = refl; start = refl; emitted = is.runs.emitted };
       first = is.first;
+      honest = is.honest;
       poll = is.poll;
       keeps = λ gives zero h are.
           KeepsTo-save h (connector_of c (Some course)) course

@@ -475,6 +475,7 @@ begins inbox polls packets held honest risks start window restarts fresh two to_
         stands = tt;
         runs = tt;
         first = refl;
+        honest = tt;
         poll = λ poll there. absurd (none-some poll there);
         keeps = λ gives zero h are.
             subst (λ ps. KeepsTo h (record {
@@ -512,5 +513,6 @@ finished_done c end finished = go end.course end.publishing end.rest
           sent = is.dispatched.sent
               ∙ ap (λ b. map to_broker.Packet (packets_in c.packets.sent) ++ finish_if to_broker.Finish b) finished;
           start = sym (start_held c.start c.held (subst (λ n. 0 < n) (sym is.runs.held) is.runs.number));
+          honest = is.honest;
           keeps = is.keeps;
         }

@@ -100,6 +100,7 @@ IsPublishing-begun old new course is on =
         emitted = λ event there. absurd (none_there event there);
       };
       first = (unwrap_or old.first on.saved.timestamp, refl);
+      honest = on.honest;
       poll = λ poll there. absurd (none-some poll there);
       keeps = λ gives zero h are.
           let begins = begins_over old new on gives in
@@ -163,6 +164,7 @@ module _ (c : ConnectorCore) (course : Course) (is : IsPublishing c (Some course
     stands = stands;
     runs = is.runs;
     first = is.first;
+    honest = is.honest;
     poll = is.poll;
     keeps = is.keeps;
   }
@@ -229,6 +231,7 @@ module _ (c : ConnectorCore) (course : Course) (is : IsPublishing c (Some course
             emitted = is.runs.emitted;
           };
           first = is.first;
+          honest = is.honest;
           poll = λ poll there. poll_kept course c.asked poll packet next (is.poll poll there);
           keeps = λ gives zero h are.
               let state : ConnectorState = connector_of c (Some course) in
@@ -249,6 +252,7 @@ module _ (c : ConnectorCore) (course : Course) (is : IsPublishing c (Some course
       stands = is.stands;
       runs = is.runs;
       first = is.first;
+      honest = is.honest;
       poll = λ other there. poll_of_for course (c.asked + 1) other (is_for ∙ there);
       keeps = is.keeps;
     }
@@ -267,6 +271,7 @@ module _ (c : ConnectorCore) (course : Course) (is : IsPublishing c (Some course
           stands = is.stands;
           runs = is.runs;
           first = is.first;
+          honest = is.honest;
           poll = is.poll;
           keeps = λ gives zero h are.
               let state : ConnectorState = connector_of c (Some course) in
