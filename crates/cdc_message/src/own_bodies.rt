@@ -1,6 +1,6 @@
 //! A fast reader of bodies exactly as `encode` writes them: it works byte by byte, without a JSON value.
 
-ghost use Rattle.std.specs.Prelude.{◌≡◌, ◌<◌, ◌^◌, ◌∷◌, ◌++◌, codes, decimal, Ok, IfSome, OnSome};
+ghost use Rattle.std.specs.Prelude.{◌≡◌, ◌<◌, ◌^◌, ◌∷◌, ◌++◌, codes, decimal, false, true, Ok, IfSome, OnSome};
 ghost use Rattle.cdc_message.specs.Bodies.{account_text, body, in_quotes, transfer_text};
 ghost use Rattle.cdc_message.specs.Kinds.{kind_text as text_of};
 ghost use Rattle.cdc_message.specs.Reading.{read};
@@ -56,11 +56,28 @@ impl Cursor<'_> {
         Some(number)
     }
 
+    // Skips a 0 in quotes, which most numbers are. If something else comes next, the result is false.
+    fn quoted_zero(&mut self) -> bool
+        ensures zero { result ≡ true → self.old.rest.now ≡ in_quotes (decimal 0) ++ self.new.rest.now }
+        ensures other { result ≡ false → self.new.rest.now ≡ self.old.rest.now }
+    {
+        match self.rest.strip_prefix(b"\"0\"") {
+            Some(rest) => {
+                self.rest = rest;
+                true
+            }
+            None => false,
+        }
+    }
+
     // Reads a number of 128 bits in quotes.
     pub(crate) fn number_128(&mut self) -> Option<u128>
         ensures fits { IfSome result (λ n. n < 2 ^ 128) }
         ensures text { IfSome result (λ n. self.old.rest.now ≡ in_quotes (decimal n) ++ self.new.rest.now) }
     {
+        if self.quoted_zero() {
+            return Some(0);
+        }
         self.byte(b'"')?;
         let number = self.number()?;
         self.byte(b'"')?;
@@ -72,6 +89,9 @@ impl Cursor<'_> {
         ensures fits { IfSome result (λ n. n < 2 ^ 64) }
         ensures text { IfSome result (λ n. self.old.rest.now ≡ in_quotes (decimal n) ++ self.new.rest.now) }
     {
+        if self.quoted_zero() {
+            return Some(0);
+        }
         self.byte(b'"')?;
         let number = u64::try_from(self.number()?).ok()?;
         self.byte(b'"')?;
