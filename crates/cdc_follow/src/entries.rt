@@ -9,7 +9,7 @@ ghost use Rattle.cdc_follow.specs.Entries as spec;
 ghost use Rattle.cdc_follow.specs.LineErrors.{GivesUnlessMemory};
 
 use crate::errors::LineError;
-use cdc_message::{DecodeError, decimal_up_to, event_of, is_decimal, own_event};
+use cdc_message::{DecodeError, decimal_up_to, event_of, fast_event, is_decimal};
 use cdc_types::Event;
 use serde_json::Value;
 use std::alloc::Global;
@@ -146,7 +146,7 @@ pub fn read_entry(alloc: Global, line: &[u8], chained: bool) -> Result<Option<En
         return Ok(None);
     }
     if !chained {
-        if let Some(event) = own_event(line) {
+        if let Some(event) = fast_event(line) {
             return Ok(Some(Entry {
                 content: Content::Event(event),
                 previous: None,
