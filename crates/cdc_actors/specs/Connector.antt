@@ -118,7 +118,8 @@ session_of (Publish session tag item) = session
 abbrev pub last_of : List Packet → Option Packet
 last_of packets = slice_get packets (length packets - 1)
 
--- the plan names the last of these packets: it publishes an item, and with it so many publish packets were sent
+-- the plan names the last of these packets: it is a publish packet, and the plan has its number, which counts publish
+-- packets from 1 over all sessions
 abbrev pub is_planned : List ℕ → List Packet → Packet → Bool
 is_planned plan sent last =
     is_publish last && list_any (λ number. number == length (filter is_publish sent)) plan
@@ -127,22 +128,22 @@ is_planned plan sent last =
 abbrev pub IsBroken : List Confirm → ℕ → Type 0
 IsBroken confirms session = Contains confirms (record { session = session; answer = Broken })
 
--- a session may publish right after these packets: the last of them is its own, and the plan doesn't name that
+-- a session may publish right after these packets: the last of them is its own, and the plan doesn't name it
 pub record MayPublish (plan : List ℕ) (sent : List Packet) (session : ℕ) : Type 0 where
   pub last : Packet
   pub is_last : last_of sent ≡ Some last
   pub own : session_of last ≡ session
   pub unplanned : is_planned plan sent last ≡ false
 
--- a session may begin right after this last packet: the plan names it, or a packet of its session was lost. If the
--- store is honest, the number of the session is a later one, and of each session in between a packet was lost
+-- a session may begin right after this last packet: the plan names the packet, or one of its session was lost. If the
+-- store is honest, the number of the session is greater, and a packet of each session in between was lost
 pub record MayRestart (plan : List ℕ) (honest : Bool) (confirms : List Confirm) (sent : List Packet) (session : ℕ)
     (last : Packet) : Type 0 where
   pub cause : (is_planned plan sent last ≡ true) ⊎ IsBroken confirms (session_of last)
   pub later : honest ≡ true → session_of last < session
   pub between : honest ≡ true → (other : ℕ) → session_of last < other → other < session → IsBroken confirms other
 
--- a session may connect right after these packets: as the first of all, or where it may begin
+-- a session may connect right after these packets: it is the first one, or it may begin after the last of them
 abbrev pub MayConnect : List ℕ → Bool → List Confirm → List Packet → ℕ → Type 0
 MayConnect plan honest confirms sent session =
     (last : Packet) → last_of sent ≡ Some last → MayRestart plan honest confirms sent session last
@@ -151,8 +152,9 @@ abbrev pub MayBeSent : List ℕ → Bool → List Confirm → List Packet → Pa
 MayBeSent plan honest confirms sent (Connect session) = MayConnect plan honest confirms sent session
 MayBeSent plan honest confirms sent (Publish session tag item) = MayPublish plan sent session
 
--- each packet may be sent right after those before it. So the packet after a publish packet that the plan names is
--- the connect packet of a new session, and a connect packet comes only there, first of all, or once a packet was lost
+-- each packet may be sent right after those before it. So right after a publish packet that the plan names comes the
+-- connect packet of a new session. A connect packet comes nowhere else, except first, or after a packet of a session of
+-- which one was lost
 abbrev pub RestartsAsPlanned : List ℕ → Bool → List Confirm → List Packet → Type 0
 RestartsAsPlanned plan honest confirms sent = (earlier : List Packet) (packet : Packet) (later : List Packet)
     → sent ≡ earlier ++ packet ∷ later → MayBeSent plan honest confirms earlier packet

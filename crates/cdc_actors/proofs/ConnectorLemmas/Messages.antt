@@ -90,14 +90,16 @@ all_finished of last sent xs same is one =
     ∙ ap (λ l. l ++ last ∷ []) (is ∙ append-nil (map of xs))
     ∙ ap (λ l. map of l ++ last ∷ []) (sym one)
 
-module _ (polls : ToLedgers) (packets : ToBrokers) (published : ℕ) (dispatched : HasSent polls packets published false) where
+module _ (polls : ToLedgers) (packets : ToBrokers) (published : ℕ)
+    (dispatched : HasSent polls packets published false) where
   -- a packet was sent
   pub HasSent-packet : (packet : Packet)
       → HasSent polls (packets ++ (to_broker.Packet packet, tt) ∷ []) (published + publish_count packet) false
   HasSent-packet packet = record {
     asked = dispatched.asked;
     sent = all_more to_broker.Packet packets (packets_in packets)
-        (packets_in (packets ++ (to_broker.Packet packet, tt) ∷ [])) packet dispatched.sent (packets-more packets packet);
+        (packets_in (packets ++ (to_broker.Packet packet, tt) ∷ [])) packet dispatched.sent
+        (packets-more packets packet);
     counted = ap (λ n. n + publish_count packet) dispatched.counted
         ∙ sym (count_more (packets_in packets) packet)
         ∙ ap (λ (l : List Packet). length (filter is_publish l)) (sym (packets-more packets packet));
@@ -120,7 +122,8 @@ module _ (polls : ToLedgers) (packets : ToBrokers) (published : ℕ) (dispatched
         (polls_in (polls ++ (to_ledger.Finish, tt) ∷ [])) dispatched.asked (polls-finished polls);
     sent = all_finished to_broker.Packet to_broker.Finish packets (packets_in packets)
         (packets_in (packets ++ (to_broker.Finish, tt) ∷ [])) dispatched.sent (packets-finished packets);
-    counted = dispatched.counted ∙ ap (λ (l : List Packet). length (filter is_publish l)) (sym (packets-finished packets));
+    counted = dispatched.counted
+        ∙ ap (λ (l : List Packet). length (filter is_publish l)) (sym (packets-finished packets));
   }
 
 -- ---- what may be sent
@@ -140,7 +143,8 @@ polls_go_on : (polls : List Poll) → list_any ends_to_ledger (map to_ledger.Pol
 polls_go_on [] = refl
 polls_go_on (poll ∷ polls) = polls_go_on polls
 
-module _ (polls : ToLedgers) (packets : ToBrokers) (published : ℕ) (dispatched : HasSent polls packets published false) where
+module _ (polls : ToLedgers) (packets : ToBrokers) (published : ℕ)
+    (dispatched : HasSent polls packets published false) where
   -- so neither link was sent its last message
   pub to_broker_goes_on : has_ended ends_to_broker packets ≡ false
   to_broker_goes_on =

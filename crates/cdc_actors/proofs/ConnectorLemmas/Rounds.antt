@@ -283,7 +283,8 @@ module _ (old : ConnectorCore) (course : Course) (is : IsPublishing old (Some co
       received_of old course is inbox session Broken takes unanswered less new (new_course begun.saved old.window) 1
       (IsPublishing-begun answered new (Some course)
       (answered_as old course is inbox session Broken takes unanswered less old.session is.stands) begun)
-      (λ turn. turn_broken takes (eqb-true session course.number own) begun turn) goes.inbox (finished-begun answered new begun) (RisesBy-begun answered new begun)
+      (λ turn. turn_broken takes (eqb-true session course.number own) begun turn) goes.inbox
+      (finished-begun answered new begun) (RisesBy-begun answered new begun)
       (ap (λ n. if session == n then 1 else 0) is.runs.held ∙ ap (λ b. if b then 1 else 0) own)
       (λ gives.
       (KeepsTimestamp-begun answered new begun).time gives (subst (λ n. 0 < n) (sym is.runs.held) is.runs.number)
@@ -575,8 +576,8 @@ finished_done c end finished = go end.course end.publishing end.rest
           course = course;
           done = both.0;
           answered = omega (arith, none, is.answers.exact);
-          asked = is.dispatched.asked ∙ ap (λ b. map to_ledger.Poll (polls_in c.polls.sent) ++ finish_if to_ledger.Finish b)
-              finished;
+          asked = is.dispatched.asked
+              ∙ ap (λ b. map to_ledger.Poll (polls_in c.polls.sent) ++ finish_if to_ledger.Finish b) finished;
           sent = is.dispatched.sent
               ∙ ap (λ b. map to_broker.Packet (packets_in c.packets.sent) ++ finish_if to_broker.Finish b) finished;
           start = sym (start_held c.start c.held (subst (λ n. 0 < n) (sym is.runs.held) is.runs.number));

@@ -130,7 +130,8 @@ due_none plan before published same =
     ap (λ b. not b && list_any (λ number. number == published) plan) here
 
 -- if one was, a restart is due exactly if the plan names that packet
-due_planned : (plan : List ℕ) (sent : List Packet) (packet : Packet) (before : ℕ) → before ≡ length (filter is_publish sent)
+due_planned : (plan : List ℕ) (sent : List Packet) (packet : Packet) (before : ℕ)
+    → before ≡ length (filter is_publish sent)
     → is_due plan before (before + publish_count packet) ≡ is_planned plan (sent ++ packet ∷ []) packet
 due_planned plan sent packet before counted =
     let count : before + publish_count packet ≡ length (filter is_publish (sent ++ packet ∷ [])) =
@@ -199,6 +200,7 @@ module _ (old mid : ConnectorCore) (sending : IsSending old) (room : old.unanswe
         quiet = λ _. refl;
       })
   sent_by_packet (Some packet) sent is (there, stands, after) =
+      let next_course : Course = with_sent (Some packet) sending.course in
       let packets : List Packet = packets_in old.packets.sent in
       let confirms : List Confirm = confirms_in (of_sender 1 old.inbox.received) in
       let more = packets-more old.packets.sent packet in
@@ -207,11 +209,11 @@ module _ (old mid : ConnectorCore) (sending : IsSending old) (room : old.unanswe
       session_of-next old.restarts old.honest confirms packets sending.course sending.turn packet is in
       subst (IsSentBefore old sent) (sym after)
       (record {
-        course = with_sent (Some packet) sending.course;
+        course = next_course;
         publishing = IsPublishing-sent old sending.course sending.publishing sending.working mid.session packet is
             stands room sending.turn;
         working = sending.working;
-        turn = λ due. subst (λ ps. IsInTurn old.restarts old.honest confirms ps (with_sent (Some packet) sending.course)) (sym more)
+        turn = λ due. subst (λ ps. IsInTurn old.restarts old.honest confirms ps next_course) (sym more)
             (IsInTurn-sent old.restarts old.honest confirms packets sending.course packet own
             (sym (due_planned old.restarts packets packet old.published counted) ∙ due));
         restarts = λ due session next. subst (λ ps. MayConnect old.restarts old.honest confirms ps session) (sym more)
