@@ -1,5 +1,5 @@
 -- What the fast reader of documented bodies has read, in the tokens of JSON. Only private contracts cite it.
-use Rattle.std.specs.Prelude.{◌≡◌, ◌≤◌, ℕ, List, ◌∷◌, ◌++◌, Bool, true, false, get_or, Option, Some, None, Ok, ⊥}
+use Rattle.std.specs.Prelude.{◌≡◌, ◌≤◌, ℕ, List, ◌∷◌, ◌++◌, Bool, true, false, get_or, Option, Some, None, Ok}
 use Rattle.std.specs.Option.{option_and_then}
 use Rattle.json.specs.Token.{Token, end_object, string}
 use Rattle.json.specs.Lex.{Lexeme, token, comma, colon, Place, fresh, after_value, lex, between, begins_colon, punctuate}
