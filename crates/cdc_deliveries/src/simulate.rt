@@ -207,7 +207,6 @@ fn simulated_lines(
         → IfOk result (λ text. text.items ≡ asked_text asked.expects binding.now (events end.world.history)
         (arrivals asked.subscriber (delivery_steps end.seen))) }
     ensures fault { IfErr result IsSimulationFault }
-    ensures no_read { IsReadFault (ending_of result) → ⊥ }
 {
     let Some(steps) = &recorder.steps else {
         return Err(ProgramFault::OutOfMemory);
