@@ -15,7 +15,7 @@ use Rattle.cdc_commands.specs.declared.faults.ProgramFault.{ProgramFault}
 use Rattle.cdc_commands.specs.declared.faults.ProgramFault.TheVariants as fault
 use Rattle.cdc_commands.specs.declared.output.Output.{Output}
 use Rattle.cdc_commands.specs.BookReports.{AreBatchesOf, AreParsedFrom}
-use Rattle.cdc_commands.specs.Outcomes.{IsPrinted, IsSimulationFault, IsWriteFault, MayFailScript, Outcome, PrintsFailure, Writes, outcome_of, refusal_ending}
+use Rattle.cdc_commands.specs.Outcomes.{IsPrinted, IsReadFault, IsSimulationFault, IsWriteFault, MayFailScript, Outcome, PrintsFailure, Writes, ending_of, outcome_of, refusal_ending}
 use Rattle.cdc_commands.specs.Simulated.{PrintsPlan, StatesPlan, SimulationInput, ReportsPlan}
 use Rattle.cdc_commands.specs.Simulations.{Plan}
 
@@ -36,6 +36,39 @@ writes_made prints PrintsFault old new (Err why) ending text (line, (stated, inr
       line,
       (fault.1, subst (λ (e : Ending). prints e line) (sym fault.0) (fails line stated)),
     )
+
+-- a failed write is no failed read
+write_no_read : (ending : Ending) → IsWriteFault ending → IsReadFault ending → ⊥
+write_no_read (Failed (fault.WriteFault why)) wrote read = read
+write_no_read (Failed (fault.ReadFault why)) wrote read = wrote
+write_no_read (Failed (fault.Store why)) wrote read = wrote
+write_no_read (Failed fault.OutOfMemory) wrote read = wrote
+write_no_read (Failed fault.PeerGone) wrote read = wrote
+write_no_read (Failed fault.SessionsExhausted) wrote read = wrote
+write_no_read (Failed fault.StartNotAllowed) wrote read = wrote
+write_no_read (Failed fault.NotOneSystem) wrote read = wrote
+write_no_read Done wrote read = wrote
+write_no_read (Refused why) wrote read = wrote
+write_no_read (BadScript at) wrote read = wrote
+write_no_read (BadSteps at) wrote read = wrote
+write_no_read BadWords wrote read = wrote
+
+-- what is printed ends as a failed read only if a read failed before
+printed_read : (old new : Option (List ℕ)) (wished : Outcome) (ending : Ending)
+    → IsPrinted old new wished ending → IsReadFault ending → IsReadFault wished.ending
+printed_read old new wished ending (inl failed) read = absurd (write_no_read ending failed read)
+printed_read old new wished ending (inr written) read = subst IsReadFault written.0 read
+
+-- so does a command that prints what it made of its input, or why it made nothing
+pub read_before : (PrintsFault : Ending → List ℕ → Type 0) (old new : Option (List ℕ))
+    (made : Result Output ProgramFault) (ending : Ending)
+    → IfOk made (λ output. IsPrinted old new (outcome_of output) ending)
+    → IfErr made (λ why. PrintsFailure PrintsFault old new why ending)
+    → IsReadFault ending → IsReadFault (ending_of made)
+read_before PrintsFault old new (Ok output) ending text fault read =
+    printed_read old new (outcome_of output) ending text read
+read_before PrintsFault old new (Err why) ending text (line, (stated, printed)) read =
+    printed_read old new (record { text = line; ending = Failed why }) ending printed read
 
 -- the batches of the script stay those of the text once the output is printed
 pub parsed_printed : (bytes old new : Option (List ℕ)) (wished : Outcome) (ending : Ending) (parsed : Option ParsedBatches)

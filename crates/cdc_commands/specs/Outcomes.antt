@@ -1,5 +1,5 @@
 -- What a command makes of what it reads, and what it writes of that.
-use Rattle.std.specs.Prelude.{◌≡◌, ◌⊎◌, ℕ, List, Option, Some, None}
+use Rattle.std.specs.Prelude.{◌≡◌, ◌⊎◌, ℕ, List, Option, Some, None, Result, Ok, Err}
 use Rattle.std.specs.Io.KnownBytes.{Appends}
 use Rattle.cdc_commands.specs.declared.endings.Ending.{Ending}
 use Rattle.cdc_commands.specs.declared.endings.Ending.TheVariants.{Done, Failed, Refused, BadScript, BadSteps, BadWords}
@@ -30,6 +30,16 @@ pub record Outcome : Type 0 where
 -- what is printed, and how the command ends, as lists and numbers
 abbrev pub outcome_of : Output → Outcome
 outcome_of output = record { text = output.text.items; ending = output.ending }
+
+-- how a command that made this output, or failed, ends if what it prints can be written
+abbrev pub ending_of : Result Output ProgramFault → Ending
+ending_of (Ok output) = output.ending
+ending_of (Err why) = Failed why
+
+-- a read failed
+abbrev pub IsReadFault : Ending → Type 0
+IsReadFault (Failed (fault.ReadFault why)) = Unit {0}
+IsReadFault _ = ⊥
 
 -- a write failed
 abbrev pub IsWriteFault : Ending → Type 0

@@ -1,10 +1,10 @@
 //! Validates a script, and a step file: the flag `--check` of `books`, `messages` and `simulate`.
 
-ghost use Rattle.std.specs.Prelude.{◌≡◌, ◌+◌, List, Option, ℕ, IfErr, IfOk, IfSome, Some};
+ghost use Rattle.std.specs.Prelude.{◌≡◌, ◌⊎◌, ◌+◌, List, Option, ℕ, IfErr, IfOk, IfSome, Some};
 ghost use Rattle.cdc_script.specs.Reading.{ConsumesAtMost};
 ghost use Rattle.cdc_script.specs.Scripts.{max_bytes};
 ghost use Rattle.cdc_commands.specs.Checked.{ValidatesFiles, PrintsNothing};
-ghost use Rattle.cdc_commands.specs.Outcomes.{MayFailScript, Writes};
+ghost use Rattle.cdc_commands.specs.Outcomes.{IsReadFault, MayFailScript, Writes, ending_of};
 ghost use Rattle.cdc_commands.specs.Printed.{PrintsScript};
 ghost use Rattle.cdc_commands.specs.Simulated.{IsGoodScript};
 
@@ -75,6 +75,8 @@ pub fn check_files<F: Form, R: Read, Q: Read, W: Write>(
     ensures writes { Writes (ValidatesFiles F.prints_fault
         (R.remaining script.old) (Q.remaining steps.old))
         (W.contents writer.old) (W.contents writer.new) result }
+    ensures order { IsReadFault result
+        → (steps.new ≡ steps.old) ⊎ IfSome (R.remaining script.old) IsGoodScript }
     ensures script { ConsumesAtMost (max_bytes + 1)
         (R.remaining script.old) (R.remaining script.new) }
     ensures steps { ConsumesAtMost (max_bytes + 1) (Q.remaining steps.old) (Q.remaining steps.new) }
@@ -93,6 +95,8 @@ fn validate_files<F: Form, R: Read, Q: Read>(
     ensures output { IfOk result (λ output. ValidatesFiles F.prints_fault
         (R.remaining script.old) (Q.remaining steps.old) output.ending output.text.items) }
     ensures fault { IfErr result MayFailScript }
+    ensures order { IsReadFault (ending_of result)
+        → (steps.new ≡ steps.old) ⊎ IfSome (R.remaining script.old) IsGoodScript }
     ensures script { ConsumesAtMost (max_bytes + 1)
         (R.remaining script.old) (R.remaining script.new) }
     ensures steps { ConsumesAtMost (max_bytes + 1) (Q.remaining steps.old) (Q.remaining steps.new) }

@@ -1,6 +1,7 @@
 //! The command `simulate`: takes a script's batches and a session's packets step by step.
 
-ghost use Rattle.std.specs.Prelude.{◌≡◌, ◌+◌, ℕ, List, Option, Result, Err, IfErr, IfOk, Ok, Some, option_map};
+ghost use Rattle.std.specs.Prelude.{◌≡◌, ◌⊎◌, ◌+◌, ℕ, List, Option, Result};
+ghost use Rattle.std.specs.Prelude.{Err, IfErr, IfOk, IfSome, Ok, Some, option_map};
 ghost use Rattle.cdc_script.specs.Reading.{ConsumesAtMost};
 ghost use Rattle.cdc_script.specs.declared.faults.ScriptFault.{ScriptFault};
 ghost use Rattle.cdc_script.specs.declared.step_files.Act.{Act};
@@ -8,8 +9,8 @@ ghost use Rattle.cdc_script.specs.Scripts.{max_bytes, script_of};
 ghost use Rattle.cdc_script.specs.StepFiles.{acts_of};
 ghost use Rattle.cdc_types.specs.Windows.{IsWindow};
 ghost use Rattle.cdc_commands.specs.Observed.{SawSteps};
-ghost use Rattle.cdc_commands.specs.Outcomes.{IsSimulationFault, MayFailScript, Writes};
-ghost use Rattle.cdc_commands.specs.Simulated.{PrintsPlan};
+ghost use Rattle.cdc_commands.specs.Outcomes.{IsReadFault, IsSimulationFault, MayFailScript, Writes, ending_of};
+ghost use Rattle.cdc_commands.specs.Simulated.{IsGoodScript, PrintsPlan};
 
 use crate::endings::Ending;
 use crate::faults::ProgramFault;
@@ -43,6 +44,7 @@ pub fn simulation_of<F: Form, O: Observer>(
         (record { window = window; script = Some script.now; steps = Some (acts_of steps.now) })
         output.ending) }
     ensures fault { IfErr result IsSimulationFault }
+    ensures no_read { IsReadFault (ending_of result) → ⊥ }
 {
     match parse_script(alloc, script) {
         Ok(stated) => script_simulation(form, alloc, stated, steps, window, observer),
@@ -69,6 +71,7 @@ pub fn simulation_of_steps<F: Form, O: Observer>(
         (record { window = window; script = Some script.now; steps = Some (Ok steps.now.acts.items) })
         output.ending) }
     ensures fault { IfErr result IsSimulationFault }
+    ensures no_read { IsReadFault (ending_of result) → ⊥ }
 {
     match parse_script(alloc, script) {
         Ok(stated) => steps_simulation(form, alloc, stated, steps, window, observer),
@@ -96,6 +99,7 @@ fn script_simulation<F: Form, O: Observer>(
         (record { window = window; script = Some bytes; steps = Some (acts_of steps.now) })
         output.ending) }
     ensures fault { IfErr result IsSimulationFault }
+    ensures no_read { IsReadFault (ending_of result) → ⊥ }
 {
     let stated = match parse_steps(alloc, steps) {
         Ok(stated) => stated,
@@ -126,6 +130,7 @@ fn steps_simulation<F: Form, O: Observer>(
         (record { window = window; script = Some bytes; steps = Some (Ok steps.now.acts.items) })
         output.ending) }
     ensures fault { IfErr result IsSimulationFault }
+    ensures no_read { IsReadFault (ending_of result) → ⊥ }
 {
     let notes = Notes::of(alloc, &script);
     observer.begin(alloc, &script, steps);
@@ -167,6 +172,8 @@ pub fn simulate<F: Form, R: Read, Q: Read, W: Write, O: Observer>(
         })
         ending)
         (W.contents writer.old) (W.contents writer.new) result.ending }
+    ensures order { IsReadFault result.ending
+        → (steps.new ≡ steps.old) ⊎ IfSome (R.remaining script.old) IsGoodScript }
     ensures script { ConsumesAtMost (max_bytes + 1)
         (R.remaining script.old) (R.remaining script.new) }
     ensures steps { ConsumesAtMost (max_bytes + 1) (Q.remaining steps.old) (Q.remaining steps.new) }
@@ -200,6 +207,8 @@ fn read_simulation<F: Form, R: Read, Q: Read, O: Observer>(
         })
         output.ending) }
     ensures fault { IfErr result MayFailScript }
+    ensures order { IsReadFault (ending_of result)
+        → (steps.new ≡ steps.old) ⊎ IfSome (R.remaining script.old) IsGoodScript }
     ensures script { ConsumesAtMost (max_bytes + 1)
         (R.remaining script.old) (R.remaining script.new) }
     ensures steps { ConsumesAtMost (max_bytes + 1) (Q.remaining steps.old) (Q.remaining steps.new) }
@@ -225,10 +234,11 @@ fn unread_steps<F: Form>(
     ensures ending { IfOk result (λ output. (at : ScriptFault)
         × ((output.ending ≡ Ending.BadScript at) × (script_of script.now ≡ Err at))) }
     ensures fault { IfErr result MayFailScript }
+    ensures order { IsReadFault (ending_of result) → IsGoodScript script.now }
 {
     match parse_script(alloc, script) {
+        Ok(_) => Err(error.into()),
         Err(ScriptError::Fault(fault)) => Ok(Output::of_bad_script(form, alloc, script, fault)?),
         Err(ScriptError::OutOfMemory) => Err(ProgramFault::OutOfMemory),
-        Ok(_) => Err(error.into()),
     }
 }
