@@ -1,6 +1,6 @@
 //! Reads an event from its JSON text.
 
-ghost use Rattle.std.specs.Prelude.{◌≡◌, ◌<◌, ◌≤◌, ◌^◌, ◌-◌, length, Err, IfOk};
+ghost use Rattle.std.specs.Prelude.{◌≡◌, ◌<◌, ◌≤◌, ◌^◌, ◌-◌, length, Ok, Err, IfOk, IfSome};
 ghost use Rattle.serde_json.specs.Data.{string};
 ghost use Rattle.serde_json.specs.View.{view};
 ghost use Rattle.cdc_message.specs.Errors.{GivesUnlessMemory};
@@ -14,6 +14,7 @@ use crate::errors::DecodeError;
 use crate::fields::{Field, FieldName, Part};
 use crate::kinds::kind_named;
 use crate::own_bodies::own_event;
+use crate::unordered_bodies::documented_event;
 use cdc_types::{Event, EventAccount, EventKind, EventTransfer};
 use serde_json::Value;
 use std::alloc::Global;
@@ -181,6 +182,17 @@ pub fn event_of(value: &Value) -> Result<Event, DecodeError>
     })
 }
 
+/// The event of a body in the layout that `encode` writes or in the documented one, read without a JSON value and without
+/// allocating. `None` for other bodies, which `decode` reads.
+pub fn fast_event(bytes: &[u8]) -> Option<Event>
+    ensures { IfSome result (λ event. spec.read bytes.now ≡ Ok event) }
+{
+    match own_event(bytes) {
+        Some(event) => Some(event),
+        None => documented_event(bytes),
+    }
+}
+
 // The event of a body, read by way of a JSON value.
 fn decode_value(alloc: Global, bytes: &[u8]) -> Result<Event, DecodeError>
     ensures event { GivesUnlessMemory result (spec.read bytes.now) }
@@ -200,7 +212,7 @@ pub fn decode(alloc: Global, bytes: &[u8]) -> Result<Event, DecodeError>
     ensures event { GivesUnlessMemory result (spec.read bytes.now) }
     ensures memory { result ≡ Err DecodeError.OutOfMemory → 0 < length bytes.now }
 {
-    match own_event(bytes) {
+    match fast_event(bytes) {
         Some(event) => Ok(event),
         None => decode_value(alloc, bytes),
     }

@@ -19,7 +19,7 @@ mod unordered_bodies;
 mod words;
 
 pub use decimals::{decimal_up_to, is_decimal};
-pub use decoding::{decode, event_of};
+pub use decoding::{decode, event_of, fast_event};
 pub use encoding::encode;
 pub use errors::DecodeError;
 pub use fields::{Field, FieldName, Part};

@@ -54,7 +54,7 @@ impl Numbers {
     // Sets the number of this name.
     pub(crate) fn set(&mut self, name: FieldName, number: u128)
         ensures same { spec.number_of self.new name ≡ Some number }
-        ensures others { (other : FieldName) → (other ≡ name → ⊥) → spec.number_of self.new other ≡ spec.number_of self.old other }
+        ensures others { spec.SameOthers self.old self.new name }
     {
         self.values[place_of(name)] = Some(number);
     }

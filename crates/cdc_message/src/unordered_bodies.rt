@@ -1,17 +1,16 @@
-//! A fast reader of bodies as TigerBeetle documents them, without a JSON value: the members of the event in the documented
-//! order and those of its parts in any order, each number in quotes or bare, with or without white space.
+//! A fast reader of bodies as TigerBeetle documents them, without a JSON value: the members of the event in the
+//! documented order and those of its parts in any order, numbers in quotes or bare, with or without white space.
 
-ghost use Rattle.std.specs.Prelude.{◌≡◌, ◌∷◌, ◌++◌, ◌<◌, ◌^◌, true, Some, Ok, IfSome, OnSome, IsUtf8};
+ghost use Rattle.std.specs.Prelude.{◌≡◌, ◌∷◌, ◌++◌, ◌<◌, ◌^◌, true, Ok, IfSome, OnSome, IsUtf8};
 ghost use Rattle.std.specs.Bool.{OnTrue};
-ghost use Rattle.json.specs.Lex.{lex, between, token, comma, colon};
-ghost use Rattle.json.specs.Token.{string};
+ghost use Rattle.json.specs.Lex.{lex, between};
 ghost use Rattle.json.specs.Word as spec;
 ghost use Rattle.json.specs.Word.{ends_word};
-ghost use Rattle.serde_json.specs.Find.{as_str};
 ghost use Rattle.cdc_message.specs.Fields.{key_of};
 ghost use Rattle.cdc_message.specs.Kinds.{kind_text as text_of};
-ghost use Rattle.cdc_message.specs.Reading.{read, event_of, whole_number};
-ghost use Rattle.cdc_message.specs.Unordered.{Gives, IsAccount, IsTransfer, Holds, end_or_comma};
+ghost use Rattle.cdc_message.specs.Reading.{read};
+ghost use Rattle.cdc_message.specs.Unordered.{Gives, GivesNumber, GivesKind, GivesEvent, GivesName, GivesMore};
+ghost use Rattle.cdc_message.specs.Unordered.{IsAccount, IsTransfer, Holds};
 
 use crate::fields::FieldName;
 use crate::kinds::{kind_named, kind_text};
@@ -124,7 +123,7 @@ impl Cursor<'_> {
 
     // Skips this name in quotes, and the colon after it.
     fn name(&mut self, name: FieldName) -> Option<()>
-        ensures { OnSome result (lex between self.old.rest.now ≡ token (string (key_of name)) ∷ colon ∷ lex between self.new.rest.now) }
+        ensures { OnSome result (GivesName self.old.rest.now name self.new.rest.now) }
     {
         self.sign(b'"')?;
         self.key(name)?;
@@ -135,7 +134,7 @@ impl Cursor<'_> {
 
     // Reads the name of a number, with the colon.
     fn any_name(&mut self) -> Option<FieldName>
-        ensures { IfSome result (λ name. lex between self.old.rest.now ≡ token (string (key_of name)) ∷ colon ∷ lex between self.new.rest.now) }
+        ensures { IfSome result (λ name. GivesName self.old.rest.now name self.new.rest.now) }
     {
         self.spaces();
         let name = likely_name(self.rest.get(1..)?)?;
@@ -145,7 +144,7 @@ impl Cursor<'_> {
 
     // Reads a number of at most 64 bits that isn't in quotes.
     fn bare_number(&mut self) -> Option<u128>
-        ensures { IfSome result (λ n. Gives 0 self.old.rest.now (λ value. whole_number value ≡ Some n) self.new.rest.now) }
+        ensures { IfSome result (λ n. GivesNumber self.old.rest.now n self.new.rest.now) }
     {
         let number = self.number()?;
         if number <= u128::from(u64::MAX) && ends(self.rest) {
@@ -157,7 +156,7 @@ impl Cursor<'_> {
 
     // Reads a number in quotes.
     fn quoted_number(&mut self) -> Option<u128>
-        ensures { IfSome result (λ n. Gives 0 self.old.rest.now (λ value. whole_number value ≡ Some n) self.new.rest.now) }
+        ensures { IfSome result (λ n. GivesNumber self.old.rest.now n self.new.rest.now) }
     {
         let number = self.number_128()?;
         Some(number)
@@ -165,7 +164,7 @@ impl Cursor<'_> {
 
     // Reads a number in quotes or bare.
     fn any_number(&mut self) -> Option<u128>
-        ensures { IfSome result (λ n. Gives 0 self.old.rest.now (λ value. whole_number value ≡ Some n) self.new.rest.now) }
+        ensures { IfSome result (λ n. GivesNumber self.old.rest.now n self.new.rest.now) }
     {
         self.spaces();
         if self.rest.first() == Some(&b'"') {
@@ -179,7 +178,7 @@ impl Cursor<'_> {
 
     // Whether a comma comes next. `None` if neither a comma comes next nor the end of an object.
     fn more(&mut self) -> Option<bool>
-        ensures { IfSome result (λ more. lex between self.old.rest.now ≡ end_or_comma more ∷ lex between self.new.rest.now) }
+        ensures { IfSome result (λ more. GivesMore self.old.rest.now more self.new.rest.now) }
     {
         self.spaces();
         if self.rest.first() == Some(&b',') {
@@ -250,7 +249,7 @@ impl Cursor<'_> {
 
     // Reads the name of a kind.
     fn any_kind(&mut self) -> Option<EventKind>
-        ensures { IfSome result (λ kind. Gives 0 self.old.rest.now (λ value. as_str value ≡ Some (text_of kind)) self.new.rest.now) }
+        ensures { IfSome result (λ kind. GivesKind self.old.rest.now kind self.new.rest.now) }
     {
         self.sign(b'"')?;
         let length = self.rest.iter().position(|byte| *byte == b'"')?;
@@ -262,7 +261,7 @@ impl Cursor<'_> {
 
     // Reads an event with its members in the documented order.
     fn documented_event(&mut self) -> Option<Event>
-        ensures { IfSome result (λ event. Gives 2 self.old.rest.now (λ value. event_of value ≡ Ok event) self.new.rest.now) }
+        ensures { IfSome result (λ event. GivesEvent self.old.rest.now event self.new.rest.now) }
     {
         self.sign(b'{')?;
         self.name(FieldName::Timestamp)?;
@@ -294,8 +293,9 @@ impl Cursor<'_> {
     }
 }
 
-/// The event of a body with the event's members in the documented order, those of its parts in any order, and no others;
-/// each number in quotes or bare, white space anywhere. `None` for any other body.
+/// The event of a body that has the members of an event in the documented order, those of its parts in any order, and no
+/// others. Each number is in quotes or bare, and white space may be anywhere. `None` for every other body, and for
+/// numbers with leading zeros and names with escapes.
 pub fn documented_event(bytes: &[u8]) -> Option<Event>
     ensures { IfSome result (λ event. read bytes.now ≡ Ok event) }
 {
