@@ -1,34 +1,28 @@
 -- A text of JSON is read value by value.
-use Rattle.std.proofs.Common.{◌≡◌, ℕ, ◌<◌, ◌≤◌, ◌^◌, List, [], ◌∷◌, ◌++◌, Bool, true, false, Some, None, Ok, decimal, codes, refl, sym, ap, ap₂, ◌∙◌, arith, append_assoc, inl, inr}
+use Rattle.std.proofs.Common.{◌≡◌, ℕ, ◌<◌, ◌^◌, List, [], ◌∷◌, ◌++◌, true, false, Some, decimal, refl, sym, ap, ap₂, ◌∙◌, arith, append_assoc, inl, inr}
 use Rattle.std.proofs.lemmas.Bool.Decides.{eqb_tells}
-use Rattle.std.specs.Option.{option_and_then}
 use Rattle.json.specs.Json as json
-use Rattle.json.specs.Json.{Json}
-use Rattle.json.specs.Lex.{Lexeme, token, comma, colon, Place, fresh, after_value, after_comma, after_key, lex, between, in_string, string_token, begins_colon, may_begin, may_close, punctuate}
-use Rattle.json.specs.Text.{content, plain}
-use Rattle.json.specs.Token.{Token, begin_object, end_object, key, string, number}
-use Rattle.json.specs.Tree.{json_tokens, members_tokens, depth, members_depth}
+use Rattle.json.specs.Lex.{token, comma, colon, Place, fresh, after_value, after_comma, after_key, lex, between, string_token, begins_colon, may_begin, punctuate}
+use Rattle.json.specs.Token.{begin_object, end_object, key, string, number}
+use Rattle.json.specs.Tree.{json_tokens, members_tokens}
 use Rattle.json.specs.Print.{escape}
 use Rattle.json.specs.Word.{ends_word, is_space}
 use Rattle.json.proofs.Printed.Decimals.{IsNumber-decimal}
 use Rattle.json.proofs.Printed.Numbers.{lex-number}
 use Rattle.json.proofs.Printed.Strings.{content-escape, lex-escape}
-use Rattle.serde_json.specs.Data.{Data, object, Members, no_members, put}
+use Rattle.serde_json.specs.Data.{Data, object}
 use Rattle.serde_json.specs.Data as value
-use Rattle.serde_json.specs.Find.{get_member, as_str}
-use Rattle.serde_json.specs.Read.{of_json, of_members}
+use Rattle.serde_json.specs.Find.{as_str}
 use Rattle.serde_json.proofs.Numbers.{number_of-decimal}
 use Rattle.serde_json.proofs.OnLiterals.{serde_json_on_literals}
-use Rattle.serde_json.proofs.Views.{get_member-put, get_member-put_other}
 use Rattle.cdc_types.specs.declared.events.EventKind.{EventKind}
 use Rattle.cdc_message.specs.declared.fields.FieldName.{FieldName}
 use Rattle.cdc_message.specs.declared.fields.FieldName.TheVariants.{Timestamp, Kind, Ledger, TransferPart, DebitAccount, CreditAccount, Id, Amount, PendingId, UserData128, UserData64, UserData32, Timeout, Code, Flags, DebitsPending, DebitsPosted, CreditsPending, CreditsPosted}
-use Rattle.cdc_message.specs.declared.part_numbers.Numbers.{Numbers}
 use Rattle.cdc_message.specs.Bodies.{in_quotes}
 use Rattle.cdc_message.specs.Fields.{key_of}
 use Rattle.cdc_message.specs.Kinds.{kind_text}
 use Rattle.cdc_message.specs.Reading.{whole_number}
-use Rattle.cdc_message.specs.Unordered.{tokens_at, Gives, Holds, end_or_comma, number_of, place_of}
+use Rattle.cdc_message.specs.Unordered.{tokens_at, Gives}
 use Rattle.cdc_message.proofs.Back.{whole_number-wide}
 use Rattle.cdc_message.proofs.Texts.{after_quote, plain_decimal, plain_kind}
 

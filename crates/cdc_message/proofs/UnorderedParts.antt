@@ -1,14 +1,14 @@
 -- The objects of a documented body, read member by member.
-use Rattle.std.proofs.Common.{◌≡◌, ◌≢◌, ℕ, ◌<◌, ◌≤◌, ◌^◌, ◌-◌, ◌∷◌, ◌++◌, [], List, length, Bool, true, false, eqb, find, bytes_eq, Option, Some, None, Ok, refl, sym, ap, ◌∙◌, arith, inl, inr, codes}
+use Rattle.std.proofs.Common.{◌≡◌, ℕ, ◌<◌, ◌≤◌, ◌^◌, ◌-◌, ◌∷◌, ◌++◌, [], List, true, eqb, find, bytes_eq, Option, Some, None, Ok, refl, sym, ap, ◌∙◌, arith, inl, inr, codes}
 use Rattle.std.proofs.lemmas.Bool.Decides.{eqb_tells}
 use Rattle.std.specs.Option.{option_and_then, option_map}
 use Rattle.json.specs.Json as json
-use Rattle.json.specs.Lex.{token, comma, colon, Place, fresh, after_value, after_comma, lex, between, begins_colon, may_begin}
+use Rattle.json.specs.Lex.{token, comma, colon, Place, fresh, after_value, after_comma, lex, between, may_begin}
 use Rattle.json.specs.Token.{begin_object, end_object, string}
-use Rattle.json.specs.Tree.{json_tokens, members_tokens, depth, members_depth}
+use Rattle.json.specs.Tree.{json_tokens, members_depth}
 use Rattle.serde_json.specs.Data.{Data, object, Members, no_members, put}
 use Rattle.serde_json.specs.Find.{get, get_member, as_str}
-use Rattle.serde_json.specs.Read.{of_json, of_members}
+use Rattle.serde_json.specs.Read.{of_members}
 use Rattle.serde_json.proofs.Views.{get_member-put, get_member-put_other}
 use Rattle.cdc_types.specs.declared.events.Event.{Event}
 use Rattle.cdc_message.specs.declared.fields.Field.{Field}

@@ -15,6 +15,7 @@ pub(crate) struct Numbers {
     values: [Option<u128>; NAMES],
 }
 
+// The place of a name's number.
 fn place_of(name: FieldName) -> usize
     ensures { result ≡ spec.place_of name }
 {

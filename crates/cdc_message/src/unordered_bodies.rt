@@ -21,7 +21,8 @@ use cdc_types::{Event, EventAccount, EventKind, EventTransfer};
 // The most members that are read of a part.
 const MOST: usize = 32;
 
-// The name that a text begins with, if it is one, by its length and two of its bytes. The caller compares the rest.
+// The name that may stand at the front of a text, by its length up to the quote and two of its bytes. The caller has to
+// compare it with the text.
 fn likely_name(text: &[u8]) -> Option<FieldName> {
     let length = text.iter().position(|byte| *byte == b'"')?;
     if length == 0 {
@@ -63,6 +64,7 @@ fn ends(text: &[u8]) -> bool
     )
 }
 
+// A number that has at most 64 bits.
 fn narrow_64(number: u128) -> Option<u64>
     ensures fits { IfSome result (λ n. n < 2 ^ 64) }
     ensures same { IfSome result (λ n. number ≡ n) }
@@ -70,6 +72,7 @@ fn narrow_64(number: u128) -> Option<u64>
     u64::try_from(number).ok()
 }
 
+// A number that has at most 32 bits.
 fn narrow_32(number: u128) -> Option<u32>
     ensures fits { IfSome result (λ n. n < 2 ^ 32) }
     ensures same { IfSome result (λ n. number ≡ n) }
@@ -77,6 +80,7 @@ fn narrow_32(number: u128) -> Option<u32>
     u32::try_from(number).ok()
 }
 
+// Whether bytes are UTF-8.
 fn is_text(bytes: &[u8]) -> bool
     ensures { OnTrue result (IsUtf8 bytes.now) }
 {

@@ -1,6 +1,5 @@
 use Rattle.std.proofs.Common.{◌≡◌, ◌<◌, ◌^◌, ap, arith, rules, Some}
 use Rattle.json.specs.Lex.{lex, between}
-use Rattle.json.specs.Word.{ends_word}
 use Rattle.cdc_message.specs.Reading.{whole_number}
 use Rattle.cdc_message.proofs.Unordered.{bare_gives, gives_after}
 use Rattle.cdc_message.proofs.own_bodies.Cursor.bare_number.Goals as goal

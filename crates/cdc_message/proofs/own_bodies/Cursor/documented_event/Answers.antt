@@ -1,4 +1,4 @@
-use Rattle.std.proofs.Common.{◌≡◌, ◌≤◌, ℕ, Some, ap, ◌∙◌, refl, arith, codes}
+use Rattle.std.proofs.Common.{◌≤◌, Some, ap, ◌∙◌, refl, arith, codes}
 use Rattle.json.specs.Json as json
 use Rattle.json.specs.Lex.{fresh, after_comma}
 use Rattle.json.specs.Tree.{depth}
