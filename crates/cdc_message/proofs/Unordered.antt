@@ -86,7 +86,7 @@ pub comma_lexes : (text rest : List ℕ) → lex between text ≡ lex between (4
 unfolding lex
 comma_lexes text rest is = is
 
--- the beginning of an object
+-- the start of an object
 pub begin_lexes : (text rest : List ℕ) → lex between text ≡ lex between (123 ∷ rest)
     → lex between text ≡ token begin_object ∷ lex between rest
 unfolding lex

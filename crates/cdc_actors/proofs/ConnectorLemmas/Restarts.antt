@@ -204,8 +204,8 @@ module _ (plan : List ℕ) (honest : Bool) (confirms : List Confirm) (sent : Lis
         })
 
     -- or hadn't
-    after_beginning : MayConnect plan honest confirms sent before → MayConnect plan honest confirms sent session
-    after_beginning may last is =
+    after_begun : MayConnect plan honest confirms sent before → MayConnect plan honest confirms sent session
+    after_begun may last is =
         let comes = may last is in
         record {
           cause = comes.cause;
@@ -225,7 +225,7 @@ module _ (plan : List ℕ) (honest : Bool) (confirms : List Confirm) (sent : Lis
     MayConnect-broken course of is =
         elim (cases_Bool (course.sent == 0)) [
           | inl none ↦
-              after_beginning
+              after_begun
               (subst (MayConnect plan honest confirms sent) of (is.connects (eqb-true course.sent 0 none)))
           | inr some ↦
               let apart = eqb-false course.sent 0 some in
