@@ -1,7 +1,7 @@
 use crate::bodies::FIRST;
 use cdc_message::{
     DecodeError, Delivery, Field, FieldName, Item, Message, Packet, Part, decode, encode,
-    properties_of, replay_laws,
+    fast_event, properties_of, replay_laws,
 };
 use cdc_types::{Event, EventAccount, EventKind, EventTransfer};
 use std::alloc::{AllocError, Global};
@@ -105,6 +105,27 @@ fn writers_may_differ(rt: HostRuntime) -> Result<(), Fail> {
     for (from, to) in changes {
         let read = read_changed(alloc, IN_ORDER, from, to)?;
         assert_eq!(rt; read, Ok(first_event(EventKind::SinglePhase)), "{to}");
+    }
+    Ok(())
+}
+
+// In the documented order bodies are read without a JSON value, and others aren't.
+#[test]
+fn documented_bodies_are_read_fast(rt: HostRuntime) -> Result<(), Fail> {
+    let alloc = rt.alloc();
+    let event = Some(first_event(EventKind::SinglePhase));
+    let changes = [
+        ("{", "{", event),
+        (",", " ,\n", event),
+        (":", " : ", event),
+        (":\"100\"", ":100", event),
+        (":0,", ":\"0\",", event),
+        (":\"100\"", ":\"0100\"", None),
+        ("{\"timestamp\"", "{\"x\":[1],\"timestamp\"", None),
+    ];
+    for (from, to, read) in changes {
+        let text = IN_ORDER.replace(alloc, from, to)?;
+        assert_eq!(rt; fast_event(text.as_bytes()), read, "{to}");
     }
     Ok(())
 }
