@@ -10,7 +10,7 @@ use Rattle.cdc_commands.specs.declared.endings.Ending.{Ending}
 use Rattle.cdc_commands.specs.declared.endings.Ending.TheVariants.{BadScript}
 use Rattle.cdc_commands.specs.declared.faults.ProgramFault.{ProgramFault}
 use Rattle.cdc_commands.specs.declared.output.Output.{Output}
-use Rattle.cdc_commands.specs.Outcomes.{refusal_ending}
+use Rattle.cdc_commands.specs.Outcomes.{IsReadFault, refusal_ending}
 use Rattle.cdc_commands.specs.Seen.{Seen}
 use Rattle.cdc_commands.specs.Simulated.{ReportsPlan, SimulationInput}
 use Rattle.cdc_commands.specs.Simulations.{Plan}
@@ -77,3 +77,9 @@ pub saw_none : (HasSeen : List Seen → Type 0) (number window : ℕ) (script : 
 saw_none HasSeen number window script steps (Ok output) (at, (is, bad)) =
     subst (SawAsked HasSeen number (record { window = window; script = Some script; steps = steps })) (sym is) (tt, bad)
 saw_none HasSeen number window script steps (Err why) bad = tt
+
+-- a simulation that stopped at a refused step, or did all steps, doesn't end as a failed read
+pub no_read_after : (refusal : Option StepError) (ending : Ending) → ending ≡ refusal_ending refusal
+    → IsReadFault ending → ⊥
+no_read_after None ending is read = subst IsReadFault is read
+no_read_after (Some why) ending is read = subst IsReadFault is read

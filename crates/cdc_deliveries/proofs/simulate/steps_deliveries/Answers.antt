@@ -6,7 +6,7 @@ use Rattle.cdc_commands.specs.QueuePrinted.{binding_at}
 use Rattle.cdc_commands.specs.Simulated.{SimulationInput}
 use Rattle.cdc_commands.specs.Simulations.{Plan}
 use Rattle.cdc_deliveries.specs.Deliver.{Delivers}
-use Rattle.cdc_deliveries.proofs.AskedLemmas.{asked_after}
+use Rattle.cdc_deliveries.proofs.AskedLemmas.{asked_after, no_read_after}
 use Rattle.cdc_deliveries.proofs.TakenArrivals.{arrives_as_taken}
 use Rattle.cdc_deliveries.proofs.simulate.steps_deliveries.Goals as goal
 
@@ -82,3 +82,7 @@ returns-in_default-clause-seen g c = λ bytes stated.
     let is = c.in_default.is in
     let none : binding_at c.args.script.bindings c.args.asked.subscriber ≡ None = cc in
     (plan, (record { window_is = refl; script_stated = stated; steps_stated = refl }, (none, refl)))
+
+pub returns-clause-no_read : goal.returns-clause-no_read
+returns-clause-no_read g c =
+    no_read_after c.in_ok-simulated.simulated.played.refusal c.of_refusal.result c.of_refusal.ensures
