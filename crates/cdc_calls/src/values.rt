@@ -87,7 +87,7 @@ pub const BINDING: [&str; 3] = ["any", "ledger=700", "transfer_code=1"];
 
 pub const SCRIPT: &str = "subscriber all\naccounts 1\naccount id=1 ledger=700 code=10\n";
 
-pub const STEPS: &str = "submit 1\nstart\npoll\n";
+pub const STEPS: &str = "batch\nstart\npoll\n";
 
 /// The first event, in a stream that isn't chained.
 pub const ENTRY: Entry = Entry {
