@@ -1,0 +1,3 @@
+#!/bin/bash
+# prog.sh: front-end check of the driver, alone
+cd /work/q_trial/crates/q_driver
