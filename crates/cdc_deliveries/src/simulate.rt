@@ -1,6 +1,6 @@
 //! `simulate --deliveries`: plays a simulation, and prints the deliveries to one subscriber.
 
-ghost use Rattle.std.specs.Prelude.{◌≡◌, ◌+◌, ℕ, List, [], Option, Some, IfSome, option_map};
+ghost use Rattle.std.specs.Prelude.{◌≡◌, ◌⊎◌, ◌+◌, ℕ, List, [], Option, Some, IfSome, option_map};
 ghost use Rattle.std.specs.Prelude.{Result, Ok, Err, IfErr, IfOk};
 ghost use Rattle.cdc_script.specs.Reading.{ConsumesAtMost};
 ghost use Rattle.cdc_script.specs.declared.faults.ScriptFault.{ScriptFault};
@@ -13,7 +13,8 @@ ghost use Rattle.cdc_commands.specs.QueuePrinted as spec;
 ghost use Rattle.cdc_commands.specs.SimulationReports.{IsReportOf};
 ghost use Rattle.cdc_commands.specs.Simulations.{Stage};
 ghost use Rattle.cdc_deliveries.specs.Recorded.{delivery_steps};
-ghost use Rattle.cdc_commands.specs.Outcomes.{IsSimulationFault, MayFailScript, Writes};
+ghost use Rattle.cdc_commands.specs.Outcomes.{IsReadFault, IsSimulationFault, MayFailScript, Writes, ending_of};
+ghost use Rattle.cdc_commands.specs.Simulated.{IsGoodScript};
 ghost use Rattle.cdc_deliveries.specs.Deliver.{PrintsDeliveries, SawAsked, asked_text};
 ghost use Rattle.cdc_deliveries.specs.Arrivals.{arrivals};
 ghost use Rattle.cdc_deliveries.specs.declared.simulate.Asked.{Asked as AsksFor};
@@ -65,6 +66,7 @@ pub fn deliveries_of<F: Form, O: Observer>(
         (record { window = window; script = Some script.now; steps = Some (acts_of steps.now) })
         output.ending) }
     ensures fault { IfErr result IsSimulationFault }
+    ensures no_read { IsReadFault (ending_of result) → ⊥ }
 {
     match parse_script(alloc, script) {
         Ok(stated) => script_deliveries(form, alloc, stated, steps, window, asked, observers),
@@ -92,6 +94,7 @@ pub fn deliveries_of_steps<F: Form, O: Observer>(
         (record { window = window; script = Some script.now; steps = Some (Ok steps.now.acts.items) })
         output.ending) }
     ensures fault { IfErr result IsSimulationFault }
+    ensures no_read { IsReadFault (ending_of result) → ⊥ }
 {
     match parse_script(alloc, script) {
         Ok(stated) => steps_deliveries::<F, O>(alloc, stated, steps, window, asked, observers),
@@ -120,6 +123,7 @@ fn script_deliveries<F: Form, O: Observer>(
         (record { window = window; script = Some bytes; steps = Some (acts_of steps.now) })
         output.ending) }
     ensures fault { IfErr result IsSimulationFault }
+    ensures no_read { IsReadFault (ending_of result) → ⊥ }
 {
     let stated = match parse_steps(alloc, steps) {
         Ok(stated) => stated,
@@ -150,6 +154,7 @@ fn steps_deliveries<F: Form, O: Observer>(
         (record { window = window; script = Some bytes; steps = Some (Ok steps.now.acts.items) })
         output.ending) }
     ensures fault { IfErr result IsSimulationFault }
+    ensures no_read { IsReadFault (ending_of result) → ⊥ }
 {
     let notes = Notes::of(alloc, &script);
     let found = subscriber_binding(alloc, &script, asked.subscriber)?;
@@ -202,6 +207,7 @@ fn simulated_lines(
         → IfOk result (λ text. text.items ≡ asked_text asked.expects binding.now (events end.world.history)
         (arrivals asked.subscriber (delivery_steps end.seen))) }
     ensures fault { IfErr result IsSimulationFault }
+    ensures no_read { IsReadFault (ending_of result) → ⊥ }
 {
     let Some(steps) = &recorder.steps else {
         return Err(ProgramFault::OutOfMemory);
@@ -258,6 +264,8 @@ pub fn deliver<F: Form, R: Read, Q: Read, W: Write, O: Observer>(
         })
         ending)
         (W.contents writer.old) (W.contents writer.new) result.ending }
+    ensures order { IsReadFault result.ending
+        → (steps.new ≡ steps.old) ⊎ IfSome (R.remaining script.old) IsGoodScript }
     ensures script { ConsumesAtMost (max_bytes + 1)
         (R.remaining script.old) (R.remaining script.new) }
     ensures steps { ConsumesAtMost (max_bytes + 1) (Q.remaining steps.old) (Q.remaining steps.new) }
@@ -292,6 +300,8 @@ fn read_deliveries<F: Form, R: Read, Q: Read, O: Observer>(
         })
         output.ending) }
     ensures fault { IfErr result MayFailScript }
+    ensures order { IsReadFault (ending_of result)
+        → (steps.new ≡ steps.old) ⊎ IfSome (R.remaining script.old) IsGoodScript }
     ensures script { ConsumesAtMost (max_bytes + 1)
         (R.remaining script.old) (R.remaining script.new) }
     ensures steps { ConsumesAtMost (max_bytes + 1) (Q.remaining steps.old) (Q.remaining steps.new) }
@@ -318,10 +328,11 @@ fn unread_steps<F: Form>(
     ensures ending { IfOk result (λ output. (at : ScriptFault)
         × ((output.ending ≡ Ending.BadScript at) × (script_of script.now ≡ Err at))) }
     ensures fault { IfErr result MayFailScript }
+    ensures order { IsReadFault (ending_of result) → IsGoodScript script.now }
 {
     match parse_script(alloc, script) {
+        Ok(_) => Err(error.into()),
         Err(ScriptError::Fault(fault)) => Ok(Output::of_bad_script(form, alloc, script, fault)?),
         Err(ScriptError::OutOfMemory) => Err(ProgramFault::OutOfMemory),
-        Ok(_) => Err(error.into()),
     }
 }

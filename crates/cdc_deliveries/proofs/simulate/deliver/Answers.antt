@@ -1,6 +1,6 @@
 use Rattle.std.proofs.lemmas.Result.{IfErr-weaker}
 use Rattle.cdc_commands.specs.Outcomes.{MayFailScript}
-use Rattle.cdc_commands.proofs.OutputLemmas.{writes_made}
+use Rattle.cdc_commands.proofs.OutputLemmas.{read_before, writes_made}
 use Rattle.cdc_deliveries.proofs.simulate.deliver.Goals as goal
 
 pub returns-clause-writes : goal.returns-clause-writes
@@ -16,3 +16,8 @@ returns-clause-seen g c =
     c.print_output.ensures.fault c.read_deliveries-output.ensures.seen
     (IfErr-weaker c.read_deliveries-output.result MayFailScript _ (λ why may line stated. (may, tt))
     c.read_deliveries-output.ensures.fault)
+
+pub returns-clause-order : goal.returns-clause-order
+returns-clause-order g c = λ read.
+    c.read_deliveries-output.ensures.order (read_before g.F.Form.prints_fault _ _ c.read_deliveries-output.result _
+    c.print_output.ensures.text c.print_output.ensures.fault read)
