@@ -18,9 +18,10 @@ use crate::forms::Form;
 use crate::notes::Notes;
 use crate::observers::Observer;
 use crate::output::{Ended, Output, print_output};
+use crate::reading::read_file;
 use crate::simulations::play_script;
 use crate::tally::Tally;
-use cdc_script::{ReadError, Script, ScriptError, StepFile, parse_script, parse_steps, read_text};
+use cdc_script::{ReadError, Script, ScriptError, StepFile, parse_script, parse_steps};
 use std::alloc::Global;
 use std::io::{Read, Write};
 
@@ -38,10 +39,10 @@ pub fn simulation_of<F: Form, O: Observer>(
 ) -> Result<Output, ProgramFault>
     requires { IsWindow window }
     ensures output { IfOk result (λ output. PrintsPlan F.prints_simulation F.prints_fault
-        (record { window = window; script = Some script.now; steps = Some (acts_of steps.now) })
+        (of_files window (Some script.now) (Some steps.now))
         output.ending output.text.items) }
     ensures seen { IfOk result (λ output. SawSteps (O.has_seen observer.new)
-        (record { window = window; script = Some script.now; steps = Some (acts_of steps.now) })
+        (of_files window (Some script.now) (Some steps.now))
         output.ending) }
     ensures fault { IfErr result IsSimulationFault }
     ensures no_read { IsReadFault (ending_of result) → ⊥ }
@@ -65,10 +66,10 @@ pub fn simulation_of_steps<F: Form, O: Observer>(
 ) -> Result<Output, ProgramFault>
     requires { IsWindow window }
     ensures output { IfOk result (λ output. PrintsPlan F.prints_simulation F.prints_fault
-        (record { window = window; script = Some script.now; steps = Some (Ok steps.now.acts.items) })
+        (of_acts window (Some script.now) steps.now.acts.items)
         output.ending output.text.items) }
     ensures seen { IfOk result (λ output. SawSteps (O.has_seen observer.new)
-        (record { window = window; script = Some script.now; steps = Some (Ok steps.now.acts.items) })
+        (of_acts window (Some script.now) steps.now.acts.items)
         output.ending) }
     ensures fault { IfErr result IsSimulationFault }
     ensures no_read { IsReadFault (ending_of result) → ⊥ }
@@ -92,11 +93,11 @@ fn script_simulation<F: Form, O: Observer>(
     requires { IsWindow window }
     ensures output { (bytes : List ℕ) → script_of bytes ≡ Ok script
         → IfOk result (λ output. PrintsPlan F.prints_simulation F.prints_fault
-        (record { window = window; script = Some bytes; steps = Some (acts_of steps.now) })
+        (of_files window (Some bytes) (Some steps.now))
         output.ending output.text.items) }
     ensures seen { (bytes : List ℕ) → script_of bytes ≡ Ok script
         → IfOk result (λ output. SawSteps (O.has_seen observer.new)
-        (record { window = window; script = Some bytes; steps = Some (acts_of steps.now) })
+        (of_files window (Some bytes) (Some steps.now))
         output.ending) }
     ensures fault { IfErr result IsSimulationFault }
     ensures no_read { IsReadFault (ending_of result) → ⊥ }
@@ -123,11 +124,11 @@ fn steps_simulation<F: Form, O: Observer>(
     requires { IsWindow window }
     ensures output { (bytes : List ℕ) → script_of bytes ≡ Ok script
         → IfOk result (λ output. PrintsPlan F.prints_simulation F.prints_fault
-        (record { window = window; script = Some bytes; steps = Some (Ok steps.now.acts.items) })
+        (of_acts window (Some bytes) steps.now.acts.items)
         output.ending output.text.items) }
     ensures seen { (bytes : List ℕ) → script_of bytes ≡ Ok script
         → IfOk result (λ output. SawSteps (O.has_seen observer.new)
-        (record { window = window; script = Some bytes; steps = Some (Ok steps.now.acts.items) })
+        (of_acts window (Some bytes) steps.now.acts.items)
         output.ending) }
     ensures fault { IfErr result IsSimulationFault }
     ensures no_read { IsReadFault (ending_of result) → ⊥ }
@@ -158,18 +159,10 @@ pub fn simulate<F: Form, R: Read, Q: Read, W: Write, O: Observer>(
 ) -> Ended
     requires { IsWindow window }
     ensures writes { Writes (PrintsPlan F.prints_simulation F.prints_fault
-        (record {
-          window = window;
-          script = R.remaining script.old;
-          steps = option_map acts_of (Q.remaining steps.old);
-        }))
+        (of_files window (R.remaining script.old) (Q.remaining steps.old)))
         (W.contents writer.old) (W.contents writer.new) result.ending }
     ensures seen { Writes (λ ending _. SawSteps (O.has_seen observer.new)
-        (record {
-          window = window;
-          script = R.remaining script.old;
-          steps = option_map acts_of (Q.remaining steps.old);
-        })
+        (of_files window (R.remaining script.old) (Q.remaining steps.old))
         ending)
         (W.contents writer.old) (W.contents writer.new) result.ending }
     ensures order { IsReadFault result.ending
@@ -193,18 +186,10 @@ fn read_simulation<F: Form, R: Read, Q: Read, O: Observer>(
 ) -> Result<Output, ProgramFault>
     requires { IsWindow window }
     ensures output { IfOk result (λ output. PrintsPlan F.prints_simulation F.prints_fault
-        (record {
-          window = window;
-          script = R.remaining script.old;
-          steps = option_map acts_of (Q.remaining steps.old);
-        })
+        (of_files window (R.remaining script.old) (Q.remaining steps.old))
         output.ending output.text.items) }
     ensures seen { IfOk result (λ output. SawSteps (O.has_seen observer.new)
-        (record {
-          window = window;
-          script = R.remaining script.old;
-          steps = option_map acts_of (Q.remaining steps.old);
-        })
+        (of_files window (R.remaining script.old) (Q.remaining steps.old))
         output.ending) }
     ensures fault { IfErr result MayFailScript }
     ensures order { IsReadFault (ending_of result)
@@ -213,8 +198,8 @@ fn read_simulation<F: Form, R: Read, Q: Read, O: Observer>(
         (R.remaining script.old) (R.remaining script.new) }
     ensures steps { ConsumesAtMost (max_bytes + 1) (Q.remaining steps.old) (Q.remaining steps.new) }
 {
-    let script = read_text(alloc, script)?;
-    match read_text(alloc, steps) {
+    let script = read_file(alloc, script)?;
+    match read_file(alloc, steps) {
         Ok(steps) => simulation_of(form, alloc, &script, &steps, window, observer),
         Err(error) => unread_steps(form, alloc, &script, error),
     }
@@ -227,9 +212,9 @@ fn unread_steps<F: Form>(
     script: &[u8],
     error: ReadError,
 ) -> Result<Output, ProgramFault>
-    ensures output { (window : ℕ) → (steps : Option (Result (List Act) ScriptFault))
+    ensures output { (window : ℕ) → (steps : Option (Result (List Act) ScriptFault)) (file : Option (List ℕ))
         → IfOk result (λ output. PrintsPlan F.prints_simulation F.prints_fault
-        (record { window = window; script = Some script.now; steps = steps })
+        (record { window = window; script = Some script.now; steps = steps; step_file = file })
         output.ending output.text.items) }
     ensures ending { IfOk result (λ output. (at : ScriptFault)
         × ((output.ending ≡ Ending.BadScript at) × (script_of script.now ≡ Err at))) }

@@ -1,11 +1,6 @@
 -- The words of a file, as they are shown.
-use Rattle.std.specs.Prelude.{ℕ, ◌++◌, ◌&&◌, Bool, List, [], codes, drop, length, map, nat_le, nat_lt, take, if◌then◌else◌}
-use Rattle.cdc_script.specs.declared.faults.Span.{Span}
+use Rattle.std.specs.Prelude.{ℕ, ◌++◌, ◌&&◌, Bool, List, [], codes, length, map, nat_le, nat_lt, take, if◌then◌else◌}
 use Rattle.cdc_diagnostics.specs.declared.texts.TheConstants.{MOST_SHOWN}
-
--- the bytes at a location in a file; fewer if the file ends before
-abbrev pub bytes_at : List ℕ → Span → List ℕ
-bytes_at file span = take span.length (drop span.start file)
 
 -- the byte is a printable ASCII character
 abbrev pub is_printable : ℕ → Bool

@@ -1,7 +1,7 @@
 //! What is wrong with a script or a step file: the word in error, and a sentence on it.
 
 ghost use Rattle.std.specs.Prelude.{◌≡◌, IfOk, string_bytes};
-ghost use Rattle.cdc_diagnostics.specs.Words as spec;
+ghost use Rattle.cdc_commands.specs.FaultWords as spec;
 ghost use Rattle.cdc_diagnostics.specs.Words.{shown_bytes};
 
 use crate::bindings::push_bad_binding;

@@ -1,7 +1,7 @@
 //! Words of files.
 
 ghost use Rattle.std.specs.Prelude.{◌≡◌, take};
-ghost use Rattle.cdc_diagnostics.specs.Words as spec;
+ghost use Rattle.cdc_commands.specs.FaultWords as spec;
 
 use cdc_script::Span;
 

@@ -1,6 +1,7 @@
 use Rattle.std.proofs.Common.{List, ℕ, [], subst, sym}
 use Rattle.cdc_diagnostics.specs.Texts.{Holds}
-use Rattle.cdc_diagnostics.specs.Words.{bytes_at, shown_bytes}
+use Rattle.cdc_commands.specs.FaultWords.{bytes_at}
+use Rattle.cdc_diagnostics.specs.Words.{shown_bytes}
 use Rattle.cdc_diagnostics.proofs.faults.fault_word.Goals as goal
 
 pub returns : goal.returns
