@@ -1,6 +1,6 @@
 -- What a command writes of what it makes of its input.
-use Rattle.std.proofs.Common.{◌≡◌, ◌∙◌, ℕ, List, [], Some, None, Ok, Err, ap, sym, subst, inl, inr}
-use Rattle.std.specs.Prelude.{Option, Result, IfErr, IfOk, IfSome, IsSomeAnd, option_map}
+use Rattle.std.proofs.Common.{◌≡◌, ◌∙◌, ℕ, List, [], Some, None, Ok, Err, sym, subst, inl, inr}
+use Rattle.std.specs.Prelude.{Option, Result, IfErr, IfOk, IfSome, IsSomeAnd}
 use Rattle.cdc_script.specs.Scripts.{script_of}
 use Rattle.cdc_script.specs.StepFiles.{acts_of}
 use Rattle.cdc_script.specs.declared.faults.ScriptFault.{ScriptFault}
@@ -25,8 +25,8 @@ use Rattle.cdc_commands.specs.Simulated.{IsGoodScript, PrintsPlan, StatesPlan, S
 use Rattle.cdc_commands.specs.Simulations.{Plan}
 
 -- a command writes what it made of its input, or why it made nothing
-pub writes_made : (prints : Ending → List ℕ → Type 0) (PrintsFault : List ℕ → Ending → List ℕ → Type 0) (old new : Option (List ℕ))
-    (made : Result Output ProgramFault) (ending : Ending)
+pub writes_made : (prints : Ending → List ℕ → Type 0) (PrintsFault : List ℕ → Ending → List ℕ → Type 0)
+    (old new : Option (List ℕ)) (made : Result Output ProgramFault) (ending : Ending)
     → IfOk made (λ output. IsPrinted old new (outcome_of output) ending)
     → IfErr made (λ why. PrintsFailure PrintsFault old new why ending)
     → IfOk made (λ output. prints output.ending output.text.items)
@@ -83,8 +83,8 @@ parsed_printed bytes old new wished ending None (inl failed) none = λ done. sub
 parsed_printed bytes old new wished ending None (inr written) none = λ done. none (sym written.0 ∙ done)
 
 -- a command that failed has none
-pub none_parsed : (bytes old new : Option (List ℕ)) (PrintsFault : List ℕ → Ending → List ℕ → Type 0) (why : ProgramFault)
-    (ending : Ending) → PrintsFailure PrintsFault old new why ending → AreParsedFrom bytes ending None
+pub none_parsed : (bytes old new : Option (List ℕ)) (PrintsFault : List ℕ → Ending → List ℕ → Type 0)
+    (why : ProgramFault) (ending : Ending) → PrintsFailure PrintsFault old new why ending → AreParsedFrom bytes ending None
 none_parsed bytes old new PrintsFault why ending printed =
     parsed_printed bytes old new (record { text = printed.0; ending = Failed why }) ending None printed.1.1
     (λ done. let no : Failed why ≡ Done = done in cc)
@@ -224,7 +224,8 @@ printed_of_queue PrintsFault number text bytes BadWords printed same prints =
     queue_of_script number text bytes BadWords printed same prints
 
 -- for whatever is printed of plans, and of faults
-module _ (ReportsOf : Plan → Option StepError → List ℕ → Type 0) (ReportsFault : List ℕ → Ending → List ℕ → Type 0) where
+module _ (ReportsOf : Plan → Option StepError → List ℕ → Type 0)
+    (ReportsFault : List ℕ → Ending → List ℕ → Type 0) where
   -- what is printed for a text of a script is printed for all its bytes
   of_script : (window : ℕ) (script : List ℕ) (bytes : Option (List ℕ)) (steps : Option (Result (List Act) ScriptFault))
       (file : Option (List ℕ)) (ending : Ending) (printed : List ℕ) → IfSome bytes (IsParsedAs script_of script)
@@ -319,7 +320,8 @@ module _ (ReportsOf : Plan → Option StepError → List ℕ → Type 0) (Report
   pub made_of_steps : {X : Type 0} (ending_of : X → Ending) (text_of : X → List ℕ) (window : ℕ)
       (script : Option (List ℕ)) (text steps : List ℕ) (bytes : Option (List ℕ)) (made : Result X ProgramFault)
       → text ≡ steps → IfSome bytes (IsParsedAs acts_of steps)
-      → IfOk made (λ x. PrintsPlan ReportsOf ReportsFault (of_files window script (Some text)) (ending_of x) (text_of x))
+      → IfOk made (λ x. PrintsPlan ReportsOf ReportsFault (of_files window script (Some text)) (ending_of x)
+      (text_of x))
       → IfOk made (λ x. PrintsPlan ReportsOf ReportsFault (of_files window script bytes) (ending_of x) (text_of x))
   made_of_steps ending_of text_of window script text steps bytes (Ok x) is same prints =
       of_steps window script steps bytes (ending_of x) (text_of x) same
@@ -354,7 +356,8 @@ module _ (ReportsOf : Plan → Option StepError → List ℕ → Type 0) (Report
       (script : Option (List ℕ)) (steps : List ℕ) (acts : List Act) (made : Result X ProgramFault)
       → acts_of steps ≡ Ok acts
       → IfOk made (λ x. PrintsPlan ReportsOf ReportsFault (of_acts window script acts) (ending_of x) (text_of x))
-      → IfOk made (λ x. PrintsPlan ReportsOf ReportsFault (of_files window script (Some steps)) (ending_of x) (text_of x))
+      → IfOk made (λ x. PrintsPlan ReportsOf ReportsFault (of_files window script (Some steps)) (ending_of x)
+      (text_of x))
   made_of_acts ending_of text_of window script steps acts (Ok x) stated prints =
       subst (λ (parsed : Result (List Act) ScriptFault). PrintsPlan ReportsOf ReportsFault
       (record { window = window; script = script; steps = Some parsed; step_file = Some steps }) (ending_of x)

@@ -1,15 +1,14 @@
 -- The word in error in a text that was read up to its limit.
-use Rattle.std.proofs.Common.{◌≡◌, ◌∙◌, ◌++◌, ℕ, ◌<◌, ◌≤◌, ◌⊎◌, Bool, List, Some, None, Err, ap, append-nil, arith, inl, inr, length, refl, subst, sym}
-use Rattle.std.specs.Prelude.{Option, Result, IfSome, Ok, if◌then◌else◌, nat_lt, true}
+use Rattle.std.proofs.Common.{◌≡◌, ◌∙◌, ◌++◌, ℕ, ◌<◌, ◌≤◌, ◌⊎◌, List, Some, None, Err, ap, append-nil, arith, inl, inr, length, refl, subst, sym}
+use Rattle.std.specs.Prelude.{Option, Result, IfSome, nat_lt, true}
 use Rattle.std.specs.Io.KnownBytes.{Consumes, IsAtEnd}
 use Rattle.std.proofs.lemmas.Bool.{cases_lt}
 use Rattle.std.proofs.lemmas.Bool.Decides.{nat_tests}
 use Rattle.cdc_script.specs.declared.faults.FaultKind.TheVariants.{TooLong}
 use Rattle.cdc_script.specs.declared.faults.ScriptFault.{ScriptFault}
 use Rattle.cdc_script.specs.Faults.{whole_fault}
-use Rattle.cdc_script.specs.Scripts.{max_bytes, script_of, script_of_lines}
-use Rattle.cdc_script.specs.StepFiles.{acts_from, acts_of}
-use Rattle.cdc_script.specs.Words.{lines}
+use Rattle.cdc_script.specs.Scripts.{max_bytes, script_of}
+use Rattle.cdc_script.specs.StepFiles.{acts_of}
 use Rattle.cdc_commands.specs.FaultWords.{IsParsedAs, bytes_at}
 
 -- a text that was read is too long, or all there is
@@ -39,7 +38,8 @@ module _ {A : Type 0} (parse : List ℕ → Result A ScriptFault)
       → (length text ≤ max_bytes → IsAtEnd new) → IfSome old (λ all. parse text ≡ parse all)
       → IfSome old (IsParsedAs parse text)
   parsed_as text None new consumed whole same = tt
-  parsed_as text (Some all) new consumed whole same = (same, λ at bad. by_length at bad (long_or_whole text all new consumed whole))
+  parsed_as text (Some all) new consumed whole same =
+      (same, λ at bad. by_length at bad (long_or_whole text all new consumed whole))
     where
       by_length : (at : ScriptFault) → parse text ≡ Err at → (max_bytes < length text) ⊎ (text ≡ all)
           → bytes_at text at.word ≡ bytes_at all at.word

@@ -20,7 +20,8 @@ IsGoodStepFile steps = (acts : List Act) × (acts_of steps ≡ Ok acts)
 
 -- this is printed by a check of a script and a step file with this ending, as far as their bytes are known, if this
 -- is printed for faults; the steps are validated after the script
-abbrev pub ValidatesFiles : (List ℕ → Ending → List ℕ → Type 0) → Option (List ℕ) → Option (List ℕ) → Ending → List ℕ → Type 0
+abbrev pub ValidatesFiles : (List ℕ → Ending → List ℕ → Type 0) → Option (List ℕ) → Option (List ℕ) → Ending → List ℕ
+    → Type 0
 ValidatesFiles ReportsFault script steps Done printed =
     (printed ≡ []) × (IfSome script IsGoodScript × IfSome steps IsGoodStepFile)
 ValidatesFiles ReportsFault script steps (BadScript at) printed =

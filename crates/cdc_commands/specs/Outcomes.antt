@@ -56,8 +56,8 @@ Writes prints old new ending =
     IsWriteFault ending ⊎ ((printed : List ℕ) × (Appends old new printed × prints ending printed))
 
 -- a command that failed like this printed the line of its fault, if this is printed for faults
-abbrev pub PrintsFailure : (List ℕ → Ending → List ℕ → Type 0) → Option (List ℕ) → Option (List ℕ) → ProgramFault → Ending
-    → Type 0
+abbrev pub PrintsFailure : (List ℕ → Ending → List ℕ → Type 0) → Option (List ℕ) → Option (List ℕ) → ProgramFault
+    → Ending → Type 0
 PrintsFailure PrintsFault old new why ending =
     (line : List ℕ) × (PrintsFault [] (Failed why) line
     × IsPrinted old new (record { text = line; ending = Failed why }) ending)

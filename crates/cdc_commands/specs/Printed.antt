@@ -52,8 +52,8 @@ printed_messages script = flat_map message_lines (events (history_of script))
 
 -- this is printed by a command that reads a script, whose bytes are known or not, and has this ending, if this is
 -- printed for scripts, and that for faults
-abbrev pub PrintsScript : (Script → List ℕ → Type 0) → (List ℕ → Ending → List ℕ → Type 0) → Option (List ℕ) → Ending → List ℕ
-    → Type 0
+abbrev pub PrintsScript : (Script → List ℕ → Type 0) → (List ℕ → Ending → List ℕ → Type 0) → Option (List ℕ) → Ending
+    → List ℕ → Type 0
 PrintsScript Prints PrintsFault script Done printed =
     IfSome script (λ bytes. (stated : Script) × ((script_of bytes ≡ Ok stated) × Prints stated printed))
 PrintsScript Prints PrintsFault script (BadScript at) printed =

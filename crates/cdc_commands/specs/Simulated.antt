@@ -12,8 +12,8 @@ use Rattle.cdc_script.specs.Scripts.{script_of}
 use Rattle.cdc_script.specs.StepFiles.{acts_of}
 use Rattle.cdc_commands.specs.Simulations.{Plan}
 
--- what `simulate` is given: the window of its sessions and, as far as they are known, the bytes of a script, the acts of
--- a step file or its first fault, and the bytes of the step file
+-- what `simulate` is given: the window of its sessions and, as far as they are known, the bytes of a script, the acts
+-- of a step file or its first fault, and the bytes of the step file
 pub record SimulationInput : Type 0 where
   pub window : ℕ
   pub script : Option (List ℕ)
@@ -49,8 +49,8 @@ IsGoodScript script = (stated : Script) × (script_of script ≡ Ok stated)
 
 -- this is printed by a command that is given such an input and has this ending, if this is printed for plans, and
 -- that for faults; the steps are validated after the script
-abbrev pub PrintsPlan : (Plan → Option StepError → List ℕ → Type 0) → (List ℕ → Ending → List ℕ → Type 0) → SimulationInput
-    → Ending → List ℕ → Type 0
+abbrev pub PrintsPlan : (Plan → Option StepError → List ℕ → Type 0) → (List ℕ → Ending → List ℕ → Type 0)
+    → SimulationInput → Ending → List ℕ → Type 0
 PrintsPlan ReportsOf ReportsFault input Done printed = ReportsPlan ReportsOf input None printed
 PrintsPlan ReportsOf ReportsFault input (Refused why) printed = ReportsPlan ReportsOf input (Some why) printed
 PrintsPlan ReportsOf ReportsFault input (BadScript at) printed =

@@ -1,16 +1,15 @@
 //! The command `simulate`: takes a script's batches and a session's packets step by step.
 
 ghost use Rattle.std.specs.Prelude.{◌≡◌, ◌⊎◌, ◌+◌, ℕ, List, Option, Result};
-ghost use Rattle.std.specs.Prelude.{Err, IfErr, IfOk, IfSome, Ok, Some, option_map};
+ghost use Rattle.std.specs.Prelude.{Err, IfErr, IfOk, IfSome, Ok, Some};
 ghost use Rattle.cdc_script.specs.Reading.{ConsumesAtMost};
 ghost use Rattle.cdc_script.specs.declared.faults.ScriptFault.{ScriptFault};
 ghost use Rattle.cdc_script.specs.declared.step_files.Act.{Act};
 ghost use Rattle.cdc_script.specs.Scripts.{max_bytes, script_of};
-ghost use Rattle.cdc_script.specs.StepFiles.{acts_of};
 ghost use Rattle.cdc_types.specs.Windows.{IsWindow};
 ghost use Rattle.cdc_commands.specs.Observed.{SawSteps};
 ghost use Rattle.cdc_commands.specs.Outcomes.{IsReadFault, IsSimulationFault, MayFailScript, Writes, ending_of};
-ghost use Rattle.cdc_commands.specs.Simulated.{IsGoodScript, PrintsPlan};
+ghost use Rattle.cdc_commands.specs.Simulated.{IsGoodScript, PrintsPlan, of_acts, of_files};
 
 use crate::endings::Ending;
 use crate::faults::ProgramFault;

@@ -1,6 +1,6 @@
 -- What is printed for a subscriber that is asked for.
 use Rattle.std.proofs.Common.{◌≡◌, ℕ, List, Some, None, Ok, Err, sym, subst}
-use Rattle.std.specs.Prelude.{Option, Result, IfOk, IfSome, option_map}
+use Rattle.std.specs.Prelude.{Option, Result, IfOk, IfSome}
 use Rattle.cdc_script.specs.Scripts.{script_of}
 use Rattle.cdc_script.specs.StepFiles.{acts_of}
 use Rattle.cdc_script.specs.declared.faults.ScriptFault.{ScriptFault}
@@ -19,8 +19,8 @@ use Rattle.cdc_commands.proofs.OutputLemmas.{made_of_acts, made_of_script, made_
 use Rattle.cdc_deliveries.specs.Deliver.{PrintsAsked, ReportsAsked, SawAsked, validated}
 
 -- for whatever is printed of plans, and of faults
-module _ (ReportsOf : Plan → Option StepError → List ℕ → Type 0) (ReportsFault : List ℕ → Ending → List ℕ → Type 0) (number : ℕ)
-    (text_of : Output → List ℕ) where
+module _ (ReportsOf : Plan → Option StepError → List ℕ → Type 0)
+    (ReportsFault : List ℕ → Ending → List ℕ → Type 0) (number : ℕ) (text_of : Output → List ℕ) where
   -- what is printed for a text of a script is printed for all its bytes
   pub asked_of_script : (window : ℕ) (text script : List ℕ) (bytes : Option (List ℕ))
       (steps : Option (Result (List Act) ScriptFault)) (file : Option (List ℕ)) (made : Result Output ProgramFault)

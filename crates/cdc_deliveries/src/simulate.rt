@@ -1,12 +1,11 @@
 //! `simulate --deliveries`: plays a simulation, and prints the deliveries to one subscriber.
 
-ghost use Rattle.std.specs.Prelude.{◌≡◌, ◌⊎◌, ◌+◌, ℕ, List, [], Option, Some, IfSome, option_map};
+ghost use Rattle.std.specs.Prelude.{◌≡◌, ◌⊎◌, ◌+◌, ℕ, List, Option, Some, IfSome};
 ghost use Rattle.std.specs.Prelude.{Result, Ok, Err, IfErr, IfOk};
 ghost use Rattle.cdc_script.specs.Reading.{ConsumesAtMost};
 ghost use Rattle.cdc_script.specs.declared.faults.ScriptFault.{ScriptFault};
 ghost use Rattle.cdc_script.specs.declared.step_files.Act.{Act};
 ghost use Rattle.cdc_script.specs.Scripts.{max_bytes, script_of};
-ghost use Rattle.cdc_script.specs.StepFiles.{acts_of};
 ghost use Rattle.cdc_types.specs.Windows.{IsWindow};
 ghost use Rattle.cdc_ledger.specs.Events.{events};
 ghost use Rattle.cdc_commands.specs.QueuePrinted as spec;
@@ -14,7 +13,7 @@ ghost use Rattle.cdc_commands.specs.SimulationReports.{IsReportOf};
 ghost use Rattle.cdc_commands.specs.Simulations.{Stage};
 ghost use Rattle.cdc_deliveries.specs.Recorded.{delivery_steps};
 ghost use Rattle.cdc_commands.specs.Outcomes.{IsReadFault, IsSimulationFault, MayFailScript, Writes, ending_of};
-ghost use Rattle.cdc_commands.specs.Simulated.{IsGoodScript};
+ghost use Rattle.cdc_commands.specs.Simulated.{IsGoodScript, of_acts, of_files};
 ghost use Rattle.cdc_deliveries.specs.Deliver.{PrintsDeliveries, SawAsked, asked_text};
 ghost use Rattle.cdc_deliveries.specs.Arrivals.{arrivals};
 ghost use Rattle.cdc_deliveries.specs.declared.simulate.Asked.{Asked as AsksFor};
@@ -207,7 +206,6 @@ fn simulated_lines(
         → IfOk result (λ text. text.items ≡ asked_text asked.expects binding.now (events end.world.history)
         (arrivals asked.subscriber (delivery_steps end.seen))) }
     ensures fault { IfErr result IsSimulationFault }
-    ensures no_read { IsReadFault (ending_of result) → ⊥ }
 {
     let Some(steps) = &recorder.steps else {
         return Err(ProgramFault::OutOfMemory);
@@ -305,8 +303,8 @@ fn unread_steps<F: Form>(
     script: &[u8],
     error: ReadError,
 ) -> Result<Output, ProgramFault>
-    ensures output { (window : ℕ) → (steps : Option (Result (List Act) ScriptFault)) (file : Option (List ℕ)) → (asked : AsksFor)
-        → IfOk result (λ output. PrintsDeliveries F.prints_fault asked
+    ensures output { (window : ℕ) → (steps : Option (Result (List Act) ScriptFault)) (file : Option (List ℕ))
+        → (asked : AsksFor) → IfOk result (λ output. PrintsDeliveries F.prints_fault asked
         (record { window = window; script = Some script.now; steps = steps; step_file = file })
         output.ending output.text.items) }
     ensures ending { IfOk result (λ output. (at : ScriptFault)

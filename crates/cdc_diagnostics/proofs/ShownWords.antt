@@ -17,7 +17,8 @@ ascii_byte byte = grind (arith)
 -- so it is a text
 pub shown_utf8 : (byte : ℕ) → IsUtf8 (shown_byte byte ∷ [])
 shown_utf8 byte =
-    IsUtf8-from_ascii _ (IsAscii-from_all (shown_byte byte ∷ []) (All-cons (λ b. b < 128) _ [] (ascii_byte byte) (All-nil _)))
+    IsUtf8-from_ascii _ (IsAscii-from_all (shown_byte byte ∷ [])
+    (All-cons (λ b. b < 128) _ [] (ascii_byte byte) (All-nil _)))
 
 -- one byte more is shown
 pub one_more : (bytes : List ℕ) (i : ℕ) → i < length bytes

@@ -138,8 +138,8 @@ ran_same config faults held honest risks report these those same ran =
 -- ---- what is printed
 
 -- a script's text has the same meaning as all its bytes, so what is printed of it is printed of them
-all_bytes : (Prints : List ℕ → Report → List ℕ → Type 0) (PrintsFault : List ℕ → Ending → List ℕ → Type 0) (setting : Setting)
-    (text : List ℕ) (bytes : Option (List ℕ)) (ending : Ending) (printed : List ℕ)
+all_bytes : (Prints : List ℕ → Report → List ℕ → Type 0) (PrintsFault : List ℕ → Ending → List ℕ → Type 0)
+    (setting : Setting) (text : List ℕ) (bytes : Option (List ℕ)) (ending : Ending) (printed : List ℕ)
     → IfSome bytes (IsParsedAs script_of text)
     → RunCommandPrints Prints PrintsFault setting (Some text) ending printed
     → RunCommandPrints Prints PrintsFault setting bytes ending printed
@@ -221,8 +221,8 @@ writes_text prints old new text wished ending (inr written) is =
     inr (text, (written.1, subst (λ (e : Ending). prints e text) (sym written.0) is))
 
 -- so is the line of a command that failed
-pub writes_failure : (prints : Ending → List ℕ → Type 0) (PrintsFault : List ℕ → Ending → List ℕ → Type 0) (old new : Option (List ℕ)) (why : ProgramFault)
-    (ending : Ending) → PrintsFailure PrintsFault old new why ending
+pub writes_failure : (prints : Ending → List ℕ → Type 0) (PrintsFault : List ℕ → Ending → List ℕ → Type 0)
+    (old new : Option (List ℕ)) (why : ProgramFault) (ending : Ending) → PrintsFailure PrintsFault old new why ending
     → ((line : List ℕ) → PrintsFault [] (Failed why) line → prints (Failed why) line) → Writes prints old new ending
 writes_failure prints PrintsFault old new why ending (line, (stated, printed)) fails =
     writes_text prints old new line (Failed why) ending printed (fails line stated)

@@ -44,8 +44,8 @@ StatesScript Prints bytes printed =
     IfSome bytes (λ all. (script : Script) × ((script_of all ≡ Ok script) × Prints script printed))
 
 -- a command that runs such a script, whose bytes are known or not, ends so and prints this, if faults are printed so
-abbrev pub PrintsRunDeliveries : (List ℕ → Ending → List ℕ → Type 0) → Asked → Setting → Option (List ℕ) → Ending → List ℕ
-    → Type 0
+abbrev pub PrintsRunDeliveries : (List ℕ → Ending → List ℕ → Type 0) → Asked → Setting → Option (List ℕ) → Ending
+    → List ℕ → Type 0
 PrintsRunDeliveries PrintsFault asked setting bytes Done printed =
     StatesScript (DeliversRun asked setting) bytes printed
 PrintsRunDeliveries PrintsFault asked setting bytes BadWords printed = StatesScript (HasNone asked) bytes printed

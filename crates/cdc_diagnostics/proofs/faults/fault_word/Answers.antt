@@ -1,4 +1,4 @@
-use Rattle.std.proofs.Common.{List, ℕ, [], subst, sym}
+use Rattle.std.proofs.Common.{List, ℕ, [], subst}
 use Rattle.cdc_diagnostics.specs.Texts.{Holds}
 use Rattle.cdc_commands.specs.FaultWords.{bytes_at}
 use Rattle.cdc_diagnostics.specs.Words.{shown_bytes}
