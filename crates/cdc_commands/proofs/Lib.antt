@@ -7,3 +7,4 @@ pub mod SimulationLemmas
 pub mod SimulationReached
 pub mod TakerLemmas
 pub mod TextLemmas
+pub mod ReadingLemmas

@@ -1,5 +1,6 @@
 pub mod BookReports
 pub mod Checked
+pub mod FaultWords
 pub mod Faults
 pub mod Feeds
 pub mod Held

@@ -37,7 +37,7 @@ impl Form for Text {
 
     ghost prints_simulation = { Simulates };
 
-    ghost prints_fault = { IsFaultLine };
+    ghost prints_fault = { λ word. IsFaultLine };
 
     fn books(&self, alloc: Global, report: BooksReport) -> Result<Vec<u8>, AllocError> {
         print_books(alloc, report)

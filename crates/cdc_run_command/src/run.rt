@@ -17,10 +17,10 @@ use crate::lone_runs::lone_run_laws;
 use crate::plans::RunPlan;
 use crate::reports::{Ran, report_of_run};
 use crate::run_forms::RunForm;
-use cdc_commands::{Ended, Ending, Notes, Output, Tally, print_output};
+use cdc_commands::{Ended, Ending, Notes, Output, Tally, print_output, read_file};
 use cdc_progress::ProgressStore;
 use cdc_run::{Gate, Met, Place, Report};
-use cdc_script::{Script, ScriptError, parse_script, read_text};
+use cdc_script::{Script, ScriptError, parse_script};
 use std::alloc::{AllocError, Global};
 use std::io::{Read, Write};
 use std::sync::Wait;
@@ -198,6 +198,6 @@ fn read_run<
     ensures bounded { ConsumesAtMost (max_bytes + 1)
         (R.remaining reader.old) (R.remaining reader.new) }
 {
-    let bytes = read_text(alloc, reader)?;
+    let bytes = read_file(alloc, reader)?;
     run_of(form, rt, alloc, &bytes, plan, store, gate)
 }
