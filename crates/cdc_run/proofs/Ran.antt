@@ -180,15 +180,16 @@ module _ {S : Type 0} (config : Config) (faults : Faults) (held : Option Saved) 
         )
 
     -- and its subscribers have come to what they may rely on
-    pub have_subscribed : honest ≡ true → held_timestamp held ≡ held_start held
+    pub have_subscribed : held_timestamp held ≡ held_start held
         → AreSubscribed report.ledger (first_origin config.start held).start config.bindings.items made.closes
         report.subscribers.items
-    have_subscribed is_honest same =
+    have_subscribed same =
+        let seated = are.connector.seat ∙ ap (λ (e : ActorState ConnectorCore). connector_seat e.work) made.connector in
+        let gives : honest ≡ true = sym (ap (λ (seat : ConnectorSeat). seat.honest) seated) ∙ reported.honest in
         let start : ℕ = (first_origin config.start held).start in
         let seat : (connector_seat new.connector.work).origin ≡ Some (at_start start) =
-        ap (λ (seat : ConnectorSeat). seat.origin)
-        (are.connector.seat ∙ ap (λ (e : ActorState ConnectorCore). connector_seat e.work) made.connector)
-        ∙ ap₂ origin_if is_honest (begins_at_start config.start held same) in
+        ap (λ (seat : ConnectorSeat). seat.origin) seated
+        ∙ ap₂ origin_if gives (begins_at_start config.start held same) in
         let bindings : (broker_seat new.broker.work).bindings ≡ config.bindings.items =
         ap (λ (seat : BrokerSeat). seat.bindings)
         (are.broker.seat ∙ ap (λ (e : ActorState BrokerCore). broker_seat e.work) made.broker)

@@ -151,8 +151,7 @@ pub fn run<S: ProgressStore + Send + Drop, R: Threads + Wait + Sync, G: Gate + S
     ensures counts { IfOk result (λ report. MayCount (plan_of faults) config.bindings.items report.counts) }
     ensures failure { IfErr result (IsRunFailure config.system (S.is_honest store) (S.risks store)
         config.clients (length config.bindings.items)) }
-    ensures subscribers { IfOk result (λ report. S.is_honest store ≡ true
-        → held_timestamp (S.held store) ≡ held_start (S.held store)
+    ensures subscribers { IfOk result (λ report. held_timestamp (S.held store) ≡ held_start (S.held store)
         → (closes : List (Option ℕ)) × AreCloses 1 faults.close.items closes
         × AreSubscribed report.ledger (first_origin config.start (S.held store)).start config.bindings.items closes
         report.subscribers.items) }
