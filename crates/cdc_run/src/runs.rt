@@ -25,7 +25,7 @@ use crate::reports::{Report, settle};
 use crate::scopes::run_jobs;
 use crate::scripted::Scripted;
 use crate::wiring::wire_up;
-use cdc_actors::RunFault;
+use cdc_actors::{RunFault, connector_actor_laws};
 use cdc_progress::ProgressStore;
 use cdc_types::Batch;
 use std::alloc::{AllocError, Global};
@@ -163,6 +163,7 @@ pub fn run<S: ProgressStore + Send + Drop, R: Threads + Wait + Sync, G: Gate + S
     let tasks = tasks_of(alloc, ends, scripts)?;
     let left = run_actors(rt, alloc, gate, tasks)?;
     let finished = actors_of(alloc, left)?;
+    connector_actor_laws();
     match settle(alloc, finished) {
         Ok(report) => Ok(report),
         Err(fault) => Err(out_of_memory(fault)),

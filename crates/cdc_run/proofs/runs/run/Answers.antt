@@ -55,7 +55,7 @@ returns-in-Ok-settle-clause-ran g c =
     c.in_ok-left.left.items (places_of c.in_ok-finished.finished) c.in_ok-left.ensures.left c.in_ok-tasks.ensures
     c.in_ok-finished.ensures in
     ran_from _ _ _ _ _ c.in-Ok.ends c.in-Ok.ensures.made c.in_ok-finished.finished scripts are c.in-Ok-settle.report
-    c.in-Ok-settle.ensures.report
+    c.in-Ok-settle.ensures.report c.connector_actor_laws.ensures.finished
 
 -- and what it counts that of packets
 pub returns-in-Ok-settle-clause-counts : goal.returns-in-Ok-settle-clause-counts
