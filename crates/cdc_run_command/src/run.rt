@@ -125,8 +125,8 @@ pub fn tally_of(report: &Report) -> Tally {
 
 /// Reads a script, runs it on threads, and prints what `run_of` makes of its bytes. A command that fails prints why,
 /// and nothing else. Nothing is written after a write that failed. The law `alone`: if one client submits all batches
-/// of a script, whatever its number, no subscriber is asked to close, no session is given a start, and the store is
-/// honest and holds nothing, or the timestamp 0 and the start 0, then a run prints as text what `books` prints.
+/// of a script, whatever its number, no subscriber is asked to close, no session is given a start, and the store holds
+/// nothing, or the timestamp 0 and the start 0, then a run prints as text what `books` prints.
 pub fn run_command<
     F: RunForm,
     T: Threads + Wait + Sync,
