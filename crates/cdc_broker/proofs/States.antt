@@ -1,6 +1,6 @@
 -- The broker that a list of items and its queues represent, and how a change of them changes it.
 use Rattle.std.proofs.Common.{◌≡◌, ℕ, zero, suc, ◌+◌, ◌-◌, ◌<◌, ◌≤◌, ◌^◌, Bool, true, false, List, [], ◌∷◌, ◌++◌, refl, sym, ap, ap₂, ◌∙◌, subst, length, length-append, map, get_or, append-nil, Option, Some, None, take, drop, arith}
-use Rattle.std.specs.Prelude.{All, is_some, nat_lt, slice_get, slice_set, if◌then◌else◌}
+use Rattle.std.specs.Prelude.{All, is_some, min, max, nat_lt, slice_get, slice_set, if◌then◌else◌}
 use Rattle.std.specs.Option.{option_map}
 use Rattle.std.proofs.lemmas.Bool.Decides.{nat_tests}
 use Rattle.std.proofs.lemmas.List.{map-set, get_or-map, set-get_or, length-map}
@@ -12,7 +12,7 @@ use Rattle.cdc_message.specs.declared.items.Item.{Item}
 use Rattle.cdc_message.specs.declared.items.Delivery.{Delivery}
 use Rattle.cdc_broker.specs.declared.queue.Queue.{Queue}
 use Rattle.cdc_broker.specs.Broker.{BrokerState, queue_of, with_queue, nobody}
-use Rattle.cdc_broker.specs.Kept.{IsInOrder, counting, queue_state}
+use Rattle.cdc_broker.specs.Kept.{IsInOrder, IsLeft, counting, done_with_all, lesser, queue_state}
 use Rattle.cdc_broker.specs.Queues.{QueueState, empty_queue, next_delivery, queued, with_item}
 use Rattle.cdc_broker.proofs.Accepted.{filter_push}
 use Rattle.cdc_broker.proofs.Marks.{count_all_within, mark_stays}
@@ -157,8 +157,8 @@ over_front f (q ∷ queues) zero past = absurd (omega arith)
 over_front f (q ∷ queues) (suc i) past = ap (λ qs. f q ∷ qs) (over_front f queues i (omega arith))
 
 -- no queue is longer than the list
-pub counts_fit : (accepted : List Item) (queues : List Queue) → length accepted < 2 ^ 63
-    → All (IsInOrder accepted) queues → All (λ q. q.len < 2 ^ 63) queues
+pub counts_fit : (accepted : List Item) (queues : List Queue) → length accepted < 2 ^ 64 - 1
+    → All (IsInOrder accepted) queues → All (λ q. q.len < 2 ^ 64 - 1) queues
 counts_fit accepted queues fits in_order = λ k d lt.
     let q = get_or queues k d in
     let order = in_order k d lt in
@@ -170,6 +170,52 @@ counts_fit accepted queues fits in_order = λ k d lt.
 pub in_order_at : (accepted : List Item) (queues : List Queue) (i : ℕ) (q : Queue) → i < length queues
     → q ≡ get_or queues i q → All (IsInOrder accepted) queues → IsInOrder accepted q
 in_order_at accepted queues i q inside found in_order = subst (IsInOrder accepted) (sym found) (in_order i q inside)
+
+-- and what it needs is left
+pub left_at : (gone : ℕ) (queues : List Queue) (i : ℕ) (q : Queue) → i < length queues
+    → q ≡ get_or queues i q → All (IsLeft gone) queues → IsLeft gone q
+left_at gone queues i q inside found left = subst (IsLeft gone) (sym found) (left i q inside)
+
+-- no queue needs what is before a place that all have done with
+lesser_than : (number : ℕ) (queues : List Queue) → done_with_all number queues ≤ number
+lesser_than number [] = omega arith
+lesser_than number (q ∷ queues) =
+    let rest = lesser_than (lesser number q) queues in
+    omega arith
+
+done_with_each : (number : ℕ) (queues : List Queue) (k : ℕ) (d : Queue) → k < length queues
+    → done_with_all number queues ≤ min (get_or queues k d).acked.place (get_or queues k d).cursor.place
+done_with_each number [] k d inside = absurd (omega arith)
+done_with_each number (q ∷ queues) zero d inside =
+    let rest = lesser_than (lesser number q) queues in
+    omega arith
+done_with_each number (q ∷ queues) (suc k) d inside = done_with_each (lesser number q) queues k d (omega arith)
+
+-- so that may be let go
+pub left_after : (gone after len : ℕ) (queues : List Queue) → All (IsLeft gone) queues
+    → after ≤ max gone (done_with_all len queues) → All (IsLeft after) queues
+left_after gone after len queues left few = λ k d inside.
+    let before = left k d inside in
+    let acked = before.acked in
+    let cursor = before.cursor in
+    let done = done_with_each len queues k d inside in
+    record { acked = omega arith; cursor = omega arith }
+
+-- there are as many items as are done with, or more
+pub done_with_within : (len : ℕ) (queues : List Queue) → done_with_all len queues ≤ len
+done_with_within len queues = lesser_than len queues
+
+-- a queue that counts an item needs no other ones than before
+counted_left : (b : Bool) (gone : ℕ) (q : Queue) → IsLeft gone q
+    → IsLeft gone (if b then record q { len = q.len + 1 } else q)
+counted_left true gone q left = record { acked = left.acked; cursor = left.cursor }
+counted_left false gone q left = left
+
+pub counting_left : (gone : ℕ) (item : Item) (queues : List Queue) → All (IsLeft gone) queues
+    → All (IsLeft gone) (map (counting item) queues)
+counting_left gone item queues left =
+    All-map (IsLeft gone) (counting item) queues
+    (λ k d lt. counted_left (takes_item (get_or queues k d).binding item) gone (get_or queues k d) (left k d lt))
 
 -- a queue that rewinds stays in order
 pub rewound_in_order : (accepted : List Item) (q : Queue) → IsInOrder accepted q

@@ -1,8 +1,9 @@
 -- What a queue keeps, and what holds of it between two calls. Cited by private contracts alone.
-use Rattle.std.specs.Prelude.{◌≡◌, ◌+◌, ◌≤◌, List, length, take, if◌then◌else◌}
+use Rattle.std.specs.Prelude.{◌≡◌, ◌+◌, ◌≤◌, ℕ, List, All, fold, length, min, take, if◌then◌else◌}
 use Rattle.cdc_match.specs.Arguments.{Arguments}
 use Rattle.cdc_match.specs.Queue.{queue, takes_item}
 use Rattle.cdc_message.specs.declared.items.Item.{Item}
+use Rattle.cdc_broker.specs.Backlogs.{BacklogState}
 use Rattle.cdc_broker.specs.declared.queue.Mark.{Mark}
 use Rattle.cdc_broker.specs.declared.queue.Queue.{Queue}
 use Rattle.cdc_broker.specs.Queues.{QueueState}
@@ -35,3 +36,21 @@ pub record IsInOrder (accepted : List Item) (q : Queue) : Type 0 where
 -- the queue after one more item at the back of the list, which counts if it belongs to the queue
 abbrev pub counting : Item → Queue → Queue
 counting item q = if takes_item q.binding item then record q { len = q.len + 1 } else q
+
+-- nothing that a mark of the queue is before was let go
+pub record IsLeft (gone : ℕ) (q : Queue) : Type 0 where
+  pub acked : gone ≤ q.acked.place
+  pub cursor : gone ≤ q.cursor.place
+
+-- all queues are in order over all items, and what they need is left
+pub record AreServable (backlog : BacklogState) (queues : List Queue) : Type 0 where
+  pub in_order : All (IsInOrder backlog.items) queues
+  pub left : All (IsLeft backlog.gone) queues
+
+-- the lesser of a number and of how many items the queue has done with
+abbrev pub lesser : ℕ → Queue → ℕ
+lesser number q = min number (min q.acked.place q.cursor.place)
+
+-- how many items at the front of a list of this length all queues have done with
+abbrev pub done_with_all : ℕ → List Queue → ℕ
+done_with_all len queues = fold lesser len queues

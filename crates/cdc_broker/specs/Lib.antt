@@ -1,3 +1,4 @@
+pub mod Backlogs
 pub mod Broker
 pub mod Cursors
 pub mod Kept

@@ -1,13 +1,14 @@
 //! The public interface of the broker.
 
-ghost use Rattle.std.specs.Prelude.{◌≡◌, ◌^◌, ◌<◌, ◌≤◌, List, [], All, IfOk, IsSome, OnOk, OnErr, is_some, not, if◌then◌else◌, length, map};
+ghost use Rattle.std.specs.Prelude.{◌≡◌, ◌-◌, ◌^◌, ◌<◌, ◌≤◌, List, [], All, IfOk, IsSome, OnOk, OnErr, is_some, not, if◌then◌else◌, length, map};
 ghost use Rattle.cdc_message.specs.declared.items.Item.{Item as SomeItem};
 ghost use Rattle.cdc_message.specs.declared.packets.Packet.TheVariants.{Connect};
-ghost use Rattle.cdc_broker.specs.Broker.{HasAccepted, Publishes, accepted_after, connected, empty_broker, queue_of, takes_packet, with_queue};
-ghost use Rattle.cdc_broker.specs.Kept.{counting};
+ghost use Rattle.cdc_broker.specs.Broker.{HasAccepted, Publishes, accepted_after, connected, empty_broker, published, queue_of, takes_packet, with_queue};
+ghost use Rattle.cdc_broker.specs.Kept.{counting, done_with_all};
 ghost use Rattle.cdc_broker.specs.Packets.{tag_after as next_tag};
 ghost use Rattle.cdc_broker.specs.Queues.{acknowledged, delivered_event, is_unknown, next_delivery, rewound_queue, with_delivery};
 
+use crate::backlog::Backlog;
 use crate::queue::Queue;
 use cdc_match::Binding;
 use cdc_message::{Delivery, Item};
@@ -33,12 +34,12 @@ pub enum Taken {
 }
 
 /// A broker in memory, with a queue for each binding, numbered from 1. It stores each accepted item once, no matter
-/// how many queues it belongs to. Contracts see the current connection, the tag that the broker takes next, and the
-/// queues.
+/// how many queues it belongs to, until every queue has had it acknowledged. Contracts see the current connection, the
+/// tag that the broker takes next, and the queues, with all items that they ever held.
 pub struct Broker {
     connection: u64,
     expected: Option<u64>,
-    accepted: Vec<Item>,
+    accepted: Backlog,
     queues: Vec<Queue>,
 }
 
@@ -55,12 +56,12 @@ impl Drop for Broker {
 }
 
 impl Model for Broker {
-    ghost use Rattle.std.specs.Prelude.{map, All};
+    ghost use Rattle.std.specs.Prelude.{map};
     ghost use Rattle.cdc_broker.specs.Broker.{BrokerState};
 
     ghost Value = { BrokerState };
 
-    ghost use Rattle.cdc_broker.specs.Kept.{queue_state, IsInOrder};
+    ghost use Rattle.cdc_broker.specs.Kept.{queue_state, AreServable};
 
     ghost view = { λ broker. record {
       connection = broker.connection;
@@ -68,7 +69,7 @@ impl Model for Broker {
       queues = map (queue_state broker.accepted.items) broker.queues.items;
     } };
 
-    ghost invariant = { λ broker. All (IsInOrder broker.accepted.items) broker.queues.items };
+    ghost invariant = { λ broker. AreServable broker.accepted broker.queues.items };
 }
 
 /// The tag after this one. `None` at the end: 2^64-1 is never a tag.
@@ -84,12 +85,23 @@ fn tag_after(tag: u64) -> Option<u64>
 
 /// Counts an item that is added to the back of the list, in the queues that it belongs to.
 fn count_in(queues: &mut [Queue], item: &Item)
-    requires { All (λ q. q.len < 2 ^ 63) queues.old }
+    requires { All (λ q. q.len < 2 ^ 64 - 1) queues.old }
     ensures { queues.new ≡ map (counting item.now) queues.old }
 {
     for queue in queues.iter_mut() {
         queue.count(item);
     }
+}
+
+/// The number of items at the front of a list of this length that no queue asks for again.
+fn done_with(queues: &[Queue], len: usize) -> usize
+    ensures { result ≡ done_with_all len queues.now }
+{
+    let mut least = len;
+    for queue in queues {
+        least = least.min(queue.done_with());
+    }
+    least
 }
 
 impl Broker {
@@ -107,7 +119,7 @@ impl Broker {
         Ok(Broker {
             connection: 0,
             expected: None,
-            accepted: Vec::new(alloc),
+            accepted: Backlog::new(alloc),
             queues,
         })
     }
@@ -149,11 +161,34 @@ impl Broker {
         if self.expected != Some(tag) {
             return Ok(Taken::Ignored(Refusal::WrongTag));
         }
-        self.accepted.reserve(1)?;
+        self.make_room()?;
+        self.accept(tag, item)?;
+        Ok(Taken::Accepted)
+    }
+
+    /// Lets go of the items that no queue asks for again, if memory is reserved for no further item and they are at
+    /// least half of those that are left.
+    fn make_room(&mut self) -> Result<(), AllocError>
+        ensures { self.new ≡ self.old }
+    {
+        let place = done_with(self.queues.as_slice(), self.accepted.len());
+        if self.accepted.is_full() && self.accepted.has_half_before(place) {
+            self.accepted.let_go(place)
+        } else {
+            Ok(())
+        }
+    }
+
+    /// Adds an item to the queues that it belongs to, and takes the next tag from then on.
+    fn accept(&mut self, tag: u64, item: Item) -> Result<(), AllocError>
+        ensures ok { OnOk result (self.new ≡ published tag item self.old) }
+        ensures err { OnErr result (self.new ≡ self.old) }
+    {
+        self.accepted.reserve()?;
         count_in(self.queues.as_mut_slice(), &item);
         self.accepted.push_reserved(item);
         self.expected = tag_after(tag);
-        Ok(Taken::Accepted)
+        Ok(())
     }
 
     /// Whether queue `i` has an item to deliver next.
@@ -179,9 +214,8 @@ impl Broker {
         ensures accepted { (accepted : List SomeItem) → HasAccepted self.old accepted
             → HasAccepted self.new accepted }
     {
-        let accepted = self.accepted.as_slice();
         let queue = &mut self.queues[i - 1];
-        queue.deliver(alloc, accepted)
+        queue.deliver(alloc, &self.accepted)
     }
 
     /// Acknowledges all positions of queue `i` up to this one. If the cursor is at one of them, it moves past them.
@@ -196,9 +230,8 @@ impl Broker {
         ensures accepted { (accepted : List SomeItem) → HasAccepted self.old accepted
             → HasAccepted self.new accepted }
     {
-        let accepted = self.accepted.as_slice();
         let queue = &mut self.queues[i - 1];
-        queue.ack(accepted, position)
+        queue.ack(&self.accepted, position)
     }
 
     /// Rewinds queue `i` to the first unacknowledged position: everything delivered from there on is delivered again.

@@ -2,6 +2,7 @@
 //! to the queues whose bindings match it. A queue delivers its items and receives acknowledgements.
 #![tactic(auto)]
 
+mod backlog;
 mod broker;
 mod queue;
 
