@@ -1,9 +1,9 @@
 -- What a queue keeps, and what holds of it between two calls. Cited by private contracts alone.
-use Rattle.std.specs.Prelude.{◌≡◌, ◌+◌, ◌≤◌, ℕ, List, All, fold, length, min, take, if◌then◌else◌}
+use Rattle.std.specs.Prelude.{◌≡◌, ◌+◌, ◌≤◌, ◌&&◌, ℕ, List, All, fold, length, max, min, take, if◌then◌else◌}
 use Rattle.cdc_match.specs.Arguments.{Arguments}
 use Rattle.cdc_match.specs.Queue.{queue, takes_item}
 use Rattle.cdc_message.specs.declared.items.Item.{Item}
-use Rattle.cdc_broker.specs.Backlogs.{BacklogState}
+use Rattle.cdc_broker.specs.Backlogs.{BacklogState, has_half_before, is_full}
 use Rattle.cdc_broker.specs.declared.queue.Mark.{Mark}
 use Rattle.cdc_broker.specs.declared.queue.Queue.{Queue}
 use Rattle.cdc_broker.specs.Queues.{QueueState}
@@ -54,3 +54,15 @@ lesser number q = min number (min q.acked.place q.cursor.place)
 -- how many items at the front of a list of this length all queues have done with
 abbrev pub done_with_all : ℕ → List Queue → ℕ
 done_with_all len queues = fold lesser len queues
+
+-- how many items at the front of the list no queue asks for again
+abbrev pub done_with_here : BacklogState → List Queue → ℕ
+done_with_here backlog queues = done_with_all (length backlog.items) queues
+
+-- how many items are gone after one more was added: all that no queue asks for again, if there was no room, and they
+-- were at least half of those that were left
+abbrev pub gone_after : BacklogState → List Queue → ℕ
+gone_after backlog queues =
+    if is_full backlog && has_half_before backlog (done_with_here backlog queues)
+    then max backlog.gone (done_with_here backlog queues)
+    else backlog.gone
