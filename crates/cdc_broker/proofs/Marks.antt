@@ -80,6 +80,15 @@ count_within accepted binding place =
     let few = count_all_within (take place accepted) binding in
     omega (arith, length-take place accepted)
 
+-- the end of the list is a mark of a queue that has come to its last item
+pub mark_at_end : (accepted : List Item) (binding : Arguments) (mark : Mark)
+    → mark.position ≡ length (queue accepted binding) → IsMark accepted binding (record mark { place = length accepted })
+mark_at_end accepted binding mark is = record {
+  within = omega arith;
+  counts = is
+      ∙ ap (λ (items : List Item). length (queue items binding)) (sym (take_all (length accepted) accepted (omega arith)));
+}
+
 -- a mark remains one when the list grows
 pub mark_stays : (accepted items : List Item) (binding : Arguments) (mark : Mark) → IsMark accepted binding mark
     → IsMark (accepted ++ items) binding mark

@@ -1,5 +1,5 @@
 -- What a queue keeps, and what holds of it between two calls. Cited by private contracts alone.
-use Rattle.std.specs.Prelude.{◌≡◌, ◌+◌, ◌≤◌, ◌&&◌, ℕ, List, All, fold, length, max, min, take, if◌then◌else◌}
+use Rattle.std.specs.Prelude.{◌≡◌, ◌+◌, ◌≤◌, ◌==◌, ◌&&◌, ℕ, List, All, fold, length, max, min, take, if◌then◌else◌}
 use Rattle.cdc_match.specs.Arguments.{Arguments}
 use Rattle.cdc_match.specs.Queue.{queue, takes_item}
 use Rattle.cdc_message.specs.declared.items.Item.{Item}
@@ -33,9 +33,19 @@ pub record IsInOrder (accepted : List Item) (q : Queue) : Type 0 where
   pub past_acked : q.acked.position ≤ q.cursor.position
   pub next_at_most : q.cursor.position ≤ q.delivered
 
--- the queue after one more item at the back of the list, which counts if it belongs to the queue
-abbrev pub counting : Item → Queue → Queue
-counting item q = if takes_item q.binding item then record q { len = q.len + 1 } else q
+-- the queue with both marks at this place
+abbrev pub moved_to : ℕ → Queue → Queue
+moved_to place q = record q { acked = record q.acked { place = place }; cursor = record q.cursor { place = place } }
+
+-- the queue after another queue's item: if it has acknowledged all its own, its marks move to the end of the list, which
+-- has this length with the item
+abbrev pub ignoring : ℕ → Queue → Queue
+ignoring len q = if q.acked.position == q.len then moved_to len q else q
+
+-- the queue after one more item at the back of the list, which has this length with it: the item counts if it belongs to
+-- the queue
+abbrev pub counting : Item → ℕ → Queue → Queue
+counting item len q = if takes_item q.binding item then record q { len = q.len + 1 } else ignoring len q
 
 -- nothing that a mark of the queue is before was let go
 pub record IsLeft (gone : ℕ) (q : Queue) : Type 0 where

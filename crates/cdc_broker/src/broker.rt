@@ -83,13 +83,14 @@ fn tag_after(tag: u64) -> Option<u64>
     }
 }
 
-/// Counts an item that is added to the back of the list, in the queues that it belongs to.
-fn count_in(queues: &mut [Queue], item: &Item)
+/// Counts an item that is added to the back of the list, in the queues that it belongs to. `len` is the list's length
+/// with this item.
+fn count_in(queues: &mut [Queue], item: &Item, len: usize)
     requires { All (λ q. q.len < 2 ^ 64 - 1) queues.old }
-    ensures { queues.new ≡ map (counting item.now) queues.old }
+    ensures { queues.new ≡ map (counting item.now len) queues.old }
 {
     for queue in queues.iter_mut() {
-        queue.count(item);
+        queue.count(item, len);
     }
 }
 
@@ -128,7 +129,7 @@ fn make_room(accepted: &mut Backlog, queues: &[Queue]) -> Result<(), AllocError>
 fn add(accepted: &mut Backlog, queues: &mut [Queue], item: Item) -> Result<(), AllocError>
     requires { AreServable accepted.old queues.old }
     ensures items { OnOk result (accepted.new.items ≡ accepted.old.items ++ item ∷ []) }
-    ensures queues { OnOk result (queues.new ≡ map (counting item) queues.old) }
+    ensures queues { OnOk result (queues.new ≡ map (counting item (length accepted.new.items)) queues.old) }
     ensures gone { OnOk result (accepted.new.gone ≡ gone_after accepted.old queues.old) }
     ensures same_items { OnErr result (accepted.new.items ≡ accepted.old.items) }
     ensures same_queues { OnErr result (queues.new ≡ queues.old) }
@@ -136,7 +137,7 @@ fn add(accepted: &mut Backlog, queues: &mut [Queue], item: Item) -> Result<(), A
 {
     make_room(accepted, queues)?;
     accepted.reserve()?;
-    count_in(queues, &item);
+    count_in(queues, &item, accepted.len() + 1);
     accepted.push_reserved(item);
     Ok(())
 }
