@@ -14,10 +14,10 @@ use Rattle.cdc_message.specs.declared.items.Delivery.{Delivery}
 use Rattle.cdc_broker.specs.declared.queue.Queue.{Queue}
 use Rattle.cdc_broker.specs.Backlogs.{BacklogState, has_half_before, is_full}
 use Rattle.cdc_broker.specs.Broker.{BrokerState, queue_of, with_queue, nobody}
-use Rattle.cdc_broker.specs.Kept.{IsInOrder, IsLeft, counting, done_with_all, done_with_here, gone_after, ignoring, lesser, moved_to, queue_state}
+use Rattle.cdc_broker.specs.Kept.{AreServable, HasAcknowledged, IsInOrder, IsLeft, counting, done_with_all, done_with_here, gone_after, ignoring, lesser, moved_to, queue_state}
 use Rattle.cdc_broker.specs.Queues.{QueueState, empty_queue, next_delivery, queued, with_item}
 use Rattle.cdc_broker.proofs.Accepted.{filter_push}
-use Rattle.cdc_broker.proofs.Marks.{count_all_within, mark_at_end, mark_stays}
+use Rattle.cdc_broker.proofs.Marks.{count_all_within, fewer_before, mark_at_end, mark_stays}
 
 -- the broker of these items and queues
 abbrev pub broker_of : ℕ → Option ℕ → List Item → List Queue → BrokerState
@@ -275,6 +275,17 @@ gone_if_full backlog queues full half =
 -- there are as many items as are done with, or more
 pub done_with_within : (len : ℕ) (queues : List Queue) → done_with_all len queues ≤ len
 done_with_within len queues = lesser_than len queues
+
+-- what was let go every queue has had acknowledged
+pub acknowledged_if_gone : (backlog : BacklogState) (queues : List Queue) → AreServable backlog queues
+    → All (HasAcknowledged backlog) queues
+acknowledged_if_gone backlog queues servable = λ k d inside.
+    let q = get_or queues k d in
+    let order = servable.in_order k d inside in
+    let left = servable.left k d inside in
+    let fewer = fewer_before backlog.items q.binding backlog.gone q.acked.place left.acked in
+    let counts = order.acked.counts in
+    omega arith
 
 -- a queue that counts an item, or ignores it, needs no other ones than before
 counted_left : (b done : Bool) (gone len : ℕ) (q : Queue) → gone ≤ len → IsLeft gone q

@@ -52,6 +52,10 @@ pub record IsLeft (gone : ℕ) (q : Queue) : Type 0 where
   pub acked : gone ≤ q.acked.place
   pub cursor : gone ≤ q.cursor.place
 
+-- of what was let go, the queue has had all of its own items acknowledged
+abbrev pub HasAcknowledged : BacklogState → Queue → Type 0
+HasAcknowledged backlog q = length (queue (take backlog.gone backlog.items) q.binding) ≤ q.acked.position
+
 -- all queues are in order over all items, and what they need is left
 pub record AreServable (backlog : BacklogState) (queues : List Queue) : Type 0 where
   pub in_order : All (IsInOrder backlog.items) queues

@@ -4,7 +4,7 @@ ghost use Rattle.std.specs.Prelude.{◌≡◌, ◌-◌, ◌^◌, ◌<◌, ◌≤
 ghost use Rattle.cdc_message.specs.declared.items.Item.{Item as SomeItem};
 ghost use Rattle.cdc_message.specs.declared.packets.Packet.TheVariants.{Connect};
 ghost use Rattle.cdc_broker.specs.Broker.{HasAccepted, Publishes, accepted_after, connected, empty_broker, published, queue_of, takes_packet, with_queue};
-ghost use Rattle.cdc_broker.specs.Kept.{AreServable, counting, done_with_all, gone_after};
+ghost use Rattle.cdc_broker.specs.Kept.{AreServable, HasAcknowledged, counting, done_with_all, gone_after};
 ghost use Rattle.cdc_broker.specs.Packets.{tag_after as next_tag};
 ghost use Rattle.cdc_broker.specs.Queues.{acknowledged, delivered_event, is_unknown, next_delivery, rewound_queue, with_delivery};
 
@@ -34,8 +34,8 @@ pub enum Taken {
 }
 
 /// A broker in memory, with a queue for each binding, numbered from 1. It stores each accepted item once, no matter
-/// how many queues it belongs to, until every queue has had it acknowledged. Contracts see the current connection, the
-/// tag that the broker takes next, and the queues, with all items that they ever held.
+/// how many queues it belongs to, at least until every queue has had it acknowledged. Contracts see the current
+/// connection, the tag that the broker takes next, and the queues, with all items that they ever held.
 pub struct Broker {
     connection: u64,
     expected: Option<u64>,
@@ -106,12 +106,13 @@ fn done_with(queues: &[Queue], len: usize) -> usize
 }
 
 /// Lets go of the items that no queue asks for again, if memory is reserved for no further item and they are at least
-/// half of those that are left. The error is out of memory.
+/// half of those that are left. Only then are all queues looked at. The error is out of memory.
 fn make_room(accepted: &mut Backlog, queues: &[Queue]) -> Result<(), AllocError>
     requires { AreServable accepted.old queues.now }
     ensures items { accepted.new.items ≡ accepted.old.items }
     ensures gone { OnOk result (accepted.new.gone ≡ gone_after accepted.old queues.now) }
     ensures servable { AreServable accepted.new queues.now }
+    ensures acknowledged { All (HasAcknowledged accepted.new) queues.now }
 {
     if !accepted.is_full() {
         return Ok(());

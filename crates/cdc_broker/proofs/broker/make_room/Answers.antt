@@ -2,7 +2,7 @@ use Rattle.std.proofs.Common.{◌≤◌, List, max, subst, sym, arith}
 use Rattle.std.specs.Prelude.{All}
 use Rattle.cdc_message.specs.declared.items.Item.{Item}
 use Rattle.cdc_broker.specs.Kept.{IsInOrder}
-use Rattle.cdc_broker.proofs.States.{done_with_within, gone_before_done, left_after}
+use Rattle.cdc_broker.proofs.States.{acknowledged_if_gone, done_with_within, gone_before_done, left_after}
 use Rattle.cdc_broker.proofs.broker.make_room.Goals as goal
 
 pub has_half_before-requires-clause-left : goal.has_half_before-requires-clause-left
@@ -32,3 +32,15 @@ returns-then-has_half_before-clause-servable c =
       left = left_after gone c.let_go.new.self.gone c.len.result queues c.requires.left
           (subst (λ x. c.let_go.new.self.gone ≤ max gone x) c.done_with-place.ensures c.let_go.ensures.few);
     }
+
+pub returns-then-not-is_full-clause-acknowledged : goal.returns-then-not-is_full-clause-acknowledged
+returns-then-not-is_full-clause-acknowledged c =
+    acknowledged_if_gone c.args.accepted.now c.args.queues.now c.requires
+
+pub returns-then-has_half_before-clause-acknowledged : goal.returns-then-has_half_before-clause-acknowledged
+returns-then-has_half_before-clause-acknowledged c =
+    acknowledged_if_gone c.let_go.new.self c.args.queues.now (returns-then-has_half_before-clause-servable c)
+
+pub returns-else-has_half_before-clause-acknowledged : goal.returns-else-has_half_before-clause-acknowledged
+returns-else-has_half_before-clause-acknowledged c =
+    acknowledged_if_gone c.args.accepted.now c.args.queues.now c.requires
