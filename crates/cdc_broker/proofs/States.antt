@@ -1,7 +1,8 @@
 -- The broker that a list of items and its queues represent, and how a change of them changes it.
-use Rattle.std.proofs.Common.{◌≡◌, ℕ, zero, suc, ◌+◌, ◌-◌, ◌<◌, ◌≤◌, ◌^◌, Bool, true, false, List, [], ◌∷◌, ◌++◌, refl, sym, ap, ap₂, ◌∙◌, subst, length, length-append, map, get_or, append-nil, Option, Some, None, take, drop, arith}
+use Rattle.std.proofs.Common.{◌≡◌, ℕ, zero, suc, ◌+◌, ◌-◌, ◌<◌, ◌≤◌, ◌^◌, Bool, true, false, List, [], ◌∷◌, ◌++◌, refl, sym, ap, ap₂, ◌∙◌, subst, length, length-append, map, get_or, append-nil, Option, Some, None, take, drop, ◌&&◌, ◌==◌, arith}
 use Rattle.std.specs.Prelude.{All, is_some, min, max, nat_lt, slice_get, slice_set, if◌then◌else◌}
 use Rattle.std.specs.Option.{option_map}
+use Rattle.std.proofs.lemmas.Bool.{eqb-true}
 use Rattle.std.proofs.lemmas.Bool.Decides.{nat_tests}
 use Rattle.std.proofs.lemmas.List.{map-set, get_or-map, set-get_or, length-map}
 use Rattle.std.proofs.lemmas.List.Elements.{All-map}
@@ -11,11 +12,12 @@ use Rattle.cdc_match.specs.Queue.{queue, takes_item}
 use Rattle.cdc_message.specs.declared.items.Item.{Item}
 use Rattle.cdc_message.specs.declared.items.Delivery.{Delivery}
 use Rattle.cdc_broker.specs.declared.queue.Queue.{Queue}
+use Rattle.cdc_broker.specs.Backlogs.{BacklogState, has_half_before, is_full}
 use Rattle.cdc_broker.specs.Broker.{BrokerState, queue_of, with_queue, nobody}
-use Rattle.cdc_broker.specs.Kept.{IsInOrder, IsLeft, counting, done_with_all, lesser, queue_state}
+use Rattle.cdc_broker.specs.Kept.{AreServable, HasAcknowledged, IsInOrder, IsLeft, counting, done_with_all, done_with_here, gone_after, ignoring, lesser, moved_to, queue_state}
 use Rattle.cdc_broker.specs.Queues.{QueueState, empty_queue, next_delivery, queued, with_item}
 use Rattle.cdc_broker.proofs.Accepted.{filter_push}
-use Rattle.cdc_broker.proofs.Marks.{count_all_within, mark_stays}
+use Rattle.cdc_broker.proofs.Marks.{count_all_within, fewer_before, mark_at_end, mark_stays}
 
 -- the broker of these items and queues
 abbrev pub broker_of : ℕ → Option ℕ → List Item → List Queue → BrokerState
@@ -80,35 +82,65 @@ queue_seen connection expected accepted seen queues s i q is same first last fou
     ∙ sym (queue_of-broker_of connection expected accepted queues i q inside found)
     ∙ ap (λ (s : BrokerState). queue_of s i) is
 
--- a queue that is counted, or isn't, as contracts see it
-state_by : (b : Bool) (accepted : List Item) (item : Item) (q : Queue)
+-- contracts don't see the places of a queue's marks
+moved_state : (done : Bool) (accepted : List Item) (len : ℕ) (q : Queue)
+    → queue_state accepted (if done then moved_to len q else q) ≡ queue_state accepted q
+moved_state true accepted len q = refl
+moved_state false accepted len q = refl
+
+-- a queue that counts an item, or ignores it, as contracts see it
+state_by : (b : Bool) (accepted : List Item) (item : Item) (len : ℕ) (q : Queue)
     → queue (accepted ++ item ∷ []) q.binding ≡ queue accepted q.binding ++ (if b then item ∷ [] else [])
-    → queue_state (accepted ++ item ∷ []) (if b then record q { len = q.len + 1 } else q)
+    → queue_state (accepted ++ item ∷ []) (if b then record q { len = q.len + 1 } else ignoring len q)
     ≡ with_item (if b then Some item else None) (queue_state accepted q)
-state_by true accepted item q is =
+state_by true accepted item len q is =
     ap (λ (items : List Item). record (queue_state accepted q) { items = items }) is
-state_by false accepted item q is =
-    ap (λ (items : List Item). record (queue_state accepted q) { items = items })
+state_by false accepted item len q is =
+    moved_state (q.acked.position == q.len) (accepted ++ item ∷ []) len q
+    ∙ ap (λ (items : List Item). record (queue_state accepted q) { items = items })
     (is ∙ append-nil (queue accepted q.binding))
 
 -- so an item at the back of the list goes to the queue as it should
-counting_state : (accepted : List Item) (item : Item) (q : Queue)
-    → queue_state (accepted ++ item ∷ []) (counting item q) ≡ queued item (queue_state accepted q)
-counting_state accepted item q =
-    state_by (takes_item q.binding item) accepted item q (filter_push (takes_item q.binding) accepted item)
+counting_state : (accepted : List Item) (item : Item) (len : ℕ) (q : Queue)
+    → queue_state (accepted ++ item ∷ []) (counting item len q) ≡ queued item (queue_state accepted q)
+counting_state accepted item len q =
+    state_by (takes_item q.binding item) accepted item len q (filter_push (takes_item q.binding) accepted item)
 
 -- and to all of them
-pub counting_states : (accepted : List Item) (item : Item) (queues : List Queue)
-    → map (queue_state (accepted ++ item ∷ [])) (map (counting item) queues)
+pub counting_states : (accepted : List Item) (item : Item) (len : ℕ) (queues : List Queue)
+    → map (queue_state (accepted ++ item ∷ [])) (map (counting item len) queues)
     ≡ map (queued item) (map (queue_state accepted) queues)
-counting_states accepted item [] = refl
-counting_states accepted item (q ∷ queues) =
-    ap₂ (λ x (xs : List QueueState). x ∷ xs) (counting_state accepted item q) (counting_states accepted item queues)
+counting_states accepted item len [] = refl
+counting_states accepted item len (q ∷ queues) =
+    ap₂ (λ x (xs : List QueueState). x ∷ xs) (counting_state accepted item len q)
+    (counting_states accepted item len queues)
 
--- a queue that is counted, or isn't, stays in order
+-- a queue whose marks move to the end of the list, if it has acknowledged all its items, stays in order
+moved_in_order : (done : Bool) (accepted : List Item) (q : Queue) → (q.acked.position == q.len) ≡ done
+    → IsInOrder accepted q → IsInOrder accepted (if done then moved_to (length accepted) q else q)
+moved_in_order true accepted q is order =
+    let all : q.acked.position ≡ q.len = eqb-true q.acked.position q.len is in
+    let len = order.len in
+    let there = order.delivered_there in
+    let past = order.past_acked in
+    let most = order.next_at_most in
+    let end : q.cursor.position ≡ q.len = omega arith in
+    record {
+      len = order.len;
+      acked = mark_at_end accepted q.binding q.acked (all ∙ order.len);
+      cursor = mark_at_end accepted q.binding q.cursor (end ∙ order.len);
+      delivered_there = order.delivered_there;
+      acked_delivered = order.acked_delivered;
+      past_acked = order.past_acked;
+      next_at_most = order.next_at_most;
+    }
+moved_in_order false accepted q is order = order
+
+-- a queue that counts an item, or ignores it, stays in order
 order_by : (b : Bool) (accepted : List Item) (item : Item) (q : Queue) → IsInOrder accepted q
     → queue (accepted ++ item ∷ []) q.binding ≡ queue accepted q.binding ++ (if b then item ∷ [] else [])
-    → IsInOrder (accepted ++ item ∷ []) (if b then record q { len = q.len + 1 } else q)
+    → IsInOrder (accepted ++ item ∷ [])
+    (if b then record q { len = q.len + 1 } else ignoring (length (accepted ++ item ∷ [])) q)
 order_by true accepted item q order is =
     let len = order.len in
     let there = order.delivered_there in
@@ -123,21 +155,23 @@ order_by true accepted item q order is =
       past_acked = order.past_acked;
       next_at_most = order.next_at_most;
     }
-order_by false accepted item q order is = record {
-  len = order.len ∙ ap length (sym (is ∙ append-nil (queue accepted q.binding)));
-  acked = mark_stays accepted (item ∷ []) q.binding q.acked order.acked;
-  cursor = mark_stays accepted (item ∷ []) q.binding q.cursor order.cursor;
-  delivered_there = order.delivered_there;
-  acked_delivered = order.acked_delivered;
-  past_acked = order.past_acked;
-  next_at_most = order.next_at_most;
-}
+order_by false accepted item q order is =
+    moved_in_order (q.acked.position == q.len) (accepted ++ item ∷ []) q refl
+    (record {
+      len = order.len ∙ ap length (sym (is ∙ append-nil (queue accepted q.binding)));
+      acked = mark_stays accepted (item ∷ []) q.binding q.acked order.acked;
+      cursor = mark_stays accepted (item ∷ []) q.binding q.cursor order.cursor;
+      delivered_there = order.delivered_there;
+      acked_delivered = order.acked_delivered;
+      past_acked = order.past_acked;
+      next_at_most = order.next_at_most;
+    })
 
 -- and so do all
 pub counting_in_order : (accepted : List Item) (item : Item) (queues : List Queue) → All (IsInOrder accepted) queues
-    → All (IsInOrder (accepted ++ item ∷ [])) (map (counting item) queues)
+    → All (IsInOrder (accepted ++ item ∷ [])) (map (counting item (length (accepted ++ item ∷ []))) queues)
 counting_in_order accepted item queues in_order =
-    All-map (IsInOrder (accepted ++ item ∷ [])) (counting item) queues
+    All-map (IsInOrder (accepted ++ item ∷ [])) (counting item (length (accepted ++ item ∷ []))) queues
     (λ k d lt. let q = get_or queues k d in
     order_by (takes_item q.binding item) accepted item q (in_order k d lt)
     (filter_push (takes_item q.binding) accepted item))
@@ -201,21 +235,71 @@ left_after gone after len queues left few = λ k d inside.
     let done = done_with_each len queues k d inside in
     record { acked = omega arith; cursor = omega arith }
 
+-- all queues have done with what was let go
+pub gone_before_done : (gone number : ℕ) (queues : List Queue) → gone ≤ number → All (IsLeft gone) queues
+    → gone ≤ done_with_all number queues
+gone_before_done gone number [] within left = within
+gone_before_done gone number (q ∷ queues) within left =
+    let first = left 0 q (omega arith) in
+    let acked = first.acked in
+    let cursor = first.cursor in
+    gone_before_done gone (lesser number q) queues (omega arith) (λ k d inside. left (suc k) d (omega arith))
+
+-- nothing more is let go if there is room
+pub kept_with_room : (backlog : BacklogState) (queues : List Queue) → is_full backlog ≡ false
+    → gone_after backlog queues ≡ backlog.gone
+kept_with_room backlog queues not_full =
+    let done = done_with_here backlog queues in
+    ap (λ b. if b && has_half_before backlog done then max backlog.gone done else backlog.gone) not_full
+
+-- or if most of what is left is still needed
+pub kept_if_needed : (backlog : BacklogState) (queues : List Queue)
+    → has_half_before backlog (done_with_here backlog queues) ≡ false → gone_after backlog queues ≡ backlog.gone
+kept_if_needed backlog queues needed =
+    let done = done_with_here backlog queues in
+    ap (λ b. if is_full backlog && b then max backlog.gone done else backlog.gone) needed
+    ∙ either (is_full backlog) (max backlog.gone done) backlog.gone
+  where
+    either : (b : Bool) (x y : ℕ) → (if b && false then x else y) ≡ y
+    either true x y = refl
+    either false x y = refl
+
+-- otherwise all that no queue asks for again is
+pub gone_if_full : (backlog : BacklogState) (queues : List Queue) → is_full backlog ≡ true
+    → has_half_before backlog (done_with_here backlog queues) ≡ true
+    → gone_after backlog queues ≡ max backlog.gone (done_with_here backlog queues)
+gone_if_full backlog queues full half =
+    let done = done_with_here backlog queues in
+    ap₂ (λ b b'. if b && b' then max backlog.gone done else backlog.gone) full half
+
 -- there are as many items as are done with, or more
 pub done_with_within : (len : ℕ) (queues : List Queue) → done_with_all len queues ≤ len
 done_with_within len queues = lesser_than len queues
 
--- a queue that counts an item needs no other ones than before
-counted_left : (b : Bool) (gone : ℕ) (q : Queue) → IsLeft gone q
-    → IsLeft gone (if b then record q { len = q.len + 1 } else q)
-counted_left true gone q left = record { acked = left.acked; cursor = left.cursor }
-counted_left false gone q left = left
+-- what was let go every queue has had acknowledged
+pub acknowledged_if_gone : (backlog : BacklogState) (queues : List Queue) → AreServable backlog queues
+    → All (HasAcknowledged backlog) queues
+acknowledged_if_gone backlog queues servable = λ k d inside.
+    let q = get_or queues k d in
+    let order = servable.in_order k d inside in
+    let left = servable.left k d inside in
+    let fewer = fewer_before backlog.items q.binding backlog.gone q.acked.place left.acked in
+    let counts = order.acked.counts in
+    omega arith
 
-pub counting_left : (gone : ℕ) (item : Item) (queues : List Queue) → All (IsLeft gone) queues
-    → All (IsLeft gone) (map (counting item) queues)
-counting_left gone item queues left =
-    All-map (IsLeft gone) (counting item) queues
-    (λ k d lt. counted_left (takes_item (get_or queues k d).binding item) gone (get_or queues k d) (left k d lt))
+-- a queue that counts an item, or ignores it, needs no other ones than before
+counted_left : (b done : Bool) (gone len : ℕ) (q : Queue) → gone ≤ len → IsLeft gone q
+    → IsLeft gone (if b then record q { len = q.len + 1 } else (if done then moved_to len q else q))
+counted_left true done gone len q within left = record { acked = left.acked; cursor = left.cursor }
+counted_left false true gone len q within left = record { acked = within; cursor = within }
+counted_left false false gone len q within left = left
+
+pub counting_left : (gone : ℕ) (item : Item) (len : ℕ) (queues : List Queue) → gone ≤ len → All (IsLeft gone) queues
+    → All (IsLeft gone) (map (counting item len) queues)
+counting_left gone item len queues within left =
+    All-map (IsLeft gone) (counting item len) queues
+    (λ k d lt. let q = get_or queues k d in
+    counted_left (takes_item q.binding item) (q.acked.position == q.len) gone len q within (left k d lt))
 
 -- a queue that rewinds stays in order
 pub rewound_in_order : (accepted : List Item) (q : Queue) → IsInOrder accepted q

@@ -1,9 +1,9 @@
 -- What a queue keeps, and what holds of it between two calls. Cited by private contracts alone.
-use Rattle.std.specs.Prelude.{◌≡◌, ◌+◌, ◌≤◌, ℕ, List, All, fold, length, min, take, if◌then◌else◌}
+use Rattle.std.specs.Prelude.{◌≡◌, ◌+◌, ◌≤◌, ◌==◌, ◌&&◌, ℕ, List, All, fold, length, max, min, take, if◌then◌else◌}
 use Rattle.cdc_match.specs.Arguments.{Arguments}
 use Rattle.cdc_match.specs.Queue.{queue, takes_item}
 use Rattle.cdc_message.specs.declared.items.Item.{Item}
-use Rattle.cdc_broker.specs.Backlogs.{BacklogState}
+use Rattle.cdc_broker.specs.Backlogs.{BacklogState, has_half_before, is_full}
 use Rattle.cdc_broker.specs.declared.queue.Mark.{Mark}
 use Rattle.cdc_broker.specs.declared.queue.Queue.{Queue}
 use Rattle.cdc_broker.specs.Queues.{QueueState}
@@ -33,14 +33,28 @@ pub record IsInOrder (accepted : List Item) (q : Queue) : Type 0 where
   pub past_acked : q.acked.position ≤ q.cursor.position
   pub next_at_most : q.cursor.position ≤ q.delivered
 
--- the queue after one more item at the back of the list, which counts if it belongs to the queue
-abbrev pub counting : Item → Queue → Queue
-counting item q = if takes_item q.binding item then record q { len = q.len + 1 } else q
+-- the queue with both marks at this place
+abbrev pub moved_to : ℕ → Queue → Queue
+moved_to place q = record q { acked = record q.acked { place = place }; cursor = record q.cursor { place = place } }
+
+-- the queue after another queue's item: if it has acknowledged all its own, its marks move to the end of the list, which
+-- has this length with the item
+abbrev pub ignoring : ℕ → Queue → Queue
+ignoring len q = if q.acked.position == q.len then moved_to len q else q
+
+-- the queue after one more item at the back of the list, which has this length with it: the item counts if it belongs to
+-- the queue
+abbrev pub counting : Item → ℕ → Queue → Queue
+counting item len q = if takes_item q.binding item then record q { len = q.len + 1 } else ignoring len q
 
 -- nothing that a mark of the queue is before was let go
 pub record IsLeft (gone : ℕ) (q : Queue) : Type 0 where
   pub acked : gone ≤ q.acked.place
   pub cursor : gone ≤ q.cursor.place
+
+-- of what was let go, the queue has had all of its own items acknowledged
+abbrev pub HasAcknowledged : BacklogState → Queue → Type 0
+HasAcknowledged backlog q = length (queue (take backlog.gone backlog.items) q.binding) ≤ q.acked.position
 
 -- all queues are in order over all items, and what they need is left
 pub record AreServable (backlog : BacklogState) (queues : List Queue) : Type 0 where
@@ -54,3 +68,15 @@ lesser number q = min number (min q.acked.place q.cursor.place)
 -- how many items at the front of a list of this length all queues have done with
 abbrev pub done_with_all : ℕ → List Queue → ℕ
 done_with_all len queues = fold lesser len queues
+
+-- how many items at the front of the list no queue asks for again
+abbrev pub done_with_here : BacklogState → List Queue → ℕ
+done_with_here backlog queues = done_with_all (length backlog.items) queues
+
+-- how many items are gone after one more was added: all that no queue asks for again, if there was no room, and they
+-- were at least half of those that were left
+abbrev pub gone_after : BacklogState → List Queue → ℕ
+gone_after backlog queues =
+    if is_full backlog && has_half_before backlog (done_with_here backlog queues)
+    then max backlog.gone (done_with_here backlog queues)
+    else backlog.gone

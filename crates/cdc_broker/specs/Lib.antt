@@ -4,3 +4,4 @@ pub mod Cursors
 pub mod Kept
 pub mod Packets
 pub mod Queues
+pub mod Requests

@@ -1,6 +1,7 @@
 //! The items that a broker has accepted, of which the first ones are let go.
 
 ghost use Rattle.std.specs.Prelude.{◌≡◌, ◌+◌, ◌-◌, ◌^◌, ◌<◌, ◌≤◌, ◌∷◌, ◌++◌, [], length, get_or, max, OnOk};
+ghost use Rattle.cdc_broker.specs.Backlogs.{has_half_before, is_full};
 
 use cdc_message::Item;
 use std::alloc::{AllocError, Global};
@@ -80,18 +81,26 @@ impl Backlog {
     }
 
     /// Whether no memory is left for one more item.
-    pub(crate) fn is_full(&self) -> bool {
+    pub(crate) fn is_full(&self) -> bool
+        ensures { result ≡ is_full self.now }
+    {
         self.left.len() == self.left.capacity()
     }
 
     /// Whether at least half of the items that are left are before this place.
-    pub(crate) fn has_half_before(&self, place: usize) -> bool {
-        place >= self.gone.len() + self.left.len() / 2
+    pub(crate) fn has_half_before(&self, place: usize) -> bool
+        requires left { self.now.gone ≤ place }
+        requires inside { place ≤ length self.now.items }
+        ensures { result ≡ has_half_before self.now place }
+    {
+        let before = place - self.gone.len();
+        self.left.len() - before <= before
     }
 
     /// The number of items, with those that were let go.
     pub(crate) fn len(&self) -> usize
-        ensures { result ≡ length self.now.items }
+        ensures is { result ≡ length self.now.items }
+        ensures within { self.now.gone ≤ length self.now.items }
     {
         self.gone.len() + self.left.len()
     }

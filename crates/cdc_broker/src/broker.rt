@@ -1,10 +1,10 @@
 //! The public interface of the broker.
 
-ghost use Rattle.std.specs.Prelude.{◌≡◌, ◌-◌, ◌^◌, ◌<◌, ◌≤◌, List, [], All, IfOk, IsSome, OnOk, OnErr, is_some, not, if◌then◌else◌, length, map};
+ghost use Rattle.std.specs.Prelude.{◌≡◌, ◌-◌, ◌^◌, ◌<◌, ◌≤◌, List, [], ◌∷◌, ◌++◌, All, IfOk, IsSome, OnOk, OnErr, is_some, not, if◌then◌else◌, length, map};
 ghost use Rattle.cdc_message.specs.declared.items.Item.{Item as SomeItem};
 ghost use Rattle.cdc_message.specs.declared.packets.Packet.TheVariants.{Connect};
 ghost use Rattle.cdc_broker.specs.Broker.{HasAccepted, Publishes, accepted_after, connected, empty_broker, published, queue_of, takes_packet, with_queue};
-ghost use Rattle.cdc_broker.specs.Kept.{counting, done_with_all};
+ghost use Rattle.cdc_broker.specs.Kept.{AreServable, HasAcknowledged, counting, done_with_all, gone_after};
 ghost use Rattle.cdc_broker.specs.Packets.{tag_after as next_tag};
 ghost use Rattle.cdc_broker.specs.Queues.{acknowledged, delivered_event, is_unknown, next_delivery, rewound_queue, with_delivery};
 
@@ -34,8 +34,8 @@ pub enum Taken {
 }
 
 /// A broker in memory, with a queue for each binding, numbered from 1. It stores each accepted item once, no matter
-/// how many queues it belongs to, until every queue has had it acknowledged. Contracts see the current connection, the
-/// tag that the broker takes next, and the queues, with all items that they ever held.
+/// how many queues it belongs to, at least until every queue has had it acknowledged. Contracts see the current
+/// connection, the tag that the broker takes next, and the queues, with all items that they ever held.
 pub struct Broker {
     connection: u64,
     expected: Option<u64>,
@@ -83,13 +83,14 @@ fn tag_after(tag: u64) -> Option<u64>
     }
 }
 
-/// Counts an item that is added to the back of the list, in the queues that it belongs to.
-fn count_in(queues: &mut [Queue], item: &Item)
+/// Counts an item that is added to the back of the list, in the queues that it belongs to. `len` is the list's length
+/// with this item.
+fn count_in(queues: &mut [Queue], item: &Item, len: usize)
     requires { All (λ q. q.len < 2 ^ 64 - 1) queues.old }
-    ensures { queues.new ≡ map (counting item.now) queues.old }
+    ensures { queues.new ≡ map (counting item.now len) queues.old }
 {
     for queue in queues.iter_mut() {
-        queue.count(item);
+        queue.count(item, len);
     }
 }
 
@@ -102,6 +103,44 @@ fn done_with(queues: &[Queue], len: usize) -> usize
         least = least.min(queue.done_with());
     }
     least
+}
+
+/// Lets go of the items that no queue asks for again, if memory is reserved for no further item and they are at least
+/// half of those that are left. Only then are all queues looked at. The error is out of memory.
+fn make_room(accepted: &mut Backlog, queues: &[Queue]) -> Result<(), AllocError>
+    requires { AreServable accepted.old queues.now }
+    ensures items { accepted.new.items ≡ accepted.old.items }
+    ensures gone { OnOk result (accepted.new.gone ≡ gone_after accepted.old queues.now) }
+    ensures servable { AreServable accepted.new queues.now }
+    ensures acknowledged { All (HasAcknowledged accepted.new) queues.now }
+{
+    if !accepted.is_full() {
+        return Ok(());
+    }
+    let place = done_with(queues, accepted.len());
+    if accepted.has_half_before(place) {
+        accepted.let_go(place)
+    } else {
+        Ok(())
+    }
+}
+
+/// Adds an item at the back of the list, and counts it in the queues that it belongs to. If memory runs out, only items
+/// that no queue asks for again may be let go.
+fn add(accepted: &mut Backlog, queues: &mut [Queue], item: Item) -> Result<(), AllocError>
+    requires { AreServable accepted.old queues.old }
+    ensures items { OnOk result (accepted.new.items ≡ accepted.old.items ++ item ∷ []) }
+    ensures queues { OnOk result (queues.new ≡ map (counting item (length accepted.new.items)) queues.old) }
+    ensures gone { OnOk result (accepted.new.gone ≡ gone_after accepted.old queues.old) }
+    ensures same_items { OnErr result (accepted.new.items ≡ accepted.old.items) }
+    ensures same_queues { OnErr result (queues.new ≡ queues.old) }
+    ensures servable { AreServable accepted.new queues.new }
+{
+    make_room(accepted, queues)?;
+    accepted.reserve()?;
+    count_in(queues, &item, accepted.len() + 1);
+    accepted.push_reserved(item);
+    Ok(())
 }
 
 impl Broker {
@@ -161,22 +200,8 @@ impl Broker {
         if self.expected != Some(tag) {
             return Ok(Taken::Ignored(Refusal::WrongTag));
         }
-        self.make_room()?;
         self.accept(tag, item)?;
         Ok(Taken::Accepted)
-    }
-
-    /// Lets go of the items that no queue asks for again, if memory is reserved for no further item and they are at
-    /// least half of those that are left.
-    fn make_room(&mut self) -> Result<(), AllocError>
-        ensures { self.new ≡ self.old }
-    {
-        let place = done_with(self.queues.as_slice(), self.accepted.len());
-        if self.accepted.is_full() && self.accepted.has_half_before(place) {
-            self.accepted.let_go(place)
-        } else {
-            Ok(())
-        }
     }
 
     /// Adds an item to the queues that it belongs to, and takes the next tag from then on.
@@ -184,9 +209,7 @@ impl Broker {
         ensures ok { OnOk result (self.new ≡ published tag item self.old) }
         ensures err { OnErr result (self.new ≡ self.old) }
     {
-        self.accepted.reserve()?;
-        count_in(self.queues.as_mut_slice(), &item);
-        self.accepted.push_reserved(item);
+        add(&mut self.accepted, self.queues.as_mut_slice(), item)?;
         self.expected = tag_after(tag);
         Ok(())
     }

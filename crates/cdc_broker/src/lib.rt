@@ -4,6 +4,8 @@
 
 mod backlog;
 mod broker;
+mod laws;
 mod queue;
 
 pub use broker::{Broker, Refusal, Taken};
+pub use laws::acknowledgement_laws;

@@ -66,13 +66,18 @@ impl Queue {
         }
     }
 
-    /// Counts an item that is added to the back of the list, if it belongs to the queue.
-    pub(crate) fn count(&mut self, item: &Item)
+    /// Counts an item that is added to the back of the list, if it belongs to the queue. `len` is the list's length
+    /// with this item. If the item belongs only to other queues, and this queue has acknowledged all its own, both
+    /// marks move to the end of the list: the queue then holds back no item.
+    pub(crate) fn count(&mut self, item: &Item, len: usize)
         requires { self.old.len < 2 ^ 64 - 1 }
-        ensures { self.new ≡ counting item.now self.old }
+        ensures { self.new ≡ counting item.now len self.old }
     {
         if self.wants(item) {
             self.len += 1;
+        } else if self.acked.position == self.len {
+            self.acked.place = len;
+            self.cursor.place = len;
         }
     }
 
