@@ -1,6 +1,8 @@
 //! Where a book is kept: in a text file, or in an SQLite file.
 
 ghost use Rattle.std.specs.Prelude.{◌≡◌};
+ghost use Rattle.std.specs.Option.{option_map};
+ghost use Rattle.cdc_app.specs.KeptBooks.{kept_text};
 
 use cdc_follow::BOOK_MARK;
 use cdc_follow_command::{BookStore, FileBook};
@@ -26,8 +28,10 @@ impl<'a> KeptBook<'a> {
         }
     }
 
-    /// The book's text, if there is one.
-    pub fn text(&self) -> Option<&[u8]> {
+    /// The text of the book that was last loaded or saved, if there is one.
+    pub fn text(&self) -> Option<&[u8]>
+        ensures { option_map (λ it. it.now) result ≡ kept_text self.now }
+    {
         match self {
             KeptBook::Text(book) => book.text(),
             KeptBook::Sqlite(book) => book.text(),

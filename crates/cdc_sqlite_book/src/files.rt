@@ -237,8 +237,10 @@ impl<'a> SqliteBook<'a> {
         })
     }
 
-    /// The book's text, if there is one.
-    pub fn text(&self) -> Option<&[u8]> {
+    /// The text of the book that was last loaded or saved, if there is one.
+    pub fn text(&self) -> Option<&[u8]>
+        ensures { option_map (λ it. it.now) result ≡ option_map (λ it. it.items) self.now.known }
+    {
         text_in(&self.known)
     }
 
