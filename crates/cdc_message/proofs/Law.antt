@@ -122,9 +122,3 @@ read-body event fits =
     ap values.read (sym (compact_text-event event fits))
     ∙ read-compact_text (event_value event) (event_numbers event fits) (event_back event fits) (omega arith) in
     read_some (body event) (event_value event) (IsUtf8-body event fits) parsed ∙ event_of-event_value event fits
-
--- so bytes that are the text of an event, and no more, are read as that event
-pub read_own : (event : Event) (bytes rest : List ℕ) → EventFits event → bytes ≡ body event ++ rest → length rest ≡ 0
-    → read bytes ≡ Ok event
-read_own event bytes [] fits is none = ap read (is ∙ append-nil (body event)) ∙ read-body event fits
-read_own event bytes (byte ∷ rest) fits is none = absurd (omega arith)
