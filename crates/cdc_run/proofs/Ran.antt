@@ -175,6 +175,7 @@ module _ {S : Type 0} (config : Config) (faults : Faults) (held : Option Saved) 
         received = reported.received;
         books = reported.books;
         counts = reported.counts;
+        honest = reported.honest;
         subscribers = reported.subscribers;
       };
       restarted = restarted_so is_done;
