@@ -84,7 +84,8 @@ parsed_printed bytes old new wished ending None (inr written) none = λ done. no
 
 -- a command that failed has none
 pub none_parsed : (bytes old new : Option (List ℕ)) (PrintsFault : List ℕ → Ending → List ℕ → Type 0)
-    (why : ProgramFault) (ending : Ending) → PrintsFailure PrintsFault old new why ending → AreParsedFrom bytes ending None
+    (why : ProgramFault) (ending : Ending) → PrintsFailure PrintsFault old new why ending
+    → AreParsedFrom bytes ending None
 none_parsed bytes old new PrintsFault why ending printed =
     parsed_printed bytes old new (record { text = printed.0; ending = Failed why }) ending None printed.1.1
     (λ done. let no : Failed why ≡ Done = done in cc)

@@ -59,8 +59,8 @@ saw_none : (HasSeen : List Seen → Type 0) (window : ℕ) (script : List ℕ)
     → IfOk made (λ output. SawSteps HasSeen
     (record { window = window; script = Some script; steps = steps; step_file = file }) output.ending)
 saw_none HasSeen window script steps file (Ok output) (at, (is, bad)) =
-    subst (SawSteps HasSeen (record { window = window; script = Some script; steps = steps; step_file = file })) (sym is)
-    (tt, bad)
+    subst (SawSteps HasSeen
+    (record { window = window; script = Some script; steps = steps; step_file = file })) (sym is) (tt, bad)
 saw_none HasSeen window script steps file (Err why) bad = tt
 
 pub returns-clause-seen : goal.returns-clause-seen
