@@ -1,5 +1,5 @@
 -- Reading the body of an event gives the event.
-use Rattle.std.proofs.Common.{◌≡◌, ℕ, List, ◌∷◌, length, Ok, ◌<◌, ◌≤◌, ◌^◌, [], ◌++◌, Some, option_and_then, sym, ap, ◌∙◌, arith, append-nil}
+use Rattle.std.proofs.Common.{◌≡◌, ◌<◌, ◌≤◌, ◌^◌, [], ◌++◌, Some, option_and_then, sym, ap, ◌∙◌, arith, append-nil}
 use Rattle.json.specs.Json as json
 use Rattle.json.specs.Lex.{tokens}
 use Rattle.json.specs.Tree as tree
@@ -18,7 +18,6 @@ use Rattle.cdc_types.specs.declared.events.EventTransfer.{EventTransfer}
 use Rattle.cdc_types.specs.declared.events.Event.{Event}
 use Rattle.cdc_message.specs.Bodies.{body}
 use Rattle.cdc_message.specs.Laws.{BodiesReadBack}
-use Rattle.cdc_message.specs.Reading.{read}
 use Rattle.cdc_message.specs.Values.{account_value, transfer_value, event_members, event_value}
 use Rattle.cdc_message.specs.Widths.{AccountFits, TransferFits, EventFits}
 use Rattle.cdc_message.proofs.Back.{event_of-event_value}

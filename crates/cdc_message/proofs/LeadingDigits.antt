@@ -1,5 +1,5 @@
 -- The digits at the front of a text.
-use Rattle.std.proofs.Common.{append-nil, ◌≡◌, ℕ, ◌+◌, ◌-◌, ◌<◌, ◌≤◌, ◌==◌, ◌^◌, ◌&&◌, ◌∙◌, List, [], ◌∷◌, ◌++◌, length, get_or, take, drop, decimal, Bool, cond, true, false, not, Some, refl, sym, ap, arith, le-leb}
+use Rattle.std.proofs.Common.{append-nil, ◌≡◌, ℕ, ◌-◌, ◌<◌, ◌≤◌, ◌==◌, ◌^◌, ◌&&◌, ◌∙◌, List, [], ◌∷◌, ◌++◌, length, get_or, take, drop, decimal, Bool, cond, true, false, Some, refl, sym, ap, arith, le-leb}
 use Rattle.std.proofs.lemmas.Fmt.{decimal_is_IsNumeral_wide}
 use Rattle.std.proofs.lemmas.List.{length-take-le, take-append-drop}
 use Rattle.std.proofs.lemmas.List.Sums.{take_while-cons}
@@ -69,9 +69,9 @@ one_number m n r s m_small n_small r_ends s_ends same =
     sym (take-append_seam (decimal m) r) ∙ ap (take (length (decimal m))) same
     ∙ ap (λ k. take k (decimal n ++ s)) lengths ∙ take-append_seam (decimal n) s in (
       sym (decimal_is_IsNumeral_wide m m_small).1 ∙ ap (digits_value 10) texts
-      ∙ (decimal_is_IsNumeral_wide n n_small).1,
+          ∙ (decimal_is_IsNumeral_wide n n_small).1,
       sym (drop-append_seam (decimal m) r) ∙ ap (drop (length (decimal m))) same
-      ∙ ap (λ k. drop k (decimal n ++ s)) lengths ∙ drop-append_seam (decimal n) s,
+          ∙ ap (λ k. drop k (decimal n ++ s)) lengths ∙ drop-append_seam (decimal n) s,
     )
 
 -- the number that was read at the front of a text is the one that was written there

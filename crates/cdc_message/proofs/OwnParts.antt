@@ -37,7 +37,8 @@ account_parts account rest =
     codes ",\"user_data_64\":\"" ++ (decimal account.user_data_64 ++ (
     codes "\"}" ++ rest))))))))))))))))))))))
 
-pub account_text-parts : (account : EventAccount) (rest : List ℕ) → account_text account ++ rest ≡ account_parts account rest
+pub account_text-parts : (account : EventAccount) (rest : List ℕ)
+    → account_text account ++ rest ≡ account_parts account rest
 account_text-parts account rest = object_text-append (account_members_text account) rest ∙ simp quote_follows
 
 -- a transfer, and what follows it
@@ -55,7 +56,8 @@ transfer_parts transfer rest =
     codes ",\"user_data_64\":\"" ++ (decimal transfer.user_data_64 ++ (
     codes "\"}" ++ rest))))))))))))))))))))
 
-pub transfer_text-parts : (transfer : EventTransfer) (rest : List ℕ) → transfer_text transfer ++ rest ≡ transfer_parts transfer rest
+pub transfer_text-parts : (transfer : EventTransfer) (rest : List ℕ)
+    → transfer_text transfer ++ rest ≡ transfer_parts transfer rest
 transfer_text-parts transfer rest = object_text-append (transfer_members_text transfer) rest ∙ simp quote_follows
 
 -- an event

@@ -68,8 +68,8 @@ fn leading_digits(text: &[u8]) -> &[u8]
     text
 }
 
-/// The number that the digits at the front of a text represent; leading zeros are allowed. `None` if there is no digit or
-/// if the number has more than 128 bits.
+/// The number that the digits at the front of a text represent; leading zeros are allowed. `None` if there is no digit
+/// or if the number has more than 128 bits.
 pub(crate) fn leading_number(text: &[u8]) -> Option<u128>
     ensures { (n : ℕ) (rest : List ℕ) → text.now ≡ decimal n ++ rest → n < 2 ^ 128 → begins_with_digit rest ≡ false
         → result ≡ Some n }

@@ -210,8 +210,8 @@ fn decode_value(alloc: Global, bytes: &[u8]) -> Result<Event, DecodeError>
 
 /// The event that a body represents. Members may be in any order, with white space between them, and with additional
 /// members; a number may be a decimal string or a JSON number (TigerBeetle, Change Data Capture). The error is the
-/// first one in the order in which fields are checked, or out of memory. A body that `encode` writes is read, and an empty
-/// one refused, without allocating.
+/// first one in the order in which fields are checked, or out of memory. A body that `encode` writes is read, and an
+/// empty one refused, without allocating.
 pub fn decode(alloc: Global, bytes: &[u8]) -> Result<Event, DecodeError>
     ensures event { GivesUnlessMemory result (spec.read bytes.now) }
     ensures memory { result ≡ Err DecodeError.OutOfMemory → 0 < length bytes.now }

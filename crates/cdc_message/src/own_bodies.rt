@@ -23,7 +23,8 @@ pub(crate) struct Cursor<'a> {
 
 // Steps of readers. A step that doesn't find what it looks for is `None`.
 impl Cursor<'_> {
-    // Skips this text.
+    // Skips this text. Inlined, so that a constant text is compared by a few words.
+    #[inline(always)]
     pub(crate) fn literal(&mut self, text: &[u8]) -> Option<()>
         ensures text { OnSome result (self.old.rest.now ≡ text.now ++ self.new.rest.now) }
         ensures complete { (rest : List ℕ) → self.old.rest.now ≡ text.now ++ rest
@@ -49,7 +50,7 @@ impl Cursor<'_> {
         Some(())
     }
 
-    // Reads a number without leading zeros. Most have at most 19 digits; the text of a longer one is compared with it.
+    // Reads a number without leading zeros. Most have at most 19 digits.
     pub(crate) fn number(&mut self) -> Option<u128>
         ensures text { IfSome result (λ n. self.old.rest.now ≡ decimal n ++ self.new.rest.now) }
         ensures complete { (n : ℕ) (rest : List ℕ) → self.old.rest.now ≡ decimal n ++ rest → n < 2 ^ 128
@@ -59,6 +60,16 @@ impl Cursor<'_> {
             self.rest = &self.rest[count..];
             return Some(u128::from(number));
         }
+        self.long_number()
+    }
+
+    // Reads a number without leading zeros: the text is compared with that of the number.
+    #[inline(never)]
+    fn long_number(&mut self) -> Option<u128>
+        ensures text { IfSome result (λ n. self.old.rest.now ≡ decimal n ++ self.new.rest.now) }
+        ensures complete { (n : ℕ) (rest : List ℕ) → self.old.rest.now ≡ decimal n ++ rest → n < 2 ^ 128
+            → begins_with_digit rest ≡ false → (result ≡ Some n) × (self.new.rest.now ≡ rest) }
+    {
         let number = leading_number(self.rest)?;
         self.literal(Buffer::new().format(number).as_bytes())?;
         Some(number)
@@ -91,16 +102,6 @@ impl Cursor<'_> {
         self.byte(b'"')?;
         Some(number)
     }
-
-    // Skips this text, and reads the number after it.
-    fn number_after(&mut self, text: &[u8]) -> Option<u128>
-        ensures text { IfSome result (λ n. self.old.rest.now ≡ text.now ++ (decimal n ++ self.new.rest.now)) }
-        ensures complete { (n : ℕ) (rest : List ℕ) → self.old.rest.now ≡ text.now ++ (decimal n ++ rest)
-            → n < 2 ^ 128 → begins_with_digit rest ≡ false → (result ≡ Some n) × (self.new.rest.now ≡ rest) }
-    {
-        self.literal(text)?;
-        self.number()
-    }
 }
 
 // Readers of the parts of a body, each after the last one. A reader that doesn't find what it looks for drops the rest
@@ -123,11 +124,12 @@ impl Cursor<'_> {
         }
     }
 
-    // Skips this text, and reads the number of 128 bits after it.
-    fn number_128(&mut self, text: &[u8]) -> u128
-        ensures { ReadsNumber 128 text.now self.old.rest.now result self.new.rest.now }
+    // Reads a number of 128 bits.
+    #[inline(never)]
+    fn next_number(&mut self) -> u128
+        ensures { ReadsNumber 128 [] self.old.rest.now result self.new.rest.now }
     {
-        match self.number_after(text) {
+        match self.number() {
             Some(number) => number,
             None => {
                 self.fail();
@@ -136,7 +138,22 @@ impl Cursor<'_> {
         }
     }
 
+    // Skips this text, and reads the number of 128 bits after it.
+    #[inline(always)]
+    fn number_128(&mut self, text: &[u8]) -> u128
+        ensures { ReadsNumber 128 text.now self.old.rest.now result self.new.rest.now }
+    {
+        match self.literal(text) {
+            Some(()) => self.next_number(),
+            None => {
+                self.fail();
+                0
+            }
+        }
+    }
+
     // The same for a number of 64 bits.
+    #[inline(always)]
     fn number_64(&mut self, text: &[u8]) -> u64
         ensures { ReadsNumber 64 text.now self.old.rest.now result self.new.rest.now }
     {
@@ -150,6 +167,7 @@ impl Cursor<'_> {
     }
 
     // The same for a number of 32 bits.
+    #[inline(always)]
     fn number_32(&mut self, text: &[u8]) -> u32
         ensures { ReadsNumber 32 text.now self.old.rest.now result self.new.rest.now }
     {
@@ -163,6 +181,7 @@ impl Cursor<'_> {
     }
 
     // The same for a number of 16 bits.
+    #[inline(always)]
     fn number_16(&mut self, text: &[u8]) -> u16
         ensures { ReadsNumber 16 text.now self.old.rest.now result self.new.rest.now }
     {

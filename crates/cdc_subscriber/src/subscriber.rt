@@ -107,8 +107,8 @@ impl Subscriber {
     }
 
     /// Takes a delivery from a queue. The only error is that memory runs out, and only an event can cause it, while the
-    /// subscriber is neither closed nor past the end mark: one that is later than the last one applied and has an account
-    /// that the book lacks.
+    /// subscriber is neither closed nor past the end mark: an event that is later than the last one applied and has an
+    /// account that the book lacks.
     pub fn take(&mut self, alloc: Global, delivery: &Delivery) -> Result<Taking, TakeError>
         ensures answer { TakesItem self.old delivery.now.item result }
         ensures stands { (reception : Reception) → self.old ≡ kept_of reception
@@ -127,8 +127,8 @@ impl Subscriber {
     }
 
     /// Takes the bytes of a body. A subscriber that is closed or has received the end mark doesn't read them.
-    /// Otherwise it fails if the bytes aren't an event or memory runs out. For a body as `encode` writes it, memory can run
-    /// out only if the event is later than the last one applied and has an account that the book lacks.
+    /// Otherwise it fails if the bytes aren't an event or memory runs out. For a body as `encode` writes it, memory can
+    /// run out only if the event is later than the last one applied and has an account that the book lacks.
     pub fn take_body(&mut self, alloc: Global, body: &[u8]) -> Result<Taking, TakeError>
         ensures answer { TakesBody self.old (read body.now) result }
         ensures stands { (reception : Reception) → self.old ≡ kept_of reception

@@ -1,4 +1,4 @@
-use Rattle.std.proofs.Common.{◌≡◌, ◌<◌, ◌^◌, ◌∙◌, length, ap, arith, decimal}
+use Rattle.std.proofs.Common.{◌<◌, ◌^◌, ◌∙◌, length, ap, arith}
 use Rattle.std.proofs.lemmas.Bool.Decides.{nat_tests}
 use Rattle.cdc_message.proofs.LeadingDigits.{digits_are, digits_are_decimal, number_fits, some_digit}
 use Rattle.cdc_message.proofs.decimals.leading_number.Goals as goal

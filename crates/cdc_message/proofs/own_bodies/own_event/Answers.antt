@@ -8,8 +8,8 @@ use Rattle.cdc_message.proofs.Law.{read-body}
 use Rattle.cdc_message.proofs.own_bodies.own_event.Goals as goal
 
 -- the bytes of an event's body are read as the event
-is_read : (answer : Option Event) (bytes : List ℕ) → IfSome answer EventFits → IfSome answer (λ event. bytes ≡ body event)
-    → IfSome answer (λ event. read bytes ≡ Ok event)
+is_read : (answer : Option Event) (bytes : List ℕ) → IfSome answer EventFits
+    → IfSome answer (λ event. bytes ≡ body event) → IfSome answer (λ event. read bytes ≡ Ok event)
 is_read None bytes fits is = tt
 is_read (Some event) bytes fits is = ap read is ∙ read-body event fits
 

@@ -1,7 +1,5 @@
-use Rattle.std.proofs.Common.{◌≡◌, ◌<◌, ◌∙◌, List, ℕ, None, Some, ap, length, refl, sym}
+use Rattle.std.proofs.Common.{◌≡◌, ◌∙◌, Some, ap, refl, sym}
 use Rattle.cdc_types.specs.declared.events.Event.{Event}
-use Rattle.cdc_types.specs.declared.events.EventKind.{EventKind}
-use Rattle.cdc_message.specs.Bodies.{body}
 use Rattle.cdc_message.proofs.OwnKinds.{some_kind}
 use Rattle.cdc_message.proofs.OwnParts.{body-parts, not_none, some_rest}
 use Rattle.cdc_message.proofs.own_bodies.Cursor.event.Goals as goal

@@ -1,4 +1,4 @@
-use Rattle.std.proofs.Common.{◌≡◌, ◌<◌, ◌^◌, ◌-◌, ◌∙◌, ap, arith, drop, length, Some, sym, take}
+use Rattle.std.proofs.Common.{◌<◌, ◌^◌, ◌∙◌, ap, arith, drop, Some, sym, take}
 use Rattle.std.proofs.lemmas.List.{length-drop}
 use Rattle.std.proofs.Math.Seq.{take-length}
 use Rattle.cdc_message.proofs.LeadingDigits.{read_is}
