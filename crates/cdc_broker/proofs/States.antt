@@ -115,7 +115,7 @@ counting_states accepted item len (q ∷ queues) =
     ap₂ (λ x (xs : List QueueState). x ∷ xs) (counting_state accepted item len q)
     (counting_states accepted item len queues)
 
--- a queue that ignores an item stays in order: if it has acknowledged all its own, its marks move to the end of the list
+-- a queue that ignores an item stays in order: if it has acknowledged all its own, its marks move to the list's end
 ignoring_in_order : (done : Bool) (accepted : List Item) (item : Item) (q : Queue)
     → (q.acked.position == q.len) ≡ done → IsInOrder accepted q
     → queue (accepted ++ item ∷ []) q.binding ≡ queue accepted q.binding
@@ -173,7 +173,8 @@ order_by true accepted item q order is =
       cursor_at_end = λ same. absurd (omega arith);
     }
 order_by false accepted item q order is =
-    ignoring_in_order (q.acked.position == q.len) accepted item q refl order (is ∙ append-nil (queue accepted q.binding))
+    ignoring_in_order (q.acked.position == q.len) accepted item q refl order
+    (is ∙ append-nil (queue accepted q.binding))
 
 -- and so do all
 pub counting_in_order : (accepted : List Item) (item : Item) (queues : List Queue) → All (IsInOrder accepted) queues

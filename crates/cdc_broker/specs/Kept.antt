@@ -23,8 +23,8 @@ pub record IsMark (accepted : List Item) (binding : Arguments) (mark : Mark) : T
   pub counts : mark.position ≡ length (queue (take mark.place accepted) binding)
 
 -- the length is that of the queue, and the marks are its own; only existing items were delivered, and only delivered
--- ones are acknowledged; the cursor is past all acknowledged items, and not past the delivered ones; if all items of the
--- queue are acknowledged, its marks are at the end of the list
+-- ones are acknowledged; the cursor is past all acknowledged items, and not past the delivered ones; if all items of
+-- the queue are acknowledged, its marks are at the end of the list
 pub record IsInOrder (accepted : List Item) (q : Queue) : Type 0 where
   pub len : q.len ≡ length (queue accepted q.binding)
   pub acked : IsMark accepted q.binding q.acked
@@ -40,13 +40,13 @@ pub record IsInOrder (accepted : List Item) (q : Queue) : Type 0 where
 abbrev pub moved_to : ℕ → Queue → Queue
 moved_to place q = record q { acked = record q.acked { place = place }; cursor = record q.cursor { place = place } }
 
--- the queue after another queue's item: if it has acknowledged all its own, its marks move to the end of the list, which
--- has this length with the item
+-- the queue after another queue's item: if it has acknowledged all its own, its marks move to the end of the list,
+-- which has this length with the item
 abbrev pub ignoring : ℕ → Queue → Queue
 ignoring len q = if q.acked.position == q.len then moved_to len q else q
 
--- the queue after one more item at the back of the list, which has this length with it: the item counts if it belongs to
--- the queue
+-- the queue after one more item at the back of the list, which has this length with it: the item counts if it belongs
+-- to the queue
 abbrev pub counting : Item → ℕ → Queue → Queue
 counting item len q = if takes_item q.binding item then record q { len = q.len + 1 } else ignoring len q
 

@@ -126,8 +126,8 @@ fn make_room(accepted: &mut Backlog, queues: &[Queue]) -> Result<(), AllocError>
 }
 
 /// Adds an item at the back of the list, and counts it in the queues that it belongs to. Which items are let go depends
-/// only on the queues that have an unacknowledged item: no other one holds back anything. If memory runs out, only items
-/// that no queue asks for again may be let go.
+/// only on the queues that have an unacknowledged item: no other queue holds back anything. If memory runs out, only
+/// items that no queue asks for again may be let go.
 fn add(accepted: &mut Backlog, queues: &mut [Queue], item: Item) -> Result<(), AllocError>
     requires { AreServable accepted.old queues.old }
     ensures items { OnOk result (accepted.new.items ≡ accepted.old.items ++ item ∷ []) }

@@ -22,7 +22,8 @@ pub returns-clause-queues : goal.returns-clause-queues
 returns-clause-queues c =
     c.count_in.ensures
     ∙ ap (λ (len : ℕ). map (counting c.args.item len) c.args.queues.now)
-    (longer c.make_room.new.accepted.items c.reserve.new.self.items c.push_reserved.new.self.items c.args.item c.len.result
+    (longer c.make_room.new.accepted.items c.reserve.new.self.items c.push_reserved.new.self.items c.args.item
+    c.len.result
     c.len.ensures.is c.reserve.ensures.items c.push_reserved.ensures.items)
 
 pub returns-clause-gone : goal.returns-clause-gone
