@@ -82,11 +82,13 @@ count_within accepted binding place =
 
 -- the end of the list is a mark of a queue that has come to its last item
 pub mark_at_end : (accepted : List Item) (binding : Arguments) (mark : Mark)
-    → mark.position ≡ length (queue accepted binding) → IsMark accepted binding (record mark { place = length accepted })
+    → mark.position ≡ length (queue accepted binding)
+    → IsMark accepted binding (record mark { place = length accepted })
 mark_at_end accepted binding mark is = record {
   within = omega arith;
   counts = is
-      ∙ ap (λ (items : List Item). length (queue items binding)) (sym (take_all (length accepted) accepted (omega arith)));
+      ∙ ap (λ (items : List Item). length (queue items binding))
+      (sym (take_all (length accepted) accepted (omega arith)));
 }
 
 -- a mark remains one when the list grows

@@ -1,8 +1,8 @@
 -- The broker that a list of items and its queues represent, and how a change of them changes it.
-use Rattle.std.proofs.Common.{◌≡◌, ℕ, zero, suc, ◌+◌, ◌-◌, ◌<◌, ◌≤◌, ◌^◌, Bool, true, false, List, [], ◌∷◌, ◌++◌, refl, sym, ap, ap₂, ◌∙◌, subst, length, length-append, map, get_or, append-nil, Option, Some, None, take, drop, ◌&&◌, ◌==◌, arith}
+use Rattle.std.proofs.Common.{◌≡◌, ℕ, zero, suc, ◌+◌, ◌-◌, ◌<◌, ◌≤◌, ◌^◌, Bool, true, false, cond, List, [], ◌∷◌, ◌++◌, refl, sym, ap, ap₂, ◌∙◌, subst, length, length-append, map, get_or, append-nil, Option, Some, None, take, drop, ◌&&◌, ◌==◌, arith}
 use Rattle.std.specs.Prelude.{All, is_some, min, max, nat_lt, slice_get, slice_set, if◌then◌else◌}
 use Rattle.std.specs.Option.{option_map}
-use Rattle.std.proofs.lemmas.Bool.{eqb-true}
+use Rattle.std.proofs.lemmas.Bool.{eqb-false, eqb-true, ltb-false}
 use Rattle.std.proofs.lemmas.Bool.Decides.{nat_tests}
 use Rattle.std.proofs.lemmas.List.{map-set, get_or-map, set-get_or, length-map}
 use Rattle.std.proofs.lemmas.List.Elements.{All-map}
@@ -14,7 +14,7 @@ use Rattle.cdc_message.specs.declared.items.Delivery.{Delivery}
 use Rattle.cdc_broker.specs.declared.queue.Queue.{Queue}
 use Rattle.cdc_broker.specs.Backlogs.{BacklogState, has_half_before, is_full}
 use Rattle.cdc_broker.specs.Broker.{BrokerState, queue_of, with_queue, nobody}
-use Rattle.cdc_broker.specs.Kept.{AreServable, HasAcknowledged, IsInOrder, IsLeft, counting, done_with_all, done_with_here, gone_after, ignoring, lesser, moved_to, queue_state}
+use Rattle.cdc_broker.specs.Kept.{AreServable, HasAcknowledged, IsInOrder, IsLeft, counting, done_with_all, done_with_here, gone_after, ignoring, lesser, moved_to, queue_state, unfinished}
 use Rattle.cdc_broker.specs.Queues.{QueueState, empty_queue, next_delivery, queued, with_item}
 use Rattle.cdc_broker.proofs.Accepted.{filter_push}
 use Rattle.cdc_broker.proofs.Marks.{count_all_within, fewer_before, mark_at_end, mark_stays}
@@ -115,26 +115,40 @@ counting_states accepted item len (q ∷ queues) =
     ap₂ (λ x (xs : List QueueState). x ∷ xs) (counting_state accepted item len q)
     (counting_states accepted item len queues)
 
--- a queue whose marks move to the end of the list, if it has acknowledged all its items, stays in order
-moved_in_order : (done : Bool) (accepted : List Item) (q : Queue) → (q.acked.position == q.len) ≡ done
-    → IsInOrder accepted q → IsInOrder accepted (if done then moved_to (length accepted) q else q)
-moved_in_order true accepted q is order =
-    let all : q.acked.position ≡ q.len = eqb-true q.acked.position q.len is in
-    let len = order.len in
+-- a queue that ignores an item stays in order: if it has acknowledged all its own, its marks move to the list's end
+ignoring_in_order : (done : Bool) (accepted : List Item) (item : Item) (q : Queue)
+    → (q.acked.position == q.len) ≡ done → IsInOrder accepted q
+    → queue (accepted ++ item ∷ []) q.binding ≡ queue accepted q.binding
+    → IsInOrder (accepted ++ item ∷ []) (if done then moved_to (length (accepted ++ item ∷ [])) q else q)
+ignoring_in_order true accepted item q done order is =
+    let all : q.acked.position ≡ q.len = eqb-true q.acked.position q.len done in
     let there = order.delivered_there in
     let past = order.past_acked in
     let most = order.next_at_most in
     let end : q.cursor.position ≡ q.len = omega arith in
+    let len : q.len ≡ length (queue (accepted ++ item ∷ []) q.binding) = order.len ∙ ap length (sym is) in
     record {
-      len = order.len;
-      acked = mark_at_end accepted q.binding q.acked (all ∙ order.len);
-      cursor = mark_at_end accepted q.binding q.cursor (end ∙ order.len);
+      len = len;
+      acked = mark_at_end (accepted ++ item ∷ []) q.binding q.acked (all ∙ len);
+      cursor = mark_at_end (accepted ++ item ∷ []) q.binding q.cursor (end ∙ len);
       delivered_there = order.delivered_there;
       acked_delivered = order.acked_delivered;
       past_acked = order.past_acked;
       next_at_most = order.next_at_most;
+      acked_at_end = λ same. refl;
+      cursor_at_end = λ same. refl;
     }
-moved_in_order false accepted q is order = order
+ignoring_in_order false accepted item q waits order is = record {
+  len = order.len ∙ ap length (sym is);
+  acked = mark_stays accepted (item ∷ []) q.binding q.acked order.acked;
+  cursor = mark_stays accepted (item ∷ []) q.binding q.cursor order.cursor;
+  delivered_there = order.delivered_there;
+  acked_delivered = order.acked_delivered;
+  past_acked = order.past_acked;
+  next_at_most = order.next_at_most;
+  acked_at_end = λ same. absurd (eqb-false q.acked.position q.len waits same);
+  cursor_at_end = λ same. absurd (eqb-false q.acked.position q.len waits same);
+}
 
 -- a queue that counts an item, or ignores it, stays in order
 order_by : (b : Bool) (accepted : List Item) (item : Item) (q : Queue) → IsInOrder accepted q
@@ -144,6 +158,7 @@ order_by : (b : Bool) (accepted : List Item) (item : Item) (q : Queue) → IsInO
 order_by true accepted item q order is =
     let len = order.len in
     let there = order.delivered_there in
+    let delivered = order.acked_delivered in
     let more : length (queue (accepted ++ item ∷ []) q.binding) ≡ length (queue accepted q.binding ++ item ∷ []) =
     ap length is in
     record {
@@ -154,18 +169,12 @@ order_by true accepted item q order is =
       acked_delivered = order.acked_delivered;
       past_acked = order.past_acked;
       next_at_most = order.next_at_most;
+      acked_at_end = λ same. absurd (omega arith);
+      cursor_at_end = λ same. absurd (omega arith);
     }
 order_by false accepted item q order is =
-    moved_in_order (q.acked.position == q.len) (accepted ++ item ∷ []) q refl
-    (record {
-      len = order.len ∙ ap length (sym (is ∙ append-nil (queue accepted q.binding)));
-      acked = mark_stays accepted (item ∷ []) q.binding q.acked order.acked;
-      cursor = mark_stays accepted (item ∷ []) q.binding q.cursor order.cursor;
-      delivered_there = order.delivered_there;
-      acked_delivered = order.acked_delivered;
-      past_acked = order.past_acked;
-      next_at_most = order.next_at_most;
-    })
+    ignoring_in_order (q.acked.position == q.len) accepted item q refl order
+    (is ∙ append-nil (queue accepted q.binding))
 
 -- and so do all
 pub counting_in_order : (accepted : List Item) (item : Item) (queues : List Queue) → All (IsInOrder accepted) queues
@@ -272,6 +281,44 @@ gone_if_full backlog queues full half =
     let done = done_with_here backlog queues in
     ap₂ (λ b b'. if b && b' then max backlog.gone done else backlog.gone) full half
 
+-- a queue that has acknowledged all its items holds back none of a list
+finished_at_end : (accepted : List Item) (number : ℕ) (q : Queue) → number ≤ length accepted → IsInOrder accepted q
+    → nat_lt q.acked.position q.len ≡ false → lesser number q ≡ number
+finished_at_end accepted number q within order finished =
+    let there = order.delivered_there in
+    let delivered = order.acked_delivered in
+    let least : q.len ≤ q.acked.position = ltb-false q.acked.position q.len finished in
+    let all : q.acked.position ≡ q.len = omega arith in
+    let acked = order.acked_at_end all in
+    let cursor = order.cursor_at_end all in
+    omega arith
+
+-- a queue in front is left out if it has acknowledged all its items
+done_with_one : (waits : Bool) (accepted : List Item) (number : ℕ) (q : Queue) (queues : List Queue)
+    → nat_lt q.acked.position q.len ≡ waits → number ≤ length accepted → IsInOrder accepted q
+    → ((n : ℕ) → n ≤ length accepted → done_with_all n queues ≡ done_with_all n (unfinished queues))
+    → done_with_all (lesser number q) queues
+    ≡ done_with_all number (cond waits (q ∷ unfinished queues) (unfinished queues))
+done_with_one true accepted number q queues waits within order rest = rest (lesser number q) (omega arith)
+done_with_one false accepted number q queues finished within order rest =
+    ap (λ (n : ℕ). done_with_all n queues) (finished_at_end accepted number q within order finished)
+    ∙ rest number within
+
+-- so what all queues have done with is what those with an unacknowledged item have done with
+done_with_unfinished : (accepted : List Item) (number : ℕ) (queues : List Queue) → number ≤ length accepted
+    → All (IsInOrder accepted) queues → done_with_all number queues ≡ done_with_all number (unfinished queues)
+done_with_unfinished accepted number [] within in_order = refl
+done_with_unfinished accepted number (q ∷ queues) within in_order =
+    done_with_one (nat_lt q.acked.position q.len) accepted number q queues refl within (in_order 0 q (omega arith))
+    (λ n less. done_with_unfinished accepted n queues less (λ k d inside. in_order (suc k) d (omega arith)))
+
+-- and only those hold back memory
+pub gone_after_unfinished : (backlog : BacklogState) (queues : List Queue) → All (IsInOrder backlog.items) queues
+    → gone_after backlog queues ≡ gone_after backlog (unfinished queues)
+gone_after_unfinished backlog queues in_order =
+    ap (λ (done : ℕ). if is_full backlog && has_half_before backlog done then max backlog.gone done else backlog.gone)
+    (done_with_unfinished backlog.items (length backlog.items) queues (omega arith) in_order)
+
 -- there are as many items as are done with, or more
 pub done_with_within : (len : ℕ) (queues : List Queue) → done_with_all len queues ≤ len
 done_with_within len queues = lesser_than len queues
@@ -312,6 +359,8 @@ rewound_in_order accepted q order = record {
   acked_delivered = order.acked_delivered;
   past_acked = omega arith;
   next_at_most = order.acked_delivered;
+  acked_at_end = order.acked_at_end;
+  cursor_at_end = order.acked_at_end;
 }
 
 -- a list has an element at an index if and only if the index is below its length

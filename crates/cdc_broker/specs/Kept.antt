@@ -1,5 +1,5 @@
 -- What a queue keeps, and what holds of it between two calls. Cited by private contracts alone.
-use Rattle.std.specs.Prelude.{◌≡◌, ◌+◌, ◌≤◌, ◌==◌, ◌&&◌, ℕ, List, All, fold, length, max, min, take, if◌then◌else◌}
+use Rattle.std.specs.Prelude.{◌≡◌, ◌+◌, ◌≤◌, ◌==◌, ◌&&◌, ℕ, List, All, filter, fold, length, max, min, nat_lt, take, if◌then◌else◌}
 use Rattle.cdc_match.specs.Arguments.{Arguments}
 use Rattle.cdc_match.specs.Queue.{queue, takes_item}
 use Rattle.cdc_message.specs.declared.items.Item.{Item}
@@ -23,7 +23,8 @@ pub record IsMark (accepted : List Item) (binding : Arguments) (mark : Mark) : T
   pub counts : mark.position ≡ length (queue (take mark.place accepted) binding)
 
 -- the length is that of the queue, and the marks are its own; only existing items were delivered, and only delivered
--- ones are acknowledged; the cursor is past all acknowledged items, and not past the delivered ones
+-- ones are acknowledged; the cursor is past all acknowledged items, and not past the delivered ones; if all items of
+-- the queue are acknowledged, its marks are at the end of the list
 pub record IsInOrder (accepted : List Item) (q : Queue) : Type 0 where
   pub len : q.len ≡ length (queue accepted q.binding)
   pub acked : IsMark accepted q.binding q.acked
@@ -32,18 +33,20 @@ pub record IsInOrder (accepted : List Item) (q : Queue) : Type 0 where
   pub acked_delivered : q.acked.position ≤ q.delivered
   pub past_acked : q.acked.position ≤ q.cursor.position
   pub next_at_most : q.cursor.position ≤ q.delivered
+  pub acked_at_end : q.acked.position ≡ q.len → q.acked.place ≡ length accepted
+  pub cursor_at_end : q.acked.position ≡ q.len → q.cursor.place ≡ length accepted
 
 -- the queue with both marks at this place
 abbrev pub moved_to : ℕ → Queue → Queue
 moved_to place q = record q { acked = record q.acked { place = place }; cursor = record q.cursor { place = place } }
 
--- the queue after another queue's item: if it has acknowledged all its own, its marks move to the end of the list, which
--- has this length with the item
+-- the queue after another queue's item: if it has acknowledged all its own, its marks move to the end of the list,
+-- which has this length with the item
 abbrev pub ignoring : ℕ → Queue → Queue
 ignoring len q = if q.acked.position == q.len then moved_to len q else q
 
--- the queue after one more item at the back of the list, which has this length with it: the item counts if it belongs to
--- the queue
+-- the queue after one more item at the back of the list, which has this length with it: the item counts if it belongs
+-- to the queue
 abbrev pub counting : Item → ℕ → Queue → Queue
 counting item len q = if takes_item q.binding item then record q { len = q.len + 1 } else ignoring len q
 
@@ -72,6 +75,10 @@ done_with_all len queues = fold lesser len queues
 -- how many items at the front of the list no queue asks for again
 abbrev pub done_with_here : BacklogState → List Queue → ℕ
 done_with_here backlog queues = done_with_all (length backlog.items) queues
+
+-- the queues that have an item which isn't acknowledged
+abbrev pub unfinished : List Queue → List Queue
+unfinished queues = filter (λ q. nat_lt q.acked.position q.len) queues
 
 -- how many items are gone after one more was added: all that no queue asks for again, if there was no room, and they
 -- were at least half of those that were left

@@ -4,7 +4,7 @@ ghost use Rattle.std.specs.Prelude.{◌≡◌, ◌-◌, ◌^◌, ◌<◌, ◌≤
 ghost use Rattle.cdc_message.specs.declared.items.Item.{Item as SomeItem};
 ghost use Rattle.cdc_message.specs.declared.packets.Packet.TheVariants.{Connect};
 ghost use Rattle.cdc_broker.specs.Broker.{HasAccepted, Publishes, accepted_after, connected, empty_broker, published, queue_of, takes_packet, with_queue};
-ghost use Rattle.cdc_broker.specs.Kept.{AreServable, HasAcknowledged, counting, done_with_all, gone_after};
+ghost use Rattle.cdc_broker.specs.Kept.{AreServable, HasAcknowledged, counting, done_with_all, gone_after, unfinished};
 ghost use Rattle.cdc_broker.specs.Packets.{tag_after as next_tag};
 ghost use Rattle.cdc_broker.specs.Queues.{acknowledged, delivered_event, is_unknown, next_delivery, rewound_queue, with_delivery};
 
@@ -125,13 +125,14 @@ fn make_room(accepted: &mut Backlog, queues: &[Queue]) -> Result<(), AllocError>
     }
 }
 
-/// Adds an item at the back of the list, and counts it in the queues that it belongs to. If memory runs out, only items
-/// that no queue asks for again may be let go.
+/// Adds an item at the back of the list, and counts it in the queues that it belongs to. Which items are let go depends
+/// only on the queues that have an unacknowledged item: no other queue holds back anything. If memory runs out, only
+/// items that no queue asks for again may be let go.
 fn add(accepted: &mut Backlog, queues: &mut [Queue], item: Item) -> Result<(), AllocError>
     requires { AreServable accepted.old queues.old }
     ensures items { OnOk result (accepted.new.items ≡ accepted.old.items ++ item ∷ []) }
     ensures queues { OnOk result (queues.new ≡ map (counting item (length accepted.new.items)) queues.old) }
-    ensures gone { OnOk result (accepted.new.gone ≡ gone_after accepted.old queues.old) }
+    ensures gone { OnOk result (accepted.new.gone ≡ gone_after accepted.old (unfinished queues.old)) }
     ensures same_items { OnErr result (accepted.new.items ≡ accepted.old.items) }
     ensures same_queues { OnErr result (queues.new ≡ queues.old) }
     ensures servable { AreServable accepted.new queues.new }

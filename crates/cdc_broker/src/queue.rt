@@ -142,7 +142,8 @@ impl Queue {
         }))
     }
 
-    /// The mark right after the item at this position, or a later one if more items are acknowledged.
+    /// The mark right after the item at this position, or a later one if more items are acknowledged. If no item of the
+    /// queue follows, the mark is at the end of the list.
     fn acked_up_to(&self, accepted: &Backlog, position: u64) -> Mark
         requires in_order { IsInOrder accepted.now.items self.now }
         requires left { IsLeft accepted.now.gone self.now }
@@ -150,10 +151,14 @@ impl Queue {
         ensures mark { IsMark accepted.now.items self.now.binding result }
         ensures position { result.position ≡ max self.now.acked.position position }
         ensures left { accepted.now.gone ≤ result.place }
+        ensures at_end { result.position ≡ self.now.len → result.place ≡ length accepted.now.items }
     {
         let mut mark = self.acked;
         while mark.position < position {
             mark = self.past_next(accepted, mark);
+        }
+        if mark.position == self.len {
+            mark.place = accepted.len();
         }
         mark
     }
@@ -175,7 +180,7 @@ impl Queue {
         }
         let acked = self.acked_up_to(accepted, position);
         self.acked = acked;
-        if self.cursor.position < acked.position {
+        if self.cursor.position <= acked.position {
             self.cursor = acked;
         }
         true

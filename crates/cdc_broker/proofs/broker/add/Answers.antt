@@ -3,7 +3,7 @@ use Rattle.std.specs.Prelude.{All}
 use Rattle.cdc_message.specs.declared.items.Item.{Item}
 use Rattle.cdc_broker.specs.declared.queue.Queue.{Queue}
 use Rattle.cdc_broker.specs.Kept.{IsInOrder, IsLeft, counting}
-use Rattle.cdc_broker.proofs.States.{counting_in_order, counting_left, counts_fit}
+use Rattle.cdc_broker.proofs.States.{counting_in_order, counting_left, counts_fit, gone_after_unfinished}
 use Rattle.cdc_broker.proofs.broker.add.Goals as goal
 
 pub count_in-requires : goal.count_in-requires
@@ -22,8 +22,14 @@ pub returns-clause-queues : goal.returns-clause-queues
 returns-clause-queues c =
     c.count_in.ensures
     ∙ ap (λ (len : ℕ). map (counting c.args.item len) c.args.queues.now)
-    (longer c.make_room.new.accepted.items c.reserve.new.self.items c.push_reserved.new.self.items c.args.item c.len.result
+    (longer c.make_room.new.accepted.items c.reserve.new.self.items c.push_reserved.new.self.items c.args.item
+    c.len.result
     c.len.ensures.is c.reserve.ensures.items c.push_reserved.ensures.items)
+
+pub returns-clause-gone : goal.returns-clause-gone
+returns-clause-gone c =
+    c.push_reserved.ensures.gone ∙ c.reserve.ensures.gone ∙ c.in_ok-make_room.ensures.gone
+    ∙ gone_after_unfinished c.args.accepted.now c.args.queues.now c.requires.in_order
 
 pub returns-clause-servable : goal.returns-clause-servable
 returns-clause-servable c =
@@ -41,6 +47,10 @@ returns-clause-servable c =
       left = subst (λ (gone : ℕ). All (IsLeft gone) c.count_in.new.queues)
           (sym (c.push_reserved.ensures.gone ∙ c.reserve.ensures.gone))
           (subst (λ (qs : List Queue). All (IsLeft before.gone) qs) (sym c.count_in.ensures)
-          (counting_left before.gone item (c.len.result + 1) queues (omega (arith, c.len.ensures.within,
-          c.len.ensures.is, c.reserve.ensures.gone)) servable.left));
+          (counting_left before.gone item (c.len.result + 1) queues (omega (
+            arith,
+            c.len.ensures.within,
+            c.len.ensures.is,
+            c.reserve.ensures.gone,
+          )) servable.left));
     }

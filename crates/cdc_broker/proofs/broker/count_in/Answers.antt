@@ -23,10 +23,11 @@ loop-queue-preserved c =
     let inside : i < length c.args.queues.now = omega arith in
     ap (λ q. slice_set c.loop-queue.queues i q)
     (c.count.ensures ∙ ap (counting c.args.item.now c.args.len) (sym c.queue-item.is))
-    ∙ map_over_more (counting c.args.item.now c.args.len) c.args.queues.now c.loop-queue.queues i c.queue-item.result inside
-    c.loop-queue.invariant c.queue-item.is
+    ∙ map_over_more (counting c.args.item.now c.args.len) c.args.queues.now c.loop-queue.queues i c.queue-item.result
+    inside c.loop-queue.invariant c.queue-item.is
 
 pub returns : goal.returns
 returns c =
     c.loop-queue.invariant
-    ∙ over_front (counting c.args.item.now c.args.len) c.args.queues.now c.loop-queue.queue-index c.loop-queue-test.false
+    ∙ over_front (counting c.args.item.now c.args.len) c.args.queues.now c.loop-queue.queue-index
+    c.loop-queue-test.false

@@ -42,7 +42,8 @@ invariant_of-self c =
     let inside : i - 1 < length queues =
     within_queues c.self.inside.connection c.self.inside.expected accepted queues c.args.self.now i c.self.view_is
     c.requires.first c.requires.last in
-    let order = in_order_at accepted queues (i - 1) q inside c.index_mut-queue.ensures.value c.self.invariant.in_order in
+    let order = in_order_at accepted queues (i - 1) q inside c.index_mut-queue.ensures.value
+    c.self.invariant.in_order in
     let needed = left_at c.self.inside.accepted.gone queues (i - 1) q inside c.index_mut-queue.ensures.value
     c.self.invariant.left in
     record {
