@@ -56,7 +56,6 @@ impl Backlog {
         ensures items { self.new.items ≡ self.old.items }
         ensures gone { self.new.gone ≡ self.old.gone }
         ensures room { OnOk result (0 < self.new.room) }
-        ensures fits { length self.old.items < 2 ^ 64 - 1 }
     {
         self.left.reserve(1)
     }
@@ -82,7 +81,8 @@ impl Backlog {
 
     /// Whether no memory is left for one more item.
     pub(crate) fn is_full(&self) -> bool
-        ensures { result ≡ is_full self.now }
+        ensures is { result ≡ is_full self.now }
+        ensures fits { length self.now.items < 2 ^ 64 - 1 }
     {
         self.left.len() == self.left.capacity()
     }

@@ -113,6 +113,7 @@ fn make_room(accepted: &mut Backlog, queues: &[Queue]) -> Result<(), AllocError>
     ensures gone { OnOk result (accepted.new.gone ≡ gone_after accepted.old queues.now) }
     ensures servable { AreServable accepted.new queues.now }
     ensures acknowledged { All (HasAcknowledged accepted.new) queues.now }
+    ensures fits { length accepted.new.items < 2 ^ 64 - 1 }
 {
     if !accepted.is_full() {
         return Ok(());

@@ -8,7 +8,7 @@ use Rattle.cdc_broker.proofs.broker.add.Goals as goal
 
 pub count_in-requires : goal.count_in-requires
 count_in-requires c =
-    counts_fit c.make_room.new.accepted.items c.args.queues.now c.reserve.ensures.fits
+    counts_fit c.make_room.new.accepted.items c.args.queues.now c.make_room.ensures.fits
     c.make_room.ensures.servable.in_order
 
 -- the length that the queues are given is that of the list with the item
