@@ -24,12 +24,16 @@ unfolding understood everything
 accounts_plain = (refl, refl)
 
 -- the second table is dropped
-pub drops_accounts : (old new : State) (r : Result ℕ Error) → old.now.schema ≡ book_schema → Executes drop_accounts_text [] old new r → OnOk r (new.now.schema ≡ book_only)
+pub drops_accounts : (old new : State) (r : Result ℕ Error) → old.now.schema ≡ book_schema
+    → Executes drop_accounts_text [] old new r → OnOk r (new.now.schema ≡ book_only)
 drops_accounts old new (Err e) has h = tt
 drops_accounts old new (Ok count) has h =
     let w = runs_as drop_accounts_text [] old new book_schema has (DropTable 1) accounts_is accounts_plain count h in
     let text = statement_of drop_accounts_text (understood book_schema drop_accounts_text) in
-    let emptied = went (subst (λ s. Does old.step_limit (mode_of old) [] (record old.now { schema = s }) text None (DropTable 1) (Ok (w.tally, new.now))) has w.changed) in
+    let emptied =
+    went (subst
+    (λ s. Does old.step_limit (mode_of old) [] (record old.now { schema = s }) text None (DropTable 1)
+    (Ok (w.tally, new.now))) has w.changed) in
     let left = went (went (went emptied.2).2).2 in
     let now = ap (λ (p : Tally × Database). p.1) (same_value left.2) in
     ap (λ (d : Database). d.schema) now ∙ left.1.0
@@ -47,12 +51,16 @@ unfolding understood everything
 book_plain = (refl, refl)
 
 -- the first table is dropped
-pub drops_book : (old new : State) (r : Result ℕ Error) → old.now.schema ≡ book_only → Executes drop_book_text [] old new r → OnOk r (new.now.schema ≡ no_schema)
+pub drops_book : (old new : State) (r : Result ℕ Error) → old.now.schema ≡ book_only
+    → Executes drop_book_text [] old new r → OnOk r (new.now.schema ≡ no_schema)
 drops_book old new (Err e) has h = tt
 drops_book old new (Ok count) has h =
     let w = runs_as drop_book_text [] old new book_only has (DropTable 0) book_is book_plain count h in
     let text = statement_of drop_book_text (understood book_only drop_book_text) in
-    let emptied = went (subst (λ s. Does old.step_limit (mode_of old) [] (record old.now { schema = s }) text None (DropTable 0) (Ok (w.tally, new.now))) has w.changed) in
+    let emptied =
+    went (subst
+    (λ s. Does old.step_limit (mode_of old) [] (record old.now { schema = s }) text None (DropTable 0)
+    (Ok (w.tally, new.now))) has w.changed) in
     let left = went (went (went emptied.2).2).2 in
     let now = ap (λ (p : Tally × Database). p.1) (same_value left.2) in
     ap (λ (d : Database). d.schema) now ∙ left.1.0

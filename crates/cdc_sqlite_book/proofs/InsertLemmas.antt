@@ -53,9 +53,11 @@ abbrev pub progress_of : List ℕ → ℕ → ℕ → Row
 progress_of text last applied = Blob text ∷ Text (decimal last) ∷ Text (decimal applied) ∷ []
 
 -- the row of the book's text is added
-pub puts_text : (old new : State) (text : List ℕ) (last applied : ℕ) (r : Result ℕ Error) → old.now.schema ≡ book_schema → old.now.trees 0 ≡ []
+pub puts_text : (old new : State) (text : List ℕ) (last applied : ℕ) (r : Result ℕ Error) → old.now.schema ≡ book_schema
+    → old.now.trees 0 ≡ []
     → Executes text_text (progress_of text last applied) old new r
-    → OnOk r (new.now.schema ≡ book_schema) × OnOk r (new.now.trees 0 ≡ book_row text last applied ∷ []) × OnOk r (new.now.trees 1 ≡ old.now.trees 1)
+    → OnOk r (new.now.schema ≡ book_schema) × OnOk r (new.now.trees 0 ≡ book_row text last applied ∷ [])
+    × OnOk r (new.now.trees 1 ≡ old.now.trees 1)
 puts_text old new text last applied (Err e) has none h = (tt, tt, tt)
 puts_text old new text last applied (Ok count) has none h =
     let params = progress_of text last applied in
@@ -63,14 +65,18 @@ puts_text old new text last applied (Ok count) has none h =
     let command = Insert 0 (Values text_terms 5) in
     let w = runs_as text_text params old new book_schema has command text_is text_plain count h in
     let sql = statement_of text_text (understood book_schema text_text) in
-    let done = went (subst (λ s. Does old.step_limit (mode_of old) params (record old.now { schema = s }) sql None command (Ok (w.tally, new.now))) has w.changed) in
+    let done = went
+    (subst (λ s. Does old.step_limit (mode_of old) params (record old.now { schema = s }) sql None command
+    (Ok (w.tally, new.now))) has w.changed) in
     let now = ap (λ (p : Tally × Database). p.1) (same_value (went (went done.2).2).2) in
     let given = went done.1 in
     let written = went (went given.2).2 in
     let counted = went written.2 in
-    let trees : done.0.trees ≡ written.0 = ap (λ (it : Written). it.trees) (same_value counted.2) ∙ same_value counted.1 in
+    let trees : done.0.trees ≡ written.0 = ap (λ (it : Written). it.trees) (same_value counted.2)
+    ∙ same_value counted.1 in
     let step = one_step book_schema _ db written.0 (edit_of db book_table [] Chosen 0 given.0) refl written.1 in
-    let edit : edited db (edit_of db book_table [] Chosen 0 given.0) ≡ book_row text last applied ∷ [] = ap (λ all. edited db (edit_of db book_table [] Chosen 0 all)) given.1.1 ∙ rw (none, cast_null) in
+    let edit : edited db (edit_of db book_table [] Chosen 0 given.0) ≡ book_row text last applied ∷ [] =
+    ap (λ all. edited db (edit_of db book_table [] Chosen 0 all)) given.1.1 ∙ rw (none, cast_null) in
     let other : written.0 1 ≡ db 1 = step.tables.1.0 (λ e. omega (arith, e)) in (
       ap (λ (d : Database). d.schema) now,
       ap (λ (d : Database). d.trees 0) now ∙ ap (λ (t : Trees). t 0) trees ∙ step.rows ∙ edit,
@@ -79,7 +85,8 @@ puts_text old new text last applied (Ok count) has none h =
 
 -- the statement that inserts an account
 abbrev pub account_text : List ℕ
-account_text = codes "INSERT INTO accounts (id, debits_pending, debits_posted, credits_pending, credits_posted) VALUES (?1, ?2, ?3, ?4, ?5)"
+account_text =
+    codes "INSERT INTO accounts (id, debits_pending, debits_posted, credits_pending, credits_posted) VALUES (?1, ?2, ?3, ?4, ?5)"
 
 abbrev account_terms : List Term
 account_terms = lit Null ∷ lit Null ∷ col 0 0 ∷ col 0 1 ∷ col 0 2 ∷ col 0 3 ∷ col 0 4 ∷ []
@@ -100,15 +107,18 @@ values_of entry =
 
 -- a row without a number gets the next one, and comes last
 adds_row : (entries : List BookEntry) (entry : BookEntry)
-    → put_row (Int (next_rowid (rows_from 1 entries)) ∷ Null ∷ values_of entry) (rows_from 1 entries) ≡ rows_from 1 (entries ++ entry ∷ [])
+    → put_row (Int (next_rowid (rows_from 1 entries)) ∷ Null ∷ values_of entry) (rows_from 1 entries) ≡ rows_from 1
+    (entries ++ entry ∷ [])
 adds_row entries entry =
     ap (λ n. put_row (Int n ∷ Null ∷ values_of entry) (rows_from 1 entries)) (next_is entries)
     ∙ put_end (entry_row (1 + length entries) entry) 1 entries refl ∙ sym (rows_end 1 entries entry)
 
 -- the row of an account is added after the others
-pub puts_account : (old new : State) (entries : List BookEntry) (entry : BookEntry) (r : Result ℕ Error) → old.now.schema ≡ book_schema
+pub puts_account : (old new : State) (entries : List BookEntry) (entry : BookEntry) (r : Result ℕ Error)
+    → old.now.schema ≡ book_schema
     → old.now.trees 1 ≡ rows_from 1 entries → Executes account_text (values_of entry) old new r
-    → OnOk r (new.now.schema ≡ book_schema) × OnOk r (new.now.trees 0 ≡ old.now.trees 0) × OnOk r (new.now.trees 1 ≡ rows_from 1 (entries ++ entry ∷ []))
+    → OnOk r (new.now.schema ≡ book_schema) × OnOk r (new.now.trees 0 ≡ old.now.trees 0)
+    × OnOk r (new.now.trees 1 ≡ rows_from 1 (entries ++ entry ∷ []))
 puts_account old new entries entry (Err e) has rows h = (tt, tt, tt)
 puts_account old new entries entry (Ok count) has rows h =
     let params = values_of entry in
@@ -116,15 +126,19 @@ puts_account old new entries entry (Ok count) has rows h =
     let command = Insert 1 (Values account_terms 7) in
     let w = runs_as account_text params old new book_schema has command account_is account_plain count h in
     let sql = statement_of account_text (understood book_schema account_text) in
-    let done = went (subst (λ s. Does old.step_limit (mode_of old) params (record old.now { schema = s }) sql None command (Ok (w.tally, new.now))) has w.changed) in
+    let done = went
+    (subst (λ s. Does old.step_limit (mode_of old) params (record old.now { schema = s }) sql None command
+    (Ok (w.tally, new.now))) has w.changed) in
     let now = ap (λ (p : Tally × Database). p.1) (same_value (went (went done.2).2).2) in
     let given = went done.1 in
     let written = went (went given.2).2 in
     let counted = went written.2 in
-    let trees : done.0.trees ≡ written.0 = ap (λ (it : Written). it.trees) (same_value counted.2) ∙ same_value counted.1 in
+    let trees : done.0.trees ≡ written.0 = ap (λ (it : Written). it.trees) (same_value counted.2)
+    ∙ same_value counted.1 in
     let step = one_step book_schema _ db written.0 (edit_of db account_table [] Chosen 0 given.0) refl written.1 in
     let edit : edited db (edit_of db account_table [] Chosen 0 given.0) ≡ rows_from 1 (entries ++ entry ∷ []) =
-    ap (λ all. edited db (edit_of db account_table [] Chosen 0 all)) given.1.1 ∙ rw (rows, cast_null) (adds_row entries entry) in
+    ap (λ all. edited db (edit_of db account_table [] Chosen 0 all)) given.1.1
+    ∙ rw (rows, cast_null) (adds_row entries entry) in
     let other : written.0 0 ≡ db 0 = step.tables.0 (λ e. omega (arith, e)) in (
       ap (λ (d : Database). d.schema) now,
       ap (λ (d : Database). d.trees 0) now ∙ ap (λ (t : Trees). t 0) trees ∙ other,

@@ -13,7 +13,8 @@ always (Ok value) P p = p
 always (Err why) P p = tt
 
 -- what is known of a value that is there
-pub some_is : {V : Type 0} (f : V → List ℕ) (found : Option V) (held : List ℕ) → IsSomeAnd found (λ it. f it ≡ held) → option_map f found ≡ Some held
+pub some_is : {V : Type 0} (f : V → List ℕ) (found : Option V) (held : List ℕ) → IsSomeAnd found (λ it. f it ≡ held)
+    → option_map f found ≡ Some held
 some_is f (Some value) held is = ap Some is
 some_is f None held is = absurd is
 
@@ -41,4 +42,8 @@ reads_safely old new is_new all there s = survives_weaker old new _ _ (λ _ _ ma
 pub unreplaced : (old new : State) (text : List ℕ) (kept : SubscriberState) (target : Schema) → IsOfBook target
     → Survives old new (λ _. ¬ IsOfBook old.now.schema) → Survives old new (MayHold (old.now.schema ≡ target) text kept)
 unreplaced old new text kept target of s = survives_weaker old new _ _
-    (λ _ db made. (record { schema = no_schema; trees = db }, λ known. absurd (made (subst IsOfBook (sym known) of)), refl)) s
+    (λ _ db made. (
+      record { schema = no_schema; trees = db },
+      λ known. absurd (made (subst IsOfBook (sym known) of)),
+      refl,
+    )) s

@@ -34,7 +34,8 @@ rows_end place (first ∷ more) entry =
     ∙ ap (λ n. rows_from (suc place) more ++ entry_row n entry ∷ []) (omega arith))
 
 -- the number that a next row gets, after some rows
-next_from : (place : ℕ) (entries : List BookEntry) → fold (λ _ r. id_in (rowid r) +ℤ pos 1) (pos place) (rows_from place entries) ≡ pos (place + length entries)
+next_from : (place : ℕ) (entries : List BookEntry) → fold (λ _ r. id_in (rowid r) +ℤ pos 1) (pos place)
+    (rows_from place entries) ≡ pos (place + length entries)
 next_from place [] = ap pos (omega arith)
 next_from place (entry ∷ more) =
     let step : pos place +ℤ pos 1 ≡ pos (suc place) = grind (arith, ints) in

@@ -33,7 +33,9 @@ query = record {
   offset = lit (Int (pos 0));
 }
 
-select_is : (command_of (understood book_schema select_text) ≡ Select (record { lets = []; body = query }) (codes "text" ∷ [])) × (reads_listing book_schema select_text ≡ false)
+select_is :
+    (command_of (understood book_schema select_text) ≡ Select (record { lets = []; body = query }) (codes "text" ∷ []))
+    × (reads_listing book_schema select_text ≡ false)
 unfolding understood everything
 select_is = (refl, refl)
 
@@ -42,7 +44,8 @@ unfolding understood everything
 select_plain = (refl, refl)
 
 -- the text of the one row is found
-pub finds : (old new : State) (text : List ℕ) (last applied : ℕ) (r : Result Row Error) → old.now.schema ≡ book_schema → old.now.trees 0 ≡ book_row text last applied ∷ [] → QueriesRow select_text [] old new r
+pub finds : (old new : State) (text : List ℕ) (last applied : ℕ) (r : Result Row Error) → old.now.schema ≡ book_schema
+    → old.now.trees 0 ≡ book_row text last applied ∷ [] → QueriesRow select_text [] old new r
     → IfOk r (λ row. row ≡ Blob text ∷ [])
 unfolding QueriesRow
 finds old new text last applied (Err e) has one h = tt
@@ -58,7 +61,8 @@ finds old new text last applied (Ok row) has one h =
     cc
 
 -- a read that found the text changes nothing
-pub changes_nothing : (old new : State) (r : Result Row Error) → old.now.schema ≡ book_schema → QueriesRow select_text [] old new r → OnOk r (new.now.schema ≡ book_schema)
+pub changes_nothing : (old new : State) (r : Result Row Error) → old.now.schema ≡ book_schema
+    → QueriesRow select_text [] old new r → OnOk r (new.now.schema ≡ book_schema)
 unfolding QueriesRow Shown
 changes_nothing old new (Err e) has h = tt
 changes_nothing old new (Ok row) has (inl h) = ap (λ (d : Database). d.schema) h.1.0.now_is ∙ has

@@ -15,11 +15,13 @@ use Rattle.sqlite.specs.Kind.TheVariants.{Integer, Text, Blob}
 
 -- a column that holds a value of this kind in each row
 abbrev pub filled : List ℕ → Kind → Column
-filled name kind = record { name = name; kind = kind; is_strict = true; not_null = true; default = Null; collation = Binary }
+filled name kind =
+    record { name = name; kind = kind; is_strict = true; not_null = true; default = Null; collation = Binary }
 
 -- the column of a row's number
 abbrev pub numbers : List ℕ → Column
-numbers name = record { name = name; kind = Integer; is_strict = true; not_null = false; default = Null; collation = Binary }
+numbers name =
+    record { name = name; kind = Integer; is_strict = true; not_null = false; default = Null; collation = Binary }
 
 -- a table whose first column is the row's number
 abbrev pub table_of : List ℕ → ℕ → List Column → Table
@@ -41,13 +43,15 @@ table_of name tree columns = record {
 -- the table of the book's text
 abbrev pub book_table : Table
 book_table = table_of (codes "book") 0
-    (numbers (codes "id") ∷ filled (codes "text") Blob ∷ filled (codes "last") Text ∷ filled (codes "applied") Text ∷ [])
+    (numbers (codes "id") ∷ filled (codes "text") Blob ∷ filled (codes "last") Text ∷ filled (codes "applied") Text
+    ∷ [])
 
 -- the table of its accounts
 abbrev pub account_table : Table
 account_table = table_of (codes "accounts") 1
     (numbers (codes "place") ∷ filled (codes "id") Text ∷ filled (codes "debits_pending") Text
-    ∷ filled (codes "debits_posted") Text ∷ filled (codes "credits_pending") Text ∷ filled (codes "credits_posted") Text ∷ [])
+    ∷ filled (codes "debits_posted") Text ∷ filled (codes "credits_pending") Text ∷ filled (codes "credits_posted") Text
+    ∷ [])
 
 -- the schema of an empty file
 abbrev pub no_schema : Schema

@@ -40,7 +40,8 @@ pub fn read_text<S: Alter>(conn: &mut Connection<S>) -> Result<Option<Vec<u8>>, 
         → IfOk result (λ found. IsSomeAnd found (λ it. it.items ≡ text)) }
     ensures schema { HasCleanDisk (state S.Store conn.new) → IsOfBook (state S.Store conn.old).now.schema
         → OnOk result ((state S.Store conn.new).now.schema ≡ (state S.Store conn.old).now.schema) }
-    ensures survives { Survives (state S.Store conn.old) (state S.Store conn.new) (λ _. ¬ IsOfBook (state S.Store conn.old).now.schema) }
+    ensures survives { Survives (state S.Store conn.old) (state S.Store conn.new)
+        (λ _. ¬ IsOfBook (state S.Store conn.old).now.schema) }
 {
     if is_new(conn.schema()) {
         return Ok(None);
@@ -87,9 +88,11 @@ pub fn replace<S: Alter>(
         → (state S.Store conn.old).now.schema ≡ (if is_none known.entry then no_schema else book_schema)
         → OnOk result (HoldsBook text.now subscriber.now (state S.Store conn.new).committed) }
     ensures known { HasCleanDisk (state S.Store conn.new) → (held : List ℕ) → (kept : SubscriberState)
-        → HoldsBook held kept (state S.Store conn.old).now → OnOk result (option_map (λ it. it.now) known.entry ≡ Some held) }
+        → HoldsBook held kept (state S.Store conn.old).now
+        → OnOk result (option_map (λ it. it.now) known.entry ≡ Some held) }
     ensures crash { Survives (state S.Store conn.old) (state S.Store conn.new)
-        (MayHold ((state S.Store conn.old).now.schema ≡ (if is_none known.entry then no_schema else book_schema)) text.now subscriber.now) }
+        (MayHold ((state S.Store conn.old).now.schema ≡ (if is_none known.entry then no_schema else book_schema))
+        text.now subscriber.now) }
 {
     let found = read_text(conn)?;
     if !is_same(text_in(&found), known) {

@@ -181,7 +181,7 @@ fn can_be_database(rt: &HostRuntime, file: &mut File, log_path: &str) -> io::Res
 }
 
 /// Locks the file at a path. If it is missing or empty, a new one is put in its place.
-fn lock_at(rt: &HostRuntime, path: &str, log_path: &str) -> Result<File, StoreError> {
+fn lock_at(rt: &HostRuntime, path: &str) -> Result<File, StoreError> {
     let Some(mut file) = open_locked(rt, path).map_err(read_error)? else {
         return put_new(rt, path, None).map_err(write_error);
     };
@@ -189,7 +189,8 @@ fn lock_at(rt: &HostRuntime, path: &str, log_path: &str) -> Result<File, StoreEr
     if found.len() == 0 {
         return put_new(rt, path, Some(found.permissions())).map_err(write_error);
     }
-    if !can_be_database(rt, &mut file, log_path).map_err(read_error)? {
+    let log_path = path_of_log(rt.alloc(), path)?;
+    if !can_be_database(rt, &mut file, log_path.as_str()).map_err(read_error)? {
         return Err(StoreError::BadRecord);
     }
     Ok(file)
@@ -198,8 +199,8 @@ fn lock_at(rt: &HostRuntime, path: &str, log_path: &str) -> Result<File, StoreEr
 /// A follower's book in an SQLite file: the table `book` has the book's text, the timestamp of the last event applied
 /// and the count of these events; the table `accounts` has a row for each account. All numbers are decimal text. A save
 /// opens the file, replaces both tables in one transaction and closes it, so an interrupted save leaves the old book or
-/// the new one. Between two saves the file has no log and no lock of SQLite's, so others may read it. A save waits up to
-/// five seconds for a program that is in the middle of reading.
+/// the new one. Between two saves the file has no log and no lock of SQLite's, so others may read it. A save waits up
+/// to five seconds for a program that is in the middle of reading.
 ///
 /// The file is locked against another `follow` from its opening on. A file that isn't SQLite's, or that has other
 /// tables, is refused and left as it was. A save is refused if the file no longer has the text that this store has last
@@ -220,13 +221,15 @@ pub struct SqliteBook<'a> {
 }
 
 impl<'a> SqliteBook<'a> {
-    /// Opens the book at this path, and locks and reads it. If the file is missing or empty, a new one is written at its
-    /// name with `.new` appended and put in its place. `BadRecord`: the file holds no book; `ReadFault`: it can't be
-    /// opened, or another program holds it; `WriteFault`: it can't be made.
+    /// Opens the book at this path, and locks and reads it. If the file is missing or empty, a new one is written at
+    /// its name with `.new` appended and put in its place. `BadRecord`: the file holds no book; `ReadFault`: it can't
+    /// be opened, or another program holds it; `WriteFault`: it can't be made.
     pub fn open(rt: &'a HostRuntime, path: &str) -> Result<SqliteBook<'a>, StoreError> {
-        let path = target_of(rt, path).map_err(read_error)?;
+        let named = target_of(rt, path).map_err(read_error)?;
+        let lock = lock_at(rt, named.as_str())?;
+        // (the file exists now, so its path is absolute, and SQLite takes it for no other name, such as `:memory:`)
+        let path = target_of(rt, named.as_str()).map_err(read_error)?;
         let log_path = path_of_log(rt.alloc(), path.as_str())?;
-        let lock = lock_at(rt, path.as_str(), log_path.as_str())?;
         let known = load_at(rt, path.as_str(), log_path.as_str()).map_err(load_error)?;
         Ok(SqliteBook {
             rt,

@@ -15,15 +15,19 @@ use sqlite::{Alter, Connection, Error, ErrorCode, Row, Transaction, params};
 /// Makes the table of the book's text.
 pub fn make_book<S: Alter>(tx: &mut Transaction<'_, S>) -> Result<usize, Error>
     ensures same_reference { tx.new.conn.ghost_name ≡ tx.old.conn.ghost_name }
-    ensures schema { HasCleanDisk (state S.Store tx.new.conn.now) → (state S.Store tx.old.conn.now).now.schema ≡ no_schema
+    ensures schema { HasCleanDisk (state S.Store tx.new.conn.now)
+        → (state S.Store tx.old.conn.now).now.schema ≡ no_schema
         → OnOk result ((state S.Store tx.new.conn.now).now.schema ≡ book_only) }
-    ensures empty { HasCleanDisk (state S.Store tx.new.conn.now) → (state S.Store tx.old.conn.now).now.schema ≡ no_schema
+    ensures empty { HasCleanDisk (state S.Store tx.new.conn.now)
+        → (state S.Store tx.old.conn.now).now.schema ≡ no_schema
         → OnOk result ((state S.Store tx.new.conn.now).now.trees 0 ≡ []) }
-    ensures kept { HasCleanDisk (state S.Store tx.new.conn.now) → KeepsCommit (state S.Store tx.old.conn.now) (state S.Store tx.new.conn.now) }
+    ensures kept { HasCleanDisk (state S.Store tx.new.conn.now)
+        → KeepsCommit (state S.Store tx.old.conn.now) (state S.Store tx.new.conn.now) }
     ensures survives { Survives (state S.Store tx.old.conn.now) (state S.Store tx.new.conn.now) (λ _. ⊥) }
 {
     tx.execute(
-        "CREATE TABLE book (id INTEGER PRIMARY KEY, text BLOB NOT NULL, last TEXT NOT NULL, applied TEXT NOT NULL) STRICT",
+        "CREATE TABLE book (id INTEGER PRIMARY KEY, text BLOB NOT NULL, last TEXT NOT NULL, applied TEXT NOT NULL) \
+         STRICT",
         &[],
     )
 }
@@ -31,17 +35,21 @@ pub fn make_book<S: Alter>(tx: &mut Transaction<'_, S>) -> Result<usize, Error>
 /// Makes the table of the accounts.
 pub fn make_accounts<S: Alter>(tx: &mut Transaction<'_, S>) -> Result<usize, Error>
     ensures same_reference { tx.new.conn.ghost_name ≡ tx.old.conn.ghost_name }
-    ensures schema { HasCleanDisk (state S.Store tx.new.conn.now) → (state S.Store tx.old.conn.now).now.schema ≡ book_only
+    ensures schema { HasCleanDisk (state S.Store tx.new.conn.now)
+        → (state S.Store tx.old.conn.now).now.schema ≡ book_only
         → OnOk result ((state S.Store tx.new.conn.now).now.schema ≡ book_schema) }
-    ensures empty { HasCleanDisk (state S.Store tx.new.conn.now) → (state S.Store tx.old.conn.now).now.schema ≡ book_only
+    ensures empty { HasCleanDisk (state S.Store tx.new.conn.now)
+        → (state S.Store tx.old.conn.now).now.schema ≡ book_only
         → OnOk result ((state S.Store tx.new.conn.now).now.trees 1 ≡ []) }
     ensures book { HasCleanDisk (state S.Store tx.new.conn.now) → (state S.Store tx.old.conn.now).now.schema ≡ book_only
         → OnOk result ((state S.Store tx.new.conn.now).now.trees 0 ≡ (state S.Store tx.old.conn.now).now.trees 0) }
-    ensures kept { HasCleanDisk (state S.Store tx.new.conn.now) → KeepsCommit (state S.Store tx.old.conn.now) (state S.Store tx.new.conn.now) }
+    ensures kept { HasCleanDisk (state S.Store tx.new.conn.now)
+        → KeepsCommit (state S.Store tx.old.conn.now) (state S.Store tx.new.conn.now) }
     ensures survives { Survives (state S.Store tx.old.conn.now) (state S.Store tx.new.conn.now) (λ _. ⊥) }
 {
     tx.execute(
-        "CREATE TABLE accounts (place INTEGER PRIMARY KEY, id TEXT NOT NULL, debits_pending TEXT NOT NULL, debits_posted TEXT NOT NULL, credits_pending TEXT NOT NULL, credits_posted TEXT NOT NULL) STRICT",
+        "CREATE TABLE accounts (place INTEGER PRIMARY KEY, id TEXT NOT NULL, debits_pending TEXT NOT NULL, \
+         debits_posted TEXT NOT NULL, credits_pending TEXT NOT NULL, credits_posted TEXT NOT NULL) STRICT",
         &[],
     )
 }
@@ -49,9 +57,11 @@ pub fn make_accounts<S: Alter>(tx: &mut Transaction<'_, S>) -> Result<usize, Err
 /// Drops the table of the accounts.
 pub fn drop_accounts<S: Alter>(tx: &mut Transaction<'_, S>) -> Result<usize, Error>
     ensures same_reference { tx.new.conn.ghost_name ≡ tx.old.conn.ghost_name }
-    ensures schema { HasCleanDisk (state S.Store tx.new.conn.now) → (state S.Store tx.old.conn.now).now.schema ≡ book_schema
+    ensures schema { HasCleanDisk (state S.Store tx.new.conn.now)
+        → (state S.Store tx.old.conn.now).now.schema ≡ book_schema
         → OnOk result ((state S.Store tx.new.conn.now).now.schema ≡ book_only) }
-    ensures kept { HasCleanDisk (state S.Store tx.new.conn.now) → KeepsCommit (state S.Store tx.old.conn.now) (state S.Store tx.new.conn.now) }
+    ensures kept { HasCleanDisk (state S.Store tx.new.conn.now)
+        → KeepsCommit (state S.Store tx.old.conn.now) (state S.Store tx.new.conn.now) }
     ensures survives { Survives (state S.Store tx.old.conn.now) (state S.Store tx.new.conn.now) (λ _. ⊥) }
 {
     tx.execute("DROP TABLE accounts", &[])
@@ -60,9 +70,11 @@ pub fn drop_accounts<S: Alter>(tx: &mut Transaction<'_, S>) -> Result<usize, Err
 /// Drops the table of the book's text.
 pub fn drop_book<S: Alter>(tx: &mut Transaction<'_, S>) -> Result<usize, Error>
     ensures same_reference { tx.new.conn.ghost_name ≡ tx.old.conn.ghost_name }
-    ensures schema { HasCleanDisk (state S.Store tx.new.conn.now) → (state S.Store tx.old.conn.now).now.schema ≡ book_only
+    ensures schema { HasCleanDisk (state S.Store tx.new.conn.now)
+        → (state S.Store tx.old.conn.now).now.schema ≡ book_only
         → OnOk result ((state S.Store tx.new.conn.now).now.schema ≡ no_schema) }
-    ensures kept { HasCleanDisk (state S.Store tx.new.conn.now) → KeepsCommit (state S.Store tx.old.conn.now) (state S.Store tx.new.conn.now) }
+    ensures kept { HasCleanDisk (state S.Store tx.new.conn.now)
+        → KeepsCommit (state S.Store tx.old.conn.now) (state S.Store tx.new.conn.now) }
     ensures survives { Survives (state S.Store tx.old.conn.now) (state S.Store tx.new.conn.now) (λ _. ⊥) }
 {
     tx.execute("DROP TABLE book", &[])
@@ -76,16 +88,20 @@ pub fn put_text<S: Alter>(
     applied: u64,
 ) -> Result<usize, Error>
     ensures same_reference { tx.new.conn.ghost_name ≡ tx.old.conn.ghost_name }
-    ensures schema { HasCleanDisk (state S.Store tx.new.conn.now) → (state S.Store tx.old.conn.now).now.schema ≡ book_schema
+    ensures schema { HasCleanDisk (state S.Store tx.new.conn.now)
+        → (state S.Store tx.old.conn.now).now.schema ≡ book_schema
         → (state S.Store tx.old.conn.now).now.trees 0 ≡ []
         → OnOk result ((state S.Store tx.new.conn.now).now.schema ≡ book_schema) }
-    ensures book { HasCleanDisk (state S.Store tx.new.conn.now) → (state S.Store tx.old.conn.now).now.schema ≡ book_schema
+    ensures book { HasCleanDisk (state S.Store tx.new.conn.now)
+        → (state S.Store tx.old.conn.now).now.schema ≡ book_schema
         → (state S.Store tx.old.conn.now).now.trees 0 ≡ []
         → OnOk result ((state S.Store tx.new.conn.now).now.trees 0 ≡ book_row text.now last applied ∷ []) }
-    ensures accounts { HasCleanDisk (state S.Store tx.new.conn.now) → (state S.Store tx.old.conn.now).now.schema ≡ book_schema
+    ensures accounts { HasCleanDisk (state S.Store tx.new.conn.now)
+        → (state S.Store tx.old.conn.now).now.schema ≡ book_schema
         → (state S.Store tx.old.conn.now).now.trees 0 ≡ []
         → OnOk result ((state S.Store tx.new.conn.now).now.trees 1 ≡ (state S.Store tx.old.conn.now).now.trees 1) }
-    ensures kept { HasCleanDisk (state S.Store tx.new.conn.now) → KeepsCommit (state S.Store tx.old.conn.now) (state S.Store tx.new.conn.now) }
+    ensures kept { HasCleanDisk (state S.Store tx.new.conn.now)
+        → KeepsCommit (state S.Store tx.old.conn.now) (state S.Store tx.new.conn.now) }
     ensures survives { Survives (state S.Store tx.old.conn.now) (state S.Store tx.new.conn.now) (λ _. ⊥) }
 {
     let (mut last_digits, mut applied_digits) = (Buffer::new(), Buffer::new());
@@ -102,16 +118,20 @@ pub fn put_text<S: Alter>(
 /// Inserts the row of an account, after those of the accounts that are there.
 pub fn put_account<S: Alter>(tx: &mut Transaction<'_, S>, entry: &BookEntry) -> Result<usize, Error>
     ensures same_reference { tx.new.conn.ghost_name ≡ tx.old.conn.ghost_name }
-    ensures schema { HasCleanDisk (state S.Store tx.new.conn.now) → (entries : List Shown) → (state S.Store tx.old.conn.now).now.schema ≡ book_schema
+    ensures schema { HasCleanDisk (state S.Store tx.new.conn.now) → (entries : List Shown)
+        → (state S.Store tx.old.conn.now).now.schema ≡ book_schema
         → (state S.Store tx.old.conn.now).now.trees 1 ≡ rows_from 1 entries
         → OnOk result ((state S.Store tx.new.conn.now).now.schema ≡ book_schema) }
-    ensures book { HasCleanDisk (state S.Store tx.new.conn.now) → (entries : List Shown) → (state S.Store tx.old.conn.now).now.schema ≡ book_schema
+    ensures book { HasCleanDisk (state S.Store tx.new.conn.now) → (entries : List Shown)
+        → (state S.Store tx.old.conn.now).now.schema ≡ book_schema
         → (state S.Store tx.old.conn.now).now.trees 1 ≡ rows_from 1 entries
         → OnOk result ((state S.Store tx.new.conn.now).now.trees 0 ≡ (state S.Store tx.old.conn.now).now.trees 0) }
-    ensures accounts { HasCleanDisk (state S.Store tx.new.conn.now) → (entries : List Shown) → (state S.Store tx.old.conn.now).now.schema ≡ book_schema
+    ensures accounts { HasCleanDisk (state S.Store tx.new.conn.now) → (entries : List Shown)
+        → (state S.Store tx.old.conn.now).now.schema ≡ book_schema
         → (state S.Store tx.old.conn.now).now.trees 1 ≡ rows_from 1 entries
         → OnOk result ((state S.Store tx.new.conn.now).now.trees 1 ≡ rows_from 1 (entries ++ entry.now ∷ [])) }
-    ensures kept { HasCleanDisk (state S.Store tx.new.conn.now) → KeepsCommit (state S.Store tx.old.conn.now) (state S.Store tx.new.conn.now) }
+    ensures kept { HasCleanDisk (state S.Store tx.new.conn.now)
+        → KeepsCommit (state S.Store tx.old.conn.now) (state S.Store tx.new.conn.now) }
     ensures survives { Survives (state S.Store tx.old.conn.now) (state S.Store tx.new.conn.now) (λ _. ⊥) }
 {
     let (mut id, mut debits_pending, mut debits_posted) = (
@@ -121,7 +141,8 @@ pub fn put_account<S: Alter>(tx: &mut Transaction<'_, S>, entry: &BookEntry) -> 
     );
     let (mut credits_pending, mut credits_posted) = (Buffer::new(), Buffer::new());
     tx.execute(
-        "INSERT INTO accounts (id, debits_pending, debits_posted, credits_pending, credits_posted) VALUES (?1, ?2, ?3, ?4, ?5)",
+        "INSERT INTO accounts (id, debits_pending, debits_posted, credits_pending, credits_posted) \
+         VALUES (?1, ?2, ?3, ?4, ?5)",
         params![
             id.format(entry.id),
             debits_pending.format(entry.balances.debits_pending),
@@ -135,13 +156,17 @@ pub fn put_account<S: Alter>(tx: &mut Transaction<'_, S>, entry: &BookEntry) -> 
 /// Inserts a row for each account of a book, in their order.
 pub fn put_accounts<S: Alter>(tx: &mut Transaction<'_, S>, book: &Book) -> Result<(), Error>
     ensures same_reference { tx.new.conn.ghost_name ≡ tx.old.conn.ghost_name }
-    ensures schema { HasCleanDisk (state S.Store tx.new.conn.now) → (state S.Store tx.old.conn.now).now.schema ≡ book_schema → (state S.Store tx.old.conn.now).now.trees 1 ≡ []
+    ensures schema { HasCleanDisk (state S.Store tx.new.conn.now)
+        → (state S.Store tx.old.conn.now).now.schema ≡ book_schema → (state S.Store tx.old.conn.now).now.trees 1 ≡ []
         → OnOk result ((state S.Store tx.new.conn.now).now.schema ≡ book_schema) }
-    ensures book { HasCleanDisk (state S.Store tx.new.conn.now) → (state S.Store tx.old.conn.now).now.schema ≡ book_schema → (state S.Store tx.old.conn.now).now.trees 1 ≡ []
+    ensures book { HasCleanDisk (state S.Store tx.new.conn.now)
+        → (state S.Store tx.old.conn.now).now.schema ≡ book_schema → (state S.Store tx.old.conn.now).now.trees 1 ≡ []
         → OnOk result ((state S.Store tx.new.conn.now).now.trees 0 ≡ (state S.Store tx.old.conn.now).now.trees 0) }
-    ensures accounts { HasCleanDisk (state S.Store tx.new.conn.now) → (state S.Store tx.old.conn.now).now.schema ≡ book_schema → (state S.Store tx.old.conn.now).now.trees 1 ≡ []
+    ensures accounts { HasCleanDisk (state S.Store tx.new.conn.now)
+        → (state S.Store tx.old.conn.now).now.schema ≡ book_schema → (state S.Store tx.old.conn.now).now.trees 1 ≡ []
         → OnOk result ((state S.Store tx.new.conn.now).now.trees 1 ≡ rows_from 1 book.now) }
-    ensures kept { HasCleanDisk (state S.Store tx.new.conn.now) → KeepsCommit (state S.Store tx.old.conn.now) (state S.Store tx.new.conn.now) }
+    ensures kept { HasCleanDisk (state S.Store tx.new.conn.now)
+        → KeepsCommit (state S.Store tx.old.conn.now) (state S.Store tx.new.conn.now) }
     ensures survives { Survives (state S.Store tx.old.conn.now) (state S.Store tx.new.conn.now) (λ _. ⊥) }
 {
     'accounts: for place in 0..book.len() {
@@ -156,9 +181,11 @@ pub fn put_accounts<S: Alter>(tx: &mut Transaction<'_, S>, book: &Book) -> Resul
 /// Drops the tables, unless the file is new.
 pub fn clear<S: Alter>(tx: &mut Transaction<'_, S>, is_new: bool) -> Result<(), Error>
     ensures same_reference { tx.new.conn.ghost_name ≡ tx.old.conn.ghost_name }
-    ensures schema { HasCleanDisk (state S.Store tx.new.conn.now) → (state S.Store tx.old.conn.now).now.schema ≡ (if is_new then no_schema else book_schema)
+    ensures schema { HasCleanDisk (state S.Store tx.new.conn.now)
+        → (state S.Store tx.old.conn.now).now.schema ≡ (if is_new then no_schema else book_schema)
         → OnOk result ((state S.Store tx.new.conn.now).now.schema ≡ no_schema) }
-    ensures kept { HasCleanDisk (state S.Store tx.new.conn.now) → KeepsCommit (state S.Store tx.old.conn.now) (state S.Store tx.new.conn.now) }
+    ensures kept { HasCleanDisk (state S.Store tx.new.conn.now)
+        → KeepsCommit (state S.Store tx.old.conn.now) (state S.Store tx.new.conn.now) }
     ensures survives { Survives (state S.Store tx.old.conn.now) (state S.Store tx.new.conn.now) (λ _. ⊥) }
 {
     if !is_new {
@@ -175,9 +202,11 @@ pub fn fill<S: Alter>(
     subscriber: &Subscriber,
 ) -> Result<(), Error>
     ensures same_reference { tx.new.conn.ghost_name ≡ tx.old.conn.ghost_name }
-    ensures holds { HasCleanDisk (state S.Store tx.new.conn.now) → (state S.Store tx.old.conn.now).now.schema ≡ no_schema
+    ensures holds { HasCleanDisk (state S.Store tx.new.conn.now)
+        → (state S.Store tx.old.conn.now).now.schema ≡ no_schema
         → OnOk result (HoldsBook text.now subscriber.now (state S.Store tx.new.conn.now).now) }
-    ensures kept { HasCleanDisk (state S.Store tx.new.conn.now) → KeepsCommit (state S.Store tx.old.conn.now) (state S.Store tx.new.conn.now) }
+    ensures kept { HasCleanDisk (state S.Store tx.new.conn.now)
+        → KeepsCommit (state S.Store tx.old.conn.now) (state S.Store tx.new.conn.now) }
     ensures survives { Survives (state S.Store tx.old.conn.now) (state S.Store tx.new.conn.now) (λ _. ⊥) }
 {
     make_book(tx)?;
@@ -194,12 +223,14 @@ pub fn save_rows<S: Alter>(
     subscriber: &Subscriber,
 ) -> Result<(), Error>
     requires { conn.old.in_transaction ≡ false }
-    ensures saved { HasCleanDisk (state S.Store conn.new) → (state S.Store conn.old).now.schema ≡ (if is_new then no_schema else book_schema)
+    ensures saved { HasCleanDisk (state S.Store conn.new)
+        → (state S.Store conn.old).now.schema ≡ (if is_new then no_schema else book_schema)
         → OnOk result (HoldsBook text.now subscriber.now (state S.Store conn.new).committed) }
     ensures refused { HasCleanDisk (state S.Store conn.new) → IsTrue (state S.Store conn.new).is_open
         → OnErr result ((state S.Store conn.new).committed ≡ (state S.Store conn.old).committed) }
     ensures crash { Survives (state S.Store conn.old) (state S.Store conn.new)
-        (MayHold ((state S.Store conn.old).now.schema ≡ (if is_new then no_schema else book_schema)) text.now subscriber.now) }
+        (MayHold ((state S.Store conn.old).now.schema ≡ (if is_new then no_schema else book_schema)) text.now
+        subscriber.now) }
 {
     let mut tx = conn.transaction();
     clear(&mut tx, is_new)?;
@@ -215,7 +246,8 @@ pub fn find_text<S: Alter>(conn: &mut Connection<S>) -> Result<Row, Error>
         → IfOk result (λ row. row ≡ Blob text ∷ []) }
     ensures schema { HasCleanDisk (state S.Store conn.new) → (state S.Store conn.old).now.schema ≡ book_schema
         → OnOk result ((state S.Store conn.new).now.schema ≡ book_schema) }
-    ensures survives { Survives (state S.Store conn.old) (state S.Store conn.new) (λ _. (state S.Store conn.old).now.schema ≢ book_schema) }
+    ensures survives { Survives (state S.Store conn.old) (state S.Store conn.new)
+        (λ _. (state S.Store conn.old).now.schema ≢ book_schema) }
 {
     conn.query_row("SELECT text FROM book", &[])
 }

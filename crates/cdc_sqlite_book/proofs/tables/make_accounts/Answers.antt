@@ -28,5 +28,6 @@ returns-clause-book g c clean has =
 
 pub returns-clause-kept : goal.returns-clause-kept
 returns-clause-kept g c clean =
-    keeps accounts_text [] (state g.S.Store c.args.tx.now.conn.now) (state g.S.Store c.execute.new.self.conn.now) c.execute.result
+    keeps accounts_text [] (state g.S.Store c.args.tx.now.conn.now) (state g.S.Store c.execute.new.self.conn.now)
+    c.execute.result
     (λ none. ap (state g.S.Store) (c.execute.ensures.ended none).1) (c.execute.ensures.runs clean)

@@ -21,5 +21,6 @@ returns-clause-empty g c clean has =
 
 pub returns-clause-kept : goal.returns-clause-kept
 returns-clause-kept g c clean =
-    keeps book_text [] (state g.S.Store c.args.tx.now.conn.now) (state g.S.Store c.execute.new.self.conn.now) c.execute.result
+    keeps book_text [] (state g.S.Store c.args.tx.now.conn.now) (state g.S.Store c.execute.new.self.conn.now)
+    c.execute.result
     (λ none. ap (state g.S.Store) (c.execute.ensures.ended none).1) (c.execute.ensures.runs clean)

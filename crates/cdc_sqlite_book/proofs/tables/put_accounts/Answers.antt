@@ -13,13 +13,15 @@ accounts-preserved g c =
     let made = c.put_account.ensures in
     let place = c.accounts.place in (
       made.same_reference ∙ c.accounts.invariant.0,
-      survives_then old mid new _ _ (λ _. ⊥) (λ _ db none. none) (λ _ db none. none) c.accounts.invariant.1 made.survives,
+      survives_then old mid new _ _ (λ _. ⊥) (λ _ db none. none) (λ _ db none. none) c.accounts.invariant.1
+          made.survives,
       λ clean. keeps_then old mid new (c.accounts.invariant.2 (omega (arith, made.survives.clean))) (made.kept clean),
       λ clean has none.
           let was = c.accounts.invariant.3 (omega (arith, made.survives.clean)) has none in
           let ok = c.in_ok-put_account.ensures in
           let before = take place c.args.book.now in
-          let one : take (suc place) c.args.book.now ≡ _ = took c.args.book.now place c.in-Some.id c.in-Some.balances (sym c.at_place.ensures ∙ c.in-Some.is) in
+          let one : take (suc place) c.args.book.now ≡ _ =
+          took c.args.book.now place c.in-Some.id c.in-Some.balances (sym c.at_place.ensures ∙ c.in-Some.is) in
           let next : suc place ≡ place + 1 = omega arith in (
             ok.schema clean before was.0 was.2,
             ok.book clean before was.0 was.2 ∙ was.1,
