@@ -17,7 +17,7 @@ run below, and for every call of it in turn:
 - a write that is refused ends it with status 1, a prefix of what it prints, and the write_fault on standard error;
   one of standard error's changes nothing that is printed, nor the status;
 - reads and writes that fall short change nothing.
-The same of bad files, whose commands end by status 2: of what standard error then says each line is there as a whole or not at all.
+The same of bad files, whose commands end by status 2: of what standard error has then each line is there as a whole or not at all.
 Then the same of runs on threads, with each start of a thread and each call beneath a save or a load of progress: runs.py;
 and each allocation of the calls that no command makes is refused, by the program cdc_calls: calls.py.
 With --as-built the part of cdc_calls is left out where that isn't built, and a line reports that; `rt ci` builds it, and `rt run`

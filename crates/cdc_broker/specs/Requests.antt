@@ -24,7 +24,7 @@ after_requests q [] = q
 after_requests q (request ∷ requests) = after_requests (after_request q request) requests
 
 -- whatever comes after some requests, a delivery is past all positions that were acknowledged by then
-abbrev pub NothingAcknowledgedComesAgain : Type 0
-NothingAcknowledgedComesAgain = (binding : Arguments) (earlier later : List Request)
+abbrev pub NothingAcknowledgedIsRedelivered : Type 0
+NothingAcknowledgedIsRedelivered = (binding : Arguments) (earlier later : List Request)
     → let now = after_requests (empty_queue binding) earlier in
     IfSome (next_delivery (after_requests now later)) (λ delivery. now.cursor.acked < delivery.position)
