@@ -1,5 +1,5 @@
 -- The broker that a list of items and its queues represent, and how a change of them changes it.
-use Rattle.std.proofs.Common.{◌≡◌, ℕ, zero, suc, ◌+◌, ◌-◌, ◌<◌, ◌≤◌, ◌^◌, Bool, true, false, List, [], ◌∷◌, ◌++◌, refl, sym, ap, ap₂, ◌∙◌, subst, length, length-append, map, get_or, append-nil, Option, Some, None, take, drop, ◌&&◌, arith}
+use Rattle.std.proofs.Common.{◌≡◌, ℕ, zero, suc, ◌+◌, ◌-◌, ◌<◌, ◌≤◌, ◌^◌, Bool, true, false, List, [], ◌∷◌, ◌++◌, refl, sym, ap, ap₂, ◌∙◌, subst, length, length-append, map, get_or, append-nil, Option, Some, None, take, drop, arith}
 use Rattle.std.specs.Prelude.{All, is_some, min, max, nat_lt, slice_get, slice_set, if◌then◌else◌}
 use Rattle.std.specs.Option.{option_map}
 use Rattle.std.proofs.lemmas.Bool.Decides.{nat_tests}
@@ -11,9 +11,9 @@ use Rattle.cdc_match.specs.Queue.{queue, takes_item}
 use Rattle.cdc_message.specs.declared.items.Item.{Item}
 use Rattle.cdc_message.specs.declared.items.Delivery.{Delivery}
 use Rattle.cdc_broker.specs.declared.queue.Queue.{Queue}
-use Rattle.cdc_broker.specs.Backlogs.{BacklogState, has_half_before, is_full}
+use Rattle.cdc_broker.specs.Backlogs.{BacklogState}
 use Rattle.cdc_broker.specs.Broker.{BrokerState, queue_of, with_queue, nobody}
-use Rattle.cdc_broker.specs.Kept.{AreServable, HasAcknowledged, IsInOrder, IsLeft, counting, done_with_all, done_with_here, gone_after, lesser, queue_state}
+use Rattle.cdc_broker.specs.Kept.{AreServable, HasAcknowledged, IsInOrder, IsLeft, counting, done_with_all, lesser, queue_state}
 use Rattle.cdc_broker.specs.Queues.{QueueState, empty_queue, next_delivery, queued, with_item}
 use Rattle.cdc_broker.proofs.Accepted.{filter_push}
 use Rattle.cdc_broker.proofs.Marks.{count_all_within, fewer_before, mark_stays}
@@ -211,33 +211,6 @@ gone_before_done gone number (q ∷ queues) within left =
     let acked = first.acked in
     let cursor = first.cursor in
     gone_before_done gone (lesser number q) queues (omega arith) (λ k d inside. left (suc k) d (omega arith))
-
--- nothing more is let go if there is room
-pub kept_with_room : (backlog : BacklogState) (queues : List Queue) → is_full backlog ≡ false
-    → gone_after backlog queues ≡ backlog.gone
-kept_with_room backlog queues not_full =
-    let done = done_with_here backlog queues in
-    ap (λ b. if b && has_half_before backlog done then max backlog.gone done else backlog.gone) not_full
-
--- or if most of what is left is still needed
-pub kept_if_needed : (backlog : BacklogState) (queues : List Queue)
-    → has_half_before backlog (done_with_here backlog queues) ≡ false → gone_after backlog queues ≡ backlog.gone
-kept_if_needed backlog queues needed =
-    let done = done_with_here backlog queues in
-    ap (λ b. if is_full backlog && b then max backlog.gone done else backlog.gone) needed
-    ∙ either (is_full backlog) (max backlog.gone done) backlog.gone
-  where
-    either : (b : Bool) (x y : ℕ) → (if b && false then x else y) ≡ y
-    either true x y = refl
-    either false x y = refl
-
--- otherwise all that no queue asks for again is
-pub gone_if_full : (backlog : BacklogState) (queues : List Queue) → is_full backlog ≡ true
-    → has_half_before backlog (done_with_here backlog queues) ≡ true
-    → gone_after backlog queues ≡ max backlog.gone (done_with_here backlog queues)
-gone_if_full backlog queues full half =
-    let done = done_with_here backlog queues in
-    ap₂ (λ b b'. if b && b' then max backlog.gone done else backlog.gone) full half
 
 -- there are as many items as are done with, or more
 pub done_with_within : (len : ℕ) (queues : List Queue) → done_with_all len queues ≤ len
