@@ -254,33 +254,6 @@ gone_before_done gone number (q ∷ queues) within left =
     let cursor = first.cursor in
     gone_before_done gone (lesser number q) queues (omega arith) (λ k d inside. left (suc k) d (omega arith))
 
--- nothing more is let go if there is room
-pub kept_with_room : (backlog : BacklogState) (queues : List Queue) → is_full backlog ≡ false
-    → gone_after backlog queues ≡ backlog.gone
-kept_with_room backlog queues not_full =
-    let done = done_with_here backlog queues in
-    ap (λ b. if b && has_half_before backlog done then max backlog.gone done else backlog.gone) not_full
-
--- or if most of what is left is still needed
-pub kept_if_needed : (backlog : BacklogState) (queues : List Queue)
-    → has_half_before backlog (done_with_here backlog queues) ≡ false → gone_after backlog queues ≡ backlog.gone
-kept_if_needed backlog queues needed =
-    let done = done_with_here backlog queues in
-    ap (λ b. if is_full backlog && b then max backlog.gone done else backlog.gone) needed
-    ∙ either (is_full backlog) (max backlog.gone done) backlog.gone
-  where
-    either : (b : Bool) (x y : ℕ) → (if b && false then x else y) ≡ y
-    either true x y = refl
-    either false x y = refl
-
--- otherwise all that no queue asks for again is
-pub gone_if_full : (backlog : BacklogState) (queues : List Queue) → is_full backlog ≡ true
-    → has_half_before backlog (done_with_here backlog queues) ≡ true
-    → gone_after backlog queues ≡ max backlog.gone (done_with_here backlog queues)
-gone_if_full backlog queues full half =
-    let done = done_with_here backlog queues in
-    ap₂ (λ b b'. if b && b' then max backlog.gone done else backlog.gone) full half
-
 -- a queue that has acknowledged all its items holds back none of a list
 finished_at_end : (accepted : List Item) (number : ℕ) (q : Queue) → number ≤ length accepted → IsInOrder accepted q
     → nat_lt q.acked.position q.len ≡ false → lesser number q ≡ number
