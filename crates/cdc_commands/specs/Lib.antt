@@ -10,7 +10,6 @@ pub mod Outcomes
 pub mod Printed
 pub mod Private
 pub mod QueuePrinted
-pub mod Queues
 pub mod Report
 pub mod Seen
 pub mod Simulated

@@ -67,7 +67,7 @@ fn script_books<F: Form>(form: &F, alloc: Global, script: Script) -> Result<Book
     let notes = Notes::of(alloc, &script);
     let (report, parsed) = books_report(alloc, script)?;
     let tally = Tally::of(report.answers.as_slice());
-    let text = form.books(alloc, report)?;
+    let text = form.books(alloc, &report)?;
     let output = Output {
         text,
         ending: Ending::Done,

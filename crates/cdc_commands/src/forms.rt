@@ -1,11 +1,10 @@
 //! The forms in which a command prints what it reports.
 
-ghost use Rattle.std.specs.Prelude.{◌≡◌, ◌^◌, ◌<◌, [], List, Option, ℕ, All, IfOk, OnErr, length};
+ghost use Rattle.std.specs.Prelude.{◌≡◌, ◌^◌, ◌<◌, [], List, Option, ℕ, IfOk, OnErr, length};
 ghost use Rattle.cdc_commands.specs.declared.endings.Ending.{Ending as EndsSo};
 ghost use Rattle.cdc_commands.specs.FaultWords.{bytes_at};
 ghost use Rattle.cdc_commands.specs.BookReports.{IsBooksOf};
 ghost use Rattle.cdc_commands.specs.Printed.{history_of};
-ghost use Rattle.cdc_commands.specs.Queues.{IsUntaken};
 ghost use Rattle.cdc_commands.specs.SimulationReports.{ComesTo};
 ghost use Rattle.cdc_commands.specs.Simulations.{Plan};
 ghost use Rattle.cdc_ledger.specs.Events.{events};
@@ -36,9 +35,8 @@ pub trait Form {
     ghost prints_fault: { List ℕ → EndsSo → List ℕ → Type 0 };
 
     /// Prints the report of `books`.
-    fn books(&self, alloc: Global, report: BooksReport) -> Result<Vec<u8>, AllocError>
-        requires { All IsUntaken report.broker.queues }
-        ensures { (script : Parsed) → IsBooksOf script report
+    fn books(&self, alloc: Global, report: &BooksReport) -> Result<Vec<u8>, AllocError>
+        ensures { (script : Parsed) → IsBooksOf script report.now
             → IfOk result (λ text. prints_books script text.items) };
 
     /// Prints the events of a ledger for `messages`, of a script with these bindings. Without events this needs no

@@ -29,7 +29,6 @@ pub use batches::{Answered, TakenBatches, take_batches};
 pub use book_reports::{BooksReport, ParsedBatches, books_report};
 pub use endings::Ending;
 pub use faults::ProgramFault;
-pub use feeding::take_queue;
 pub use forms::Form;
 pub use notes::{Count, Notes, PastBatches};
 pub use observers::Observer;
