@@ -203,8 +203,8 @@ fn lock_at(rt: &HostRuntime, path: &str) -> Result<File, StoreError> {
 /// to five seconds for a program that is in the middle of reading.
 ///
 /// The file is locked against another `follow` from its opening on. A file that isn't SQLite's, or that has other
-/// tables, is refused and left as it was. A save is refused if the file no longer has the text that this store has last
-/// loaded or saved.
+/// tables, is refused and left as it was; a log that its own program left beside it may get some zeros at its end,
+/// which SQLite ignores. A save is refused if the file no longer has the text that this store has last loaded or saved.
 ///
 /// No contract can state what a file holds. `known` is the text that this store has last loaded or saved; that the file
 /// returns it is an assumption of the store's user. Nor does one cover the two bytes of the header that are written
