@@ -47,7 +47,7 @@ def model_of(lines):
 def expected(model):
     """The rows that the tables have to hold."""
     names = BALANCES.split(", ")
-    accounts = [(str(id), *(shown[name] for name in names)) for id, shown in model.book.items()]
+    accounts = [(str(id), *(str(shown[name]) for name in names)) for id, shown in model.book.items()]
     return (str(model.last), str(model.applied)), accounts
 
 
