@@ -283,9 +283,8 @@ impl<M: Message> LinkIn<M> {
         }
     }
 
-    /// Receives the message at the front if there is one, and never waits. If there is none, nothing has changed, also
-    /// if the senders are gone. `PeerGone`: the next parcel is the notice that a sender was aborted, or 2^64-1 messages
-    /// were received. Then nothing has changed either.
+    /// Receives the message at the front if there is one, and never waits. If there is none, nothing has changed.
+    /// `PeerGone`: as for `receive`.
     pub fn receive_ready<R: Wait>(&mut self, rt: &R) -> Result<Option<M>, LinkFault>
         ensures received { IfOk result (λ ready. TakesIfSome M.may_follow self.old ready self.new) }
         ensures refused { IfErr result (λ fault. (fault ≡ PeerGone) × (self.new ≡ self.old)) }
@@ -298,8 +297,8 @@ impl<M: Message> LinkIn<M> {
                 self.received += 1;
                 Ok(Some(value))
             }
-            Ok(Parcel::Halt) => Err(LinkFault::PeerGone),
-            Err(_) => Ok(None),
+            Err(TryRecvError::Empty) => Ok(None),
+            Ok(Parcel::Halt) | Err(TryRecvError::Disconnected) => Err(LinkFault::PeerGone),
         }
     }
 
