@@ -1,7 +1,6 @@
 //! A text that is kept in a file, such as a follower's book.
 
 ghost use Rattle.std.specs.Prelude.{◌≡◌, IfOk};
-ghost use Rattle.std.specs.Option.{option_map};
 
 use crate::stores::BookStore;
 use cdc_files::{Replaced, holds, open_locked, path_of_new, replace, target_of};
@@ -64,10 +63,8 @@ impl<'a, R: Files<File = File> + AllocGlobal> FileBook<'a, R> {
         Ok(book)
     }
 
-    /// The text that was last loaded or saved, if there is one.
-    pub fn text(&self) -> Option<&[u8]>
-        ensures { option_map (λ it. it.now) result ≡ option_map (λ it. it.items) self.now.known }
-    {
+    /// The text, if there is one.
+    pub fn text(&self) -> Option<&[u8]> {
         match &self.known {
             Some(text) => Some(text.as_slice()),
             None => None,

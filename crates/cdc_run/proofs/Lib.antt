@@ -1,6 +1,5 @@
 mod Alone
 mod Apart
-mod Crossing
 mod Applied
 mod SettledBooks
 mod ClientsParted

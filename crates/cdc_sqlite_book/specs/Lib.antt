@@ -1,2 +1,0 @@
-pub mod NewFile
-pub mod Tables
