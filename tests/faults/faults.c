@@ -218,6 +218,32 @@ ssize_t write(int file, const void *buffer, size_t size) {
     return answer(how, syscall(SYS_write, file, buffer, size), ENOSPC);
 }
 
+static ssize_t read_at(int file, void *buffer, size_t size, off64_t place) {
+    char path[512];
+    trace("read", path_of(file, path, sizeof path), "");
+    enum refusal how = refusal_of(READ);
+    if (how == BEFORE) return refused(EIO);
+    if (is_short() && size > 1) size = 1;
+    return answer(how, syscall(SYS_pread64, file, buffer, size, place), EIO);
+}
+
+ssize_t pread(int file, void *buffer, size_t size, off_t place) { return read_at(file, buffer, size, place); }
+
+ssize_t pread64(int file, void *buffer, size_t size, off64_t place) { return read_at(file, buffer, size, place); }
+
+static ssize_t write_at(int file, const void *buffer, size_t size, off64_t place) {
+    char path[512];
+    trace("write", path_of(file, path, sizeof path), "");
+    enum refusal how = refusal_of(WRITE);
+    if (how == BEFORE) return refused(ENOSPC);
+    if (is_short() && size > 1) size = 1;
+    return answer(how, syscall(SYS_pwrite64, file, buffer, size, place), ENOSPC);
+}
+
+ssize_t pwrite(int file, const void *buffer, size_t size, off_t place) { return write_at(file, buffer, size, place); }
+
+ssize_t pwrite64(int file, const void *buffer, size_t size, off64_t place) { return write_at(file, buffer, size, place); }
+
 static int synced(int file, long call) {
     char path[512];
     trace("sync", path_of(file, path, sizeof path), "");

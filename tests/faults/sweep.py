@@ -17,6 +17,7 @@ run below, and for every call of it in turn:
 - a write that is refused ends it with status 1, a prefix of what it prints, and the write_fault on standard error;
   one of standard error's changes nothing that is printed, nor the status;
 - reads and writes that fall short change nothing.
+The same of bad files, whose commands end by status 2: of each line of standard error at least the front is there, or none of it.
 Then the same of runs on threads, with each start of a thread and each call beneath a save or a load of progress: runs.py;
 and each allocation of the calls that no command makes is refused, by the program cdc_calls: calls.py.
 With --as-built the part of cdc_calls is left out where that isn't built, and a line reports that; `rt ci` builds it, and `rt run`
@@ -71,6 +72,8 @@ def example(name):
 
 
 EVERY = os.path.join(HERE, "every-request.script")
+BAD = os.path.join(rooms.TOP, "tests", "rows", "bad-script-an-unknown-key-whatever-its-value.script")
+BAD_STEPS = os.path.join(rooms.TOP, "tests", "rows", "bad-steps-a-word-of-no-step.steps")
 # The arguments of each run, and the file that is its standard input, if there is one.
 CASES = [
     (["books", example("two-phase.script")], None),
@@ -93,6 +96,16 @@ CASES = [
     (["books", os.path.join(HERE, "noted.script"), "--explain"], None),
     (["books", example("refusals.script"), "--explain", "--json"], None),
     (["simulate", EVERY, os.path.join(HERE, "every-step.steps"), "--explain", "--trace", "--diagram"], None),
+]
+# The same of bad files.
+BAD_CASES = [
+    (["books", BAD], None),
+    (["books", BAD, "--json"], None),
+    (["messages", "-", "--json"], BAD),
+    (["books", BAD, "--check"], None),
+    (["simulate", example("two-phase.script"), BAD_STEPS], None),
+    (["simulate", example("two-phase.script"), BAD_STEPS, "--json"], None),
+    (["simulate", example("two-phase.script"), BAD_STEPS, "--check"], None),
 ]
 
 
@@ -121,8 +134,8 @@ class Run:
 class Case:
     """A run of the program without a fault, and each with one."""
 
-    def __init__(self, number, arguments, stdin):
-        self.arguments, self.stdin = arguments, stdin
+    def __init__(self, number, arguments, stdin, status=0):
+        self.arguments, self.stdin, self.status = arguments, stdin, status
         self.name = " ".join(os.path.basename(it) for it in arguments)
         self.folder = os.path.join(room, str(number))
         os.mkdir(self.folder)
@@ -192,6 +205,10 @@ class Case:
         """Whether standard error is as it has to be where an allocation was refused."""
         if run.end in self.no_memory():
             return run.errors.endswith(FAILED)
+        if self.status:
+            # (each line of a bad file's report, or the front of it that needs no memory)
+            lines = self.good.errors.splitlines()
+            return all(any(line.startswith(it) for line in lines) for it in run.errors.splitlines())
         if self.whole_errors is None:
             return run.errors.startswith(self.made)
         if step is None:
@@ -210,7 +227,7 @@ class Case:
         found = [step for step in steps if step is not None]
         if found != sorted(found):
             failures.append(f"failed: {self.name}: allocations that come later are refused at earlier steps")
-        if self.arguments[0] == "simulate" and "--check" not in self.arguments:
+        if self.arguments[0] == "simulate" and "--check" not in self.arguments and not self.status:
             for kind in sorted(ALLOCATING - {self.steps[step - 1].split()[0] for step in found}):
                 failures.append(f"failed: {self.name}: no step `{kind.decode()}` is refused as out of memory")
         counted = Counter("refused a step" if step else "ended the command" if run.end in self.no_memory() else "changed nothing"
@@ -243,7 +260,7 @@ class Case:
             self.fail("short", run)
 
     def sweep(self, pool):
-        if self.good.end[0] != 0:
+        if self.good.end[0] != self.status:
             self.fail("no fault", self.good)
         parts = [self.allocations(pool), self.reads(pool), self.writes(pool)]
         self.short()
@@ -276,8 +293,9 @@ def main(arguments):
     with rooms.room("faults-") as room:
         library = built_library(room)
         with ThreadPoolExecutor(JOBS) as pool:
-            for number, (arguments, stdin) in enumerate(CASES):
-                Case(number, arguments, stdin).sweep(pool)
+            cases = [(*it, 0) for it in CASES] + [(*it, 2) for it in BAD_CASES]
+            for number, it in enumerate(cases):
+                Case(number, *it).sweep(pool)
             parts = [runs.Sweep(program, library, room)]
             parts += [calls.Sweep(caller, library, room)] if caller else []
             for part in parts:

@@ -2,7 +2,7 @@
 pub mod Fails
 pub mod Moves
 pub mod SoFar
-use Rattle.std.specs.Prelude.{◌≡◌, ◌==◌, ◌⊎◌, ℕ, zero, suc, ◌+◌, ◌-◌, ◌<◌, ◌≤◌, ◌&&◌, Bool, is_some, true, false, Option, Some, None, List, [], ◌∷◌, ◌++◌, Contains, length, map, slice_get, unwrap_or, if◌then◌else◌}
+use Rattle.std.specs.Prelude.{◌≡◌, ◌==◌, ◌⊎◌, ℕ, zero, suc, ◌+◌, ◌-◌, ◌<◌, ◌≤◌, ◌&&◌, Bool, is_some, true, false, Option, Some, None, IfSome, List, [], ◌∷◌, ◌++◌, Contains, length, map, slice_get, unwrap_or, if◌then◌else◌}
 use Rattle.std.specs.List.{filter, filter_map, list_any}
 use Rattle.std.specs.Option.{option_map}
 use Rattle.cdc_laws.specs.Connectors.{ConnectorState, held_number, held_start, held_timestamp}
@@ -298,8 +298,8 @@ connector_of c course = record {
 }
 
 -- at any time: if its store is honest and the run began at its start, it keeps to every history of which the replies
--- to polls that it has received are readings. An open poll is the latest of its session, for what that wants. It has
--- restarted as planned
+-- to polls that it has received are readings. An open poll is the latest of its session, for what that wants. A session
+-- runs only over an honest store. It has restarted as planned
 pub record IsPublishing (c : ConnectorCore) (course : Option Course) : Type 0 where
   pub wired : IsWired c.inbox.senders c.polls.number c.packets.number c.window
   pub dispatched : HasSent c.polls.sent c.packets.sent c.published c.finished
@@ -308,6 +308,7 @@ pub record IsPublishing (c : ConnectorCore) (course : Option Course) : Type 0 wh
   pub stands : SessionStands c.session course
   pub runs : IsRunningIn c.held course
   pub first : IsFirstIn c.first course
+  pub honest : IfSome course (λ _. c.honest ≡ true)
   pub poll : (poll : Poll) → c.poll ≡ Some poll → IsPollIn course c.asked poll
   pub restarted : HasRestarted c
   pub keeps : c.honest ≡ true → IsAtStart (origin_of c)
@@ -389,7 +390,7 @@ pub record ArePartsOf (c : ConnectorCore) (inbox : Incoming ToConnector (Option 
   pub holds : saved ≡ c.held
 
 -- a connector that has finished. Its last session is done, each of its packets has its confirm, and its last messages
--- follow its polls and its packets. The start of the run is held. If its store is honest and the run began at its
+-- follow its polls and its packets. The start of the run is held. Its store is honest, and if the run began at its
 -- start, it keeps to every history of which the replies that it has received are readings. It has restarted right
 -- after each publish packet that its plan names, so the last packet is none of them
 pub record IsDone (c : ConnectorCore) : Type 0 where
@@ -403,6 +404,7 @@ pub record IsDone (c : ConnectorCore) : Type 0 where
   pub start : held_start c.held ≡ (origin_of c).start
   pub restarted : HasRestarted c
   pub last : IsUnplanned c.restarts (packets_in c.packets.sent)
+  pub honest : c.honest ≡ true
   pub keeps : c.honest ≡ true → IsAtStart (origin_of c)
       → KeepsToReadings (readings_of (of_sender 0 c.inbox.received)) (connector_of c (Some course))
 

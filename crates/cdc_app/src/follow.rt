@@ -3,14 +3,13 @@
 use crate::advice::shown_name;
 use crate::follow_advice::{advise_on_book, advise_on_gaps, advise_on_stream};
 use crate::follow_options::FollowPlan;
+use crate::kept_book::KeptBook;
 use crate::options::Form;
 use crate::sources::Source;
 use crate::watched::Watched;
 use cdc_commands::{ProgramFault, Text, print_fault};
-use cdc_follow::{BOOK_MARK, Follower};
-use cdc_follow_command::{
-    FileBook, FollowEnding, Saver, begin, begin_book, follow_command, resume,
-};
+use cdc_follow::Follower;
+use cdc_follow_command::{FollowEnding, Saver, begin, begin_book, follow_command, resume};
 use cdc_json::Json;
 use cdc_progress::StoreError;
 use std::io;
@@ -75,18 +74,18 @@ pub fn run_follow(rt: &HostRuntime, file: &str, plan: FollowPlan<'_>, form: Form
     ending
 }
 
-/// Opens the book at this path, if there is one, and returns it with the follower that it holds. A book that isn't
+/// Opens the book of this name, if there is one, and returns it with the follower that it holds. A book that isn't
 /// there yet is made at once, so that the file is locked from the start.
 fn open_book<'a>(
     rt: &'a HostRuntime,
     book: Option<&str>,
     chained: bool,
     binding: &[u8],
-) -> Result<(Option<FileBook<'a, HostRuntime>>, Follower), StoreError> {
-    let Some(path) = book else {
+) -> Result<(Option<KeptBook<'a>>, Follower), StoreError> {
+    let Some(name) = book else {
         return Ok((None, begin(rt.alloc())));
     };
-    let mut store = FileBook::open(rt, path, BOOK_MARK)?;
+    let mut store = KeptBook::open(rt, name)?;
     if let Some(text) = store.text() {
         let follower = resume(rt.alloc(), text, chained, binding)?;
         return Ok((Some(store), follower));

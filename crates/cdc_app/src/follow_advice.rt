@@ -1,6 +1,7 @@
 //! What standard error reports of a stream that is followed.
 
 use crate::advice::{advise_on_failure, shown_name};
+use crate::kept_book::{is_in_sqlite, path_of_book};
 use cdc_commands::ProgramFault;
 use cdc_follow::{Entry, Follower, LineError, Stop};
 use cdc_follow_command::FollowEnding;
@@ -110,10 +111,15 @@ fn part_of(field: Field) -> &'static str {
     }
 }
 
-/// What is wrong with the file of a book, for which its store has reported this error, and what to do.
+/// What is wrong with the file of the book of this name, for which its store has reported this error, and what to do.
 fn trouble(rt: &HostRuntime, book: &str, error: StoreError) -> &'static str {
     match error {
-        StoreError::ReadFault => unread(rt, book),
+        StoreError::ReadFault => unread(rt, path_of_book(book)),
+        StoreError::WriteFault if is_in_sqlite(book) => {
+            "the book can't be written: the file and its folder have to be writable and to have room, nobody else may \
+             change the file, a program that reads it has to end within five seconds, and a file at its name with .new \
+             appended has to be what an interrupted start left"
+        }
         StoreError::WriteFault => {
             "the book can't be written: the file and its folder have to be writable and to have room, nobody else may \
              change the file, and a file at its name with .new appended has to be what a save left"

@@ -76,7 +76,7 @@ fn book_option<'a>(alloc: Global) -> Arg<'a> {
         .long("book")
         .value_name("BOOK")
         .action(ArgAction::Set)
-        .help("Save the book in this file, and resume from it [default: memory]")
+        .help("Save the book in this file, or sqlite:FILE, and resume from it [default: memory]")
 }
 
 fn every_option<'a>(alloc: Global) -> Arg<'a> {

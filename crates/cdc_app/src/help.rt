@@ -92,12 +92,16 @@ save a line with saved and the timestamp of the last event is printed: events up
 later. If following is stopped at any time and started again with that book, it goes on where the book was saved, and
 what was applied before is a duplicate.
 
+With --book sqlite:FILE, the book is kept in an SQLite file, which other programs may read between saves: the table
+accounts has the balances, and the table book the timestamp of the last event applied and the count of these events.
+
 The output is these lines, and at the end how far the stream was applied and its book: for each account its pending
 debits, posted debits, pending credits and posted credits.
 
 Examples:
   relayplum messages examples/two-phase.script | relayplum follow
   consume-from-my-queue | relayplum follow --chained --book ann.book
+  consume-from-my-queue | relayplum follow --chained --book sqlite:ann.db
 
 Exit status:
   0  the stream ended

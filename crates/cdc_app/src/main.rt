@@ -14,6 +14,7 @@ mod follow_advice;
 mod follow_options;
 mod help;
 mod kept;
+mod kept_book;
 mod options;
 mod progress_advice;
 mod random;

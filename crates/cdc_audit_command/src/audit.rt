@@ -1,6 +1,6 @@
 //! The command `audit`: audits a stream up to its end, saves its state, and prints what it finds.
 
-ghost use Rattle.std.specs.Prelude.{◌≡◌, Some, is_some, IfOk, IfSome, OnOk};
+ghost use Rattle.std.specs.Prelude.{◌≡◌, [], Some, is_some, IfOk, IfSome, OnOk};
 ghost use Rattle.std.specs.Io.KnownBytes.{Appends};
 ghost use Rattle.cdc_audit.specs.Stops.{Audits};
 ghost use Rattle.cdc_audit_state.specs.States.{state_text};
@@ -76,7 +76,7 @@ pub fn audit_command<F: Form + FollowForm + AuditForm, B: LineReader, W: Write, 
     ensures saved { IfStopped result (λ _. IfSome saver.new.store (λ store.
         K.held store ≡ Some (state_text auditor.new))) }
     ensures printed { PrintsAuditing (PrintsSaves F.prints_saved (is_some saver.old.store) auditor.old
-        (B.remaining reader.old) (W.contents writer.old)) F.prints_audit F.prints_fault
+        (B.remaining reader.old) (W.contents writer.old)) F.prints_audit (F.prints_fault [])
         (W.contents writer.new) shows_book auditor.new result }
 {
     match audit_stream(form, alloc, reader, writer, saver, auditor) {
@@ -95,7 +95,7 @@ fn print_audit<F: Form + AuditForm, W: Write>(
     stop: AuditStop,
 ) -> AuditEnding
     ensures stops { IfStopped result (λ it. it ≡ stop) }
-    ensures printed { PrintsAudit F.prints_audit F.prints_fault (W.contents writer.old)
+    ensures printed { PrintsAudit F.prints_audit (F.prints_fault []) (W.contents writer.old)
         (W.contents writer.new) shows_book subscriber.now result }
 {
     match form.audit(alloc, shows_book, subscriber, stop) {
@@ -110,7 +110,7 @@ fn print_audit<F: Form + AuditForm, W: Write>(
 /// Prints the fault of a command that failed, unless it is one of a write.
 fn fail<F: Form, W: Write>(form: &F, writer: &mut W, fault: ProgramFault) -> AuditEnding
     ensures fails { IfStopped result (λ _. ⊥) }
-    ensures printed { PrintsFailure F.prints_fault (W.contents writer.old) (W.contents writer.new)
+    ensures printed { PrintsFailure (F.prints_fault []) (W.contents writer.old) (W.contents writer.new)
         fault result }
 {
     if let ProgramFault::WriteFault(_) = fault {

@@ -1,4 +1,5 @@
 pub mod Accepted
 pub mod Made
 pub mod Marks
+pub mod Requests
 pub mod States

@@ -1,11 +1,11 @@
 -- The queues that are made of the first bindings.
-use Rattle.std.proofs.Common.{◌≡◌, ℕ, ◌+◌, ◌≤◌, List, [], ◌∷◌, ◌++◌, refl, sym, ap, ap₂, ◌∙◌, subst, map, length}
+use Rattle.std.proofs.Common.{◌≡◌, ℕ, ◌+◌, ◌≤◌, List, [], ◌∷◌, ◌++◌, refl, sym, ap, ap₂, ◌∙◌, subst, map, length, arith}
 use Rattle.std.specs.Prelude.{All}
 use Rattle.std.proofs.lemmas.List.{map_push}
 use Rattle.std.proofs.lemmas.List.Elements.{All-map}
 use Rattle.cdc_match.specs.Arguments.{Arguments}
 use Rattle.cdc_broker.specs.declared.queue.Queue.{Queue}
-use Rattle.cdc_broker.specs.Kept.{queue_state, IsInOrder}
+use Rattle.cdc_broker.specs.Kept.{queue_state, IsInOrder, IsLeft}
 use Rattle.cdc_broker.specs.Queues.{QueueState, empty_queue}
 use Rattle.cdc_broker.proofs.Accepted.{Holds}
 
@@ -32,3 +32,7 @@ pub Holds-empty : (bindings : List Arguments) (queues : List QueueState) → que
 Holds-empty bindings queues are =
     subst (λ (qs : List QueueState). All (Holds []) qs) (sym are)
     (All-map (Holds []) empty_queue bindings (λ k d inside. refl))
+
+-- of no items none is let go
+pub all_left : (queues : List Queue) → All (IsLeft 0) queues
+all_left queues = λ k d inside. record { acked = omega arith; cursor = omega arith }

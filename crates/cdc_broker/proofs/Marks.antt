@@ -2,7 +2,7 @@
 use Rattle.std.proofs.Common.{◌≡◌, ℕ, suc, ◌+◌, ◌<◌, ◌≤◌, true, false, cond, List, [], ◌∷◌, ◌++◌, refl, sym, ap, ◌∙◌, Some, length, length-append, not, take, drop, get_or, take_all, drop-cons, add-zero, ⊎_elim, ◌⊎◌, arith}
 use Rattle.std.specs.Prelude.{filter, slice_get}
 use Rattle.std.proofs.lemmas.Bool.{cases_lt}
-use Rattle.std.proofs.lemmas.List.{length-take, take-append-drop, take-append-le}
+use Rattle.std.proofs.lemmas.List.{length-take, take-append-drop, take-append-le, take-take}
 use Rattle.std.proofs.lemmas.List.Elements.{filter-append}
 use Rattle.std.proofs.lemmas.List.Filters.{length-filter_both, length-filter_more}
 use Rattle.std.proofs.lemmas.Option.{slice_get-get_or}
@@ -80,6 +80,17 @@ count_within accepted binding place =
     let few = count_all_within (take place accepted) binding in
     omega (arith, length-take place accepted)
 
+-- the end of the list is a mark of a queue that has come to its last item
+pub mark_at_end : (accepted : List Item) (binding : Arguments) (mark : Mark)
+    → mark.position ≡ length (queue accepted binding)
+    → IsMark accepted binding (record mark { place = length accepted })
+mark_at_end accepted binding mark is = record {
+  within = omega arith;
+  counts = is
+      ∙ ap (λ (items : List Item). length (queue items binding))
+      (sym (take_all (length accepted) accepted (omega arith)));
+}
+
 -- a mark remains one when the list grows
 pub mark_stays : (accepted items : List Item) (binding : Arguments) (mark : Mark) → IsMark accepted binding mark
     → IsMark (accepted ++ items) binding mark
@@ -91,3 +102,17 @@ mark_stays accepted items binding mark is =
       within = omega (arith, length-append accepted items);
       counts = is.counts ∙ ap (λ (front : List Item). length (queue front binding)) (sym same);
     }
+
+-- up to an earlier place there are no more items of the queue
+pub fewer_before : (accepted : List Item) (binding : Arguments) (earlier place : ℕ) → earlier ≤ place
+    → length (queue (take earlier accepted) binding) ≤ length (queue (take place accepted) binding)
+fewer_before accepted binding earlier place before =
+    let tests = takes_item binding in
+    let front = take place accepted in
+    let rest = filter tests (drop earlier front) in
+    let parts : filter tests front ≡ filter tests (take earlier front) ++ rest =
+    ap (filter tests) (sym (take-append-drop earlier front))
+    ∙ filter-append tests (take earlier front) (drop earlier front) in
+    let same : length (filter tests (take earlier front)) ≡ length (filter tests (take earlier accepted)) =
+    ap (λ items. length (filter tests items)) (take-take earlier place accepted before) in
+    omega (arith, ap length parts, same, length-append (filter tests (take earlier front)) rest)

@@ -1,13 +1,14 @@
 //! The public interface of the broker.
 
-ghost use Rattle.std.specs.Prelude.{◌≡◌, ◌^◌, ◌<◌, ◌≤◌, List, [], All, IfOk, IsSome, OnOk, OnErr, is_some, not, if◌then◌else◌, length, map};
+ghost use Rattle.std.specs.Prelude.{◌≡◌, ◌-◌, ◌^◌, ◌<◌, ◌≤◌, List, [], ◌∷◌, ◌++◌, All, IfOk, IsSome, OnOk, OnErr, is_some, not, if◌then◌else◌, length, map};
 ghost use Rattle.cdc_message.specs.declared.items.Item.{Item as SomeItem};
 ghost use Rattle.cdc_message.specs.declared.packets.Packet.TheVariants.{Connect};
-ghost use Rattle.cdc_broker.specs.Broker.{HasAccepted, Publishes, accepted_after, connected, empty_broker, queue_of, takes_packet, with_queue};
-ghost use Rattle.cdc_broker.specs.Kept.{counting};
+ghost use Rattle.cdc_broker.specs.Broker.{HasAccepted, Publishes, accepted_after, connected, empty_broker, published, queue_of, takes_packet, with_queue};
+ghost use Rattle.cdc_broker.specs.Kept.{AreServable, HasAcknowledged, counting, done_with_all, gone_after, unfinished};
 ghost use Rattle.cdc_broker.specs.Packets.{tag_after as next_tag};
 ghost use Rattle.cdc_broker.specs.Queues.{acknowledged, delivered_event, is_unknown, next_delivery, rewound_queue, with_delivery};
 
+use crate::backlog::Backlog;
 use crate::queue::Queue;
 use cdc_match::Binding;
 use cdc_message::{Delivery, Item};
@@ -33,12 +34,12 @@ pub enum Taken {
 }
 
 /// A broker in memory, with a queue for each binding, numbered from 1. It stores each accepted item once, no matter
-/// how many queues it belongs to. Contracts see the current connection, the tag that the broker takes next, and the
-/// queues.
+/// how many queues it belongs to, at least until every queue has had it acknowledged. Contracts see the current
+/// connection, the tag that the broker takes next, and the queues, with all items that they ever held.
 pub struct Broker {
     connection: u64,
     expected: Option<u64>,
-    accepted: Vec<Item>,
+    accepted: Backlog,
     queues: Vec<Queue>,
 }
 
@@ -55,12 +56,12 @@ impl Drop for Broker {
 }
 
 impl Model for Broker {
-    ghost use Rattle.std.specs.Prelude.{map, All};
+    ghost use Rattle.std.specs.Prelude.{map};
     ghost use Rattle.cdc_broker.specs.Broker.{BrokerState};
 
     ghost Value = { BrokerState };
 
-    ghost use Rattle.cdc_broker.specs.Kept.{queue_state, IsInOrder};
+    ghost use Rattle.cdc_broker.specs.Kept.{queue_state, AreServable};
 
     ghost view = { λ broker. record {
       connection = broker.connection;
@@ -68,7 +69,7 @@ impl Model for Broker {
       queues = map (queue_state broker.accepted.items) broker.queues.items;
     } };
 
-    ghost invariant = { λ broker. All (IsInOrder broker.accepted.items) broker.queues.items };
+    ghost invariant = { λ broker. AreServable broker.accepted broker.queues.items };
 }
 
 /// The tag after this one. `None` at the end: 2^64-1 is never a tag.
@@ -82,14 +83,66 @@ fn tag_after(tag: u64) -> Option<u64>
     }
 }
 
-/// Counts an item that is added to the back of the list, in the queues that it belongs to.
-fn count_in(queues: &mut [Queue], item: &Item)
-    requires { All (λ q. q.len < 2 ^ 63) queues.old }
-    ensures { queues.new ≡ map (counting item.now) queues.old }
+/// Counts an item that is added to the back of the list, in the queues that it belongs to. `len` is the list's length
+/// with this item.
+fn count_in(queues: &mut [Queue], item: &Item, len: usize)
+    requires { All (λ q. q.len < 2 ^ 64 - 1) queues.old }
+    ensures { queues.new ≡ map (counting item.now len) queues.old }
 {
     for queue in queues.iter_mut() {
-        queue.count(item);
+        queue.count(item, len);
     }
+}
+
+/// The number of items at the front of a list of this length that no queue asks for again.
+fn done_with(queues: &[Queue], len: usize) -> usize
+    ensures { result ≡ done_with_all len queues.now }
+{
+    let mut least = len;
+    for queue in queues {
+        least = least.min(queue.done_with());
+    }
+    least
+}
+
+/// Lets go of the items that no queue asks for again, if memory is reserved for no further item and they are at least
+/// half of those that are left. Only then are all queues looked at. The error is out of memory.
+fn make_room(accepted: &mut Backlog, queues: &[Queue]) -> Result<(), AllocError>
+    requires { AreServable accepted.old queues.now }
+    ensures items { accepted.new.items ≡ accepted.old.items }
+    ensures gone { OnOk result (accepted.new.gone ≡ gone_after accepted.old queues.now) }
+    ensures servable { AreServable accepted.new queues.now }
+    ensures acknowledged { All (HasAcknowledged accepted.new) queues.now }
+    ensures fits { length accepted.new.items < 2 ^ 64 - 1 }
+{
+    if !accepted.is_full() {
+        return Ok(());
+    }
+    let place = done_with(queues, accepted.len());
+    if accepted.has_half_before(place) {
+        accepted.let_go(place)
+    } else {
+        Ok(())
+    }
+}
+
+/// Adds an item at the back of the list, and counts it in the queues that it belongs to. Which items are let go depends
+/// only on the queues that have an unacknowledged item: no other queue holds back anything. If memory runs out, only
+/// items that no queue asks for again may be let go.
+fn add(accepted: &mut Backlog, queues: &mut [Queue], item: Item) -> Result<(), AllocError>
+    requires { AreServable accepted.old queues.old }
+    ensures items { OnOk result (accepted.new.items ≡ accepted.old.items ++ item ∷ []) }
+    ensures queues { OnOk result (queues.new ≡ map (counting item (length accepted.new.items)) queues.old) }
+    ensures gone { OnOk result (accepted.new.gone ≡ gone_after accepted.old (unfinished queues.old)) }
+    ensures same_items { OnErr result (accepted.new.items ≡ accepted.old.items) }
+    ensures same_queues { OnErr result (queues.new ≡ queues.old) }
+    ensures servable { AreServable accepted.new queues.new }
+{
+    make_room(accepted, queues)?;
+    accepted.reserve()?;
+    count_in(queues, &item, accepted.len() + 1);
+    accepted.push_reserved(item);
+    Ok(())
 }
 
 impl Broker {
@@ -107,7 +160,7 @@ impl Broker {
         Ok(Broker {
             connection: 0,
             expected: None,
-            accepted: Vec::new(alloc),
+            accepted: Backlog::new(alloc),
             queues,
         })
     }
@@ -149,11 +202,18 @@ impl Broker {
         if self.expected != Some(tag) {
             return Ok(Taken::Ignored(Refusal::WrongTag));
         }
-        self.accepted.reserve(1)?;
-        count_in(self.queues.as_mut_slice(), &item);
-        self.accepted.push_reserved(item);
-        self.expected = tag_after(tag);
+        self.accept(tag, item)?;
         Ok(Taken::Accepted)
+    }
+
+    /// Adds an item to the queues that it belongs to, and takes the next tag from then on.
+    fn accept(&mut self, tag: u64, item: Item) -> Result<(), AllocError>
+        ensures ok { OnOk result (self.new ≡ published tag item self.old) }
+        ensures err { OnErr result (self.new ≡ self.old) }
+    {
+        add(&mut self.accepted, self.queues.as_mut_slice(), item)?;
+        self.expected = tag_after(tag);
+        Ok(())
     }
 
     /// Whether queue `i` has an item to deliver next.
@@ -179,9 +239,8 @@ impl Broker {
         ensures accepted { (accepted : List SomeItem) → HasAccepted self.old accepted
             → HasAccepted self.new accepted }
     {
-        let accepted = self.accepted.as_slice();
         let queue = &mut self.queues[i - 1];
-        queue.deliver(alloc, accepted)
+        queue.deliver(alloc, &self.accepted)
     }
 
     /// Acknowledges all positions of queue `i` up to this one. If the cursor is at one of them, it moves past them.
@@ -196,9 +255,8 @@ impl Broker {
         ensures accepted { (accepted : List SomeItem) → HasAccepted self.old accepted
             → HasAccepted self.new accepted }
     {
-        let accepted = self.accepted.as_slice();
         let queue = &mut self.queues[i - 1];
-        queue.ack(accepted, position)
+        queue.ack(&self.accepted, position)
     }
 
     /// Rewinds queue `i` to the first unacknowledged position: everything delivered from there on is delivered again.

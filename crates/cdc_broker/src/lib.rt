@@ -2,7 +2,10 @@
 //! to the queues whose bindings match it. A queue delivers its items and receives acknowledgements.
 #![tactic(auto)]
 
+mod backlog;
 mod broker;
+mod laws;
 mod queue;
 
 pub use broker::{Broker, Refusal, Taken};
+pub use laws::acknowledgement_laws;

@@ -1,10 +1,11 @@
 //! One queue: the items of a shared list that belong to its binding.
 
-ghost use Rattle.std.specs.Prelude.{◌≡◌, ◌+◌, ◌-◌, ◌^◌, ◌<◌, ◌≤◌, IsSome, [], max, nat_lt, not, length, slice_get, IfOk, OnOk, OnErr, if◌then◌else◌};
+ghost use Rattle.std.specs.Prelude.{◌≡◌, ◌+◌, ◌-◌, ◌^◌, ◌<◌, ◌≤◌, IsSome, [], max, min, nat_lt, not, length, slice_get, IfOk, OnOk, OnErr, if◌then◌else◌};
 ghost use Rattle.cdc_match.specs.Queue.{queue, takes_item};
 ghost use Rattle.cdc_broker.specs.Queues.{acknowledged, delivered_event, empty_queue, is_unknown, next_delivery, rewound_queue, with_delivery};
-ghost use Rattle.cdc_broker.specs.Kept.{counting, queue_state, IsInOrder, IsMark};
+ghost use Rattle.cdc_broker.specs.Kept.{counting, queue_state, IsInOrder, IsLeft, IsMark};
 
+use crate::backlog::Backlog;
 use cdc_match::Binding;
 use cdc_message::{Delivery, Item};
 use std::alloc::{AllocError, Global};
@@ -65,13 +66,18 @@ impl Queue {
         }
     }
 
-    /// Counts an item that is added to the back of the list, if it belongs to the queue.
-    pub(crate) fn count(&mut self, item: &Item)
-        requires { self.old.len < 2 ^ 63 }
-        ensures { self.new ≡ counting item.now self.old }
+    /// Counts an item that is added to the back of the list, if it belongs to the queue. `len` is the list's length
+    /// with this item. If the item belongs only to other queues, and this queue has acknowledged all its own, both
+    /// marks move to the end of the list: the queue then holds back no item.
+    pub(crate) fn count(&mut self, item: &Item, len: usize)
+        requires { self.old.len < 2 ^ 64 - 1 }
+        ensures { self.new ≡ counting item.now len self.old }
     {
         if self.wants(item) {
             self.len += 1;
+        } else if self.acked.position == self.len {
+            self.acked.place = len;
+            self.cursor.place = len;
         }
     }
 
@@ -83,17 +89,18 @@ impl Queue {
     }
 
     /// The mark right after the queue's next item after `mark`. There is such an item.
-    fn past_next(&self, accepted: &[Item], mark: Mark) -> Mark
-        requires here { IsMark accepted.now self.now.binding mark }
-        requires further { mark.position < length (queue accepted.now self.now.binding) }
-        ensures mark { IsMark accepted.now self.now.binding result }
+    fn past_next(&self, accepted: &Backlog, mark: Mark) -> Mark
+        requires here { IsMark accepted.now.items self.now.binding mark }
+        requires left { accepted.now.gone ≤ mark.place }
+        requires further { mark.position < length (queue accepted.now.items self.now.binding) }
+        ensures mark { IsMark accepted.now.items self.now.binding result }
         ensures position { result.position ≡ mark.position + 1 }
-        ensures past { 0 < result.place }
-        ensures item { slice_get accepted.now (result.place - 1)
-            ≡ slice_get (queue accepted.now self.now.binding) mark.position }
+        ensures past { mark.place < result.place }
+        ensures item { slice_get accepted.now.items (result.place - 1)
+            ≡ slice_get (queue accepted.now.items self.now.binding) mark.position }
     {
         let mut place = mark.place;
-        while !self.wants(&accepted[place]) {
+        while !self.wants(accepted.item(place)) {
             place += 1;
         }
         Mark {
@@ -107,24 +114,26 @@ impl Queue {
     pub(crate) fn deliver(
         &mut self,
         alloc: Global,
-        accepted: &[Item],
+        accepted: &Backlog,
     ) -> Result<Option<Delivery>, AllocError>
-        requires { IsInOrder accepted.now self.old }
+        requires in_order { IsInOrder accepted.now.items self.old }
+        requires left { IsLeft accepted.now.gone self.old }
         ensures answer { IfOk result (λ delivery. delivery
-            ≡ next_delivery (queue_state accepted.now self.old)) }
-        ensures ok { OnOk result (queue_state accepted.now self.new
-            ≡ with_delivery (next_delivery (queue_state accepted.now self.old))
-            (queue_state accepted.now self.old)) }
+            ≡ next_delivery (queue_state accepted.now.items self.old)) }
+        ensures ok { OnOk result (queue_state accepted.now.items self.new
+            ≡ with_delivery (next_delivery (queue_state accepted.now.items self.old))
+            (queue_state accepted.now.items self.old)) }
         ensures err { OnErr result (self.new ≡ self.old) }
         ensures memory { OnErr result
-            (IsSome (delivered_event (next_delivery (queue_state accepted.now self.old)))) }
-        ensures in_order { IsInOrder accepted.now self.new }
+            (IsSome (delivered_event (next_delivery (queue_state accepted.now.items self.old)))) }
+        ensures in_order { IsInOrder accepted.now.items self.new }
+        ensures left { IsLeft accepted.now.gone self.new }
     {
         if !self.has_next() {
             return Ok(None);
         }
         let next = self.past_next(accepted, self.cursor);
-        let item = accepted[next.place - 1].try_copy(alloc)?;
+        let item = accepted.item(next.place - 1).try_copy(alloc)?;
         self.delivered = self.delivered.max(next.position);
         self.cursor = next;
         Ok(Some(Delivery {
@@ -133,39 +142,55 @@ impl Queue {
         }))
     }
 
-    /// The mark right after the item at this position, or a later one if more items are acknowledged.
-    fn acked_up_to(&self, accepted: &[Item], position: u64) -> Mark
-        requires in_order { IsInOrder accepted.now self.now }
+    /// The mark right after the item at this position, or a later one if more items are acknowledged. If no item of the
+    /// queue follows, the mark is at the end of the list.
+    fn acked_up_to(&self, accepted: &Backlog, position: u64) -> Mark
+        requires in_order { IsInOrder accepted.now.items self.now }
+        requires left { IsLeft accepted.now.gone self.now }
         requires there { position ≤ self.now.len }
-        ensures mark { IsMark accepted.now self.now.binding result }
+        ensures mark { IsMark accepted.now.items self.now.binding result }
         ensures position { result.position ≡ max self.now.acked.position position }
+        ensures left { accepted.now.gone ≤ result.place }
+        ensures at_end { result.position ≡ self.now.len → result.place ≡ length accepted.now.items }
     {
         let mut mark = self.acked;
         while mark.position < position {
             mark = self.past_next(accepted, mark);
+        }
+        if mark.position == self.len {
+            mark.place = accepted.len();
         }
         mark
     }
 
     /// Acknowledges all positions up to this one. Returns false, and changes nothing, if the position wasn't
     /// delivered.
-    pub(crate) fn ack(&mut self, accepted: &[Item], position: u64) -> bool
-        requires { IsInOrder accepted.now self.old }
-        ensures answer { result ≡ not (is_unknown (queue_state accepted.now self.old) position) }
-        ensures state { queue_state accepted.now self.new
-            ≡ (if result then acknowledged position (queue_state accepted.now self.old)
-            else queue_state accepted.now self.old) }
-        ensures in_order { IsInOrder accepted.now self.new }
+    pub(crate) fn ack(&mut self, accepted: &Backlog, position: u64) -> bool
+        requires in_order { IsInOrder accepted.now.items self.old }
+        requires left { IsLeft accepted.now.gone self.old }
+        ensures answer { result ≡ not (is_unknown (queue_state accepted.now.items self.old) position) }
+        ensures state { queue_state accepted.now.items self.new
+            ≡ (if result then acknowledged position (queue_state accepted.now.items self.old)
+            else queue_state accepted.now.items self.old) }
+        ensures in_order { IsInOrder accepted.now.items self.new }
+        ensures left { IsLeft accepted.now.gone self.new }
     {
         if position == 0 || position > self.delivered {
             return false;
         }
         let acked = self.acked_up_to(accepted, position);
         self.acked = acked;
-        if self.cursor.position < acked.position {
+        if self.cursor.position <= acked.position {
             self.cursor = acked;
         }
         true
+    }
+
+    /// The number of items at the front of the list that the queue never asks for again.
+    pub(crate) fn done_with(&self) -> usize
+        ensures { result ≡ min self.now.acked.place self.now.cursor.place }
+    {
+        self.acked.place.min(self.cursor.place)
     }
 
     /// Rewinds to the first unacknowledged position.

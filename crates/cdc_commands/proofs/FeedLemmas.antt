@@ -1,16 +1,16 @@
--- Queues of a broker that are filled, one item after another, and taken, one delivery after another.
-use Rattle.std.proofs.Common.{◌≡◌, ℕ, ◌+◌, ◌-◌, ◌<◌, ◌≤◌, Bool, true, false, List, [], ◌∷◌, ◌++◌, Option, Some, None, refl, sym, ap, ap₂, ◌∙◌, map, length, take, append-nil, arith}
-use Rattle.std.specs.Prelude.{slice_get, slice_set, option_map, if◌then◌else◌}
-use Rattle.std.proofs.lemmas.Bool.{lt-ltb, false≢true}
-use Rattle.std.proofs.lemmas.List.{set-get_or, get_or-set_same, set-set, take_all, map_push}
+-- A broker to which items are published, and subscribers that take each of them before the next one is published.
+use Rattle.std.proofs.Common.{◌≡◌, ℕ, ◌+◌, ◌-◌, ◌<◌, ◌≤◌, Bool, true, false, List, [], ◌∷◌, ◌++◌, Option, Some, None, refl, sym, ap, ap₂, ◌∙◌, subst, map, length, take, max, append-nil, arith, rules}
+use Rattle.std.specs.Prelude.{slice_get, slice_set, option_map, unwrap_or, ◌==◌, ◌||◌, nat_lt, if◌then◌else◌}
+use Rattle.std.proofs.lemmas.Bool.{lt-ltb, le-ltb, false≢true}
+use Rattle.std.proofs.lemmas.List.{length-map, length-set, length_push, map_push, take_all}
+use Rattle.std.proofs.lemmas.List.Elements.{filter-append}
 use Rattle.std.proofs.lemmas.List.Sums.{fold-append}
-use Rattle.std.proofs.lemmas.Option.{unwrap_or-slice_get}
-use Rattle.cdc_broker.specs.Broker.{BrokerState, connected, empty_broker, published, queue_of, takes_packet, with_queue, nobody}
-use Rattle.cdc_broker.specs.Cursors.{Cursor, first_cursor}
+use Rattle.std.proofs.lemmas.Option.{same_Some, slice_get_past}
+use Rattle.cdc_broker.specs.Broker.{BrokerState, connected, empty_broker, published, queue_of, takes_packet, nobody}
 use Rattle.cdc_broker.specs.Packets.{tag_after}
-use Rattle.cdc_broker.specs.Queues.{QueueState, empty_queue, next_delivery, queued, with_delivery, with_item}
+use Rattle.cdc_broker.specs.Queues.{QueueState, empty_queue, next_delivery, queued, with_item}
 use Rattle.cdc_match.specs.Arguments.{Arguments}
-use Rattle.cdc_match.specs.Queue.{takes_item}
+use Rattle.cdc_match.specs.Queue.{queue, takes_item}
 use Rattle.cdc_message.specs.declared.items.Delivery.{Delivery}
 use Rattle.cdc_message.specs.declared.items.Item.{Item}
 use Rattle.cdc_message.specs.declared.items.Item.TheVariants.{Event as OfEvent, EndMark}
@@ -19,158 +19,263 @@ use Rattle.cdc_types.specs.declared.events.Event.{Event}
 use Rattle.cdc_types.specs.Widths.{max_64}
 use Rattle.cdc_subscriber.specs.Reception.{nothing, next, kept_of}
 use Rattle.cdc_subscriber.specs.SubscriberState.{SubscriberState}
-use Rattle.cdc_commands.specs.Feeds.{receiving}
-use Rattle.cdc_commands.specs.Private.Takers.{TakesDelivery, receiving_delivery}
-use Rattle.cdc_commands.specs.Queues.{filled, filled_queues}
-use Rattle.cdc_commands.proofs.FoundElements.{take_found}
-use Rattle.std.proofs.lemmas.List.Elements.{filter-append}
+use Rattle.cdc_commands.specs.Feeds.{kept_by, receiving}
+use Rattle.cdc_commands.specs.Private.Takers.{AreFed, TakesDelivery, caught_up, receiving_delivery, with_taken}
+use Rattle.cdc_commands.proofs.FoundElements.{found_at, take_found}
+use Rattle.cdc_commands.proofs.HalfwayLemmas.{halfway, halfway-all, halfway-get, halfway-length, halfway-set}
 
--- a tag that isn't near the greatest number has one after it
-pub tag_after_small : (tag : ℕ) → tag + 1 < max_64 → tag_after tag ≡ Some (tag + 1)
-tag_after_small tag small = ap (λ b. if b then Some (tag + 1) else None) (lt-ltb (tag + 1) max_64 small)
+-- ---- one queue and its subscriber, with one more item
 
--- one more item of a queue
-filled_if : (b : Bool) (item : Item) (q : QueueState)
-    → with_item (if b then Some item else None) q ≡ record q { items = q.items ++ (if b then item ∷ [] else []) }
-filled_if true item q = refl
-filled_if false item q = ap (λ (items : List Item). record q { items = items }) (sym (append-nil q.items))
+-- the item, if the queue takes it
+abbrev own : Bool → Item → List Item
+own takes item = if takes then item ∷ [] else []
 
--- a queue that was filled with some items and then takes one more is filled with all of them
-filled-push : (items : List Item) (item : Item) (binding : Arguments)
-    → queued item (filled items binding) ≡ filled (items ++ item ∷ []) binding
-filled-push items item binding =
-    filled_if (takes_item binding item) item (filled items binding)
-    ∙ ap (λ (xs : List Item). record (empty_queue binding) { items = xs })
+-- a queue that holds these items, all of which were delivered and acknowledged
+abbrev done_with : Arguments → List Item → QueueState
+done_with binding items = record {
+  binding = binding;
+  items = items;
+  cursor = record { next = length items + 1; acked = length items };
+  delivered = length items;
+}
+
+-- the queue when it takes one more item, or doesn't
+abbrev behind : Arguments → List Item → Bool → Item → QueueState
+behind binding items takes item = with_item (if takes then Some item else None) (done_with binding items)
+
+-- what it then delivers
+abbrev due : List Item → Bool → Item → Option Delivery
+due items takes item = if takes then Some (record { position = length items + 1; item = item }) else None
+
+-- the item at the back
+slice_get_last : (items : List Item) (item : Item) → slice_get (items ++ item ∷ []) (length items) ≡ Some item
+slice_get_last [] item = refl
+slice_get_last (x ∷ rest) item = slice_get_last rest item
+
+-- that item is delivered next, or nothing
+delivers : (binding : Arguments) (items : List Item) (takes : Bool) (item : Item)
+    → next_delivery (behind binding items takes item) ≡ due items takes item
+delivers binding items true item =
+    let place : length items + 1 - 1 ≡ length items = omega arith in
+    ap (λ n. option_map (λ (x : Item). record { position = length items + 1; item = x })
+    (slice_get (items ++ item ∷ []) n)) place
+    ∙ ap (option_map (λ (x : Item). record { position = length items + 1; item = x })) (slice_get_last items item)
+delivers binding items false item =
+    ap (option_map (λ (x : Item). record { position = length items + 1; item = x }))
+    (slice_get_past items (length items + 1 - 1) (omega arith))
+
+-- when it is taken and acknowledged, the queue is done with all of its items
+takes_due : (binding : Arguments) (items : List Item) (takes : Bool) (item : Item)
+    → with_taken (due items takes item) (behind binding items takes item) ≡ done_with binding (items ++ own takes item)
+takes_due binding items true item =
+    let n = length items in
+    let count : length (items ++ item ∷ []) ≡ n + 1 = length_push items item in
+    let some : (n + 1 == 0) ≡ false = search rules in
+    let given : nat_lt (max n (n + 1)) (n + 1) ≡ false = le-ltb (max n (n + 1)) (n + 1) (omega arith) in
+    let known : ((n + 1 == 0) || nat_lt (max n (n + 1)) (n + 1)) ≡ false = ap₂ (λ a b. a || b) some given in
+    let queue_at : ℕ → ℕ → ℕ → QueueState = λ next acked delivered. record {
+      binding = binding;
+      items = items ++ item ∷ [];
+      cursor = record { next = next; acked = acked };
+      delivered = delivered;
+    } in
+    let all : max n (n + 1) ≡ length (items ++ item ∷ []) = omega (arith, count) in
+    let past : max (n + 1 + 1) (max n (n + 1) + 1) ≡ length (items ++ item ∷ []) + 1 = omega (arith, count) in
+    ap (λ b. if b then queue_at (n + 1 + 1) n (max n (n + 1))
+    else queue_at (max (n + 1 + 1) (max n (n + 1) + 1)) (max n (n + 1)) (max n (n + 1))) known
+    ∙ ap₂ (λ next acked. queue_at next acked acked) past all
+takes_due binding items false item = ap (done_with binding) (sym (append-nil items))
+
+-- the subscriber receives it, or nothing
+receives_due : (items : List Item) (takes : Bool) (item : Item)
+    → receiving_delivery (due items takes item) (receiving items) ≡ receiving (items ++ own takes item)
+receives_due items true item = sym (fold-append next nothing items (item ∷ []))
+receives_due items false item = ap receiving (sym (append-nil items))
+
+-- what is delivered of a queue that has one item more
+next_of : (items : List Item) (item : Item) (binding : Arguments)
+    → next_delivery (queued item (caught_up items binding)) ≡ due (queue items binding) (takes_item binding item) item
+next_of items item binding = delivers binding (queue items binding) (takes_item binding item) item
+
+-- the queue catches up
+caught_up-more : (items : List Item) (item : Item) (binding : Arguments)
+    → with_taken (next_delivery (queued item (caught_up items binding))) (queued item (caught_up items binding))
+    ≡ caught_up (items ++ item ∷ []) binding
+caught_up-more items item binding =
+    ap (λ (d : Option Delivery). with_taken d (queued item (caught_up items binding))) (next_of items item binding)
+    ∙ takes_due binding (queue items binding) (takes_item binding item) item
+    ∙ ap (done_with binding) (sym (filter-append (takes_item binding) items (item ∷ [])))
+
+-- what its subscriber then keeps, if this is the queue
+abbrev kept_next : List Item → Arguments → QueueState → SubscriberState
+kept_next items binding q = kept_of (receiving_delivery (next_delivery q) (receiving (queue items binding)))
+
+-- the subscriber catches up too
+kept_by-more : (items : List Item) (item : Item) (binding : Arguments)
+    → kept_next items binding (queued item (caught_up items binding)) ≡ kept_by (items ++ item ∷ []) binding
+kept_by-more items item binding =
+    ap (λ (d : Option Delivery). kept_of (receiving_delivery d (receiving (queue items binding))))
+    (next_of items item binding)
+    ∙ ap kept_of (receives_due (queue items binding) (takes_item binding item) item)
+    ∙ ap (λ (own : List Item). kept_of (receiving own))
     (sym (filter-append (takes_item binding) items (item ∷ [])))
 
--- one more item of all queues
-pub filled_queues-push : (items : List Item) (item : Item) (bindings : List Arguments)
-    → map (queued item) (filled_queues items bindings) ≡ filled_queues (items ++ item ∷ []) bindings
-filled_queues-push items item [] = refl
-filled_queues-push items item (b ∷ rest) =
-    ap₂ (λ q qs. q ∷ qs) (filled-push items item b) (filled_queues-push items item rest)
+-- ---- all queues and their subscribers, one after another
 
--- a broker to which the first events were published
-pub record IsFilled (emitted : List Event) (bindings : List Arguments) (place : ℕ) (broker : BrokerState) : Type 0 where
+-- a broker to which one more item was published, and subscribers of which the first have taken it
+pub record AreHalfFed (bindings : List Arguments) (items : List Item) (item : Item) (place : ℕ) (broker : BrokerState)
+    (subscribers : List SubscriberState) : Type 0 where
+  pub queues : broker.queues
+      ≡ halfway place (caught_up (items ++ item ∷ [])) (λ binding. queued item (caught_up items binding)) bindings
+  pub kept : subscribers ≡ halfway place (kept_by (items ++ item ∷ [])) (kept_by items) bindings
+
+-- what a loop over the subscribers keeps
+pub record IsFeeding (tag : ℕ) (item : Item) (place : ℕ) (old now : BrokerState) (before after : List SubscriberState)
+    : Type 0 where
+  pub connected : now.connection ≡ old.connection
+  pub next : now.expected ≡ tag_after tag
+  pub queues : length now.queues ≡ length old.queues
+  pub subscribers : length after ≡ length before
+  pub fed : (bindings : List Arguments) (items : List Item) → AreFed bindings items old before
+      → AreHalfFed bindings items item place now after
+
+-- one more item of all queues
+waiting : (items : List Item) (item : Item) (bindings : List Arguments)
+    → map (queued item) (map (caught_up items) bindings)
+    ≡ map (λ binding. queued item (caught_up items binding)) bindings
+waiting items item [] = refl
+waiting items item (b ∷ rest) = ap (λ qs. queued item (caught_up items b) ∷ qs) (waiting items item rest)
+
+-- the item was published, and none has taken it
+pub IsFeeding-none : (tag : ℕ) (item : Item) (old now : BrokerState) (subscribers : List SubscriberState)
+    → now ≡ published tag item old → IsFeeding tag item 0 old now subscribers subscribers
+IsFeeding-none tag item old now subscribers is = record {
+  connected = ap (λ (s : BrokerState). s.connection) is;
+  next = ap (λ (s : BrokerState). s.expected) is;
+  queues = ap (λ (s : BrokerState). length s.queues) is ∙ length-map old.queues (queued item);
+  subscribers = refl;
+  fed = λ bindings items fed. record {
+    queues = ap (λ (s : BrokerState). s.queues) is ∙ ap (map (queued item)) fed.queues ∙ waiting items item bindings;
+    kept = fed.kept;
+  };
+}
+
+-- one more subscriber takes it
+pub IsFeeding-more : (tag : ℕ) (item : Item) (place : ℕ) (old now new : BrokerState)
+    (before subscribers after : List SubscriberState) (one taken : SubscriberState)
+    → place < length subscribers → slice_get subscribers place ≡ Some one
+    → IsFeeding tag item place old now before subscribers
+    → TakesDelivery (place + 1) now new one taken
+    → after ≡ slice_set subscribers place taken → IsFeeding tag item (place + 1) old new before after
+IsFeeding-more tag item place old now new before subscribers after one taken inside here so_far takes set = record {
+  connected = ap (λ (s : BrokerState). s.connection) takes.0 ∙ so_far.connected;
+  next = ap (λ (s : BrokerState). s.expected) takes.0 ∙ so_far.next;
+  queues = ap (λ (s : BrokerState). length s.queues) takes.0 ∙ length-set now.queues (place + 1 - 1) _ ∙ so_far.queues;
+  subscribers = ap length set ∙ length-set subscribers place taken ∙ so_far.subscribers;
+  fed = λ bindings items fed. one_more bindings items (so_far.fed bindings items fed);
+}
+  where
+    one_more : (bindings : List Arguments) (items : List Item)
+        → AreHalfFed bindings items item place now subscribers
+        → AreHalfFed bindings items item (place + 1) new after
+    one_more bindings items half =
+        let all : List Item = items ++ item ∷ [] in
+        let late : Arguments → QueueState = λ binding. queued item (caught_up items binding) in
+        let many : length subscribers ≡ length bindings =
+        ap length half.kept ∙ halfway-length place (kept_by all) (kept_by items) bindings in
+        let found = found_at bindings place (omega (arith, inside, many)) in
+        let binding : Arguments = found.0 in
+        let place' : place + 1 - 1 ≡ place = omega arith in
+        let this : queue_of now (place + 1) ≡ late binding =
+        ap₂ (λ (qs : List QueueState) (k : ℕ). unwrap_or (slice_get qs k) (empty_queue nobody)) half.queues place'
+        ∙ ap (λ (q : Option QueueState). unwrap_or q (empty_queue nobody))
+        (halfway-get place (caught_up all) late bindings binding found.1) in
+        let whose : one ≡ kept_by items binding =
+        same_Some one (kept_by items binding)
+        (sym here ∙ ap (λ (kept : List SubscriberState). slice_get kept place) half.kept
+        ∙ halfway-get place (kept_by all) (kept_by items) bindings binding found.1) in
+        record {
+          queues = ap (λ (s : BrokerState). s.queues) takes.0
+              ∙ ap₂ (λ (qs : List QueueState) (k : ℕ).
+              slice_set qs k (with_taken (next_delivery (queue_of now (place + 1))) (queue_of now (place + 1))))
+              half.queues place'
+              ∙ ap (λ (q : QueueState). slice_set (halfway place (caught_up all) late bindings) place
+              (with_taken (next_delivery q) q)) this
+              ∙ ap (slice_set (halfway place (caught_up all) late bindings) place) (caught_up-more items item binding)
+              ∙ halfway-set place (caught_up all) late bindings binding found.1;
+          kept = set
+              ∙ ap₂ (λ (kept : List SubscriberState) (x : SubscriberState). slice_set kept place x) half.kept
+              (takes.1 (receiving (queue items binding)) whose ∙ ap (kept_next items binding) this
+              ∙ kept_by-more items item binding)
+              ∙ halfway-set place (kept_by all) (kept_by items) bindings binding found.1;
+        }
+
+-- all have taken it
+pub AreFed-more : (tag : ℕ) (item : Item) (place : ℕ) (old now : BrokerState) (before after : List SubscriberState)
+    → length after ≤ place → IsFeeding tag item place old now before after
+    → (bindings : List Arguments) (items : List Item) → AreFed bindings items old before
+    → AreFed bindings (items ++ item ∷ []) now after
+AreFed-more tag item place old now before after past so_far bindings items fed =
+    let half = so_far.fed bindings items fed in
+    let all : List Item = items ++ item ∷ [] in
+    let many : length after ≡ length bindings =
+    ap length half.kept ∙ halfway-length place (kept_by all) (kept_by items) bindings in
+    let whole : length bindings ≤ place = omega (arith, past, many) in
+    record {
+      queues = half.queues
+          ∙ halfway-all place (caught_up all) (λ binding. queued item (caught_up items binding)) bindings whole;
+      kept = half.kept ∙ halfway-all place (kept_by all) (kept_by items) bindings whole;
+    }
+
+-- ---- all items, one after another
+
+-- a tag that isn't near the greatest number has one after it
+tag_after_small : (tag : ℕ) → tag + 1 < max_64 → tag_after tag ≡ Some (tag + 1)
+tag_after_small tag small = ap (λ b. if b then Some (tag + 1) else None) (lt-ltb (tag + 1) max_64 small)
+
+-- the first events were published, and all subscribers have taken them
+pub record AreFedTo (emitted : List Event) (bindings : List Arguments) (place : ℕ) (broker : BrokerState)
+    (subscribers : List SubscriberState) : Type 0 where
   pub connection : broker.connection ≡ 1
   pub expected : broker.expected ≡ Some (place + 1)
-  pub queues : broker.queues ≡ filled_queues (map OfEvent (take place emitted)) bindings
+  pub fed : AreFed bindings (map OfEvent (take place emitted)) broker subscribers
 
 -- under the first connection, before anything is published
-pub IsFilled-connected : (emitted : List Event) (bindings : List Arguments) (b : Bool) (s s' : BrokerState)
-    → s ≡ empty_broker bindings
-    → b ≡ takes_packet s (Connect 1) → s' ≡ (if b then connected 1 s else s) → IsFilled emitted bindings 0 s'
-IsFilled-connected emitted bindings true s s' new taken is = record {
+pub AreFedTo-none : (emitted : List Event) (bindings : List Arguments) (b : Bool) (s s' : BrokerState)
+    (subscribers : List SubscriberState)
+    → s ≡ empty_broker bindings → b ≡ takes_packet s (Connect 1) → s' ≡ (if b then connected 1 s else s)
+    → subscribers ≡ map (kept_by []) bindings → AreFedTo emitted bindings 0 s' subscribers
+AreFedTo-none emitted bindings true s s' subscribers new taken is none = record {
   connection = ap (λ (x : BrokerState). x.connection) is;
   expected = ap (λ (x : BrokerState). x.expected) is;
-  queues = ap (λ (x : BrokerState). x.queues) is ∙ ap (λ (x : BrokerState). x.queues) new;
+  fed = record {
+    queues = ap (λ (x : BrokerState). x.queues) is ∙ ap (λ (x : BrokerState). x.queues) new;
+    kept = none;
+  };
 }
-IsFilled-connected emitted bindings false s s' new taken is =
+AreFedTo-none emitted bindings false s s' subscribers new taken is none =
     absurd (false≢true (taken ∙ ap (λ (x : BrokerState). takes_packet x (Connect 1)) new))
 
--- one more item was published
-published-queues : (tag : ℕ) (item : Item) (items : List Item) (bindings : List Arguments) (s s' : BrokerState)
-    → s.queues ≡ filled_queues items bindings → s' ≡ published tag item s
-    → s'.queues ≡ filled_queues (items ++ item ∷ []) bindings
-published-queues tag item items bindings s s' before is =
-    ap (λ (x : BrokerState). x.queues) is ∙ ap (map (queued item)) before ∙ filled_queues-push items item bindings
-
 -- one more event
-pub IsFilled-more : (emitted : List Event) (bindings : List Arguments) (place : ℕ) (event : Event) (s s' : BrokerState)
-    → place + 2 < max_64 → IsFilled emitted bindings place s → slice_get emitted place ≡ Some event
-    → s' ≡ published (place + 1) (OfEvent event) s → IsFilled emitted bindings (place + 1) s'
-IsFilled-more emitted bindings place event s s' small filled found is = record {
-  connection = ap (λ (x : BrokerState). x.connection) is ∙ filled.connection;
-  expected = ap (λ (x : BrokerState). x.expected) is ∙ tag_after_small (place + 1) (omega arith);
-  queues = published-queues (place + 1) (OfEvent event) (map OfEvent (take place emitted)) bindings s s' filled.queues is
-      ∙ ap (λ items. filled_queues items bindings) (sym (map_push OfEvent (take place emitted) event)
-      ∙ ap (map OfEvent) (sym (take_found emitted place event found)));
+pub AreFedTo-more : (emitted : List Event) (bindings : List Arguments) (place : ℕ) (event : Event)
+    (s : BrokerState) (subscribers : List SubscriberState)
+    → place + 2 < max_64 → slice_get emitted place ≡ Some event
+    → s.connection ≡ 1 → s.expected ≡ tag_after (place + 1)
+    → AreFed bindings (map OfEvent (take place emitted) ++ OfEvent event ∷ []) s subscribers
+    → AreFedTo emitted bindings (place + 1) s subscribers
+AreFedTo-more emitted bindings place event s subscribers small found connection next fed = record {
+  connection = connection;
+  expected = next ∙ tag_after_small (place + 1) (omega arith);
+  fed = subst (λ (items : List Item). AreFed bindings items s subscribers)
+      (sym (map_push OfEvent (take place emitted) event)
+      ∙ ap (map OfEvent) (sym (take_found emitted place event found))) fed;
 }
 
--- the end mark, after all events
-pub queues_whole : (emitted : List Event) (bindings : List Arguments) (place tag : ℕ) (s s' : BrokerState)
-    → length emitted ≤ place
-    → IsFilled emitted bindings place s → s' ≡ published tag EndMark s
-    → s'.queues ≡ filled_queues (map OfEvent emitted ++ EndMark ∷ []) bindings
-queues_whole emitted bindings place tag s s' all filled is =
-    published-queues tag EndMark (map OfEvent (take place emitted)) bindings s s' filled.queues is
-    ∙ ap (λ xs. filled_queues (map OfEvent xs ++ EndMark ∷ []) bindings) (take_all place emitted all)
-
--- the queue that was put into its place
-pub queue_of-with_queue : (s : BrokerState) (i : ℕ) (q : QueueState) → i - 1 < length s.queues
-    → queue_of (with_queue i q s) i ≡ q
-queue_of-with_queue s i q inside =
-    unwrap_or-slice_get (slice_set s.queues (i - 1) q) (i - 1) (empty_queue nobody)
-    ∙ get_or-set_same s.queues (i - 1) q (empty_queue nobody) inside
-
--- a queue put back as it was changes nothing: so a broker is before anything is taken
-pub with_queue_same : (s : BrokerState) (i : ℕ) → with_queue i (queue_of s i) s ≡ s
-with_queue_same s i = ap (λ (qs : List QueueState). record s { queues = qs })
-    (ap (λ q. slice_set s.queues (i - 1) q) (unwrap_or-slice_get s.queues (i - 1) (empty_queue nobody))
-    ∙ set-get_or s.queues (i - 1) (empty_queue nobody))
-
--- of a queue that changes twice the later state counts
-pub with_queue_twice : (s : BrokerState) (i : ℕ) (p q : QueueState)
-    → with_queue i q (with_queue i p s) ≡ with_queue i q s
-with_queue_twice s i p q = ap (λ (qs : List QueueState). record s { queues = qs }) (set-set s.queues (i - 1) p q)
-
--- a subscriber that has taken the first items of a queue
-pub record IsTaking (i counter : ℕ) (old now : BrokerState) (subscriber : SubscriberState) : Type 0 where
-  pub queue : QueueState
-  pub now_is : now ≡ with_queue i queue old
-  pub items : queue.items ≡ (queue_of old i).items
-  pub cursor : queue.cursor.next ≡ counter + 1
-  pub reception : subscriber ≡ kept_of (receiving (take counter (queue_of old i).items))
-
--- nothing was taken yet, and nothing received
-pub IsTaking-none : (i : ℕ) (old : BrokerState) (subscriber : SubscriberState) → (queue_of old i).cursor ≡ first_cursor
-    → subscriber ≡ kept_of nothing
-    → IsTaking i 0 old old subscriber
-IsTaking-none i old subscriber untaken new = record {
-  queue = queue_of old i;
-  now_is = sym (with_queue_same old i);
-  items = refl;
-  cursor = ap (λ (x : Cursor). x.next) untaken;
-  reception = new;
-}
-
--- what is delivered next, if an item is at that place
-next_at : (q : QueueState) (counter : ℕ) (item : Item) → q.cursor.next ≡ counter + 1
-    → slice_get q.items counter ≡ Some item
-    → next_delivery q ≡ Some (record { position = q.cursor.next; item = item })
-next_at q counter item at found =
-    let place : q.cursor.next - 1 ≡ counter = omega (arith, at) in
-    ap (λ n. option_map (λ (x : Item). record { position = q.cursor.next; item = x }) (slice_get q.items n)) place
-    ∙ ap (option_map (λ (x : Item). record { position = q.cursor.next; item = x })) found
-
--- one more item is received
-receiving-push : (items : List Item) (item : Item) → receiving (items ++ item ∷ []) ≡ next (receiving items) item
-receiving-push items item = fold-append next nothing items (item ∷ [])
-
--- one more item is taken off the queue, and its subscriber has received one more
-pub IsTaking-more : (i counter : ℕ) (old now new : BrokerState) (before after : SubscriberState) (item : Item)
-    → i - 1 < length old.queues
-    → IsTaking i counter old now before → slice_get (queue_of old i).items counter ≡ Some item
-    → TakesDelivery i now new before after → IsTaking i (counter + 1) old new after
-IsTaking-more i counter old now new before after item inside taking found takes =
-    let q = taking.queue in
-    let this : queue_of now i ≡ q = ap (λ s. queue_of s i) taking.now_is ∙ queue_of-with_queue old i q inside in
-    let there : slice_get q.items counter ≡ Some item = ap (λ xs. slice_get xs counter) taking.items ∙ found in
-    let given : next_delivery (queue_of now i) ≡ Some (record { position = q.cursor.next; item = item }) =
-    ap next_delivery this ∙ next_at q counter item taking.cursor there in
-    record {
-      queue = with_delivery (Some (record { position = q.cursor.next; item = item })) q;
-      now_is = takes.0
-          ∙ ap₂ (λ (d : Option Delivery) (x : QueueState). with_queue i (with_delivery d x) now) given this
-          ∙ ap (λ (s : BrokerState).
-          with_queue i (with_delivery (Some (record { position = q.cursor.next; item = item })) q) s)
-          taking.now_is
-          ∙ with_queue_twice old i q _;
-      items = taking.items;
-      cursor = ap (λ n. n + 1) taking.cursor;
-      reception = takes.1 (receiving (take counter (queue_of old i).items)) taking.reception
-          ∙ ap (λ (d : Option Delivery). kept_of (receiving_delivery d (receiving (take counter (queue_of old i).items))))
-          given
-          ∙ ap kept_of (sym (receiving-push (take counter (queue_of old i).items) item))
-          ∙ ap (λ xs. kept_of (receiving xs)) (sym (take_found (queue_of old i).items counter item found));
-    }
+-- and the end mark, after all events
+pub AreFed-whole : (emitted : List Event) (bindings : List Arguments) (place : ℕ) (s : BrokerState)
+    (subscribers : List SubscriberState) → length emitted ≤ place
+    → AreFed bindings (map OfEvent (take place emitted) ++ EndMark ∷ []) s subscribers
+    → subscribers ≡ map (kept_by (map OfEvent emitted ++ EndMark ∷ [])) bindings
+AreFed-whole emitted bindings place s subscribers all fed =
+    fed.kept
+    ∙ ap (λ events. map (kept_by (map OfEvent events ++ EndMark ∷ [])) bindings) (take_all place emitted all)

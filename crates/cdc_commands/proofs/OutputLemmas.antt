@@ -1,9 +1,10 @@
 -- What a command writes of what it makes of its input.
-use Rattle.std.proofs.Common.{◌≡◌, ◌∙◌, ℕ, List, Some, None, Ok, Err, sym, subst, inl, inr}
-use Rattle.std.specs.Prelude.{Option, Result, IfErr, IfOk, IfSome, IsSomeAnd, option_map}
+use Rattle.std.proofs.Common.{◌≡◌, ◌∙◌, ℕ, List, [], Some, None, Ok, Err, sym, subst, inl, inr}
+use Rattle.std.specs.Prelude.{Option, Result, IfErr, IfOk, IfSome, IsSomeAnd}
 use Rattle.cdc_script.specs.Scripts.{script_of}
 use Rattle.cdc_script.specs.StepFiles.{acts_of}
 use Rattle.cdc_script.specs.declared.faults.ScriptFault.{ScriptFault}
+use Rattle.cdc_script.specs.declared.faults.Span.{Span}
 use Rattle.cdc_script.specs.declared.scripts.Script.{Script}
 use Rattle.cdc_script.specs.declared.step_files.Act.{Act}
 use Rattle.cdc_world.specs.declared.steps.StepError.{StepError}
@@ -15,17 +16,21 @@ use Rattle.cdc_commands.specs.declared.faults.ProgramFault.{ProgramFault}
 use Rattle.cdc_commands.specs.declared.faults.ProgramFault.TheVariants as fault
 use Rattle.cdc_commands.specs.declared.output.Output.{Output}
 use Rattle.cdc_commands.specs.BookReports.{AreBatchesOf, AreParsedFrom}
+use Rattle.cdc_commands.specs.Checked.{IsGoodStepFile, ValidatesFiles}
+use Rattle.cdc_commands.specs.FaultWords.{IsParsedAs, PrintsAtWord, bytes_at}
 use Rattle.cdc_commands.specs.Outcomes.{IsPrinted, IsReadFault, IsSimulationFault, IsWriteFault, MayFailScript, Outcome, PrintsFailure, Writes, ending_of, outcome_of, refusal_ending}
-use Rattle.cdc_commands.specs.Simulated.{PrintsPlan, StatesPlan, SimulationInput, ReportsPlan}
+use Rattle.cdc_commands.specs.Printed.{PrintsScript}
+use Rattle.cdc_commands.specs.QueuePrinted.{AnswersQueue, PrintsQueue}
+use Rattle.cdc_commands.specs.Simulated.{IsGoodScript, PrintsPlan, StatesPlan, SimulationInput, ReportsPlan, of_acts, of_files}
 use Rattle.cdc_commands.specs.Simulations.{Plan}
 
 -- a command writes what it made of its input, or why it made nothing
-pub writes_made : (prints PrintsFault : Ending → List ℕ → Type 0) (old new : Option (List ℕ))
-    (made : Result Output ProgramFault) (ending : Ending)
+pub writes_made : (prints : Ending → List ℕ → Type 0) (PrintsFault : List ℕ → Ending → List ℕ → Type 0)
+    (old new : Option (List ℕ)) (made : Result Output ProgramFault) (ending : Ending)
     → IfOk made (λ output. IsPrinted old new (outcome_of output) ending)
     → IfErr made (λ why. PrintsFailure PrintsFault old new why ending)
     → IfOk made (λ output. prints output.ending output.text.items)
-    → IfErr made (λ why. (line : List ℕ) → PrintsFault (Failed why) line → prints (Failed why) line)
+    → IfErr made (λ why. (line : List ℕ) → PrintsFault [] (Failed why) line → prints (Failed why) line)
     → Writes prints old new ending
 writes_made prints PrintsFault old new (Ok output) ending (inl failed) fault is fails = inl failed
 writes_made prints PrintsFault old new (Ok output) ending (inr text) fault is fails =
@@ -60,7 +65,7 @@ printed_read old new wished ending (inl failed) read = absurd (write_no_read end
 printed_read old new wished ending (inr written) read = subst IsReadFault written.0 read
 
 -- so does a command that prints what it made of its input, or why it made nothing
-pub read_before : (PrintsFault : Ending → List ℕ → Type 0) (old new : Option (List ℕ))
+pub read_before : (PrintsFault : List ℕ → Ending → List ℕ → Type 0) (old new : Option (List ℕ))
     (made : Result Output ProgramFault) (ending : Ending)
     → IfOk made (λ output. IsPrinted old new (outcome_of output) ending)
     → IfErr made (λ why. PrintsFailure PrintsFault old new why ending)
@@ -78,8 +83,9 @@ parsed_printed bytes old new wished ending None (inl failed) none = λ done. sub
 parsed_printed bytes old new wished ending None (inr written) none = λ done. none (sym written.0 ∙ done)
 
 -- a command that failed has none
-pub none_parsed : (bytes old new : Option (List ℕ)) (PrintsFault : Ending → List ℕ → Type 0) (why : ProgramFault)
-    (ending : Ending) → PrintsFailure PrintsFault old new why ending → AreParsedFrom bytes ending None
+pub none_parsed : (bytes old new : Option (List ℕ)) (PrintsFault : List ℕ → Ending → List ℕ → Type 0)
+    (why : ProgramFault) (ending : Ending) → PrintsFailure PrintsFault old new why ending
+    → AreParsedFrom bytes ending None
 none_parsed bytes old new PrintsFault why ending printed =
     parsed_printed bytes old new (record { text = printed.0; ending = Failed why }) ending None printed.1.1
     (λ done. let no : Failed why ≡ Done = done in cc)
@@ -117,83 +123,211 @@ may_fail fault.SessionsExhausted is = absurd is
 may_fail fault.StartNotAllowed is = absurd is
 may_fail fault.NotOneSystem is = absurd is
 
+-- for whatever is printed of words
+module _ (Prints : List ℕ → List ℕ → Type 0) where
+  -- what is printed for a word is printed if the file isn't known
+  at_some_word : (file : Option (List ℕ)) (span : Span) (printed : List ℕ)
+      → PrintsAtWord Prints file span printed → PrintsAtWord Prints None span printed
+  at_some_word None span printed prints = prints
+  at_some_word (Some bytes) span printed prints = (bytes_at bytes span, prints)
+
+  -- what is printed for the word of a text is printed for that of all its bytes
+  pub at_same_word : {A : Type 0} (parse : List ℕ → Result A ScriptFault) (text : List ℕ) (bytes : Option (List ℕ))
+      (at : ScriptFault) (printed : List ℕ) → IfSome bytes (IsParsedAs parse text) → parse text ≡ Err at
+      → PrintsAtWord Prints (Some text) at.word printed → PrintsAtWord Prints bytes at.word printed
+  at_same_word parse text None at printed same bad prints = (bytes_at text at.word, prints)
+  at_same_word parse text (Some all) at printed same bad prints =
+      subst (λ (word : List ℕ). Prints word printed) (same.1 at bad) prints
+
+-- a text of which nothing is known, or which is parsed so, has this fault
+pub same_fault : {A : Type 0} (parse : List ℕ → Result A ScriptFault) (text : List ℕ) (bytes : Option (List ℕ))
+    (at : ScriptFault) → IfSome bytes (IsParsedAs parse text) → parse text ≡ Err at
+    → IfSome bytes (λ all. parse all ≡ Err at)
+same_fault parse text None at same bad = tt
+same_fault parse text (Some all) at same bad = sym same.0 ∙ bad
+
+-- what is printed for a text of a script is printed for all its bytes
+pub printed_of_script : (Prints : Script → List ℕ → Type 0) (PrintsFault : List ℕ → Ending → List ℕ → Type 0)
+    (text : List ℕ) (bytes : Option (List ℕ)) (ending : Ending) (printed : List ℕ)
+    → IfSome bytes (IsParsedAs script_of text)
+    → PrintsScript Prints PrintsFault (Some text) ending printed → PrintsScript Prints PrintsFault bytes ending printed
+printed_of_script Prints PrintsFault text None Done printed same prints = tt
+printed_of_script Prints PrintsFault text (Some all) Done printed same prints =
+    (prints.0, (sym same.0 ∙ prints.1.0, prints.1.1))
+printed_of_script Prints PrintsFault text bytes (BadScript at) printed same prints = (
+  at_same_word (λ word. PrintsFault word (BadScript at)) script_of text bytes at printed same prints.1 prints.0,
+  same_fault script_of text bytes at same prints.1,
+)
+printed_of_script Prints PrintsFault text bytes (Failed why) printed same prints = prints
+printed_of_script Prints PrintsFault text bytes (Refused why) printed same prints = absurd prints
+printed_of_script Prints PrintsFault text bytes (BadSteps at) printed same prints = absurd prints
+printed_of_script Prints PrintsFault text bytes BadWords printed same prints = absurd prints
+
+-- a good script is good in all its bytes
+pub good_script : (text : List ℕ) (bytes : Option (List ℕ)) (script : Script) → IfSome bytes (IsParsedAs script_of text)
+    → script_of text ≡ Ok script → IfSome bytes IsGoodScript
+good_script text None script same good = tt
+good_script text (Some all) script same good = (script, sym same.0 ∙ good)
+
+-- so is a good step file
+pub good_steps : (text : List ℕ) (bytes : Option (List ℕ)) (acts : List Act) → IfSome bytes (IsParsedAs acts_of text)
+    → acts_of text ≡ Ok acts → IfSome bytes IsGoodStepFile
+good_steps text None acts same good = tt
+good_steps text (Some all) acts same good = (acts, sym same.0 ∙ good)
+
+-- for whatever is printed of faults
+module _ (PrintsFault : List ℕ → Ending → List ℕ → Type 0) where
+  -- the fault of a text of a script is that of all its bytes
+  pub bad_script : (text : List ℕ) (script steps : Option (List ℕ)) (at : ScriptFault) (printed : List ℕ)
+      → IfSome script (IsParsedAs script_of text) → script_of text ≡ Err at
+      → PrintsFault (bytes_at text at.word) (BadScript at) printed
+      → ValidatesFiles PrintsFault script steps (BadScript at) printed
+  bad_script text script steps at printed same bad prints = (
+    at_same_word (λ word. PrintsFault word (BadScript at)) script_of text script at printed same bad prints,
+    same_fault script_of text script at same bad,
+  )
+
+  -- the same of a step file, after a good script
+  pub bad_steps : (text : List ℕ) (script steps : Option (List ℕ)) (at : ScriptFault) (printed : List ℕ)
+      → IfSome script IsGoodScript → IfSome steps (IsParsedAs acts_of text) → acts_of text ≡ Err at
+      → PrintsFault (bytes_at text at.word) (BadSteps at) printed
+      → ValidatesFiles PrintsFault script steps (BadSteps at) printed
+  bad_steps text script steps at printed good same bad prints = (
+    at_same_word (λ word. PrintsFault word (BadSteps at)) acts_of text steps at printed same bad prints,
+    (good, same_fault acts_of text steps at same bad),
+  )
+
+-- the same of a queue
+queue_of_script : (number : ℕ) (text : List ℕ) (bytes : Option (List ℕ)) (ending : Ending) (printed : List ℕ)
+    → IfSome bytes (IsParsedAs script_of text)
+    → (stated : Script) × ((script_of text ≡ Ok stated) × AnswersQueue stated number ending printed)
+    → IfSome bytes (λ all. (stated : Script)
+    × ((script_of all ≡ Ok stated) × AnswersQueue stated number ending printed))
+queue_of_script number text None ending printed same prints = tt
+queue_of_script number text (Some all) ending printed same prints =
+    (prints.0, (sym same.0 ∙ prints.1.0, prints.1.1))
+
+pub printed_of_queue : (PrintsFault : List ℕ → Ending → List ℕ → Type 0) (number : ℕ) (text : List ℕ)
+    (bytes : Option (List ℕ)) (ending : Ending) (printed : List ℕ) → IfSome bytes (IsParsedAs script_of text)
+    → PrintsQueue PrintsFault number (Some text) ending printed → PrintsQueue PrintsFault number bytes ending printed
+printed_of_queue PrintsFault number text bytes (BadScript at) printed same prints = (
+  at_same_word (λ word. PrintsFault word (BadScript at)) script_of text bytes at printed same prints.1 prints.0,
+  same_fault script_of text bytes at same prints.1,
+)
+printed_of_queue PrintsFault number text bytes (Failed why) printed same prints = prints
+printed_of_queue PrintsFault number text bytes Done printed same prints =
+    queue_of_script number text bytes Done printed same prints
+printed_of_queue PrintsFault number text bytes (Refused why) printed same prints =
+    queue_of_script number text bytes (Refused why) printed same prints
+printed_of_queue PrintsFault number text bytes (BadSteps at) printed same prints =
+    queue_of_script number text bytes (BadSteps at) printed same prints
+printed_of_queue PrintsFault number text bytes BadWords printed same prints =
+    queue_of_script number text bytes BadWords printed same prints
+
 -- for whatever is printed of plans, and of faults
-module _ (ReportsOf : Plan → Option StepError → List ℕ → Type 0) (ReportsFault : Ending → List ℕ → Type 0) where
+module _ (ReportsOf : Plan → Option StepError → List ℕ → Type 0)
+    (ReportsFault : List ℕ → Ending → List ℕ → Type 0) where
   -- what is printed for a text of a script is printed for all its bytes
   of_script : (window : ℕ) (script : List ℕ) (bytes : Option (List ℕ)) (steps : Option (Result (List Act) ScriptFault))
-      (ending : Ending) (printed : List ℕ) → IfSome bytes (λ all. script_of script ≡ script_of all)
-      → PrintsPlan ReportsOf ReportsFault (record { window = window; script = Some script; steps = steps }) ending printed
-      → PrintsPlan ReportsOf ReportsFault (record { window = window; script = bytes; steps = steps }) ending printed
-  of_script window script None steps Done printed same prints = tt
-  of_script window script (Some all) None Done printed same prints = tt
-  of_script window script (Some all) (Some steps) Done printed same prints =
-      (prints.0, (same_script window script all steps prints.0 same prints.1.0, prints.1.1))
-  of_script window script None steps (Refused why) printed same prints = tt
-  of_script window script (Some all) None (Refused why) printed same prints = tt
-  of_script window script (Some all) (Some steps) (Refused why) printed same prints =
-      (prints.0, (same_script window script all steps prints.0 same prints.1.0, prints.1.1))
-  of_script window script None steps (BadScript at) printed same prints = (prints.0, tt)
-  of_script window script (Some all) steps (BadScript at) printed same prints = (prints.0, sym same ∙ prints.1)
-  of_script window script None steps (BadSteps at) printed same prints = (prints.0, (tt, prints.1.1))
-  of_script window script (Some all) steps (BadSteps at) printed same prints =
-      (prints.0, ((prints.1.0.0, sym same ∙ prints.1.0.1), prints.1.1))
-  of_script window script bytes steps (Failed why) printed same prints = prints
-  of_script window script bytes steps BadWords printed same prints = absurd prints
+      (file : Option (List ℕ)) (ending : Ending) (printed : List ℕ) → IfSome bytes (IsParsedAs script_of script)
+      → PrintsPlan ReportsOf ReportsFault
+      (record { window = window; script = Some script; steps = steps; step_file = file }) ending printed
+      → PrintsPlan ReportsOf ReportsFault
+      (record { window = window; script = bytes; steps = steps; step_file = file }) ending printed
+  of_script window script None steps file Done printed same prints = tt
+  of_script window script (Some all) None file Done printed same prints = tt
+  of_script window script (Some all) (Some steps) file Done printed same prints =
+      (prints.0, (same_script window script all steps prints.0 same.0 prints.1.0, prints.1.1))
+  of_script window script None steps file (Refused why) printed same prints = tt
+  of_script window script (Some all) None file (Refused why) printed same prints = tt
+  of_script window script (Some all) (Some steps) file (Refused why) printed same prints =
+      (prints.0, (same_script window script all steps prints.0 same.0 prints.1.0, prints.1.1))
+  of_script window script bytes steps file (BadScript at) printed same prints = (
+    at_same_word (λ word. ReportsFault word (BadScript at)) script_of script bytes at printed same prints.1 prints.0,
+    same_fault script_of script bytes at same prints.1,
+  )
+  of_script window script None steps file (BadSteps at) printed same prints = (prints.0, (tt, prints.1.1))
+  of_script window script (Some all) steps file (BadSteps at) printed same prints =
+      (prints.0, ((prints.1.0.0, sym same.0 ∙ prints.1.0.1), prints.1.1))
+  of_script window script bytes steps file (Failed why) printed same prints = prints
+  of_script window script bytes steps file BadWords printed same prints = absurd prints
 
   -- what is printed for steps is printed if nothing is known of them
-  of_unknown_steps : (window : ℕ) (script : Option (List ℕ)) (steps : Result (List Act) ScriptFault) (ending : Ending)
-      (printed : List ℕ)
-      → PrintsPlan ReportsOf ReportsFault (record { window = window; script = script; steps = Some steps }) ending printed
-      → PrintsPlan ReportsOf ReportsFault (record { window = window; script = script; steps = None }) ending printed
-  of_unknown_steps window None steps Done printed prints = tt
-  of_unknown_steps window (Some bytes) steps Done printed prints = tt
-  of_unknown_steps window None steps (Refused why) printed prints = tt
-  of_unknown_steps window (Some bytes) steps (Refused why) printed prints = tt
-  of_unknown_steps window script steps (BadScript at) printed prints = prints
-  of_unknown_steps window script steps (BadSteps at) printed prints = (prints.0, (prints.1.0, tt))
-  of_unknown_steps window script steps (Failed why) printed prints = prints
-  of_unknown_steps window script steps BadWords printed prints = absurd prints
+  of_unknown_steps : (window : ℕ) (script : Option (List ℕ)) (steps : Result (List Act) ScriptFault)
+      (file : Option (List ℕ)) (ending : Ending) (printed : List ℕ)
+      → PrintsPlan ReportsOf ReportsFault
+      (record { window = window; script = script; steps = Some steps; step_file = file }) ending printed
+      → PrintsPlan ReportsOf ReportsFault
+      (record { window = window; script = script; steps = None; step_file = None }) ending printed
+  of_unknown_steps window None steps file Done printed prints = tt
+  of_unknown_steps window (Some bytes) steps file Done printed prints = tt
+  of_unknown_steps window None steps file (Refused why) printed prints = tt
+  of_unknown_steps window (Some bytes) steps file (Refused why) printed prints = tt
+  of_unknown_steps window script steps file (BadScript at) printed prints = prints
+  of_unknown_steps window script steps file (BadSteps at) printed prints = (
+    at_some_word (λ word. ReportsFault word (BadSteps at)) file at.word printed prints.0,
+    (prints.1.0, tt),
+  )
+  of_unknown_steps window script steps file (Failed why) printed prints = prints
+  of_unknown_steps window script steps file BadWords printed prints = absurd prints
+
+  -- the same of the text of a step file
+  of_file : (window : ℕ) (script : Option (List ℕ)) (text all : List ℕ) (ending : Ending) (printed : List ℕ)
+      → IsParsedAs acts_of text all
+      → PrintsPlan ReportsOf ReportsFault
+      (record { window = window; script = script; steps = Some (acts_of all); step_file = Some text }) ending printed
+      → PrintsPlan ReportsOf ReportsFault
+      (record { window = window; script = script; steps = Some (acts_of all); step_file = Some all }) ending printed
+  of_file window script text all (BadSteps at) printed same prints = (
+    at_same_word (λ word. ReportsFault word (BadSteps at)) acts_of text (Some all) at printed same
+        (same.0 ∙ prints.1.1) prints.0,
+    prints.1,
+  )
+  of_file window script text all Done printed same prints = prints
+  of_file window script text all (Refused why) printed same prints = prints
+  of_file window script text all (BadScript at) printed same prints = prints
+  of_file window script text all (Failed why) printed same prints = prints
+  of_file window script text all BadWords printed same prints = absurd prints
 
   -- what is printed for the acts of a text is printed for those of all its bytes
   of_steps : (window : ℕ) (script : Option (List ℕ)) (steps : List ℕ) (bytes : Option (List ℕ)) (ending : Ending)
-      (printed : List ℕ) → IfSome bytes (λ all. acts_of steps ≡ acts_of all)
-      → PrintsPlan ReportsOf ReportsFault (record { window = window; script = script; steps = Some (acts_of steps) })
-      ending printed
-      → PrintsPlan ReportsOf ReportsFault
-      (record { window = window; script = script; steps = option_map acts_of bytes }) ending printed
+      (printed : List ℕ) → IfSome bytes (IsParsedAs acts_of steps)
+      → PrintsPlan ReportsOf ReportsFault (of_files window script (Some steps)) ending printed
+      → PrintsPlan ReportsOf ReportsFault (of_files window script bytes) ending printed
   of_steps window script steps None ending printed same prints =
-      of_unknown_steps window script (acts_of steps) ending printed prints
+      of_unknown_steps window script (acts_of steps) (Some steps) ending printed prints
   of_steps window script steps (Some all) ending printed same prints =
-      subst (λ (acts : Result (List Act) ScriptFault). PrintsPlan ReportsOf ReportsFault
-      (record { window = window; script = script; steps = Some acts }) ending printed) same prints
+      of_file window script steps all ending printed same
+      (subst (λ (acts : Result (List Act) ScriptFault). PrintsPlan ReportsOf ReportsFault
+      (record { window = window; script = script; steps = Some acts; step_file = Some steps }) ending printed)
+      same.0 prints)
 
   -- the same of what a command made of the text of a script, which may be none
   pub made_of_script : {X : Type 0} (ending_of : X → Ending) (text_of : X → List ℕ) (window : ℕ) (text script : List ℕ)
-      (bytes : Option (List ℕ)) (steps : Option (Result (List Act) ScriptFault)) (made : Result X ProgramFault)
-      → text ≡ script
-      → IfSome bytes (λ all. script_of script ≡ script_of all)
-      → IfOk made (λ x. PrintsPlan ReportsOf ReportsFault (record { window = window; script = Some text; steps = steps })
-      (ending_of x) (text_of x))
-      → IfOk made (λ x. PrintsPlan ReportsOf ReportsFault (record { window = window; script = bytes; steps = steps })
-      (ending_of x) (text_of x))
-  made_of_script ending_of text_of window text script bytes steps (Ok x) is same prints =
-      of_script window script bytes steps (ending_of x) (text_of x) same
+      (bytes : Option (List ℕ)) (steps : Option (Result (List Act) ScriptFault)) (file : Option (List ℕ))
+      (made : Result X ProgramFault) → text ≡ script → IfSome bytes (IsParsedAs script_of script)
+      → IfOk made (λ x. PrintsPlan ReportsOf ReportsFault
+      (record { window = window; script = Some text; steps = steps; step_file = file }) (ending_of x) (text_of x))
+      → IfOk made (λ x. PrintsPlan ReportsOf ReportsFault
+      (record { window = window; script = bytes; steps = steps; step_file = file }) (ending_of x) (text_of x))
+  made_of_script ending_of text_of window text script bytes steps file (Ok x) is same prints =
+      of_script window script bytes steps file (ending_of x) (text_of x) same
       (subst (λ (xs : List ℕ). PrintsPlan ReportsOf ReportsFault
-      (record { window = window; script = Some xs; steps = steps }) (ending_of x) (text_of x)) is prints)
-  made_of_script ending_of text_of window text script bytes steps (Err why) is same prints = tt
+      (record { window = window; script = Some xs; steps = steps; step_file = file }) (ending_of x) (text_of x)) is
+      prints)
+  made_of_script ending_of text_of window text script bytes steps file (Err why) is same prints = tt
 
   -- the same of what it made of the text of steps
   pub made_of_steps : {X : Type 0} (ending_of : X → Ending) (text_of : X → List ℕ) (window : ℕ)
       (script : Option (List ℕ)) (text steps : List ℕ) (bytes : Option (List ℕ)) (made : Result X ProgramFault)
-      → text ≡ steps → IfSome bytes (λ all. acts_of steps ≡ acts_of all)
-      → IfOk made (λ x. PrintsPlan ReportsOf ReportsFault
-      (record { window = window; script = script; steps = Some (acts_of text) }) (ending_of x) (text_of x))
-      → IfOk made (λ x. PrintsPlan ReportsOf ReportsFault
-      (record { window = window; script = script; steps = option_map acts_of bytes }) (ending_of x) (text_of x))
+      → text ≡ steps → IfSome bytes (IsParsedAs acts_of steps)
+      → IfOk made (λ x. PrintsPlan ReportsOf ReportsFault (of_files window script (Some text)) (ending_of x)
+      (text_of x))
+      → IfOk made (λ x. PrintsPlan ReportsOf ReportsFault (of_files window script bytes) (ending_of x) (text_of x))
   made_of_steps ending_of text_of window script text steps bytes (Ok x) is same prints =
       of_steps window script steps bytes (ending_of x) (text_of x) same
-      (subst (λ (xs : List ℕ). PrintsPlan ReportsOf ReportsFault
-      (record { window = window; script = script; steps = Some (acts_of xs) }) (ending_of x) (text_of x)) is prints)
+      (subst (λ (xs : List ℕ). PrintsPlan ReportsOf ReportsFault (of_files window script (Some xs)) (ending_of x)
+      (text_of x)) is prints)
   made_of_steps ending_of text_of window script text steps bytes (Err why) is same prints = tt
 
   -- what is printed of a simulation with this ending is printed by the command
@@ -205,14 +339,28 @@ module _ (ReportsOf : Plan → Option StepError → List ℕ → Type 0) (Report
   prints_after input (Some why) ending printed is prints =
       subst (λ (e : Ending). PrintsPlan ReportsOf ReportsFault input e printed) (sym is) prints
 
+  -- what is printed for acts is printed for a file that has them
+  in_file : (window : ℕ) (script : Option (List ℕ)) (acts : List Act) (file : Option (List ℕ)) (ending : Ending)
+      (printed : List ℕ) → PrintsPlan ReportsOf ReportsFault (of_acts window script acts) ending printed
+      → PrintsPlan ReportsOf ReportsFault
+      (record { window = window; script = script; steps = Some (Ok acts); step_file = file }) ending printed
+  in_file window script acts file (BadSteps at) printed prints =
+      let no : Ok acts ≡ Err at = prints.1.1 in cc
+  in_file window script acts file Done printed prints = prints
+  in_file window script acts file (Refused why) printed prints = prints
+  in_file window script acts file (BadScript at) printed prints = prints
+  in_file window script acts file (Failed why) printed prints = prints
+  in_file window script acts file BadWords printed prints = absurd prints
+
   -- what is printed for the acts of a text without a fault is printed for the text
   pub made_of_acts : {X : Type 0} (ending_of : X → Ending) (text_of : X → List ℕ) (window : ℕ)
       (script : Option (List ℕ)) (steps : List ℕ) (acts : List Act) (made : Result X ProgramFault)
       → acts_of steps ≡ Ok acts
-      → IfOk made (λ x. PrintsPlan ReportsOf ReportsFault
-      (record { window = window; script = script; steps = Some (Ok acts) }) (ending_of x) (text_of x))
-      → IfOk made (λ x. PrintsPlan ReportsOf ReportsFault
-      (record { window = window; script = script; steps = Some (acts_of steps) }) (ending_of x) (text_of x))
-  made_of_acts {X} ending_of text_of window script steps acts made stated prints =
-      subst (λ (parsed : Result (List Act) ScriptFault). IfOk made (λ (x : X). PrintsPlan ReportsOf ReportsFault
-      (record { window = window; script = script; steps = Some parsed }) (ending_of x) (text_of x))) (sym stated) prints
+      → IfOk made (λ x. PrintsPlan ReportsOf ReportsFault (of_acts window script acts) (ending_of x) (text_of x))
+      → IfOk made (λ x. PrintsPlan ReportsOf ReportsFault (of_files window script (Some steps)) (ending_of x)
+      (text_of x))
+  made_of_acts ending_of text_of window script steps acts (Ok x) stated prints =
+      subst (λ (parsed : Result (List Act) ScriptFault). PrintsPlan ReportsOf ReportsFault
+      (record { window = window; script = script; steps = Some parsed; step_file = Some steps }) (ending_of x)
+      (text_of x)) (sym stated) (in_file window script acts (Some steps) (ending_of x) (text_of x) prints)
+  made_of_acts ending_of text_of window script steps acts (Err why) stated prints = tt

@@ -1,5 +1,5 @@
 -- What is reported of the books of a script.
-use Rattle.std.specs.Prelude.{◌≡◌, ℕ, List, Option, Some, None, IfSome, Ok}
+use Rattle.std.specs.Prelude.{◌≡◌, ℕ, List, map, Option, Some, None, IfSome, Ok}
 use Rattle.cdc_laws.specs.Line.{line}
 use Rattle.cdc_ledger.specs.History.{empty_history}
 use Rattle.cdc_script.specs.Scripts.{script_of}
@@ -8,13 +8,14 @@ use Rattle.cdc_commands.specs.declared.book_reports.BooksReport.{BooksReport}
 use Rattle.cdc_commands.specs.declared.book_reports.ParsedBatches.{ParsedBatches}
 use Rattle.cdc_commands.specs.declared.endings.Ending.{Ending}
 use Rattle.cdc_commands.specs.declared.endings.Ending.TheVariants.{Done}
+use Rattle.cdc_commands.specs.Feeds.{kept_by}
 use Rattle.cdc_commands.specs.Printed.{answers_to, history_of}
-use Rattle.cdc_commands.specs.Queues.{filled_queues}
 
--- this is the report on a script: the answers to its batches, and a queue for each subscriber with all that it takes
+-- this is the report on a script: the answers to its batches, and the subscribers of its bindings, each of which has
+-- taken its whole queue
 pub record IsBooksOf (script : Script) (report : BooksReport) : Type 0 where
   pub answers : report.answers.items ≡ answers_to 1 empty_history script.batches
-  pub queues : report.broker.queues ≡ filled_queues (line (history_of script)) script.bindings
+  pub subscribers : report.subscribers.items ≡ map (kept_by (line (history_of script))) script.bindings
 
 -- these are the batches of the script, and their lines
 pub record AreBatchesOf (script : Script) (parsed : ParsedBatches) : Type 0 where

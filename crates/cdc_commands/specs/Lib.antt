@@ -1,5 +1,6 @@
 pub mod BookReports
 pub mod Checked
+pub mod FaultWords
 pub mod Faults
 pub mod Feeds
 pub mod Held
@@ -9,7 +10,6 @@ pub mod Outcomes
 pub mod Printed
 pub mod Private
 pub mod QueuePrinted
-pub mod Queues
 pub mod Report
 pub mod Seen
 pub mod Simulated

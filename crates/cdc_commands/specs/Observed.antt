@@ -16,4 +16,4 @@ pub record SawPlan (HasSeen : List Seen → Type 0) (plan : Plan) (refusal : Opt
 -- the same of the plan as which the input of a command is parsed that ends so; nothing of an input with a fault
 abbrev pub SawSteps : (List Seen → Type 0) → SimulationInput → Ending → Type 0
 SawSteps HasSeen input ending =
-    PrintsPlan (λ plan refusal printed. SawPlan HasSeen plan refusal) (λ fault printed. Unit {0}) input ending []
+    PrintsPlan (λ plan refusal printed. SawPlan HasSeen plan refusal) (λ word ending printed. Unit {0}) input ending []

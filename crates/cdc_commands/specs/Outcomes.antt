@@ -1,5 +1,5 @@
 -- What a command makes of what it reads, and what it writes of that.
-use Rattle.std.specs.Prelude.{◌≡◌, ◌⊎◌, ℕ, List, Option, Some, None, Result, Ok, Err}
+use Rattle.std.specs.Prelude.{◌≡◌, ◌⊎◌, ℕ, List, [], Option, Some, None, Result, Ok, Err}
 use Rattle.std.specs.Io.KnownBytes.{Appends}
 use Rattle.cdc_commands.specs.declared.endings.Ending.{Ending}
 use Rattle.cdc_commands.specs.declared.endings.Ending.TheVariants.{Done, Failed, Refused, BadScript, BadSteps, BadWords}
@@ -56,10 +56,10 @@ Writes prints old new ending =
     IsWriteFault ending ⊎ ((printed : List ℕ) × (Appends old new printed × prints ending printed))
 
 -- a command that failed like this printed the line of its fault, if this is printed for faults
-abbrev pub PrintsFailure : (Ending → List ℕ → Type 0) → Option (List ℕ) → Option (List ℕ) → ProgramFault → Ending
-    → Type 0
+abbrev pub PrintsFailure : (List ℕ → Ending → List ℕ → Type 0) → Option (List ℕ) → Option (List ℕ) → ProgramFault
+    → Ending → Type 0
 PrintsFailure PrintsFault old new why ending =
-    (line : List ℕ) × (PrintsFault (Failed why) line
+    (line : List ℕ) × (PrintsFault [] (Failed why) line
     × IsPrinted old new (record { text = line; ending = Failed why }) ending)
 
 -- a command that reads a script, alone or with steps, fails if a read failed or memory ran out

@@ -12,6 +12,7 @@ use Rattle.cdc_commands.specs.declared.endings.Ending.TheVariants.{Done, Failed,
 use Rattle.cdc_script.specs.declared.scripts.ClientBatch.{ClientBatch}
 use Rattle.cdc_script.specs.declared.scripts.Script.{Script}
 use Rattle.cdc_laws.specs.Line.{line}
+use Rattle.cdc_commands.specs.FaultWords.{PrintsAtWord}
 use Rattle.cdc_commands.specs.Feeds.{subscribers_text}
 use Rattle.cdc_commands.specs.Messages.{message_lines}
 use Rattle.cdc_commands.specs.Outcomes.{MayFailScript}
@@ -51,13 +52,14 @@ printed_messages script = flat_map message_lines (events (history_of script))
 
 -- this is printed by a command that reads a script, whose bytes are known or not, and has this ending, if this is
 -- printed for scripts, and that for faults
-abbrev pub PrintsScript : (Script → List ℕ → Type 0) → (Ending → List ℕ → Type 0) → Option (List ℕ) → Ending → List ℕ
-    → Type 0
+abbrev pub PrintsScript : (Script → List ℕ → Type 0) → (List ℕ → Ending → List ℕ → Type 0) → Option (List ℕ) → Ending
+    → List ℕ → Type 0
 PrintsScript Prints PrintsFault script Done printed =
     IfSome script (λ bytes. (stated : Script) × ((script_of bytes ≡ Ok stated) × Prints stated printed))
 PrintsScript Prints PrintsFault script (BadScript at) printed =
-    PrintsFault (BadScript at) printed × IfSome script (λ bytes. script_of bytes ≡ Err at)
-PrintsScript Prints PrintsFault script (Failed why) printed = MayFailScript why × PrintsFault (Failed why) printed
+    PrintsAtWord (λ word. PrintsFault word (BadScript at)) script at.word printed
+    × IfSome script (λ bytes. script_of bytes ≡ Err at)
+PrintsScript Prints PrintsFault script (Failed why) printed = MayFailScript why × PrintsFault [] (Failed why) printed
 PrintsScript Prints PrintsFault script (Refused why) printed = ⊥
 PrintsScript Prints PrintsFault script (BadSteps at) printed = ⊥
 PrintsScript Prints PrintsFault script BadWords printed = ⊥

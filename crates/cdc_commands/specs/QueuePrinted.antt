@@ -8,6 +8,7 @@ use Rattle.cdc_script.specs.declared.scripts.Script.{Script}
 use Rattle.cdc_script.specs.Scripts.{script_of}
 use Rattle.cdc_commands.specs.declared.endings.Ending.{Ending}
 use Rattle.cdc_commands.specs.declared.endings.Ending.TheVariants.{Done, Failed, Refused, BadScript, BadSteps, BadWords}
+use Rattle.cdc_commands.specs.FaultWords.{PrintsAtWord}
 use Rattle.cdc_commands.specs.Outcomes.{MayFailScript}
 use Rattle.cdc_commands.specs.Printed.{history_of}
 
@@ -28,10 +29,11 @@ AnswersQueue script number (BadSteps at) printed = ⊥
 
 -- this is printed by the command, with this ending, for the bytes of a script, known or not, if this is printed for
 -- faults
-abbrev pub PrintsQueue : (Ending → List ℕ → Type 0) → ℕ → Option (List ℕ) → Ending → List ℕ → Type 0
+abbrev pub PrintsQueue : (List ℕ → Ending → List ℕ → Type 0) → ℕ → Option (List ℕ) → Ending → List ℕ → Type 0
 PrintsQueue PrintsFault number script (BadScript at) printed =
-    PrintsFault (BadScript at) printed × IfSome script (λ bytes. script_of bytes ≡ Err at)
-PrintsQueue PrintsFault number script (Failed why) printed = MayFailScript why × PrintsFault (Failed why) printed
+    PrintsAtWord (λ word. PrintsFault word (BadScript at)) script at.word printed
+    × IfSome script (λ bytes. script_of bytes ≡ Err at)
+PrintsQueue PrintsFault number script (Failed why) printed = MayFailScript why × PrintsFault [] (Failed why) printed
 PrintsQueue PrintsFault number script ending printed =
     IfSome script (λ bytes. (stated : Script) × ((script_of bytes ≡ Ok stated)
     × AnswersQueue stated number ending printed))

@@ -1,21 +1,34 @@
 -- All that `simulate` prints for a script and a step file.
-use Rattle.std.specs.Prelude.{◌≡◌, ℕ, List, Option, Some, None, IfSome, Result, Ok, Err}
+use Rattle.std.specs.Prelude.{◌≡◌, ℕ, List, [], Option, Some, None, IfSome, Result, Ok, Err, option_map}
 use Rattle.cdc_world.specs.declared.steps.StepError.{StepError}
 use Rattle.cdc_commands.specs.declared.endings.Ending.{Ending}
 use Rattle.cdc_commands.specs.declared.endings.Ending.TheVariants.{Done, Failed, Refused, BadScript, BadSteps, BadWords}
 use Rattle.cdc_script.specs.declared.faults.ScriptFault.{ScriptFault}
 use Rattle.cdc_script.specs.declared.scripts.Script.{Script}
 use Rattle.cdc_script.specs.declared.step_files.Act.{Act}
+use Rattle.cdc_commands.specs.FaultWords.{PrintsAtWord}
 use Rattle.cdc_commands.specs.Outcomes.{MayFailScript}
 use Rattle.cdc_script.specs.Scripts.{script_of}
+use Rattle.cdc_script.specs.StepFiles.{acts_of}
 use Rattle.cdc_commands.specs.Simulations.{Plan}
 
--- what `simulate` is given: the window of its sessions and, as far as they are known, the bytes of a script and the
--- acts of a step file or its first fault
+-- what `simulate` is given: the window of its sessions and, as far as they are known, the bytes of a script, the acts
+-- of a step file or its first fault, and the bytes of the step file
 pub record SimulationInput : Type 0 where
   pub window : ℕ
   pub script : Option (List ℕ)
   pub steps : Option (Result (List Act) ScriptFault)
+  pub step_file : Option (List ℕ)
+
+-- what a script and a step file give, whose bytes are known or not
+abbrev pub of_files : ℕ → Option (List ℕ) → Option (List ℕ) → SimulationInput
+of_files window script steps =
+    record { window = window; script = script; steps = option_map acts_of steps; step_file = steps }
+
+-- what a script gives, whose bytes are known or not, and acts that are in no file
+abbrev pub of_acts : ℕ → Option (List ℕ) → List Act → SimulationInput
+of_acts window script acts =
+    record { window = window; script = script; steps = Some (Ok acts); step_file = None }
 
 -- these bytes of a script and this step file have no fault, and are parsed as this plan
 pub record StatesPlan (window : ℕ) (script : List ℕ) (steps : Result (List Act) ScriptFault) (plan : Plan)
@@ -36,14 +49,15 @@ IsGoodScript script = (stated : Script) × (script_of script ≡ Ok stated)
 
 -- this is printed by a command that is given such an input and has this ending, if this is printed for plans, and
 -- that for faults; the steps are validated after the script
-abbrev pub PrintsPlan : (Plan → Option StepError → List ℕ → Type 0) → (Ending → List ℕ → Type 0) → SimulationInput
-    → Ending → List ℕ → Type 0
+abbrev pub PrintsPlan : (Plan → Option StepError → List ℕ → Type 0) → (List ℕ → Ending → List ℕ → Type 0)
+    → SimulationInput → Ending → List ℕ → Type 0
 PrintsPlan ReportsOf ReportsFault input Done printed = ReportsPlan ReportsOf input None printed
 PrintsPlan ReportsOf ReportsFault input (Refused why) printed = ReportsPlan ReportsOf input (Some why) printed
 PrintsPlan ReportsOf ReportsFault input (BadScript at) printed =
-    ReportsFault (BadScript at) printed × IfSome input.script (λ script. script_of script ≡ Err at)
+    PrintsAtWord (λ word. ReportsFault word (BadScript at)) input.script at.word printed
+    × IfSome input.script (λ script. script_of script ≡ Err at)
 PrintsPlan ReportsOf ReportsFault input (BadSteps at) printed =
-    ReportsFault (BadSteps at) printed
+    PrintsAtWord (λ word. ReportsFault word (BadSteps at)) input.step_file at.word printed
     × (IfSome input.script IsGoodScript × IfSome input.steps (λ steps. steps ≡ Err at))
-PrintsPlan ReportsOf ReportsFault input (Failed why) printed = MayFailScript why × ReportsFault (Failed why) printed
+PrintsPlan ReportsOf ReportsFault input (Failed why) printed = MayFailScript why × ReportsFault [] (Failed why) printed
 PrintsPlan ReportsOf ReportsFault input BadWords printed = ⊥

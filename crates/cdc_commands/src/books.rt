@@ -17,8 +17,9 @@ use crate::faults::ProgramFault;
 use crate::forms::Form;
 use crate::notes::Notes;
 use crate::output::{Ended, Output, print_output};
+use crate::reading::read_file;
 use crate::tally::Tally;
-use cdc_script::{Script, ScriptError, parse_script, read_text};
+use cdc_script::{Script, ScriptError, parse_script};
 use std::alloc::{AllocError, Global};
 use std::io::{Read, Write};
 
@@ -66,7 +67,7 @@ fn script_books<F: Form>(form: &F, alloc: Global, script: Script) -> Result<Book
     let notes = Notes::of(alloc, &script);
     let (report, parsed) = books_report(alloc, script)?;
     let tally = Tally::of(report.answers.as_slice());
-    let text = form.books(alloc, report)?;
+    let text = form.books(alloc, &report)?;
     let output = Output {
         text,
         ending: Ending::Done,
@@ -109,6 +110,7 @@ pub fn books<F: Form, R: Read, W: Write>(
     }
 }
 
+#[tactic(auto, using(crate::proofs::OutputLemmas::printed_of_script))]
 fn read_books<F: Form, R: Read>(
     form: &F,
     alloc: Global,
@@ -122,6 +124,6 @@ fn read_books<F: Form, R: Read>(
     ensures bounded { ConsumesAtMost (max_bytes + 1)
         (R.remaining reader.old) (R.remaining reader.new) }
 {
-    let bytes = read_text(alloc, reader)?;
+    let bytes = read_file(alloc, reader)?;
     Ok(books_of(form, alloc, &bytes)?)
 }

@@ -12,7 +12,8 @@ use crate::endings::Ending;
 use crate::faults::ProgramFault;
 use crate::forms::Form;
 use crate::output::{Output, print_output};
-use cdc_script::{ScriptError, parse_script, parse_steps, read_text};
+use crate::reading::read_file;
+use cdc_script::{ScriptError, parse_script, parse_steps};
 use std::alloc::{AllocError, Global};
 use std::io::{Read, Write};
 
@@ -47,6 +48,7 @@ pub fn check<F: Form, R: Read, W: Write>(
 }
 
 /// Reads a script, and returns what a check prints for it.
+#[tactic(auto, using(crate::proofs::OutputLemmas::printed_of_script))]
 fn validate<F: Form, R: Read>(
     form: &F,
     alloc: Global,
@@ -58,7 +60,7 @@ fn validate<F: Form, R: Read>(
     ensures bounded { ConsumesAtMost (max_bytes + 1)
         (R.remaining reader.old) (R.remaining reader.new) }
 {
-    let bytes = read_text(alloc, reader)?;
+    let bytes = read_file(alloc, reader)?;
     Ok(check_of(form, alloc, &bytes)?)
 }
 
@@ -86,6 +88,7 @@ pub fn check_files<F: Form, R: Read, Q: Read, W: Write>(
 }
 
 /// Reads a script and a step file, and returns what a check prints for them.
+#[tactic(auto, using(crate::proofs::OutputLemmas::bad_script, crate::proofs::OutputLemmas::good_script))]
 fn validate_files<F: Form, R: Read, Q: Read>(
     form: &F,
     alloc: Global,
@@ -101,7 +104,7 @@ fn validate_files<F: Form, R: Read, Q: Read>(
         (R.remaining script.old) (R.remaining script.new) }
     ensures steps { ConsumesAtMost (max_bytes + 1) (Q.remaining steps.old) (Q.remaining steps.new) }
 {
-    let bytes = read_text(alloc, script)?;
+    let bytes = read_file(alloc, script)?;
     match parse_script(alloc, &bytes) {
         Ok(_) => validate_steps(form, alloc, steps),
         Err(ScriptError::Fault(fault)) => Ok(Output::of_bad_script(form, alloc, &bytes, fault)?),
@@ -110,6 +113,7 @@ fn validate_files<F: Form, R: Read, Q: Read>(
 }
 
 /// Reads a step file, after a good script, and returns what a check prints for it.
+#[tactic(auto, using(crate::proofs::OutputLemmas::bad_steps, crate::proofs::OutputLemmas::good_steps))]
 fn validate_steps<F: Form, Q: Read>(
     form: &F,
     alloc: Global,
@@ -121,7 +125,7 @@ fn validate_steps<F: Form, Q: Read>(
     ensures fault { IfErr result MayFailScript }
     ensures steps { ConsumesAtMost (max_bytes + 1) (Q.remaining steps.old) (Q.remaining steps.new) }
 {
-    let bytes = read_text(alloc, steps)?;
+    let bytes = read_file(alloc, steps)?;
     match parse_steps(alloc, &bytes) {
         Ok(_) => Ok(Output::nothing(alloc)),
         Err(ScriptError::Fault(fault)) => Ok(Output::of_bad_steps(form, alloc, &bytes, fault)?),

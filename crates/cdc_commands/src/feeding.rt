@@ -1,14 +1,15 @@
-//! A broker to which the events of a closed ledger are published, and the subscribers that take its queues.
+//! The subscribers of a closed ledger. Its events are published to a broker, and each is taken before the next one is
+//! published, so that the broker holds few of them at a time.
 
-ghost use Rattle.std.specs.Prelude.{◌≡◌, ◌^◌, ◌<◌, ◌≤◌, ◌++◌, true, All, IfOk, OnOk, Some, length};
-ghost use Rattle.cdc_broker.specs.Broker.{published as with_published, queue_of};
-ghost use Rattle.cdc_subscriber.specs.Reception.{kept_of};
+ghost use Rattle.std.specs.Prelude.{◌≡◌, ◌^◌, ◌<◌, ◌≤◌, ◌++◌, ◌∷◌, [], List, true, IfOk, OnOk, Some, length, map};
+ghost use Rattle.cdc_broker.specs.Broker.{published as with_published};
+ghost use Rattle.cdc_broker.specs.Packets.{tag_after};
 ghost use Rattle.cdc_laws.specs.Line.{emitted};
-ghost use Rattle.cdc_commands.specs.Feeds.{receiving};
-ghost use Rattle.cdc_commands.specs.Queues.{ChangesQueue, IsUntaken, filled_queues};
-ghost use Rattle.cdc_commands.specs.Private.Takers.{TakesDelivery, takers_text};
+ghost use Rattle.cdc_match.specs.Arguments.{Arguments};
+ghost use Rattle.cdc_message.specs.declared.items.Item.{Item as SomeItem};
+ghost use Rattle.cdc_commands.specs.Feeds.{kept_by};
+ghost use Rattle.cdc_commands.specs.Private.Takers.{AreFed, TakesDelivery};
 
-use crate::report::print_subscriber;
 use cdc_broker::Broker;
 use cdc_log::EventLog;
 use cdc_match::Binding;
@@ -19,27 +20,76 @@ use std::alloc::{AllocError, Global};
 /// The number of the only connection.
 const CONNECTION: u64 = 1;
 
-/// Creates a broker with a queue for each binding, to which the events of a closed ledger, and then the end mark,
-/// were published.
-pub fn publish_log(
+/// Creates a subscriber for each binding, which has taken its whole queue of the events of a closed ledger and the end
+/// mark.
+pub fn subscribers_of_log(
     alloc: Global,
     bindings: Vec<Binding>,
     log: &EventLog,
-) -> Result<Broker, AllocError>
+) -> Result<Vec<Subscriber>, AllocError>
     requires { length log.now.events < 2 ^ 63 }
-    ensures { IfOk result (λ broker. broker.queues
-        ≡ filled_queues (emitted log.now.events true) bindings.items) }
+    ensures { IfOk result (λ subscribers. subscribers.items
+        ≡ map (kept_by (emitted log.now.events true)) bindings.items) }
 {
+    let mut subscribers = new_subscribers(alloc, bindings.as_slice())?;
     let mut broker = Broker::new(alloc, bindings)?;
     broker.connect(CONNECTION);
     for place in 0..log.len() {
         if let Some(event) = log.get(place) {
-            let message = Message::of(alloc, event)?;
-            publish(alloc, &mut broker, place as u64 + 1, Item::Event(message))?;
+            let item = Item::Event(Message::of(alloc, event)?);
+            feed(
+                alloc,
+                &mut broker,
+                subscribers.as_mut_slice(),
+                place as u64 + 1,
+                item,
+            )?;
         }
     }
-    publish(alloc, &mut broker, log.len() as u64 + 1, Item::EndMark)?;
-    Ok(broker)
+    let last = log.len() as u64 + 1;
+    feed(
+        alloc,
+        &mut broker,
+        subscribers.as_mut_slice(),
+        last,
+        Item::EndMark,
+    )?;
+    Ok(subscribers)
+}
+
+/// Creates a subscriber for each binding, which has received nothing.
+fn new_subscribers(alloc: Global, bindings: &[Binding]) -> Result<Vec<Subscriber>, AllocError>
+    ensures { IfOk result (λ subscribers. subscribers.items ≡ map (kept_by []) bindings.now) }
+{
+    let mut subscribers = Vec::with_capacity(alloc, bindings.len())?;
+    for _ in bindings {
+        subscribers.push(Subscriber::new(alloc))?;
+    }
+    Ok(subscribers)
+}
+
+/// Publishes an item under this tag. Each subscriber that its queue then delivers it to takes and acknowledges it.
+fn feed(
+    alloc: Global,
+    broker: &mut Broker,
+    subscribers: &mut [Subscriber],
+    tag: u64,
+    item: Item,
+) -> Result<(), AllocError>
+    requires connected { broker.old.connection ≡ 1 }
+    requires next { broker.old.expected ≡ Some tag }
+    requires each { length subscribers.old ≡ length broker.old.queues }
+    ensures fed { (bindings : List Arguments) → (items : List SomeItem)
+        → AreFed bindings items broker.old subscribers.old
+        → OnOk result (AreFed bindings (items ++ item ∷ []) broker.new subscribers.new) }
+    ensures connected { OnOk result (broker.new.connection ≡ 1) }
+    ensures next { OnOk result (broker.new.expected ≡ tag_after tag) }
+{
+    publish(alloc, broker, tag, item)?;
+    for place in 0..subscribers.len() {
+        take_next(alloc, broker, place + 1, &mut subscribers[place])?;
+    }
+    Ok(())
 }
 
 /// Publishes an item under this tag.
@@ -52,39 +102,7 @@ fn publish(alloc: Global, broker: &mut Broker, tag: u64, item: Item) -> Result<(
     Ok(())
 }
 
-/// Adds the lines of the subscribers, each of which takes its queue of a broker.
-pub fn push_subscribers(
-    alloc: Global,
-    text: &mut Vec<u8>,
-    broker: &mut Broker,
-) -> Result<(), AllocError>
-    requires { All IsUntaken broker.old.queues }
-    ensures { OnOk result (text.new.items ≡ text.old.items ++ takers_text 1 broker.old.queues) }
-{
-    for place in 0..broker.queue_count() {
-        let subscriber = take_queue(alloc, broker, place + 1)?;
-        print_subscriber(text, &subscriber, place as u64 + 1)?;
-    }
-    Ok(())
-}
-
-/// Creates a subscriber that takes queue `i` of a broker, from 1 on, from its first item to its last.
-pub fn take_queue(alloc: Global, broker: &mut Broker, i: usize) -> Result<Subscriber, AllocError>
-    requires first { 0 < i }
-    requires last { i ≤ length broker.old.queues }
-    requires untaken { IsUntaken (queue_of broker.old i) }
-    ensures subscriber { IfOk result (λ subscriber. subscriber
-        ≡ kept_of (receiving (queue_of broker.old i).items)) }
-    ensures others { OnOk result (ChangesQueue i broker.old broker.new) }
-{
-    let mut subscriber = Subscriber::new(alloc);
-    for _ in 0..broker.queue_len(i) {
-        take_next(alloc, broker, i, &mut subscriber)?;
-    }
-    Ok(subscriber)
-}
-
-/// Lets a subscriber take what a queue delivers next.
+/// Lets a subscriber take what a queue delivers next, and acknowledge it.
 fn take_next(
     alloc: Global,
     broker: &mut Broker,
@@ -97,6 +115,7 @@ fn take_next(
 {
     if let Some(delivery) = broker.next_for(alloc, i)? {
         subscriber.take(alloc, &delivery).map_err(out_of_memory)?;
+        broker.ack(i, delivery.position);
     }
     Ok(())
 }

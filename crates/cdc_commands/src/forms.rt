@@ -1,10 +1,10 @@
 //! The forms in which a command prints what it reports.
 
-ghost use Rattle.std.specs.Prelude.{◌≡◌, ◌^◌, ◌<◌, List, Option, ℕ, All, IfOk, OnErr, length};
+ghost use Rattle.std.specs.Prelude.{◌≡◌, ◌^◌, ◌<◌, [], List, Option, ℕ, IfOk, OnErr, length};
 ghost use Rattle.cdc_commands.specs.declared.endings.Ending.{Ending as EndsSo};
+ghost use Rattle.cdc_commands.specs.FaultWords.{bytes_at};
 ghost use Rattle.cdc_commands.specs.BookReports.{IsBooksOf};
 ghost use Rattle.cdc_commands.specs.Printed.{history_of};
-ghost use Rattle.cdc_commands.specs.Queues.{IsUntaken};
 ghost use Rattle.cdc_commands.specs.SimulationReports.{ComesTo};
 ghost use Rattle.cdc_commands.specs.Simulations.{Plan};
 ghost use Rattle.cdc_ledger.specs.Events.{events};
@@ -30,13 +30,13 @@ pub trait Form {
     /// What `simulate` may print for a plan, one of whose steps was refused for this reason, or none.
     ghost prints_simulation: { Plan → Option Refusal → List ℕ → Type 0 };
 
-    /// What may be printed for the fault that a command ends with.
-    ghost prints_fault: { EndsSo → List ℕ → Type 0 };
+    /// What may be printed for the fault that a command ends with: for that of a file, whose word in error has these
+    /// bytes, or for a failure, which has none.
+    ghost prints_fault: { List ℕ → EndsSo → List ℕ → Type 0 };
 
     /// Prints the report of `books`.
-    fn books(&self, alloc: Global, report: BooksReport) -> Result<Vec<u8>, AllocError>
-        requires { All IsUntaken report.broker.queues }
-        ensures { (script : Parsed) → IsBooksOf script report
+    fn books(&self, alloc: Global, report: &BooksReport) -> Result<Vec<u8>, AllocError>
+        ensures { (script : Parsed) → IsBooksOf script report.now
             → IfOk result (λ text. prints_books script text.items) };
 
     /// Prints the events of a ledger for `messages`, of a script with these bindings. Without events this needs no
@@ -69,7 +69,8 @@ pub trait Form {
         script: &[u8],
         fault: ScriptFault,
     ) -> Result<Vec<u8>, AllocError>
-        ensures { IfOk result (λ text. prints_fault (EndsSo.BadScript fault) text.items) };
+        ensures { IfOk result (λ text. prints_fault (bytes_at script.now fault.word)
+            (EndsSo.BadScript fault) text.items) };
 
     /// The line for a fault in a step file with these bytes.
     fn steps_fault(
@@ -78,9 +79,10 @@ pub trait Form {
         steps: &[u8],
         fault: ScriptFault,
     ) -> Result<Vec<u8>, AllocError>
-        ensures { IfOk result (λ text. prints_fault (EndsSo.BadSteps fault) text.items) };
+        ensures { IfOk result (λ text. prints_fault (bytes_at steps.now fault.word)
+            (EndsSo.BadSteps fault) text.items) };
 
     /// The line of a command that failed. It needs no memory, since there may be none.
     fn failure(&self, fault: ProgramFault) -> &'static str
-        ensures { prints_fault (EndsSo.Failed fault) result.now };
+        ensures { prints_fault [] (EndsSo.Failed fault) result.now };
 }

@@ -12,8 +12,9 @@ use crate::faults::ProgramFault;
 use crate::forms::Form;
 use crate::notes::Notes;
 use crate::output::{Ended, Output, print_output};
+use crate::reading::read_file;
 use crate::tally::Tally;
-use cdc_script::{Script, ScriptError, parse_script, read_text};
+use cdc_script::{Script, ScriptError, parse_script};
 use std::alloc::{AllocError, Global};
 use std::io::{Read, Write};
 
@@ -65,6 +66,7 @@ pub fn messages<F: Form, R: Read, W: Write>(
     print_output(form, writer, output)
 }
 
+#[tactic(auto, using(crate::proofs::OutputLemmas::printed_of_script))]
 fn read_messages<F: Form, R: Read>(
     form: &F,
     alloc: Global,
@@ -76,6 +78,6 @@ fn read_messages<F: Form, R: Read>(
     ensures bounded { ConsumesAtMost (max_bytes + 1)
         (R.remaining reader.old) (R.remaining reader.new) }
 {
-    let bytes = read_text(alloc, reader)?;
+    let bytes = read_file(alloc, reader)?;
     Ok(messages_of(form, alloc, &bytes)?)
 }

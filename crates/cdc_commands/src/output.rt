@@ -2,6 +2,7 @@
 
 ghost use Rattle.std.specs.Prelude.{◌≡◌, [], IfErr, IfOk, OnOk};
 ghost use Rattle.std.specs.Io.KnownBytes.{Appends};
+ghost use Rattle.cdc_commands.specs.FaultWords.{bytes_at};
 ghost use Rattle.cdc_commands.specs.Outcomes.{IsPrinted, PrintsFailure, outcome_of};
 
 use crate::endings::Ending;
@@ -65,7 +66,8 @@ impl Output {
         fault: ScriptFault,
     ) -> Result<Output, AllocError>
         ensures ending { IfOk result (λ output. output.ending ≡ Ending.BadScript fault) }
-        ensures line { IfOk result (λ output. F.prints_fault (Ending.BadScript fault) output.text.items) }
+        ensures line { IfOk result (λ output. F.prints_fault (bytes_at script.now fault.word)
+            (Ending.BadScript fault) output.text.items) }
     {
         let text = form.script_fault(alloc, script, fault)?;
         Ok(Output::without_batches(text, Ending::BadScript(fault)))
@@ -79,7 +81,8 @@ impl Output {
         fault: ScriptFault,
     ) -> Result<Output, AllocError>
         ensures ending { IfOk result (λ output. output.ending ≡ Ending.BadSteps fault) }
-        ensures line { IfOk result (λ output. F.prints_fault (Ending.BadSteps fault) output.text.items) }
+        ensures line { IfOk result (λ output. F.prints_fault (bytes_at steps.now fault.word)
+            (Ending.BadSteps fault) output.text.items) }
     {
         let text = form.steps_fault(alloc, steps, fault)?;
         Ok(Output::without_batches(text, Ending::BadSteps(fault)))

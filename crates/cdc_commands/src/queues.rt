@@ -14,10 +14,11 @@ use crate::faults::ProgramFault;
 use crate::forms::Form;
 use crate::notes::Notes;
 use crate::output::{Ended, Output, print_output};
+use crate::reading::read_file;
 use crate::tally::Tally;
 use cdc_match::Binding;
 use cdc_queues::queue_lines;
-use cdc_script::{Script, ScriptError, parse_script, read_text};
+use cdc_script::{Script, ScriptError, parse_script};
 use std::alloc::{AllocError, Global};
 use std::io::{Read, Write};
 
@@ -87,6 +88,7 @@ pub fn queue<F: Form, R: Read, W: Write>(
     print_output(form, writer, output)
 }
 
+#[tactic(auto, using(crate::proofs::OutputLemmas::printed_of_queue))]
 fn read_queue<F: Form, R: Read>(
     form: &F,
     alloc: Global,
@@ -99,6 +101,6 @@ fn read_queue<F: Form, R: Read>(
     ensures bounded { ConsumesAtMost (max_bytes + 1)
         (R.remaining reader.old) (R.remaining reader.new) }
 {
-    let bytes = read_text(alloc, reader)?;
+    let bytes = read_file(alloc, reader)?;
     Ok(queue_of(form, alloc, &bytes, number)?)
 }

@@ -5,6 +5,7 @@ ghost use Rattle.std.specs.List.{flat_map};
 ghost use Rattle.cdc_types.specs.Results.{account_number, transfer_number};
 ghost use Rattle.cdc_script.specs.Faults.{kind_name};
 ghost use Rattle.cdc_subscriber.specs.Lines.{spaced, subscriber_text};
+ghost use Rattle.cdc_commands.specs.Private.Takers.{kept_text};
 ghost use Rattle.cdc_commands.specs.Report.{answer_text, answered_lines, batch_line, file_fault_line};
 
 use crate::batches::Answered;
@@ -113,6 +114,16 @@ fn push_refusal(text: &mut String, refusal: BatchError) -> Result<(), AllocError
     push_spaced(text, refusal.number())?;
     text.push_str(" ")?;
     text.push_str(refusal.name())
+}
+
+/// Adds the lines of subscribers, which are numbered from 1.
+pub fn push_subscribers(text: &mut Vec<u8>, subscribers: &[Subscriber]) -> Result<(), AllocError>
+    ensures { OnOk result (text.new.items ≡ text.old.items ++ kept_text 1 subscribers.now) }
+{
+    for place in 0..subscribers.len() {
+        print_subscriber(text, &subscribers[place], place as u64 + 1)?;
+    }
+    Ok(())
 }
 
 /// Adds the line of a subscriber, and one for each account of its book.

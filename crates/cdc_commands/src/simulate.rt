@@ -1,16 +1,15 @@
 //! The command `simulate`: takes a script's batches and a session's packets step by step.
 
 ghost use Rattle.std.specs.Prelude.{◌≡◌, ◌⊎◌, ◌+◌, ℕ, List, Option, Result};
-ghost use Rattle.std.specs.Prelude.{Err, IfErr, IfOk, IfSome, Ok, Some, option_map};
+ghost use Rattle.std.specs.Prelude.{Err, IfErr, IfOk, IfSome, Ok, Some};
 ghost use Rattle.cdc_script.specs.Reading.{ConsumesAtMost};
 ghost use Rattle.cdc_script.specs.declared.faults.ScriptFault.{ScriptFault};
 ghost use Rattle.cdc_script.specs.declared.step_files.Act.{Act};
 ghost use Rattle.cdc_script.specs.Scripts.{max_bytes, script_of};
-ghost use Rattle.cdc_script.specs.StepFiles.{acts_of};
 ghost use Rattle.cdc_types.specs.Windows.{IsWindow};
 ghost use Rattle.cdc_commands.specs.Observed.{SawSteps};
 ghost use Rattle.cdc_commands.specs.Outcomes.{IsReadFault, IsSimulationFault, MayFailScript, Writes, ending_of};
-ghost use Rattle.cdc_commands.specs.Simulated.{IsGoodScript, PrintsPlan};
+ghost use Rattle.cdc_commands.specs.Simulated.{IsGoodScript, PrintsPlan, of_acts, of_files};
 
 use crate::endings::Ending;
 use crate::faults::ProgramFault;
@@ -18,9 +17,10 @@ use crate::forms::Form;
 use crate::notes::Notes;
 use crate::observers::Observer;
 use crate::output::{Ended, Output, print_output};
+use crate::reading::read_file;
 use crate::simulations::play_script;
 use crate::tally::Tally;
-use cdc_script::{ReadError, Script, ScriptError, StepFile, parse_script, parse_steps, read_text};
+use cdc_script::{ReadError, Script, ScriptError, StepFile, parse_script, parse_steps};
 use std::alloc::Global;
 use std::io::{Read, Write};
 
@@ -38,10 +38,10 @@ pub fn simulation_of<F: Form, O: Observer>(
 ) -> Result<Output, ProgramFault>
     requires { IsWindow window }
     ensures output { IfOk result (λ output. PrintsPlan F.prints_simulation F.prints_fault
-        (record { window = window; script = Some script.now; steps = Some (acts_of steps.now) })
+        (of_files window (Some script.now) (Some steps.now))
         output.ending output.text.items) }
     ensures seen { IfOk result (λ output. SawSteps (O.has_seen observer.new)
-        (record { window = window; script = Some script.now; steps = Some (acts_of steps.now) })
+        (of_files window (Some script.now) (Some steps.now))
         output.ending) }
     ensures fault { IfErr result IsSimulationFault }
     ensures no_read { IsReadFault (ending_of result) → ⊥ }
@@ -65,10 +65,10 @@ pub fn simulation_of_steps<F: Form, O: Observer>(
 ) -> Result<Output, ProgramFault>
     requires { IsWindow window }
     ensures output { IfOk result (λ output. PrintsPlan F.prints_simulation F.prints_fault
-        (record { window = window; script = Some script.now; steps = Some (Ok steps.now.acts.items) })
+        (of_acts window (Some script.now) steps.now.acts.items)
         output.ending output.text.items) }
     ensures seen { IfOk result (λ output. SawSteps (O.has_seen observer.new)
-        (record { window = window; script = Some script.now; steps = Some (Ok steps.now.acts.items) })
+        (of_acts window (Some script.now) steps.now.acts.items)
         output.ending) }
     ensures fault { IfErr result IsSimulationFault }
     ensures no_read { IsReadFault (ending_of result) → ⊥ }
@@ -92,11 +92,11 @@ fn script_simulation<F: Form, O: Observer>(
     requires { IsWindow window }
     ensures output { (bytes : List ℕ) → script_of bytes ≡ Ok script
         → IfOk result (λ output. PrintsPlan F.prints_simulation F.prints_fault
-        (record { window = window; script = Some bytes; steps = Some (acts_of steps.now) })
+        (of_files window (Some bytes) (Some steps.now))
         output.ending output.text.items) }
     ensures seen { (bytes : List ℕ) → script_of bytes ≡ Ok script
         → IfOk result (λ output. SawSteps (O.has_seen observer.new)
-        (record { window = window; script = Some bytes; steps = Some (acts_of steps.now) })
+        (of_files window (Some bytes) (Some steps.now))
         output.ending) }
     ensures fault { IfErr result IsSimulationFault }
     ensures no_read { IsReadFault (ending_of result) → ⊥ }
@@ -123,11 +123,11 @@ fn steps_simulation<F: Form, O: Observer>(
     requires { IsWindow window }
     ensures output { (bytes : List ℕ) → script_of bytes ≡ Ok script
         → IfOk result (λ output. PrintsPlan F.prints_simulation F.prints_fault
-        (record { window = window; script = Some bytes; steps = Some (Ok steps.now.acts.items) })
+        (of_acts window (Some bytes) steps.now.acts.items)
         output.ending output.text.items) }
     ensures seen { (bytes : List ℕ) → script_of bytes ≡ Ok script
         → IfOk result (λ output. SawSteps (O.has_seen observer.new)
-        (record { window = window; script = Some bytes; steps = Some (Ok steps.now.acts.items) })
+        (of_acts window (Some bytes) steps.now.acts.items)
         output.ending) }
     ensures fault { IfErr result IsSimulationFault }
     ensures no_read { IsReadFault (ending_of result) → ⊥ }
@@ -158,18 +158,10 @@ pub fn simulate<F: Form, R: Read, Q: Read, W: Write, O: Observer>(
 ) -> Ended
     requires { IsWindow window }
     ensures writes { Writes (PrintsPlan F.prints_simulation F.prints_fault
-        (record {
-          window = window;
-          script = R.remaining script.old;
-          steps = option_map acts_of (Q.remaining steps.old);
-        }))
+        (of_files window (R.remaining script.old) (Q.remaining steps.old)))
         (W.contents writer.old) (W.contents writer.new) result.ending }
     ensures seen { Writes (λ ending _. SawSteps (O.has_seen observer.new)
-        (record {
-          window = window;
-          script = R.remaining script.old;
-          steps = option_map acts_of (Q.remaining steps.old);
-        })
+        (of_files window (R.remaining script.old) (Q.remaining steps.old))
         ending)
         (W.contents writer.old) (W.contents writer.new) result.ending }
     ensures order { IsReadFault result.ending
@@ -193,18 +185,10 @@ fn read_simulation<F: Form, R: Read, Q: Read, O: Observer>(
 ) -> Result<Output, ProgramFault>
     requires { IsWindow window }
     ensures output { IfOk result (λ output. PrintsPlan F.prints_simulation F.prints_fault
-        (record {
-          window = window;
-          script = R.remaining script.old;
-          steps = option_map acts_of (Q.remaining steps.old);
-        })
+        (of_files window (R.remaining script.old) (Q.remaining steps.old))
         output.ending output.text.items) }
     ensures seen { IfOk result (λ output. SawSteps (O.has_seen observer.new)
-        (record {
-          window = window;
-          script = R.remaining script.old;
-          steps = option_map acts_of (Q.remaining steps.old);
-        })
+        (of_files window (R.remaining script.old) (Q.remaining steps.old))
         output.ending) }
     ensures fault { IfErr result MayFailScript }
     ensures order { IsReadFault (ending_of result)
@@ -213,8 +197,8 @@ fn read_simulation<F: Form, R: Read, Q: Read, O: Observer>(
         (R.remaining script.old) (R.remaining script.new) }
     ensures steps { ConsumesAtMost (max_bytes + 1) (Q.remaining steps.old) (Q.remaining steps.new) }
 {
-    let script = read_text(alloc, script)?;
-    match read_text(alloc, steps) {
+    let script = read_file(alloc, script)?;
+    match read_file(alloc, steps) {
         Ok(steps) => simulation_of(form, alloc, &script, &steps, window, observer),
         Err(error) => unread_steps(form, alloc, &script, error),
     }
@@ -227,9 +211,9 @@ fn unread_steps<F: Form>(
     script: &[u8],
     error: ReadError,
 ) -> Result<Output, ProgramFault>
-    ensures output { (window : ℕ) → (steps : Option (Result (List Act) ScriptFault))
+    ensures output { (window : ℕ) → (steps : Option (Result (List Act) ScriptFault)) (file : Option (List ℕ))
         → IfOk result (λ output. PrintsPlan F.prints_simulation F.prints_fault
-        (record { window = window; script = Some script.now; steps = steps })
+        (record { window = window; script = Some script.now; steps = steps; step_file = file })
         output.ending output.text.items) }
     ensures ending { IfOk result (λ output. (at : ScriptFault)
         × ((output.ending ≡ Ending.BadScript at) × (script_of script.now ≡ Err at))) }

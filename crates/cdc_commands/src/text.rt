@@ -1,9 +1,8 @@
 //! The text form of what commands print.
 
-ghost use Rattle.std.specs.Prelude.{◌≡◌, All, IfOk};
+ghost use Rattle.std.specs.Prelude.{◌≡◌, IfOk};
 ghost use Rattle.cdc_commands.specs.BookReports.{IsBooksOf};
 ghost use Rattle.cdc_commands.specs.Printed.{printed_books};
-ghost use Rattle.cdc_commands.specs.Queues.{IsUntaken};
 ghost use Rattle.cdc_commands.specs.Report.{file_fault_line};
 ghost use Rattle.cdc_script.specs.declared.scripts.Script.{Script as Parsed};
 
@@ -11,9 +10,8 @@ use crate::book_reports::BooksReport;
 use crate::endings::Ending;
 use crate::event_lines::event_lines;
 use crate::faults::ProgramFault;
-use crate::feeding::push_subscribers;
 use crate::forms::Form;
-use crate::report::{push_answers, push_file_fault};
+use crate::report::{push_answers, push_file_fault, push_subscribers};
 use crate::simulation_report::print_simulated;
 use crate::simulations::Simulated;
 use cdc_log::EventLog;
@@ -37,9 +35,9 @@ impl Form for Text {
 
     ghost prints_simulation = { Simulates };
 
-    ghost prints_fault = { IsFaultLine };
+    ghost prints_fault = { λ word. IsFaultLine };
 
-    fn books(&self, alloc: Global, report: BooksReport) -> Result<Vec<u8>, AllocError> {
+    fn books(&self, alloc: Global, report: &BooksReport) -> Result<Vec<u8>, AllocError> {
         print_books(alloc, report)
     }
 
@@ -84,19 +82,14 @@ impl Form for Text {
     }
 }
 
-fn print_books(alloc: Global, report: BooksReport) -> Result<Vec<u8>, AllocError>
-    requires { All IsUntaken report.broker.queues }
-    ensures { (script : Parsed) → IsBooksOf script report
+fn print_books(alloc: Global, report: &BooksReport) -> Result<Vec<u8>, AllocError>
+    ensures { (script : Parsed) → IsBooksOf script report.now
         → IfOk result (λ text. text.items ≡ printed_books script) }
 {
-    let BooksReport {
-        answers,
-        mut broker,
-    } = report;
     let mut lines = String::new(alloc);
-    push_answers(&mut lines, answers.as_slice())?;
+    push_answers(&mut lines, report.answers.as_slice())?;
     let mut text = lines.into_bytes();
-    push_subscribers(alloc, &mut text, &mut broker)?;
+    push_subscribers(&mut text, report.subscribers.as_slice())?;
     Ok(text)
 }
 

@@ -52,17 +52,17 @@ validated ending = ending
 
 -- this is printed by a command that is asked for a subscriber, is given such an input and has this ending, if this is
 -- printed for plans, and that for faults
-abbrev pub PrintsAsked : (Plan → Option StepError → List ℕ → Type 0) → (Ending → List ℕ → Type 0) → ℕ → SimulationInput
-    → Ending → List ℕ → Type 0
+abbrev pub PrintsAsked : (Plan → Option StepError → List ℕ → Type 0) → (List ℕ → Ending → List ℕ → Type 0) → ℕ
+    → SimulationInput → Ending → List ℕ → Type 0
 PrintsAsked ReportsOf ReportsFault number input ending printed =
     PrintsPlan (ReportsAsked ReportsOf number ending) ReportsFault input (validated ending) printed
 
 -- the same of deliveries
-abbrev pub PrintsDeliveries : (Ending → List ℕ → Type 0) → Asked → SimulationInput → Ending → List ℕ → Type 0
+abbrev pub PrintsDeliveries : (List ℕ → Ending → List ℕ → Type 0) → Asked → SimulationInput → Ending → List ℕ → Type 0
 PrintsDeliveries ReportsFault asked = PrintsAsked (Delivers asked) ReportsFault asked.subscriber
 
 -- an observer has seen just the steps that were taken, if the script has such a subscriber
 abbrev pub SawAsked : (List Seen → Type 0) → ℕ → SimulationInput → Ending → Type 0
 SawAsked HasSeen number input ending =
-    PrintsAsked (λ plan refusal printed. SawPlan HasSeen plan refusal) (λ fault printed. Unit {0}) number input ending
-    []
+    PrintsAsked (λ plan refusal printed. SawPlan HasSeen plan refusal) (λ word ended printed. Unit {0}) number input
+    ending []

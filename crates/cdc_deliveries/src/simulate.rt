@@ -6,7 +6,6 @@ ghost use Rattle.cdc_script.specs.Reading.{ConsumesAtMost};
 ghost use Rattle.cdc_script.specs.declared.faults.ScriptFault.{ScriptFault};
 ghost use Rattle.cdc_script.specs.declared.step_files.Act.{Act};
 ghost use Rattle.cdc_script.specs.Scripts.{max_bytes, script_of};
-ghost use Rattle.cdc_script.specs.StepFiles.{acts_of};
 ghost use Rattle.cdc_types.specs.Windows.{IsWindow};
 ghost use Rattle.cdc_ledger.specs.Events.{events};
 ghost use Rattle.cdc_commands.specs.QueuePrinted as spec;
@@ -14,7 +13,7 @@ ghost use Rattle.cdc_commands.specs.SimulationReports.{IsReportOf};
 ghost use Rattle.cdc_commands.specs.Simulations.{Stage};
 ghost use Rattle.cdc_deliveries.specs.Recorded.{delivery_steps};
 ghost use Rattle.cdc_commands.specs.Outcomes.{IsReadFault, IsSimulationFault, MayFailScript, Writes, ending_of};
-ghost use Rattle.cdc_commands.specs.Simulated.{IsGoodScript};
+ghost use Rattle.cdc_commands.specs.Simulated.{IsGoodScript, of_acts, of_files};
 ghost use Rattle.cdc_deliveries.specs.Deliver.{PrintsDeliveries, SawAsked, asked_text};
 ghost use Rattle.cdc_deliveries.specs.Arrivals.{arrivals};
 ghost use Rattle.cdc_deliveries.specs.declared.simulate.Asked.{Asked as AsksFor};
@@ -28,11 +27,11 @@ use crate::steps::DeliveryStep;
 use cdc_commands::queues::binding_at;
 use cdc_commands::{
     Ended, Ending, Form, Notes, Observer, Output, ProgramFault, Simulated, Tally, play_script,
-    print_output,
+    print_output, read_file,
 };
 use cdc_log::EventLog;
 use cdc_match::Binding;
-use cdc_script::{ReadError, Script, ScriptError, StepFile, parse_script, parse_steps, read_text};
+use cdc_script::{ReadError, Script, ScriptError, StepFile, parse_script, parse_steps};
 use std::alloc::{AllocError, Global};
 use std::io::{Read, Write};
 
@@ -60,10 +59,10 @@ pub fn deliveries_of<F: Form, O: Observer>(
 ) -> Result<Output, ProgramFault>
     requires { IsWindow window }
     ensures output { IfOk result (λ output. PrintsDeliveries F.prints_fault asked
-        (record { window = window; script = Some script.now; steps = Some (acts_of steps.now) })
+        (of_files window (Some script.now) (Some steps.now))
         output.ending output.text.items) }
     ensures seen { IfOk result (λ output. SawAsked (O.has_seen observers.new.second) asked.subscriber
-        (record { window = window; script = Some script.now; steps = Some (acts_of steps.now) })
+        (of_files window (Some script.now) (Some steps.now))
         output.ending) }
     ensures fault { IfErr result IsSimulationFault }
     ensures no_read { IsReadFault (ending_of result) → ⊥ }
@@ -88,10 +87,10 @@ pub fn deliveries_of_steps<F: Form, O: Observer>(
 ) -> Result<Output, ProgramFault>
     requires { IsWindow window }
     ensures output { IfOk result (λ output. PrintsDeliveries F.prints_fault asked
-        (record { window = window; script = Some script.now; steps = Some (Ok steps.now.acts.items) })
+        (of_acts window (Some script.now) steps.now.acts.items)
         output.ending output.text.items) }
     ensures seen { IfOk result (λ output. SawAsked (O.has_seen observers.new.second) asked.subscriber
-        (record { window = window; script = Some script.now; steps = Some (Ok steps.now.acts.items) })
+        (of_acts window (Some script.now) steps.now.acts.items)
         output.ending) }
     ensures fault { IfErr result IsSimulationFault }
     ensures no_read { IsReadFault (ending_of result) → ⊥ }
@@ -116,11 +115,11 @@ fn script_deliveries<F: Form, O: Observer>(
     requires { IsWindow window }
     ensures output { (bytes : List ℕ) → script_of bytes ≡ Ok script
         → IfOk result (λ output. PrintsDeliveries F.prints_fault asked
-        (record { window = window; script = Some bytes; steps = Some (acts_of steps.now) })
+        (of_files window (Some bytes) (Some steps.now))
         output.ending output.text.items) }
     ensures seen { (bytes : List ℕ) → script_of bytes ≡ Ok script
         → IfOk result (λ output. SawAsked (O.has_seen observers.new.second) asked.subscriber
-        (record { window = window; script = Some bytes; steps = Some (acts_of steps.now) })
+        (of_files window (Some bytes) (Some steps.now))
         output.ending) }
     ensures fault { IfErr result IsSimulationFault }
     ensures no_read { IsReadFault (ending_of result) → ⊥ }
@@ -147,11 +146,11 @@ fn steps_deliveries<F: Form, O: Observer>(
     requires { IsWindow window }
     ensures output { (bytes : List ℕ) → script_of bytes ≡ Ok script
         → IfOk result (λ output. PrintsDeliveries F.prints_fault asked
-        (record { window = window; script = Some bytes; steps = Some (Ok steps.now.acts.items) })
+        (of_acts window (Some bytes) steps.now.acts.items)
         output.ending output.text.items) }
     ensures seen { (bytes : List ℕ) → script_of bytes ≡ Ok script
         → IfOk result (λ output. SawAsked (O.has_seen observers.new.second) asked.subscriber
-        (record { window = window; script = Some bytes; steps = Some (Ok steps.now.acts.items) })
+        (of_acts window (Some bytes) steps.now.acts.items)
         output.ending) }
     ensures fault { IfErr result IsSimulationFault }
     ensures no_read { IsReadFault (ending_of result) → ⊥ }
@@ -249,18 +248,10 @@ pub fn deliver<F: Form, R: Read, Q: Read, W: Write, O: Observer>(
 ) -> Ended
     requires { IsWindow window }
     ensures writes { Writes (PrintsDeliveries F.prints_fault asked
-        (record {
-          window = window;
-          script = R.remaining script.old;
-          steps = option_map acts_of (Q.remaining steps.old);
-        }))
+        (of_files window (R.remaining script.old) (Q.remaining steps.old)))
         (W.contents writer.old) (W.contents writer.new) result.ending }
     ensures seen { Writes (λ ending _. SawAsked (O.has_seen observers.new.second) asked.subscriber
-        (record {
-          window = window;
-          script = R.remaining script.old;
-          steps = option_map acts_of (Q.remaining steps.old);
-        })
+        (of_files window (R.remaining script.old) (Q.remaining steps.old))
         ending)
         (W.contents writer.old) (W.contents writer.new) result.ending }
     ensures order { IsReadFault result.ending
@@ -285,18 +276,10 @@ fn read_deliveries<F: Form, R: Read, Q: Read, O: Observer>(
 ) -> Result<Output, ProgramFault>
     requires { IsWindow window }
     ensures output { IfOk result (λ output. PrintsDeliveries F.prints_fault asked
-        (record {
-          window = window;
-          script = R.remaining script.old;
-          steps = option_map acts_of (Q.remaining steps.old);
-        })
+        (of_files window (R.remaining script.old) (Q.remaining steps.old))
         output.ending output.text.items) }
     ensures seen { IfOk result (λ output. SawAsked (O.has_seen observers.new.second) asked.subscriber
-        (record {
-          window = window;
-          script = R.remaining script.old;
-          steps = option_map acts_of (Q.remaining steps.old);
-        })
+        (of_files window (R.remaining script.old) (Q.remaining steps.old))
         output.ending) }
     ensures fault { IfErr result MayFailScript }
     ensures order { IsReadFault (ending_of result)
@@ -305,8 +288,8 @@ fn read_deliveries<F: Form, R: Read, Q: Read, O: Observer>(
         (R.remaining script.old) (R.remaining script.new) }
     ensures steps { ConsumesAtMost (max_bytes + 1) (Q.remaining steps.old) (Q.remaining steps.new) }
 {
-    let script = read_text(alloc, script)?;
-    match read_text(alloc, steps) {
+    let script = read_file(alloc, script)?;
+    match read_file(alloc, steps) {
         Ok(steps) => deliveries_of(form, alloc, &script, &steps, window, asked, observers),
         Err(error) => unread_steps(form, alloc, &script, error),
     }
@@ -320,9 +303,9 @@ fn unread_steps<F: Form>(
     script: &[u8],
     error: ReadError,
 ) -> Result<Output, ProgramFault>
-    ensures output { (window : ℕ) → (steps : Option (Result (List Act) ScriptFault)) → (asked : AsksFor)
-        → IfOk result (λ output. PrintsDeliveries F.prints_fault asked
-        (record { window = window; script = Some script.now; steps = steps })
+    ensures output { (window : ℕ) → (steps : Option (Result (List Act) ScriptFault)) (file : Option (List ℕ))
+        → (asked : AsksFor) → IfOk result (λ output. PrintsDeliveries F.prints_fault asked
+        (record { window = window; script = Some script.now; steps = steps; step_file = file })
         output.ending output.text.items) }
     ensures ending { IfOk result (λ output. (at : ScriptFault)
         × ((output.ending ≡ Ending.BadScript at) × (script_of script.now ≡ Err at))) }

@@ -5,3 +5,4 @@ pub mod Sentences
 pub mod StepTexts
 pub mod Texts
 pub mod Traces
+pub mod Words

@@ -1,5 +1,9 @@
 //! What is wrong with a script or a step file: the word in error, and a sentence on it.
 
+ghost use Rattle.std.specs.Prelude.{◌≡◌, IfOk, string_bytes};
+ghost use Rattle.cdc_commands.specs.FaultWords as spec;
+ghost use Rattle.cdc_diagnostics.specs.Words.{shown_bytes};
+
 use crate::bindings::push_bad_binding;
 use crate::files::{script_sentence, steps_sentence};
 use crate::letters::push_bad_letter;
@@ -12,6 +16,7 @@ use crate::step_lines::{
     push_bad_step_number, push_large_step_number, push_step_count, push_unknown_step,
 };
 use crate::texts::Text;
+use crate::words::bytes_at;
 use cdc_script::{Detail, FaultKind, ScriptFault, Span};
 use std::alloc::{AllocError, Global};
 use std::str;
@@ -28,7 +33,9 @@ pub(crate) struct FaultText<'a> {
 /// The word in error in a script or a step file of these bytes, as it is shown. It is empty if a word is missing, or
 /// if the error is in the file as a whole. A byte that isn't printable ASCII is shown as a question mark, and a long
 /// word is cut.
-pub fn fault_word(alloc: Global, file: &[u8], fault: ScriptFault) -> Result<String, AllocError> {
+pub fn fault_word(alloc: Global, file: &[u8], fault: ScriptFault) -> Result<String, AllocError>
+    ensures { IfOk result (λ word. string_bytes word ≡ shown_bytes (spec.bytes_at file.now fault.word)) }
+{
     let mut shown = Text::new(alloc);
     shown.push_bytes(bytes_at(file, fault.word));
     shown.finish()
@@ -114,10 +121,4 @@ fn words_of(file: &[u8], fault: ScriptFault) -> FaultText<'_> {
 /// The text at a place of a file; empty if the bytes there aren't UTF-8.
 fn text_at(file: &[u8], span: Span) -> &str {
     str::from_utf8(bytes_at(file, span)).unwrap_or("")
-}
-
-/// The bytes at a place of a file; fewer if the file ends before.
-pub(crate) fn bytes_at(file: &[u8], span: Span) -> &[u8] {
-    let after = file.get(span.start as usize..).unwrap_or(&[]);
-    after.get(..span.length as usize).unwrap_or(after)
 }

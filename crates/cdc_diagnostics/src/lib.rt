@@ -27,6 +27,7 @@ mod step_lines;
 mod steps;
 mod texts;
 mod traces;
+mod words;
 
 pub use books::books_lines;
 pub use faults::{fault_word, script_fault_sentence, steps_fault_sentence};

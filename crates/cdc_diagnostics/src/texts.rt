@@ -1,11 +1,15 @@
 //! Texts that are built piece by piece.
 
-ghost use Rattle.std.specs.Prelude.{◌≡◌, ◌++◌, ℕ, List, if◌then◌else◌, Err, IfOk, IsFalse, IsTrue, Ok, [], alloc_error, decimal, string_bytes};
+ghost use Rattle.std.specs.Prelude.{◌≡◌, ◌++◌, ◌∷◌, ℕ, List, if◌then◌else◌, Err, IfOk, IsFalse, IsTrue, Ok, []};
+ghost use Rattle.std.specs.Prelude.{alloc_error, decimal, map, string_bytes};
 ghost use Rattle.cdc_diagnostics.specs.Sentences.{sentence_text};
 ghost use Rattle.cdc_diagnostics.specs.Texts.{Holds};
+ghost use Rattle.cdc_diagnostics.specs.Words as spec;
+ghost use Rattle.cdc_diagnostics.specs.Words.{shown_bytes};
 
-use crate::letters::is_printable;
+use crate::letters::shown_byte;
 use crate::sentences::Sentence;
+use crate::words::prefix;
 use itoa::Buffer;
 use std::alloc::{AllocError, Global};
 use std::str;
@@ -66,13 +70,36 @@ impl Text {
     }
 
     /// Adds a word of a file, without grave accents. A long one is cut.
-    pub(crate) fn push_bytes(&mut self, bytes: &[u8]) {
-        for byte in bytes.iter().take(MOST_SHOWN) {
-            let shown = if is_printable(*byte) { *byte } else { b'?' };
-            self.push(str::from_utf8(&[shown]).unwrap_or("?"));
-        }
-        if bytes.len() > MOST_SHOWN {
+    #[tactic(auto, using(crate::proofs::ShownWords::cut_off))]
+    pub(crate) fn push_bytes(&mut self, word: &[u8])
+        ensures { (bytes : List ℕ) → Holds self.old bytes
+            → Holds self.new (bytes ++ shown_bytes word.now) }
+    {
+        self.push_shown(prefix(word, MOST_SHOWN));
+        if word.len() > MOST_SHOWN {
             self.push("..");
+        }
+    }
+
+    /// Adds bytes of a file, each as it is shown.
+    fn push_shown(&mut self, shown: &[u8])
+        ensures { (bytes : List ℕ) → Holds self.old bytes
+            → Holds self.new (bytes ++ map spec.shown_byte shown.now) }
+    {
+        for byte in shown {
+            self.push_byte(*byte);
+        }
+    }
+
+    /// Adds a byte of a file, as it is shown.
+    fn push_byte(&mut self, byte: u8)
+        ensures { (bytes : List ℕ) → Holds self.old bytes
+            → Holds self.new (bytes ++ spec.shown_byte byte ∷ []) }
+    {
+        let shown = [shown_byte(byte)];
+        match str::from_utf8(&shown) {
+            Ok(text) => self.push(text),
+            Err(_) => unreachable!(),
         }
     }
 

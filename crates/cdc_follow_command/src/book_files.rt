@@ -1,6 +1,7 @@
 //! A text that is kept in a file, such as a follower's book.
 
 ghost use Rattle.std.specs.Prelude.{◌≡◌, IfOk};
+ghost use Rattle.std.specs.Option.{option_map};
 
 use crate::stores::BookStore;
 use cdc_files::{Replaced, holds, open_locked, path_of_new, replace, target_of};
@@ -63,8 +64,10 @@ impl<'a, R: Files<File = File> + AllocGlobal> FileBook<'a, R> {
         Ok(book)
     }
 
-    /// The text, if there is one.
-    pub fn text(&self) -> Option<&[u8]> {
+    /// The text that was last loaded or saved, if there is one.
+    pub fn text(&self) -> Option<&[u8]>
+        ensures { option_map (λ it. it.now) result ≡ option_map (λ it. it.items) self.now.known }
+    {
         match &self.known {
             Some(text) => Some(text.as_slice()),
             None => None,

@@ -1,6 +1,6 @@
 //! The command `follow`: follows a stream up to its end, and saves and prints its book.
 
-ghost use Rattle.std.specs.Prelude.{◌≡◌, Some, is_some, IfOk, IfSome, OnOk};
+ghost use Rattle.std.specs.Prelude.{◌≡◌, [], Some, is_some, IfOk, IfSome, OnOk};
 ghost use Rattle.cdc_follow.specs.Gaps.{bytes_skipped};
 ghost use Rattle.cdc_follow.specs.Saved.{book_text};
 ghost use Rattle.cdc_follow.specs.Stops.{bytes_followed};
@@ -96,7 +96,7 @@ pub fn follow_command<F: Form + FollowForm, B: LineReader, W: Write, K: BookStor
         ≡ Some (book_text saver.old.chained saver.old.binding.items follower.new))) }
     ensures printed { PrintsFollowing (PrintsSaves F.prints_saved (is_some saver.old.store) binding.now rules
         follower.old (B.remaining reader.old) (W.contents writer.old))
-        (F.prints_end (skipped_under rules gaps.new)) F.prints_fault (W.contents writer.new) follower.new result }
+        (F.prints_end (skipped_under rules gaps.new)) (F.prints_fault []) (W.contents writer.new) follower.new result }
 {
     match follow_stream(
         form, alloc, reader, writer, saver, binding, rules, follower, gaps,
@@ -126,7 +126,7 @@ fn print_end<F: Form + FollowForm, W: Write>(
     stop: Stop,
 ) -> FollowEnding
     ensures stops { IfStopped result (λ it. it ≡ stop) }
-    ensures printed { PrintsEnd (F.prints_end skipped) F.prints_fault
+    ensures printed { PrintsEnd (F.prints_end skipped) (F.prints_fault [])
         (W.contents writer.old) (W.contents writer.new) follower.now result }
 {
     match form.end(alloc, skipped, follower, stop) {
@@ -138,7 +138,7 @@ fn print_end<F: Form + FollowForm, W: Write>(
 /// Prints the fault of a command that failed, unless it is one of a write.
 fn fail<F: Form, W: Write>(form: &F, writer: &mut W, fault: ProgramFault) -> FollowEnding
     ensures fails { IfStopped result (λ _. ⊥) }
-    ensures printed { PrintsFailure F.prints_fault (W.contents writer.old) (W.contents writer.new)
+    ensures printed { PrintsFailure (F.prints_fault []) (W.contents writer.old) (W.contents writer.new)
         fault result }
 {
     if let ProgramFault::WriteFault(_) = fault {

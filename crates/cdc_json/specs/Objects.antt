@@ -14,12 +14,12 @@ use Rattle.cdc_commands.specs.declared.endings.Ending.TheVariants.{Failed, BadSc
 use Rattle.cdc_commands.specs.Feeds.{kept_by}
 use Rattle.cdc_commands.specs.Printed.{answers_to, history_of}
 use Rattle.cdc_commands.specs.Simulations.{Plan, PlaysActs, Stage, at_start}
+use Rattle.cdc_diagnostics.specs.Words.{shown_bytes}
 use Rattle.cdc_json.specs.Lines.{answered_values, fault_value, file_fault_value, json_line, json_lines, kept_values, progress_value, refusal_values, steps_value}
 
--- the line of the fault of a file, with some word
-pub record ReportsFault (file : List ℕ) (at : ScriptFault) (printed : List ℕ) : Type 0 where
-  pub word : List ℕ
-  pub line : printed ≡ json_line (file_fault_value file at word)
+-- the line of the fault of a file, with the word in error as it is shown
+abbrev pub ReportsFault : List ℕ → List ℕ → ScriptFault → List ℕ → Type 0
+ReportsFault file word at printed = printed ≡ json_line (file_fault_value file at (shown_bytes word))
 
 -- the values of `books`: those of the batches, and then those of the subscribers, each of which has taken its queue
 abbrev pub books_values : Script → List Data
@@ -35,12 +35,12 @@ ReportsBooks script printed = printed ≡ json_lines (books_values script)
 abbrev pub ReportsMessages : Script → List ℕ → Type 0
 ReportsMessages script printed = printed ≡ messages_text script.bindings (events (history_of script))
 
--- the line of the fault that a command ends with
-abbrev pub ReportsEnding : Ending → List ℕ → Type 0
-ReportsEnding (BadScript at) printed = ReportsFault (codes "script") at printed
-ReportsEnding (BadSteps at) printed = ReportsFault (codes "steps") at printed
-ReportsEnding (Failed why) printed = printed ≡ json_line (fault_value why)
-ReportsEnding _ printed = ⊥
+-- the line of the fault that a command ends with: for that of a file, with this word in error
+abbrev pub ReportsEnding : List ℕ → Ending → List ℕ → Type 0
+ReportsEnding word (BadScript at) printed = ReportsFault (codes "script") word at printed
+ReportsEnding word (BadSteps at) printed = ReportsFault (codes "steps") word at printed
+ReportsEnding word (Failed why) printed = printed ≡ json_line (fault_value why)
+ReportsEnding word _ printed = ⊥
 
 -- the values of a simulation that came to this stage, of so many acts
 abbrev pub simulation_values : ℕ → Option StepError → Stage → List Data

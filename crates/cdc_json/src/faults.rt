@@ -1,6 +1,7 @@
 //! The lines of faults.
 
 ghost use Rattle.std.specs.Prelude.{◌≡◌, ◌++◌, IfOk, OnOk};
+ghost use Rattle.cdc_commands.specs.FaultWords.{bytes_at};
 ghost use Rattle.cdc_json.specs.Lines.{fault_value, file_fault_value, json_line};
 ghost use Rattle.cdc_json.specs.Objects.{ReportsFault};
 
@@ -17,7 +18,8 @@ pub(crate) fn file_fault(
     bytes: &[u8],
     fault: ScriptFault,
 ) -> Result<Lines, AllocError>
-    ensures { IfOk result (λ lines. ReportsFault file.now fault lines.text.items) }
+    ensures { IfOk result (λ lines. ReportsFault file.now (bytes_at bytes.now fault.word) fault
+        lines.text.items) }
 {
     let word = fault_word(alloc, bytes, fault)?;
     let mut lines = Lines::new(alloc);

@@ -25,7 +25,7 @@ impl Form for Json {
 
     ghost prints_fault = { ReportsEnding };
 
-    fn books(&self, alloc: Global, report: BooksReport) -> Result<Vec<u8>, AllocError> {
+    fn books(&self, alloc: Global, report: &BooksReport) -> Result<Vec<u8>, AllocError> {
         Ok(books_lines(alloc, report)?.into_text())
     }
 

@@ -1,11 +1,26 @@
 //! The lines of subscribers.
 
 ghost use Rattle.std.specs.Prelude.{◌≡◌, ◌++◌, map, OnOk};
-ghost use Rattle.cdc_json.specs.Lines.{account_value, json_line, json_lines, subscriber_value, subscriber_values};
+ghost use Rattle.cdc_json.specs.Lines.{account_value, json_line, json_lines, kept_values, subscriber_value, subscriber_values};
 
 use crate::lines::{Field, Lines, Member};
 use cdc_subscriber::{Book, BookEntry, Subscriber};
 use std::alloc::{AllocError, Global};
+
+/// Adds the lines of subscribers, which are numbered from 1.
+pub(crate) fn push_subscribers(
+    alloc: Global,
+    lines: &mut Lines,
+    subscribers: &[Subscriber],
+) -> Result<(), AllocError>
+    ensures { OnOk result (lines.new.text.items
+        ≡ lines.old.text.items ++ json_lines (kept_values 1 subscribers.now)) }
+{
+    for place in 0..subscribers.len() {
+        push_subscriber(alloc, lines, place as u64 + 1, &subscribers[place])?;
+    }
+    Ok(())
+}
 
 /// Adds the lines of the subscriber with this number, from 1: its state, and its book.
 pub fn push_subscriber(

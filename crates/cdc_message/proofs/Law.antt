@@ -1,5 +1,5 @@
 -- Reading the body of an event gives the event.
-use Rattle.std.proofs.Common.{◌≡◌, ℕ, List, ◌∷◌, length, Ok, ◌<◌, ◌≤◌, ◌^◌, [], ◌++◌, Some, option_and_then, sym, ap, ◌∙◌, arith, append-nil}
+use Rattle.std.proofs.Common.{◌≡◌, ◌<◌, ◌≤◌, ◌^◌, [], ◌++◌, Some, option_and_then, sym, ap, ◌∙◌, arith, append-nil}
 use Rattle.json.specs.Json as json
 use Rattle.json.specs.Lex.{tokens}
 use Rattle.json.specs.Tree as tree
@@ -18,7 +18,6 @@ use Rattle.cdc_types.specs.declared.events.EventTransfer.{EventTransfer}
 use Rattle.cdc_types.specs.declared.events.Event.{Event}
 use Rattle.cdc_message.specs.Bodies.{body}
 use Rattle.cdc_message.specs.Laws.{BodiesReadBack}
-use Rattle.cdc_message.specs.Reading.{read}
 use Rattle.cdc_message.specs.Values.{account_value, transfer_value, event_members, event_value}
 use Rattle.cdc_message.specs.Widths.{AccountFits, TransferFits, EventFits}
 use Rattle.cdc_message.proofs.Back.{event_of-event_value}
@@ -122,9 +121,3 @@ read-body event fits =
     ap values.read (sym (compact_text-event event fits))
     ∙ read-compact_text (event_value event) (event_numbers event fits) (event_back event fits) (omega arith) in
     read_some (body event) (event_value event) (IsUtf8-body event fits) parsed ∙ event_of-event_value event fits
-
--- so bytes that are the text of an event, and no more, are read as that event
-pub read_own : (event : Event) (bytes rest : List ℕ) → EventFits event → bytes ≡ body event ++ rest → length rest ≡ 0
-    → read bytes ≡ Ok event
-read_own event bytes [] fits is none = ap read (is ∙ append-nil (body event)) ∙ read-body event fits
-read_own event bytes (byte ∷ rest) fits is none = absurd (omega arith)

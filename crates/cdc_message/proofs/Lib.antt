@@ -4,8 +4,11 @@ pub mod DecimalTexts
 pub mod Ends
 pub mod Examples
 pub mod Law
+pub mod LeadingDigits
 pub mod LineLaws
 pub mod Members
+pub mod OwnKinds
+pub mod OwnParts
 pub mod Parts
 pub mod ReplayExamples
 pub mod ReplayLaws

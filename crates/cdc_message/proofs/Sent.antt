@@ -1,6 +1,6 @@
 -- What an event that is sent to the JSON crate's writer is written as.
 use Rattle.std.proofs.Common.{◌≡◌, ◌∷◌, ◌++◌, [], List, Ok, Err, ap, ◌∙◌, append_assoc}
-use Rattle.std.specs.Prelude.{Result, IfOk}
+use Rattle.std.specs.Prelude.{Result, IfOk, OnOk}
 use Rattle.std.specs.Result.{result_or}
 use Rattle.json.specs.Print.{print}
 use Rattle.json.specs.Token.{Token}
@@ -39,3 +39,8 @@ pub IfOk-or_err : {T D E : Type 0} (r : Result T E) (error : D) (P : T → Type 
     → IfOk (result_or r (Err error)) P
 IfOk-or_err (Ok value) error P h = h
 IfOk-or_err (Err other) error P h = tt
+
+-- what holds anyway holds of a success
+pub OnOk-from : {T E : Type 0} (r : Result T E) (P : Type 0) → P → OnOk r P
+OnOk-from (Ok value) P h = h
+OnOk-from (Err error) P h = tt

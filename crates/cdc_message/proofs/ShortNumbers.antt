@@ -1,5 +1,5 @@
 -- Digits that are read one by one.
-use Rattle.std.proofs.Common.{◌≡◌, ◌≤◌, ◌<◌, ◌+◌, ◌*◌, ◌-◌, ◌^◌, ◌++◌, ◌∷◌, ◌&&◌, ◌∙◌, ℕ, List, [], length, get_or, take, true, ap, sym, refl, arith, rules}
+use Rattle.std.proofs.Common.{◌≡◌, ◌≤◌, ◌<◌, ◌+◌, ◌*◌, ◌-◌, ◌^◌, ◌∷◌, ◌&&◌, ◌∙◌, ℕ, List, [], length, get_or, take, true, ap, sym, refl, arith, rules}
 use Rattle.std.proofs.lemmas.Bool.Decides.{nat_tests}
 use Rattle.std.proofs.lemmas.Fmt.{decimal-digits_value}
 use Rattle.std.proofs.lemmas.Int.Digits.{digits_value_push}

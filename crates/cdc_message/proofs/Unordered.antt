@@ -3,7 +3,7 @@ use Rattle.std.proofs.Common.{◌≡◌, ℕ, ◌<◌, ◌^◌, List, [], ◌∷
 use Rattle.std.proofs.lemmas.Bool.Decides.{eqb_tells}
 use Rattle.json.specs.Json as json
 use Rattle.json.specs.Lex.{token, comma, colon, Place, fresh, after_value, after_comma, after_key, lex, between, string_token, begins_colon, may_begin, punctuate}
-use Rattle.json.specs.Token.{begin_object, end_object, key, string, number}
+use Rattle.json.specs.Token.{begin_object, end_object, key, string}
 use Rattle.json.specs.Tree.{json_tokens, members_tokens}
 use Rattle.json.specs.Print.{escape}
 use Rattle.json.specs.Word.{ends_word, is_space}

@@ -8,6 +8,7 @@ pub mod Items
 pub mod Kinds
 pub mod Laws
 pub mod Messages
+pub mod OwnBodies
 pub mod Packets
 pub mod Reading
 pub mod Replays

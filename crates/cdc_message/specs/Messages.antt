@@ -9,6 +9,7 @@ use Rattle.cdc_types.specs.declared.events.Headers.{Headers}
 use Rattle.cdc_message.specs.Bodies.{body}
 use Rattle.cdc_message.specs.Headers.{headers_of_event}
 use Rattle.cdc_message.specs.Reading.{read}
+use Rattle.cdc_message.specs.Widths.{EventFits}
 
 -- a transfer of zeros
 abbrev no_transfer : EventTransfer
@@ -62,3 +63,4 @@ pub record BelongTo (headers : Headers) (timestamp : ℕ) (text : List ℕ) (eve
   pub timestamp_is : timestamp ≡ event.timestamp
   pub text_is : text ≡ body event
   pub reads_back : read text ≡ Ok event
+  pub fits : EventFits event

@@ -1,11 +1,12 @@
 //! Decimal numbers in text: those of bindings, scripts and arguments, and those in a body's strings. A body's bare
 //! numbers are read as JSON, and progress records have a reader of their own.
 
-ghost use Rattle.std.specs.Prelude.{◌≡◌, ◌≤◌, IfSome, decimal, length, take, true};
+ghost use Rattle.std.specs.Prelude.{◌≡◌, ◌<◌, ◌≤◌, ◌^◌, ◌++◌, List, ℕ, IfSome, decimal, drop, false, length, take, true};
 ghost use Rattle.std.specs.Char.{is_ascii_digit};
-ghost use Rattle.std.specs.List.{list_all};
+ghost use Rattle.std.specs.List.{list_all, take_while};
 ghost use Rattle.std.specs.Str.Parse.{digits_value};
 ghost use Rattle.cdc_message.specs.Decimals as spec;
+ghost use Rattle.cdc_message.specs.OwnBodies.{begins_with_digit};
 
 fn has_digits_alone(text: &[u8]) -> bool
     ensures { result ≡ list_all is_ascii_digit text.now }
@@ -55,22 +56,36 @@ pub fn decimal_up_to(text: &[u8], greatest: u128) -> Option<u128>
     }
 }
 
-/// The number that the leading digits of a text represent, 0 if there are none. A number of more than 128 bits wraps
-/// around: the caller has to compare the result with the text.
-pub(crate) fn leading_number(text: &[u8]) -> u128 {
-    text.iter()
-        .take_while(|byte| byte.is_ascii_digit())
-        .fold(0, |number: u128, digit| {
-            number
-                .wrapping_mul(10)
-                .wrapping_add(u128::from(digit.wrapping_sub(b'0')))
-        })
+// The digits at the front of a text.
+fn leading_digits(text: &[u8]) -> &[u8]
+    ensures { result.now ≡ take_while is_ascii_digit text.now }
+{
+    for (count, byte) in text.iter().enumerate() {
+        if !byte.is_ascii_digit() {
+            return &text[..count];
+        }
+    }
+    text
+}
+
+/// The number that the digits at the front of a text represent; leading zeros are allowed. `None` if there is no digit
+/// or if the number has more than 128 bits.
+pub(crate) fn leading_number(text: &[u8]) -> Option<u128>
+    ensures { (n : ℕ) (rest : List ℕ) → text.now ≡ decimal n ++ rest → n < 2 ^ 128 → begins_with_digit rest ≡ false
+        → result ≡ Some n }
+{
+    let digits = leading_digits(text);
+    if digits.is_empty() {
+        return None;
+    }
+    value_of(digits)
 }
 
 /// The number that the digits at the front of a text represent, and how many they are. `None` if there is no digit, if
 /// there are more than 19, or if the first of several is a zero.
 pub(crate) fn short_number(text: &[u8]) -> Option<(u64, usize)>
-    ensures { IfSome result (λ found. (found.1 ≤ length text.now) × (decimal found.0 ≡ take found.1 text.now)) }
+    ensures digits { IfSome result (λ found. (found.1 ≤ length text.now) × (decimal found.0 ≡ take found.1 text.now)) }
+    ensures whole { IfSome result (λ found. begins_with_digit (drop found.1 text.now) ≡ false) }
 {
     let mut number = 0;
     let mut count = 0;

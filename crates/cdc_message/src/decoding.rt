@@ -3,9 +3,11 @@
 ghost use Rattle.std.specs.Prelude.{◌≡◌, ◌<◌, ◌≤◌, ◌^◌, ◌-◌, length, Ok, Err, IfOk, IfSome};
 ghost use Rattle.serde_json.specs.Data.{string};
 ghost use Rattle.serde_json.specs.View.{view};
+ghost use Rattle.cdc_types.specs.declared.events.Event.{Event};
 ghost use Rattle.cdc_message.specs.Errors.{GivesUnlessMemory};
 ghost use Rattle.cdc_message.specs.Fields.{field as field_of};
 ghost use Rattle.cdc_message.specs.Found.{Finds, number_in};
+ghost use Rattle.cdc_message.specs.OwnBodies.{IsOwnBody};
 ghost use Rattle.cdc_message.specs.Reading as spec;
 ghost use Rattle.cdc_message.specs.declared.fields.Part.TheVariants.{Top, Transfer};
 
@@ -182,10 +184,11 @@ pub fn event_of(value: &Value) -> Result<Event, DecodeError>
     })
 }
 
-/// The event of a body in the layout that `encode` writes or in the documented one, read without a JSON value and without
-/// allocating. `None` for other bodies, which `decode` reads.
+/// The event of a body in the layout that `encode` writes or in the documented one, read without a JSON value and
+/// without allocating. `None` for other bodies, which `decode` reads.
 pub fn fast_event(bytes: &[u8]) -> Option<Event>
-    ensures { IfSome result (λ event. spec.read bytes.now ≡ Ok event) }
+    ensures event { IfSome result (λ event. spec.read bytes.now ≡ Ok event) }
+    ensures complete { (event : Event) → IsOwnBody bytes.now event → result ≡ Some event }
 {
     match own_event(bytes) {
         Some(event) => Some(event),
@@ -207,10 +210,12 @@ fn decode_value(alloc: Global, bytes: &[u8]) -> Result<Event, DecodeError>
 
 /// The event that a body represents. Members may be in any order, with white space between them, and with additional
 /// members; a number may be a decimal string or a JSON number (TigerBeetle, Change Data Capture). The error is the
-/// first one in the order in which fields are checked, or out of memory. An empty body is refused without allocating.
+/// first one in the order in which fields are checked, or out of memory. A body that `encode` writes is read, and an
+/// empty one refused, without allocating.
 pub fn decode(alloc: Global, bytes: &[u8]) -> Result<Event, DecodeError>
     ensures event { GivesUnlessMemory result (spec.read bytes.now) }
     ensures memory { result ≡ Err DecodeError.OutOfMemory → 0 < length bytes.now }
+    ensures own { (event : Event) → IsOwnBody bytes.now event → result ≡ Ok event }
 {
     match fast_event(bytes) {
         Some(event) => Ok(event),

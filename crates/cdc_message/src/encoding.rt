@@ -115,6 +115,7 @@ fn send_event(out: &mut Writer, event: &Event) -> Result<(), AllocError>
 pub fn encode(alloc: Global, event: &Event) -> Result<String, AllocError>
     ensures text { IfOk result (λ text. string_bytes text ≡ body event.now) }
     ensures reads_back { IfOk result (λ text. read (string_bytes text) ≡ Ok event.now) }
+    ensures fits { OnOk result (EventFits event.now) }
     // For every event, not only for this one.
     ensures law { BodiesReadBack }
 {

@@ -30,5 +30,15 @@ pub fn kind_text(kind: EventKind) -> &'static str
 pub fn kind_named(text: &str) -> Option<EventKind>
     ensures { result ≡ spec.kind_named text.now }
 {
-    KINDS.iter().copied().find(|kind| kind_text(*kind) == text)
+    kind_of(text.as_bytes())
+}
+
+// The same for a text that is given as bytes.
+pub(crate) fn kind_of(text: &[u8]) -> Option<EventKind>
+    ensures { result ≡ spec.kind_named text.now }
+{
+    KINDS
+        .iter()
+        .copied()
+        .find(|kind| kind_text(*kind).as_bytes() == text)
 }

@@ -4,6 +4,7 @@ ghost use Rattle.std.specs.Prelude.{◌≡◌, IfOk, Ok, string_bytes};
 ghost use Rattle.cdc_message.specs.Bodies.{body as body_of};
 ghost use Rattle.cdc_message.specs.Headers.{headers_of_event, AreProperties};
 ghost use Rattle.cdc_message.specs.Messages.{event_in, BelongTo};
+ghost use Rattle.cdc_message.specs.OwnBodies.{IsOwnBody};
 ghost use Rattle.cdc_message.specs.Reading.{read};
 ghost use Rattle.cdc_types.specs.declared.events.Event.{Event};
 
@@ -69,6 +70,7 @@ impl Message {
     pub fn body(&self) -> &str
         ensures text { result.now ≡ body_of self.now }
         ensures reads_back { read result.now ≡ Ok self.now }
+        ensures own { IsOwnBody result.now self.now }
     {
         self.body.as_str()
     }

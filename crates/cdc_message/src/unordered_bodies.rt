@@ -162,7 +162,7 @@ impl Cursor<'_> {
     fn quoted_number(&mut self) -> Option<u128>
         ensures { IfSome result (λ n. GivesNumber self.old.rest.now n self.new.rest.now) }
     {
-        let number = self.number_128()?;
+        let number = self.quoted_128()?;
         Some(number)
     }
 

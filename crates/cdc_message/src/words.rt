@@ -3,7 +3,8 @@
 ghost use Rattle.std.specs.Prelude.{◌≡◌, ◌≤◌, ◌-◌, ◌↔◌, IsTrue, drop, length, take};
 ghost use Rattle.std.specs.Int.{to_le_bytes, w64};
 
-/// Whether two texts of one length are the same.
+/// Whether two texts of one length are the same. Inlined for texts whose length is a constant.
+#[inline(always)]
 pub(crate) fn same(one: &[u8], other: &[u8]) -> bool
     requires { length one.now ≡ length other.now }
     ensures { IsTrue result ↔ (one.now ≡ other.now) }
@@ -19,6 +20,7 @@ pub(crate) fn same(one: &[u8], other: &[u8]) -> bool
 }
 
 /// The first eight bytes of a text, as a number.
+#[inline(always)]
 fn first_word(text: &[u8]) -> u64
     requires { 8 ≤ length text.now }
     ensures { to_le_bytes w64 result ≡ take 8 text.now }
@@ -30,6 +32,7 @@ fn first_word(text: &[u8]) -> u64
 }
 
 /// The last eight bytes of a text, as a number.
+#[inline(always)]
 fn last_word(text: &[u8]) -> u64
     requires { 8 ≤ length text.now }
     ensures { to_le_bytes w64 result ≡ drop (length text.now - 8) text.now }

@@ -1,5 +1,6 @@
 mod Alone
 mod Apart
+mod Crossing
 mod Applied
 mod SettledBooks
 mod ClientsParted

@@ -93,7 +93,7 @@ ends_pass done arrived d c b are =
           whole = sym (of_sender-append 0 c.inbox.received are.left_of_replies) ∙ are.replies;
         };
         goes_on = are.core.booked.named;
-        keeps = is.keeps are.honest are.origin;
+        keeps = is.keeps is.honest are.origin;
         arrives = are.broker.core.arrived;
         packets = packets;
         answers = answers;

@@ -1,17 +1,19 @@
 -- The result of a run, from how its actors were made and what they have left.
 use Rattle.std.proofs.Common.{◌≡◌, ℕ, ◌+◌, true, List, [], ◌∷◌, refl, sym, ap, ap₂, ◌∙◌, subst, arith, length, map, false}
-use Rattle.std.specs.Prelude.{All, Bool, None, Option, Some}
+use Rattle.std.specs.Prelude.{All, Bool, None, Option, Some, is_none}
+use Rattle.std.proofs.lemmas.Bool.{and_parts}
 use Rattle.std.specs.List.{AllZip}
 use Rattle.std.proofs.lemmas.List.Elements.{All-cons}
 use Rattle.cdc_broker.specs.Queues.{QueueState, empty_queue}
 use Rattle.cdc_actors.specs.Client.{ClientCore, first_client}
-use Rattle.cdc_actors.specs.Connector.{ConnectorCore, first_origin, packets_in}
+use Rattle.cdc_actors.specs.Connector.{ConnectorCore, FinishedConnectorsAreDone, IsDone, IsUnplanned, RestartsAsPlanned, confirms_in, first_origin, packets_in}
 use Rattle.cdc_actors.specs.Ledger.{order_of}
 use Rattle.cdc_actors.specs.Subscriber.{SubscriberCore}
 use Rattle.cdc_actors.specs.declared.broker.plans.BrokerPlan.{BrokerPlan}
 use Rattle.cdc_laws.specs.Connectors.{held_start, held_timestamp}
-use Rattle.cdc_links.specs.Links.{LinkId, fresh_endpoint}
+use Rattle.cdc_links.specs.Links.{LinkId, fresh_endpoint, of_sender}
 use Rattle.cdc_match.specs.declared.binding.Binding.{Binding}
+use Rattle.cdc_message.specs.declared.packets.Confirm.{Confirm}
 use Rattle.cdc_message.specs.declared.packets.Packet.{Packet}
 use Rattle.cdc_progress.specs.Records.{Saved}
 use Rattle.cdc_progress.specs.Stores.{Risks}
@@ -110,9 +112,35 @@ module _ {S : Type 0} (config : Config) (faults : Faults) (held : Option Saved) 
 
   module _ (new : Ends S) (scripts : List (List Batch)) (are : AreLeft (places_of ends) scripts (places_of new))
       (report : Report) (reported : IsReportOf new report) where
+    -- its connector has the plan of the faults
+    plan_kept : new.connector.work.restarts ≡ faults.restart_after.items
+    plan_kept =
+        ap (λ (seat : ConnectorSeat). seat.restarts)
+        (are.connector.seat ∙ ap (λ (e : ActorState ConnectorCore). connector_seat e.work) made.connector)
+
+    honest_kept : new.connector.work.honest ≡ honest
+    honest_kept =
+        ap (λ (seat : ConnectorSeat). seat.honest)
+        (are.connector.seat ∙ ap (λ (e : ActorState ConnectorCore). connector_seat e.work) made.connector)
+
+    -- and has restarted by it
+    restarted_so : IsDone new.connector.work
+        → RestartsAsPlanned faults.restart_after.items honest
+        (confirms_in (of_sender 1 new.connector.work.inbox.received)) (packets_in new.connector.work.packets.sent)
+    restarted_so is =
+        let confirms : List Confirm = confirms_in (of_sender 1 new.connector.work.inbox.received) in
+        let packets : List Packet = packets_in new.connector.work.packets.sent in
+        subst (λ plan. RestartsAsPlanned plan honest confirms packets) plan_kept
+        (subst (λ b. RestartsAsPlanned new.connector.work.restarts b confirms packets) honest_kept is.restarted)
+
+    unplanned_so : IsDone new.connector.work
+        → IsUnplanned faults.restart_after.items (packets_in new.connector.work.packets.sent)
+    unplanned_so is =
+        subst (λ plan. IsUnplanned plan (packets_in new.connector.work.packets.sent)) plan_kept is.last
+
     -- so it is of a run that was made so
-    pub ran_from : RanFrom config faults held honest risks scripts report
-    ran_from = record {
+    pub ran_from : FinishedConnectorsAreDone → RanFrom config faults held honest risks scripts report
+    ran_from done = record {
       made = without_store ends;
       are_made = record {
         wiring = made.wiring;
@@ -147,9 +175,16 @@ module _ {S : Type 0} (config : Config) (faults : Faults) (held : Option Saved) 
         received = reported.received;
         books = reported.books;
         counts = reported.counts;
+        honest = reported.honest;
         subscribers = reported.subscribers;
       };
+      restarted = restarted_so is_done;
+      unplanned = unplanned_so is_done;
     }
+      where
+        is_done : IsDone new.connector.work
+        is_done = done new.connector.work are.connector.kept
+            (and_parts (is_none new.connector.fault) new.connector.work.finished are.connector.done).1
 
     -- so the report is that of these scripts
     pub has_run : length scripts ≡ config.clients → HasRun scripts report
@@ -180,15 +215,16 @@ module _ {S : Type 0} (config : Config) (faults : Faults) (held : Option Saved) 
         )
 
     -- and its subscribers have come to what they may rely on
-    pub have_subscribed : honest ≡ true → held_timestamp held ≡ held_start held
+    pub have_subscribed : held_timestamp held ≡ held_start held
         → AreSubscribed report.ledger (first_origin config.start held).start config.bindings.items made.closes
         report.subscribers.items
-    have_subscribed is_honest same =
+    have_subscribed same =
+        let seated = are.connector.seat ∙ ap (λ (e : ActorState ConnectorCore). connector_seat e.work) made.connector in
+        let gives : honest ≡ true = sym (ap (λ (seat : ConnectorSeat). seat.honest) seated) ∙ reported.honest in
         let start : ℕ = (first_origin config.start held).start in
         let seat : (connector_seat new.connector.work).origin ≡ Some (at_start start) =
-        ap (λ (seat : ConnectorSeat). seat.origin)
-        (are.connector.seat ∙ ap (λ (e : ActorState ConnectorCore). connector_seat e.work) made.connector)
-        ∙ ap₂ origin_if is_honest (begins_at_start config.start held same) in
+        ap (λ (seat : ConnectorSeat). seat.origin) seated
+        ∙ ap₂ origin_if gives (begins_at_start config.start held same) in
         let bindings : (broker_seat new.broker.work).bindings ≡ config.bindings.items =
         ap (λ (seat : BrokerSeat). seat.bindings)
         (are.broker.seat ∙ ap (λ (e : ActorState BrokerCore). broker_seat e.work) made.broker)

@@ -1,13 +1,14 @@
 -- What is reported of actors that have finished.
-use Rattle.std.proofs.Common.{◌≡◌, ℕ, suc, ◌+◌, ◌-◌, Bool, true, false, List, [], ◌∷◌, refl, sym, ap, ◌∙◌, subst, length, map, arith}
-use Rattle.std.specs.Prelude.{Option, Some, is_none, slice_get, unwrap_or}
+use Rattle.std.proofs.Common.{◌≡◌, ℕ, suc, ◌+◌, ◌-◌, Bool, true, false, true≢false, List, [], ◌∷◌, refl, sym, ap, ◌∙◌, subst, length, map, arith}
+use Rattle.std.specs.Prelude.{IfSome, Option, None, Some, is_none, slice_get, unwrap_or}
 use Rattle.std.proofs.lemmas.Bool.{and_parts}
 use Rattle.cdc_broker.specs.Broker.{nobody, queue_of}
 use Rattle.cdc_broker.specs.Queues.{QueueState, empty_queue}
 use Rattle.cdc_actors.specs.Broker.{BrokerCore}
-use Rattle.cdc_actors.specs.Connector.{IsAtStart, Origin, origin_of, ConnectorCore}
+use Rattle.cdc_actors.specs.Connector.{IsAtRest, IsAtStart, IsConnectorActor, Origin, origin_of, ConnectorCore}
 use Rattle.cdc_actors.specs.Ledger.{LedgerCore, IsLedgerActor}
 use Rattle.cdc_actors.specs.Subscriber.{SubscriberCore}
+use Rattle.cdc_publisher.specs.Courses.{Course}
 use Rattle.cdc_run.specs.ClientMail.{HasFinishedWith as LedgerHasFinishedWith}
 use Rattle.cdc_run.specs.Parted.{works_of}
 use Rattle.cdc_run.specs.Reports.{AreFinished, AreSubscribed}
@@ -20,10 +21,9 @@ use Rattle.cdc_run.specs.declared.ends.Ends.{Ends}
 use Rattle.cdc_run.proofs.Applied.{kept_emitted}
 use Rattle.cdc_run.proofs.Seated.{AreBetween}
 
--- if it is known where a run over a store began, the store is honest
-began : (honest : Bool) (origin known : Origin) → origin_if honest origin ≡ Some known
-    → (honest ≡ true) × (origin ≡ known)
-began true origin known same = (refl, cc)
+-- if it is known where a run over a store began, it began there
+began : (honest : Bool) (origin known : Origin) → origin_if honest origin ≡ Some known → origin ≡ known
+began true origin known same = cc
 began false origin known same = cc
 
 -- if a run began at its start
@@ -32,7 +32,15 @@ pub start_known : {S : Type 0} (ends : Ends S) (start : ℕ)
     → (origin_of ends.connector.work).start ≡ start
 start_known ends start known =
     let work = ends.connector.work in
-    ap (λ (o : Origin). o.start) (began work.honest (origin_of work) (at_start start) known).1
+    ap (λ (o : Origin). o.start) (began work.honest (origin_of work) (at_start start) known)
+
+-- a connector that has finished has run a session, so its store is honest
+pub finished_honest : (c : ConnectorCore) → IsConnectorActor c → c.finished ≡ true → c.honest ≡ true
+finished_honest c is over = go is.course is.publishing.honest is.rest
+  where
+    go : (course : Option Course) → IfSome course (λ _. c.honest ≡ true) → IsAtRest c course → c.honest ≡ true
+    go None honest rest = absurd (true≢false (sym over ∙ rest.working))
+    go (Some course) honest rest = honest
 
 -- the connector, with the endpoints of its links, if the run is known to have begun at its start
 pub left_by : {S : Type 0} (ends : Ends S) (m : Middle) → AreBetween ends m → IsLedgerActor ends.ledger.work
@@ -46,8 +54,7 @@ left_by ends m are core over start seat =
       core = core;
       connector = are.connector;
       over = (and_parts (is_none ends.connector.fault) work.finished over).1;
-      honest = known.0;
-      origin = subst IsAtStart (sym known.1) refl;
+      origin = subst IsAtStart (sym known) refl;
       inbox = sym are.inbox;
       replies = sym are.replies;
       packets = sym are.packets;

@@ -64,7 +64,6 @@ through d c b m acks left left_of_packets are broker finished account lawful pac
       core = are.core;
       connector = are.connector;
       over = are.over;
-      honest = are.honest;
       origin = are.origin;
       broker = broker;
       finished = finished;

@@ -18,12 +18,11 @@ use Rattle.cdc_run.specs.SettledLinks.{IsAccounted}
 use Rattle.cdc_run.specs.Subscribing.{HasCome, HasPassed, Passage}
 
 -- a ledger actor, a connector and a broker that have finished, wired together, with what was left in the links to the
--- connector and to the broker. The connector's store is honest, and the run began at its start
+-- connector and to the broker. The run began at its start
 pub record AreThrough (d : LedgerCore) (c : ConnectorCore) (b : BrokerCore) : Type 0 where
   pub core : IsLedgerActor d
   pub connector : IsConnectorActor c
   pub over : c.finished ≡ true
-  pub honest : c.honest ≡ true
   pub origin : IsAtStart (origin_of c)
   pub broker : IsBrokerActor b
   pub finished : b.finished ≡ true

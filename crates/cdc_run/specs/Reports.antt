@@ -67,8 +67,8 @@ pub record AreFinished {S : Type 0} (ends : Ends S) : Type 0 where
 -- what actors that have finished come to. All batches, in the order in which the ledger's actor has received them, give
 -- the ledger and the replies, and that is the order in the report. What each subscriber was delivered until it closed
 -- is what its actor has noted of what it received, and that is what the broker sent to it. The counts are those of all
--- packets that the connector has sent. If the connector's store is honest, and the run began at this start, each
--- subscriber has come to what it may rely on after it
+-- packets that the connector has sent. The connector has run a session, so its store is honest. If the run began at
+-- this start, each subscriber has come to what it may rely on after it
 pub record IsReportOf {S : Type 0} (ends : Ends S) (report : Report) : Type 0 where
   pub finished : AreFinished ends
   pub order : report.order.items ≡ clients_in (order_of ends.ledger.work.inbox.received)
@@ -79,6 +79,7 @@ pub record IsReportOf {S : Type 0} (ends : Ends S) (report : Report) : Type 0 wh
       (map (λ c. c.link) ends.broker.work.consumers)
   pub counts : IsCountOf ends.broker.work.plan (broker_seat ends.broker.work).bindings
       (packets_in ends.connector.work.packets.sent) report.counts
+  pub honest : ends.connector.work.honest ≡ true
   pub subscribers : (start : ℕ) → (connector_seat ends.connector.work).origin ≡ Some (at_start start)
       → AreSubscribed report.ledger start (broker_seat ends.broker.work).bindings
       (map (λ s. s.work.close_after) ends.subscribers.items) report.subscribers.items

@@ -31,13 +31,11 @@ pub record AreJoined (m : Middle) (b : BrokerCore) (subscribers : List (ActorSta
   pub inboxes : length subscribers ≡ length b.consumers
       → AllZip IsOnlySender (map (λ s. s.inbox) (works_of subscribers)) (map (λ c. c.link) b.consumers)
 
--- they are those of a ledger actor and of a connector that has finished. The connector's store is honest, and the run
--- began at its start
+-- they are those of a ledger actor and of a connector that has finished. The run began at its start
 pub record AreLeftBy (d : LedgerCore) (c : ConnectorCore) (m : Middle) : Type 0 where
   pub core : IsLedgerActor d
   pub connector : IsConnectorActor c
   pub over : c.finished ≡ true
-  pub honest : c.honest ≡ true
   pub origin : IsAtStart (origin_of c)
   pub inbox : c.inbox ≡ m.inbox
   pub replies : d.connector ≡ m.replies

@@ -13,7 +13,7 @@ pub struct Faults {
     pub lose_confirm: Vec<u64>,
     /// The publishes that are lost, by their place among those that come to the broker.
     pub lose_publish: Vec<u64>,
-    /// The publishes after which the connector restarts, by their place among those that it sent.
+    /// The publishes right after which the connector restarts, by their place among those that it sent.
     pub restart_after: Vec<u64>,
     /// The deliveries after which the broker rewinds a queue: the queue, and the position. It does so after the first
     /// delivery of the position.

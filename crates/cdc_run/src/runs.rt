@@ -25,7 +25,7 @@ use crate::reports::{Report, settle};
 use crate::scopes::run_jobs;
 use crate::scripted::Scripted;
 use crate::wiring::wire_up;
-use cdc_actors::RunFault;
+use cdc_actors::{RunFault, connector_actor_laws};
 use cdc_progress::ProgressStore;
 use cdc_types::Batch;
 use std::alloc::{AllocError, Global};
@@ -151,8 +151,7 @@ pub fn run<S: ProgressStore + Send + Drop, R: Threads + Wait + Sync, G: Gate + S
     ensures counts { IfOk result (λ report. MayCount (plan_of faults) config.bindings.items report.counts) }
     ensures failure { IfErr result (IsRunFailure config.system (S.is_honest store) (S.risks store)
         config.clients (length config.bindings.items)) }
-    ensures subscribers { IfOk result (λ report. S.is_honest store ≡ true
-        → held_timestamp (S.held store) ≡ held_start (S.held store)
+    ensures subscribers { IfOk result (λ report. held_timestamp (S.held store) ≡ held_start (S.held store)
         → (closes : List (Option ℕ)) × AreCloses 1 faults.close.items closes
         × AreSubscribed report.ledger (first_origin config.start (S.held store)).start config.bindings.items closes
         report.subscribers.items) }
@@ -164,6 +163,7 @@ pub fn run<S: ProgressStore + Send + Drop, R: Threads + Wait + Sync, G: Gate + S
     let tasks = tasks_of(alloc, ends, scripts)?;
     let left = run_actors(rt, alloc, gate, tasks)?;
     let finished = actors_of(alloc, left)?;
+    connector_actor_laws();
     match settle(alloc, finished) {
         Ok(report) => Ok(report),
         Err(fault) => Err(out_of_memory(fault)),

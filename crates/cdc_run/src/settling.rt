@@ -31,9 +31,8 @@ pub fn settle_laws()
 }
 
 /// Does nothing: its postconditions hold for the actors of a run that have all finished and whose links were settled,
-/// if the connector's store is honest and held nothing, or a timestamp that is its start, as the run began. Ledger,
-/// connector and broker have kept to their parts. Each subscriber is as `settle_laws` states, against the ledger of
-/// the ledger actor.
+/// if the connector's store held nothing, or a timestamp that is its start, as the run began. Ledger, connector and
+/// broker have kept to their parts. Each subscriber is as `settle_laws` states, against the ledger of the ledger actor.
 pub fn passing_laws()
     ensures pass { EndsPass }
     ensures come { EndsCome }

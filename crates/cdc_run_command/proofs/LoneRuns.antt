@@ -252,7 +252,7 @@ lone_runs alone keeps setting script printed one plain runs =
     let served : IsServedAlone ledger only.0 =
     alone run.order ledger (nones up.0) only.0 [] (all_none up.0) (All-nil (λ (l : List Reply). l ≡ []))
     (subst (AreBooks run.order ledger) only.1.0 run.books) in
-    let come = runs.comes.subscribers plain.honest (plain.held ∙ sym plain.held_from) in
+    let come = runs.comes.subscribers (plain.held ∙ sym plain.held_from) in
     let zero : (first_origin setting.plan.start setting.held).start ≡ 0 =
     ap (λ (o : Option ℕ). (first_origin o setting.held).start) plain.start
     ∙ start_of_held setting.held

@@ -32,9 +32,10 @@ by_stop honest risks None fault ending may how = tt
 by_stop honest risks (Some s) fault ending may (inl unwritten) = (may.1, inl unwritten)
 by_stop honest risks (Some s) fault ending may (inr ended) = (may.1, inr (ended ∙ ap Failed may.0))
 
-pub stopped_so : (honest : Bool) (risks : Risks) (PrintsFault : Ending → List ℕ → Type 0) (old new : Option (List ℕ))
-    (failed : RunFailed) (ending : Ending) → PrintsFailure PrintsFault old new failed.fault ending
-    → MayFail honest risks failed → StoppedSo honest risks failed.stop ending
+pub stopped_so : (honest : Bool) (risks : Risks) (PrintsFault : List ℕ → Ending → List ℕ → Type 0)
+    (old new : Option (List ℕ)) (failed : RunFailed) (ending : Ending)
+    → PrintsFailure PrintsFault old new failed.fault ending → MayFail honest risks failed
+    → StoppedSo honest risks failed.stop ending
 stopped_so honest risks PrintsFault old new failed ending (line, (stated, inl unwritten)) may =
     by_stop honest risks failed.stop failed.fault ending may (inl unwritten)
 stopped_so honest risks PrintsFault old new failed ending (line, (stated, inr printed)) may =

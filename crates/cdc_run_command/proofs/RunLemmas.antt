@@ -26,6 +26,7 @@ use Rattle.cdc_types.specs.declared.bounds.TheConstants.Limits.{CLIENTS}
 use Rattle.cdc_commands.specs.declared.endings.Ending.{Ending}
 use Rattle.cdc_commands.specs.declared.endings.Ending.TheVariants.{Done, Failed, Refused, BadScript, BadSteps, BadWords}
 use Rattle.cdc_commands.specs.declared.faults.ProgramFault.{ProgramFault}
+use Rattle.cdc_commands.specs.FaultWords.{IsParsedAs}
 use Rattle.cdc_commands.specs.Outcomes.{IsPrinted, IsWriteFault, Outcome, PrintsFailure, Writes}
 use Rattle.cdc_run_command.specs.ClientOrders.{IsOrderOf, times_in}
 use Rattle.cdc_run_command.specs.Runnable.{IsClient, IsRunnable}
@@ -35,6 +36,7 @@ use Rattle.cdc_run_command.specs.declared.reports.Ran.{Ran}
 use Rattle.cdc_run_command.specs.declared.run.RunOutput.{RunOutput}
 use Rattle.cdc_run_command.specs.Runs.{HasRunOf, IsRunOf, Setting, client_count, entries_of, own_of, owners_of, shares_from}
 use Rattle.cdc_commands.proofs.FoundElements.{found_at}
+use Rattle.cdc_commands.proofs.OutputLemmas.{at_same_word, same_fault}
 use Rattle.cdc_run_command.proofs.ShareLemmas.{length-own_of, length-shares_from, slice_get-shares_from}
 
 -- ---- how many clients there are
@@ -136,25 +138,27 @@ ran_same config faults held honest risks report these those same ran =
 -- ---- what is printed
 
 -- a script's text has the same meaning as all its bytes, so what is printed of it is printed of them
-all_bytes : (Prints : List ℕ → Report → List ℕ → Type 0) (PrintsFault : Ending → List ℕ → Type 0) (setting : Setting)
-    (text : List ℕ) (bytes : Option (List ℕ)) (ending : Ending) (printed : List ℕ)
-    → IfSome bytes (λ all. script_of text ≡ script_of all)
+all_bytes : (Prints : List ℕ → Report → List ℕ → Type 0) (PrintsFault : List ℕ → Ending → List ℕ → Type 0)
+    (setting : Setting) (text : List ℕ) (bytes : Option (List ℕ)) (ending : Ending) (printed : List ℕ)
+    → IfSome bytes (IsParsedAs script_of text)
     → RunCommandPrints Prints PrintsFault setting (Some text) ending printed
     → RunCommandPrints Prints PrintsFault setting bytes ending printed
 all_bytes Prints PrintsFault setting text None Done printed same prints = tt
 all_bytes Prints PrintsFault setting text (Some all) Done printed same prints =
-    record { script = prints.script; stated = sym same ∙ prints.stated; runs = prints.runs }
-all_bytes Prints PrintsFault setting text None (BadScript at) printed same prints = (prints.0, tt)
-all_bytes Prints PrintsFault setting text (Some all) (BadScript at) printed same prints = (prints.0, sym same ∙ prints.1)
+    record { script = prints.script; stated = sym same.0 ∙ prints.stated; runs = prints.runs }
+all_bytes Prints PrintsFault setting text bytes (BadScript at) printed same prints = (
+  at_same_word (λ word. PrintsFault word (BadScript at)) script_of text bytes at printed same prints.1 prints.0,
+  same_fault script_of text bytes at same prints.1,
+)
 all_bytes Prints PrintsFault setting text bytes (Failed why) printed same prints = prints
 all_bytes Prints PrintsFault setting text bytes (Refused why) printed same prints = absurd prints
 all_bytes Prints PrintsFault setting text bytes (BadSteps at) printed same prints = absurd prints
 all_bytes Prints PrintsFault setting text bytes BadWords printed same prints = absurd prints
 
 -- the same of what a command made of the text of a script
-pub run_of_script : (Prints : List ℕ → Report → List ℕ → Type 0) (PrintsFault : Ending → List ℕ → Type 0)
+pub run_of_script : (Prints : List ℕ → Report → List ℕ → Type 0) (PrintsFault : List ℕ → Ending → List ℕ → Type 0)
     (setting : Setting) (text script : List ℕ) (bytes : Option (List ℕ)) (made : Result RunOutput RunFailed)
-    → text ≡ script → IfSome bytes (λ all. script_of script ≡ script_of all)
+    → text ≡ script → IfSome bytes (IsParsedAs script_of script)
     → IfOk made (λ m. RunCommandPrints Prints PrintsFault setting (Some text) m.output.ending m.output.text.items)
     → IfOk made (λ m. RunCommandPrints Prints PrintsFault setting bytes m.output.ending m.output.text.items)
 run_of_script Prints PrintsFault setting text script bytes (Err why) is same prints = tt
@@ -165,15 +169,15 @@ run_of_script Prints PrintsFault setting text script bytes (Ok m) is same prints
 
 -- a run of the script that a text writes is one of the script of all its bytes
 same_run : (setting : Setting) (text script : List ℕ) (bytes : Option (List ℕ)) (ending : Ending) (ran : Option Ran)
-    → text ≡ script → IfSome bytes (λ all. script_of script ≡ script_of all)
+    → text ≡ script → IfSome bytes (IsParsedAs script_of script)
     → HasRunOf setting (Some text) ending ran → HasRunOf setting bytes ending ran
 same_run setting text script bytes ending None is same none = none
 same_run setting text script None ending (Some ran) is same has = tt
 same_run setting text script (Some all) ending (Some ran) is same has =
-    (has.0, (sym same ∙ ap script_of (sym is) ∙ has.1.0, has.1.1))
+    (has.0, (sym same.0 ∙ ap script_of (sym is) ∙ has.1.0, has.1.1))
 
 pub ran_of_bytes : (setting : Setting) (text script : List ℕ) (bytes : Option (List ℕ))
-    (made : Result RunOutput RunFailed) → text ≡ script → IfSome bytes (λ all. script_of script ≡ script_of all)
+    (made : Result RunOutput RunFailed) → text ≡ script → IfSome bytes (IsParsedAs script_of script)
     → IfOk made (λ m. HasRunOf setting (Some text) m.output.ending m.ran)
     → IfOk made (λ m. HasRunOf setting bytes m.output.ending m.ran)
 ran_of_bytes setting text script bytes (Ok m) is same has =
@@ -189,7 +193,7 @@ ran_printed setting bytes old new wished ending None (inl failed) none = λ done
 ran_printed setting bytes old new wished ending None (inr written) none = λ done. none (sym written.0 ∙ done)
 
 -- a command that failed has come to no report
-pub none_ran : (setting : Setting) (bytes old new : Option (List ℕ)) (PrintsFault : Ending → List ℕ → Type 0)
+pub none_ran : (setting : Setting) (bytes old new : Option (List ℕ)) (PrintsFault : List ℕ → Ending → List ℕ → Type 0)
     (why : ProgramFault) (ending : Ending) → PrintsFailure PrintsFault old new why ending
     → HasRunOf setting bytes ending None
 none_ran setting bytes old new PrintsFault why ending printed =
@@ -217,8 +221,8 @@ writes_text prints old new text wished ending (inr written) is =
     inr (text, (written.1, subst (λ (e : Ending). prints e text) (sym written.0) is))
 
 -- so is the line of a command that failed
-pub writes_failure : (prints PrintsFault : Ending → List ℕ → Type 0) (old new : Option (List ℕ)) (why : ProgramFault)
-    (ending : Ending) → PrintsFailure PrintsFault old new why ending
-    → ((line : List ℕ) → PrintsFault (Failed why) line → prints (Failed why) line) → Writes prints old new ending
+pub writes_failure : (prints : Ending → List ℕ → Type 0) (PrintsFault : List ℕ → Ending → List ℕ → Type 0)
+    (old new : Option (List ℕ)) (why : ProgramFault) (ending : Ending) → PrintsFailure PrintsFault old new why ending
+    → ((line : List ℕ) → PrintsFault [] (Failed why) line → prints (Failed why) line) → Writes prints old new ending
 writes_failure prints PrintsFault old new why ending (line, (stated, printed)) fails =
     writes_text prints old new line (Failed why) ending printed (fails line stated)

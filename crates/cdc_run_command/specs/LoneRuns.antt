@@ -1,5 +1,5 @@
 -- What a run prints if one client submits all batches.
-use Rattle.std.specs.Prelude.{◌≡◌, ◌<◌, ℕ, true, List, [], All, None}
+use Rattle.std.specs.Prelude.{◌≡◌, ◌<◌, ℕ, List, [], All, None}
 use Rattle.cdc_laws.specs.Connectors.{held_start, held_timestamp}
 use Rattle.cdc_script.specs.declared.scripts.Script.{Script}
 use Rattle.cdc_commands.specs.Printed.{printed_books}
@@ -11,12 +11,11 @@ pub record HasOneClient (script : Script) : Type 0 where
   pub first : 0 < client
   pub all : All (λ owner. owner ≡ client) (owners_of script.batches)
 
--- no subscriber is asked to close, no session is given a start, and the store is honest and holds nothing, or the
--- timestamp 0 and the start 0
+-- no subscriber is asked to close, no session is given a start, and the store holds nothing, or the timestamp 0 and the
+-- start 0
 pub record IsPlain (setting : Setting) : Type 0 where
   pub closes : setting.plan.faults.close.items ≡ []
   pub start : setting.plan.start ≡ None
-  pub honest : setting.honest ≡ true
   pub held : held_timestamp setting.held ≡ 0
   pub held_from : held_start setting.held ≡ 0
 

@@ -1,5 +1,5 @@
 -- What a script comes to that is run on threads: each client submits its own batches, whatever the others do.
-use Rattle.std.specs.Prelude.{◌≡◌, ◌==◌, ℕ, ◌+◌, zero, suc, true, Bool, List, [], ◌∷◌, ◌++◌, Option, Some, None, IfSome, Ok, filter, fold, length, map, max}
+use Rattle.std.specs.Prelude.{◌≡◌, ◌==◌, ℕ, ◌+◌, zero, suc, Bool, List, [], ◌∷◌, ◌++◌, Option, Some, None, IfSome, Ok, filter, fold, length, map, max}
 use Rattle.cdc_actors.specs.Connector.{first_origin}
 use Rattle.cdc_laws.specs.Connectors.{held_start, held_timestamp}
 use Rattle.cdc_progress.specs.Records.{Saved}
@@ -103,13 +103,13 @@ pub record RanBy (setting : Setting) (script : Script) (report : Report) : Type 
 
 -- a run of this script may come to this report. One order of all batches, each client's in its own order, gives the
 -- ledger and the replies. The run was made as it was asked for, and the counts are those of a run with this plan. Over
--- an honest store that holds nothing, or a timestamp that is its start, each subscriber has come to what it may rely on
--- after the start: the one that is held, or else the timestamp that was given, or 0
+-- a store that holds nothing, or a timestamp that is its start, each subscriber has come to what it may rely on after
+-- the start: the one that is held, or else the timestamp that was given, or 0
 pub record MayComeTo (setting : Setting) (script : Script) (report : Report) : Type 0 where
   pub run : HasRun (scripts_of script) report
   pub ran : RanBy setting script report
   pub counts : MayCount (plan_of setting.plan.faults) script.bindings report.counts
-  pub subscribers : setting.honest ≡ true → held_timestamp setting.held ≡ held_start setting.held
+  pub subscribers : held_timestamp setting.held ≡ held_start setting.held
       → (closes : List (Option ℕ)) × (AreCloses 1 setting.plan.faults.close.items closes
       × AreSubscribed report.ledger (first_origin setting.plan.start setting.held).start script.bindings closes
       report.subscribers.items)

@@ -17,10 +17,10 @@ use crate::lone_runs::lone_run_laws;
 use crate::plans::RunPlan;
 use crate::reports::{Ran, report_of_run};
 use crate::run_forms::RunForm;
-use cdc_commands::{Ended, Ending, Notes, Output, Tally, print_output};
+use cdc_commands::{Ended, Ending, Notes, Output, Tally, print_output, read_file};
 use cdc_progress::ProgressStore;
 use cdc_run::{Gate, Met, Place, Report};
-use cdc_script::{Script, ScriptError, parse_script, read_text};
+use cdc_script::{Script, ScriptError, parse_script};
 use std::alloc::{AllocError, Global};
 use std::io::{Read, Write};
 use std::sync::Wait;
@@ -125,8 +125,8 @@ pub fn tally_of(report: &Report) -> Tally {
 
 /// Reads a script, runs it on threads, and prints what `run_of` makes of its bytes. A command that fails prints why,
 /// and nothing else. Nothing is written after a write that failed. The law `alone`: if one client submits all batches
-/// of a script, whatever its number, no subscriber is asked to close, no session is given a start, and the store is
-/// honest and holds nothing, or the timestamp 0 and the start 0, then a run prints as text what `books` prints.
+/// of a script, whatever its number, no subscriber is asked to close, no session is given a start, and the store holds
+/// nothing, or the timestamp 0 and the start 0, then a run prints as text what `books` prints.
 pub fn run_command<
     F: RunForm,
     T: Threads + Wait + Sync,
@@ -198,6 +198,6 @@ fn read_run<
     ensures bounded { ConsumesAtMost (max_bytes + 1)
         (R.remaining reader.old) (R.remaining reader.new) }
 {
-    let bytes = read_text(alloc, reader)?;
+    let bytes = read_file(alloc, reader)?;
     run_of(form, rt, alloc, &bytes, plan, store, gate)
 }

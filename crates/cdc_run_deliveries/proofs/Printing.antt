@@ -3,6 +3,8 @@ use Rattle.std.proofs.Common.{◌≡◌, ◌∙◌, ℕ, List, Some, None, Ok, E
 use Rattle.std.specs.Prelude.{IfOk, IfSome, Option, Result}
 use Rattle.cdc_commands.specs.declared.endings.Ending.{Ending}
 use Rattle.cdc_commands.specs.declared.endings.Ending.TheVariants.{Done, Failed, Refused, BadScript, BadSteps, BadWords}
+use Rattle.cdc_commands.specs.FaultWords.{IsParsedAs}
+use Rattle.cdc_commands.proofs.OutputLemmas.{at_same_word, same_fault}
 use Rattle.cdc_deliveries.specs.declared.simulate.Asked.{Asked}
 use Rattle.cdc_run_command.specs.Runs.{Setting}
 use Rattle.cdc_run_command.specs.declared.failures.RunFailed.{RunFailed}
@@ -13,28 +15,30 @@ use Rattle.cdc_run_deliveries.specs.RunDeliveries.{DeliversRun, HasNone, PrintsR
 
 -- the text has the same meaning as all bytes
 stated_same : (Prints : Script → List ℕ → Type 0) (text : List ℕ) (bytes : Option (List ℕ)) (printed : List ℕ)
-    → IfSome bytes (λ all. script_of text ≡ script_of all) → StatesScript Prints (Some text) printed
+    → IfSome bytes (IsParsedAs script_of text) → StatesScript Prints (Some text) printed
     → StatesScript Prints bytes printed
 stated_same Prints text None printed same prints = tt
-stated_same Prints text (Some all) printed same prints = (prints.0, (sym same ∙ prints.1.0, prints.1.1))
+stated_same Prints text (Some all) printed same prints = (prints.0, (sym same.0 ∙ prints.1.0, prints.1.1))
 
-module _ (PrintsFault : Ending → List ℕ → Type 0) (asked : Asked) (setting : Setting) where
+module _ (PrintsFault : List ℕ → Ending → List ℕ → Type 0) (asked : Asked) (setting : Setting) where
   all_bytes : (text : List ℕ) (bytes : Option (List ℕ)) (ending : Ending) (printed : List ℕ)
-      → IfSome bytes (λ all. script_of text ≡ script_of all)
+      → IfSome bytes (IsParsedAs script_of text)
       → PrintsRunDeliveries PrintsFault asked setting (Some text) ending printed
       → PrintsRunDeliveries PrintsFault asked setting bytes ending printed
   all_bytes text bytes Done printed same prints =
       stated_same (DeliversRun asked setting) text bytes printed same prints
   all_bytes text bytes BadWords printed same prints = stated_same (HasNone asked) text bytes printed same prints
-  all_bytes text None (BadScript at) printed same prints = (prints.0, tt)
-  all_bytes text (Some all) (BadScript at) printed same prints = (prints.0, sym same ∙ prints.1)
+  all_bytes text bytes (BadScript at) printed same prints = (
+    at_same_word (λ word. PrintsFault word (BadScript at)) script_of text bytes at printed same prints.1 prints.0,
+    same_fault script_of text bytes at same prints.1,
+  )
   all_bytes text bytes (Failed why) printed same prints = prints
   all_bytes text bytes (Refused why) printed same prints = absurd prints
   all_bytes text bytes (BadSteps at) printed same prints = absurd prints
 
   -- the same of what the command made of the text
   pub deliveries_of_bytes : (text script : List ℕ) (bytes : Option (List ℕ)) (made : Result RunOutput RunFailed)
-      → text ≡ script → IfSome bytes (λ all. script_of script ≡ script_of all)
+      → text ≡ script → IfSome bytes (IsParsedAs script_of script)
       → IfOk made (λ m. PrintsRunDeliveries PrintsFault asked setting (Some text) m.output.ending m.output.text.items)
       → IfOk made (λ m. PrintsRunDeliveries PrintsFault asked setting bytes m.output.ending m.output.text.items)
   deliveries_of_bytes text script bytes (Err why) is same prints = tt

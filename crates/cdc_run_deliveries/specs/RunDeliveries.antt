@@ -10,6 +10,7 @@ use Rattle.cdc_run.specs.Reports.{deliveries_of}
 use Rattle.cdc_run.specs.declared.reports.Report.{Report}
 use Rattle.cdc_run_command.specs.Failed.{MayEndWith}
 use Rattle.cdc_run_command.specs.Runs.{MayComeTo, Setting}
+use Rattle.cdc_commands.specs.FaultWords.{PrintsAtWord}
 use Rattle.cdc_commands.specs.QueuePrinted.{binding_at}
 use Rattle.cdc_commands.specs.declared.endings.Ending.{Ending}
 use Rattle.cdc_commands.specs.declared.endings.Ending.TheVariants.{Done, Failed, Refused, BadScript, BadSteps, BadWords}
@@ -43,14 +44,15 @@ StatesScript Prints bytes printed =
     IfSome bytes (λ all. (script : Script) × ((script_of all ≡ Ok script) × Prints script printed))
 
 -- a command that runs such a script, whose bytes are known or not, ends so and prints this, if faults are printed so
-abbrev pub PrintsRunDeliveries : (Ending → List ℕ → Type 0) → Asked → Setting → Option (List ℕ) → Ending → List ℕ
-    → Type 0
+abbrev pub PrintsRunDeliveries : (List ℕ → Ending → List ℕ → Type 0) → Asked → Setting → Option (List ℕ) → Ending
+    → List ℕ → Type 0
 PrintsRunDeliveries PrintsFault asked setting bytes Done printed =
     StatesScript (DeliversRun asked setting) bytes printed
 PrintsRunDeliveries PrintsFault asked setting bytes BadWords printed = StatesScript (HasNone asked) bytes printed
 PrintsRunDeliveries PrintsFault asked setting bytes (BadScript at) printed =
-    PrintsFault (BadScript at) printed × IfSome bytes (λ all. script_of all ≡ Err at)
+    PrintsAtWord (λ word. PrintsFault word (BadScript at)) bytes at.word printed
+    × IfSome bytes (λ all. script_of all ≡ Err at)
 PrintsRunDeliveries PrintsFault asked setting bytes (Failed why) printed =
-    MayEndWith setting.honest setting.risks why × PrintsFault (Failed why) printed
+    MayEndWith setting.honest setting.risks why × PrintsFault [] (Failed why) printed
 PrintsRunDeliveries PrintsFault asked setting bytes (Refused why) printed = ⊥
 PrintsRunDeliveries PrintsFault asked setting bytes (BadSteps at) printed = ⊥

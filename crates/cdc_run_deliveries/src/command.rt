@@ -19,13 +19,13 @@ ghost use Rattle.cdc_script.specs.Scripts.{max_bytes, script_of};
 
 use crate::arrivals::arrivals_of_run;
 use cdc_commands::queues::binding_at;
-use cdc_commands::{Ending, Form, Notes, Output, Tally, print_output};
+use cdc_commands::{Ending, Form, Notes, Output, Tally, print_output, read_file};
 use cdc_deliveries::{Asked, delivery_lines, expected_lines};
 use cdc_match::Binding;
 use cdc_progress::ProgressStore;
 use cdc_run::{Gate, Report};
 use cdc_run_command::{RunEnded, RunFailed, RunOutput, RunPlan, report_of_run, tally_of};
-use cdc_script::{Script, ScriptError, parse_script, read_text};
+use cdc_script::{Script, ScriptError, parse_script};
 use std::alloc::{AllocError, Global};
 use std::io::{Read, Write};
 use std::sync::Wait;
@@ -232,6 +232,6 @@ fn read_deliveries<
     ensures bounded { ConsumesAtMost (max_bytes + 1)
         (R.remaining reader.old) (R.remaining reader.new) }
 {
-    let bytes = read_text(alloc, reader)?;
+    let bytes = read_file(alloc, reader)?;
     deliveries_of_run(form, rt, alloc, &bytes, plan, store, asked, gate)
 }

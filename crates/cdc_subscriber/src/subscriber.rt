@@ -2,7 +2,9 @@
 
 ghost use Rattle.std.specs.Prelude.{◌≡◌, ◌<◌, false, true, OnOk, OnErr};
 ghost use Rattle.std.specs.Io.KnownBytes.{Appends};
+ghost use Rattle.cdc_message.specs.OwnBodies.{IsOwnBody};
 ghost use Rattle.cdc_message.specs.Reading.{read};
+ghost use Rattle.cdc_types.specs.declared.events.Event.{Event};
 ghost use Rattle.cdc_subscriber.specs.Book.{has_both};
 ghost use Rattle.cdc_subscriber.specs.Lines.{subscriber_text};
 ghost use Rattle.cdc_subscriber.specs.Reception.{Reception, nothing, next, next_read, kept_of};
@@ -104,14 +106,19 @@ impl Subscriber {
         }
     }
 
-    /// Takes a delivery from a queue. The only error is that memory runs out, and only an event can cause it, while
-    /// the subscriber is neither closed nor past the end mark.
+    /// Takes a delivery from a queue. The only error is that memory runs out, and only an event can cause it, while the
+    /// subscriber is neither closed nor past the end mark: an event that is later than the last one applied and has an
+    /// account that the book lacks.
     pub fn take(&mut self, alloc: Global, delivery: &Delivery) -> Result<Taking, TakeError>
         ensures answer { TakesItem self.old delivery.now.item result }
         ensures stands { (reception : Reception) → self.old ≡ kept_of reception
             → OnOk result (self.new ≡ kept_of (next reception delivery.now.item)) }
         ensures state { OnOk result (self.new ≡ next_state self.old delivery.now.item) }
         ensures err { OnErr result (self.new ≡ self.old) }
+        ensures memory { (event : Event) → delivery.now.item ≡ Item.Event event
+            → OnErr result (self.old.last < event.timestamp) }
+        ensures known { (event : Event) → delivery.now.item ≡ Item.Event event
+            → OnErr result (has_both self.old.book event ≡ false) }
     {
         match &delivery.item {
             Item::Event(message) => self.take_body(alloc, message.body().as_bytes()),
@@ -120,13 +127,17 @@ impl Subscriber {
     }
 
     /// Takes the bytes of a body. A subscriber that is closed or has received the end mark doesn't read them.
-    /// Otherwise it fails if the bytes aren't an event or memory runs out.
+    /// Otherwise it fails if the bytes aren't an event or memory runs out. For a body as `encode` writes it, memory can
+    /// run out only if the event is later than the last one applied and has an account that the book lacks.
     pub fn take_body(&mut self, alloc: Global, body: &[u8]) -> Result<Taking, TakeError>
         ensures answer { TakesBody self.old (read body.now) result }
         ensures stands { (reception : Reception) → self.old ≡ kept_of reception
             → OnOk result (self.new ≡ kept_of (next_read reception (read body.now))) }
         ensures state { OnOk result (self.new ≡ next_state_read self.old (read body.now)) }
         ensures err { OnErr result (self.new ≡ self.old) }
+        ensures memory { (event : Event) → IsOwnBody body.now event → OnErr result (self.old.last < event.timestamp) }
+        ensures known { (event : Event) → IsOwnBody body.now event
+            → OnErr result (has_both self.old.book event ≡ false) }
     {
         if let Some(answer) = self.settled() {
             return Ok(answer);

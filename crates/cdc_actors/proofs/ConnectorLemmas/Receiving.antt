@@ -164,6 +164,7 @@ module _ (c : ConnectorCore) (course : Course) (is : IsPublishing c (Some course
     stands = is.stands;
     runs = is.runs;
     first = is.first;
+    honest = is.honest;
     poll = is.poll;
     restarted = subst (λ cs. RestartsAsPlanned c.restarts c.honest cs (packets_in c.packets.sent))
         (sym came.confirms) is.restarted;
@@ -223,6 +224,7 @@ module _ (c : ConnectorCore) (course : Course) (is : IsPublishing c (Some course
                 ];
           };
           first = is.first;
+          honest = is.honest;
           poll = λ poll there. absurd (none-some poll there);
           restarted = subst (λ cs. RestartsAsPlanned c.restarts c.honest cs (packets_in c.packets.sent))
               (sym came.confirms) is.restarted;
@@ -364,6 +366,7 @@ module _ (c : ConnectorCore) (course : Course) (is : IsPublishing c (Some course
               (offered_kept course confirm.session confirm.answer) there);
         };
         first = is.first;
+        honest = is.honest;
         poll = λ poll there.
             poll_stays course c.asked poll confirm.session confirm.answer (is.poll poll there);
         restarted = restarted_answered;
@@ -396,6 +399,7 @@ IsPublishing-saved c course is =
       stands = is.stands;
       runs = record { number = is.runs.number; held = refl; start = refl; emitted = is.runs.emitted };
       first = is.first;
+      honest = is.honest;
       poll = is.poll;
       restarted = is.restarted;
       keeps = λ gives zero h are.

@@ -529,6 +529,7 @@ begins inbox polls packets held honest risks start window restarts fresh two to_
         stands = tt;
         runs = tt;
         first = refl;
+        honest = tt;
         poll = λ poll there. absurd (none-some poll there);
         restarted = subst (RestartsAsPlanned restarts honest (confirms_in (of_sender 1 inbox.received)))
             (sym no_packets)
@@ -583,5 +584,6 @@ finished_done c end finished = go end.course end.publishing end.rest
           restarted = is.restarted;
           last = unplanned_last c.restarts c.honest (confirms_in (of_sender 1 c.inbox.received))
               (packets_in c.packets.sent) course (connected c.session course is.stands both.0) rest.turn;
+          honest = is.honest;
           keeps = is.keeps;
         }

@@ -1,6 +1,6 @@
 -- How a session of a connector starts.
 use Rattle.std.proofs.Common.{◌≡◌, ℕ, Bool, Option, Some, None, subst}
-use Rattle.std.specs.Prelude.{unwrap_or}
+use Rattle.std.specs.Prelude.{IsTrue, unwrap_or}
 use Rattle.cdc_actors.specs.Connector.{ConnectorCore}
 use Rattle.cdc_publisher.specs.Stands.{SessionStands}
 use Rattle.cdc_actors.specs.Connector.Moves.{IsBegun}
@@ -24,7 +24,7 @@ pub begun_so : (old : ConnectorCore) (kept : SessionState) (held : Option Saved)
       failed_before = failed;
       failed_after = failed';
     }) old.start old.window kept
-    → honest ≡ old.honest → risks ≡ old.risks
+    → IsTrue old.honest → honest ≡ old.honest → risks ≡ old.risks
     → ((course : Course) → SessionStands (Some kept) (Some course) → base ≡ unwrap_or old.first course.base)
     → IsBegun old (record old {
       start = None;
@@ -36,11 +36,12 @@ pub begun_so : (old : ConnectorCore) (kept : SessionState) (held : Option Saved)
       asked = 0;
       poll = None;
     })
-begun_so old kept held honest risks base failed failed' has same same_risks is_base =
+begun_so old kept held honest risks base failed failed' has gives same same_risks is_base =
     let based : base ≡ unwrap_or old.first has.saved.timestamp = is_base (new_course has.saved old.window) has.stands in
     record {
       loaded = has.loaded;
       saved = has.saved;
+      honest = gives;
       given = has.given;
       begins = has.begins;
       stands = has.stands;

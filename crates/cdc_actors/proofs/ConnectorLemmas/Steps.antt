@@ -102,6 +102,7 @@ IsPublishing-begun old new course is on =
         emitted = λ event there. absurd (none_there event there);
       };
       first = (unwrap_or old.first on.saved.timestamp, refl);
+      honest = on.honest;
       poll = λ poll there. absurd (none-some poll there);
       restarted = is.restarted;
       keeps = λ gives zero h are.
@@ -184,6 +185,7 @@ module _ (c : ConnectorCore) (course : Course) (is : IsPublishing c (Some course
     stands = stands;
     runs = is.runs;
     first = is.first;
+    honest = is.honest;
     poll = is.poll;
     restarted = is.restarted;
     keeps = is.keeps;
@@ -252,6 +254,7 @@ module _ (c : ConnectorCore) (course : Course) (is : IsPublishing c (Some course
             emitted = is.runs.emitted;
           };
           first = is.first;
+          honest = is.honest;
           poll = λ poll there. poll_kept course c.asked poll packet next (is.poll poll there);
           restarted = subst (RestartsAsPlanned c.restarts c.honest confirms) (sym more)
               (RestartsAsPlanned-sent c.restarts c.honest confirms (packets_in c.packets.sent) packet is.restarted
@@ -275,6 +278,7 @@ module _ (c : ConnectorCore) (course : Course) (is : IsPublishing c (Some course
       stands = is.stands;
       runs = is.runs;
       first = is.first;
+      honest = is.honest;
       poll = λ other there. poll_of_for course (c.asked + 1) other (is_for ∙ there);
       restarted = is.restarted;
       keeps = is.keeps;
@@ -294,6 +298,7 @@ module _ (c : ConnectorCore) (course : Course) (is : IsPublishing c (Some course
           stands = is.stands;
           runs = is.runs;
           first = is.first;
+          honest = is.honest;
           poll = is.poll;
           restarted = subst
               (RestartsAsPlanned c.restarts c.honest (confirms_in (of_sender 1 c.inbox.received)))

@@ -44,10 +44,11 @@ pub record KeepsTimestamp (old new : ConnectorCore) : Type 0 where
   pub time : old.honest ≡ true → 0 < held_number old.held → held_timestamp new.held ≡ held_timestamp old.held
 
 -- the next session has started after what the store gave, or if that was nothing, after the given timestamp. Its
--- number is held now. No later session is given a timestamp
+-- number is held now, by a store that is honest. No later session is given a timestamp
 pub record IsBegun (old new : ConnectorCore) : Type 0 where
   pub loaded : Option Saved
   pub saved : Saved
+  pub honest : old.honest ≡ true
   pub given : old.honest ≡ true → loaded ≡ old.held
   pub begins : begun loaded old.start ≡ Ok saved
   pub stands : SessionStands new.session (Some (new_course saved old.window))

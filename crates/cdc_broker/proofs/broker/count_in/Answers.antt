@@ -13,7 +13,7 @@ count-requires c =
     let inside : i < length c.args.queues.now = omega arith in
     let same : (get_or c.loop-queue.queues i q).len ≡ (get_or c.args.queues.now i q).len =
     ap (λ (q : Queue). q.len) (ap (λ qs. get_or qs i q) c.loop-queue.invariant
-    ∙ at_front (counting c.args.item.now) c.args.queues.now i q inside) in
+    ∙ at_front (counting c.args.item.now c.args.len) c.args.queues.now i q inside) in
     let fits = c.requires i q inside in
     omega arith
 
@@ -22,11 +22,12 @@ loop-queue-preserved c =
     let i = c.loop-queue.queue-index in
     let inside : i < length c.args.queues.now = omega arith in
     ap (λ q. slice_set c.loop-queue.queues i q)
-    (c.count.ensures ∙ ap (counting c.args.item.now) (sym c.queue-item.is))
-    ∙ map_over_more (counting c.args.item.now) c.args.queues.now c.loop-queue.queues i c.queue-item.result inside
-    c.loop-queue.invariant c.queue-item.is
+    (c.count.ensures ∙ ap (counting c.args.item.now c.args.len) (sym c.queue-item.is))
+    ∙ map_over_more (counting c.args.item.now c.args.len) c.args.queues.now c.loop-queue.queues i c.queue-item.result
+    inside c.loop-queue.invariant c.queue-item.is
 
 pub returns : goal.returns
 returns c =
     c.loop-queue.invariant
-    ∙ over_front (counting c.args.item.now) c.args.queues.now c.loop-queue.queue-index c.loop-queue-test.false
+    ∙ over_front (counting c.args.item.now c.args.len) c.args.queues.now c.loop-queue.queue-index
+    c.loop-queue-test.false

@@ -1,22 +1,22 @@
-use Rattle.std.proofs.Common.{true, ◌≡◌, ◌<◌, ◌^◌, ◌∙◌, ap, ap₂, sym, subst, List, length}
+use Rattle.std.proofs.Common.{true, ◌≡◌, ◌<◌, ◌^◌, ◌∙◌, ap, ap₂, map, sym, subst, List, length}
 use Rattle.cdc_types.specs.declared.events.Event.{Event}
 use Rattle.cdc_ledger.specs.Events.{events}
 use Rattle.cdc_match.specs.Arguments.{Arguments}
 use Rattle.cdc_laws.specs.Line.{emitted}
+use Rattle.cdc_commands.specs.Feeds.{kept_by}
 use Rattle.cdc_commands.specs.Printed.{history_of}
-use Rattle.cdc_commands.specs.Queues.{filled_queues}
 use Rattle.cdc_commands.proofs.HeldLaws.{few_of_script}
 use Rattle.cdc_commands.proofs.book_reports.books_report.Goals as goal
 
-pub publish_log-requires : goal.publish_log-requires
-publish_log-requires c =
+pub subscribers_of_log-requires : goal.subscribers_of_log-requires
+subscribers_of_log-requires c =
     let events_are : c.log.result.now.events ≡ events (history_of c.args.script) =
     c.log.ensures ∙ ap events c.in_ok-ledger.ensures.ledger in
     subst (λ (es : List Event). length es < 2 ^ 63) (sym events_are) (few_of_script c.args.script)
 
-pub returns-clause-queues : goal.returns-clause-queues
-returns-clause-queues c =
+pub returns-clause-subscribers : goal.returns-clause-subscribers
+returns-clause-subscribers c =
     let events_are : c.log.result.now.events ≡ events (history_of c.args.script) =
     c.log.ensures ∙ ap events c.in_ok-ledger.ensures.ledger in
-    c.in_ok-broker.ensures
-    ∙ ap₂ (λ (es : List Event) (bs : List Arguments). filled_queues (emitted es true) bs) events_are c.into_vec.ensures
+    c.in_ok-subscribers.ensures
+    ∙ ap₂ (λ (es : List Event) (bs : List Arguments). map (kept_by (emitted es true)) bs) events_are c.into_vec.ensures

@@ -13,6 +13,6 @@ returns-clause-output g c = λ bytes stated.
 pub returns-clause-seen : goal.returns-clause-seen
 returns-clause-seen g c = λ bytes stated.
     made_of_acts (λ plan refusal printed. SawPlan (g.O.Observer.has_seen c.steps_simulation.new.observer) plan refusal)
-    (λ fault printed. Unit {0}) (λ (o : Output). o.ending) (λ (o : Output). [])
+    (λ word ending printed. Unit {0}) (λ (o : Output). o.ending) (λ (o : Output). [])
     c.args.window (Some bytes) c.args.steps.now c.in-Ok.stated.acts.items c.steps_simulation.result
     c.in-Ok.ensures.acts (c.steps_simulation.ensures.seen bytes stated)

@@ -1,7 +1,7 @@
 use Rattle.std.proofs.Common.{List, [], Ok, Some, ap, refl, sym}
 use Rattle.cdc_script.specs.declared.step_files.Act.{Act}
 use Rattle.cdc_commands.specs.Observed.{SawPlan}
-use Rattle.cdc_commands.specs.Simulated.{SimulationInput}
+use Rattle.cdc_commands.specs.Simulated.{SimulationInput, of_acts}
 use Rattle.cdc_commands.specs.Simulations.{Plan}
 use Rattle.cdc_commands.proofs.OutputLemmas.{prints_after}
 use Rattle.cdc_commands.proofs.simulate.steps_simulation.Goals as goal
@@ -10,8 +10,7 @@ pub returns-clause-output : goal.returns-clause-output
 returns-clause-output g c = λ bytes stated.
     let acts = c.as_slice-acts.result.now in
     let plan : Plan = record { script = c.args.script; window = c.args.window; acts = acts } in
-    let input : SimulationInput =
-    record { window = c.args.window; script = Some bytes; steps = Some (Ok c.args.steps.now.acts.items) } in
+    let input : SimulationInput = of_acts c.args.window (Some bytes) c.args.steps.now.acts.items in
     let simulated = c.in_ok-simulated.simulated in
     prints_after g.F.Form.prints_simulation g.F.Form.prints_fault input simulated.played.refusal c.of_refusal.result _
     c.of_refusal.ensures (
@@ -30,12 +29,11 @@ pub returns-clause-seen : goal.returns-clause-seen
 returns-clause-seen g c = λ bytes stated.
     let acts = c.as_slice-acts.result.now in
     let plan : Plan = record { script = c.args.script; window = c.args.window; acts = acts } in
-    let input : SimulationInput =
-    record { window = c.args.window; script = Some bytes; steps = Some (Ok c.args.steps.now.acts.items) } in
+    let input : SimulationInput = of_acts c.args.window (Some bytes) c.args.steps.now.acts.items in
     let simulated = c.in_ok-simulated.simulated in
     let come = c.in_ok-simulated.ensures.seen c.begin.ensures in
     prints_after (λ plan refusal printed. SawPlan (g.O.Observer.has_seen c.play_script.new.observer) plan refusal)
-    (λ fault printed. Unit {0}) input simulated.played.refusal c.of_refusal.result []
+    (λ word ending printed. Unit {0}) input simulated.played.refusal c.of_refusal.result []
     c.of_refusal.ensures (
       plan,
       (

@@ -15,6 +15,6 @@ pub returns-clause-seen : goal.returns-clause-seen
 returns-clause-seen g c = λ bytes stated.
     asked_of_acts
     (λ plan refusal printed. SawPlan (g.O.Observer.has_seen c.steps_deliveries.new.observers.second) plan refusal)
-    (λ fault printed. Unit {0}) c.args.asked.subscriber (λ (o : Output). [])
+    (λ word ending printed. Unit {0}) c.args.asked.subscriber (λ (o : Output). [])
     c.args.window (Some bytes) c.args.steps.now c.in-Ok.stated.acts.items c.steps_deliveries.result
     c.in-Ok.ensures.acts (c.steps_deliveries.ensures.seen bytes stated)

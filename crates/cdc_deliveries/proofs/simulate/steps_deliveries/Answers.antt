@@ -3,7 +3,7 @@ use Rattle.cdc_script.specs.declared.step_files.Act.{Act}
 use Rattle.cdc_commands.specs.declared.output.Output.{Output}
 use Rattle.cdc_commands.specs.Observed.{SawPlan}
 use Rattle.cdc_commands.specs.QueuePrinted.{binding_at}
-use Rattle.cdc_commands.specs.Simulated.{SimulationInput}
+use Rattle.cdc_commands.specs.Simulated.{SimulationInput, of_acts}
 use Rattle.cdc_commands.specs.Simulations.{Plan}
 use Rattle.cdc_deliveries.specs.Deliver.{Delivers}
 use Rattle.cdc_deliveries.proofs.AskedLemmas.{asked_after, no_read_after}
@@ -14,8 +14,7 @@ pub returns-clause-output : goal.returns-clause-output
 returns-clause-output g c = λ bytes stated.
     let acts = c.as_slice-acts.result.now in
     let plan : Plan = record { script = c.args.script; window = c.args.window; acts = acts } in
-    let input : SimulationInput =
-    record { window = c.args.window; script = Some bytes; steps = Some (Ok c.args.steps.now.acts.items) } in
+    let input : SimulationInput = of_acts c.args.window (Some bytes) c.args.steps.now.acts.items in
     let simulated = c.in_ok-simulated.simulated in
     let come = c.in_ok-simulated.ensures.seen c.begin.ensures in
     let found = c.in_ok-found.ensures in
@@ -46,13 +45,12 @@ pub returns-clause-seen : goal.returns-clause-seen
 returns-clause-seen g c = λ bytes stated.
     let acts = c.as_slice-acts.result.now in
     let plan : Plan = record { script = c.args.script; window = c.args.window; acts = acts } in
-    let input : SimulationInput =
-    record { window = c.args.window; script = Some bytes; steps = Some (Ok c.args.steps.now.acts.items) } in
+    let input : SimulationInput = of_acts c.args.window (Some bytes) c.args.steps.now.acts.items in
     let simulated = c.in_ok-simulated.simulated in
     let come = c.in_ok-simulated.ensures.seen c.begin.ensures in
     asked_after
     (λ plan refusal printed. SawPlan (g.O.Observer.has_seen c.play_script.new.observer.second) plan refusal)
-    (λ fault printed. Unit {0}) c.args.asked.subscriber (λ (o : Output). []) input simulated.played.refusal
+    (λ word ending printed. Unit {0}) c.args.asked.subscriber (λ (o : Output). []) input simulated.played.refusal
     c.of_refusal.result [] c.of_refusal.ensures (
       plan,
       (

@@ -19,7 +19,7 @@ pub returns-in-Some : goal.returns-in-Some
 returns-in-Some c =
     inl (sym (line-value c.args.chained c.args.line.now (omega arith) (sym c.if-is_ignored.ensures)
     ∙ ap (λ chained. value_entry chained (value_of c.args.line.now)) c.if-not-chained.true
-    ∙ line-event c.args.line.now c.in-Some.event c.in-Some.ensures))
+    ∙ line-event c.args.line.now c.in-Some.event c.in-Some.ensures.event))
 
 pub returns : goal.returns
 returns c =

@@ -1,4 +1,4 @@
-use Rattle.std.proofs.Common.{◌≡◌, ◌++◌, ◌∙◌, List, ℕ, ap, ap₂, map, sym}
+use Rattle.std.proofs.Common.{◌≡◌, ◌++◌, ◌∙◌, List, ℕ, ap₂, map, sym}
 use Rattle.cdc_ledger.specs.History.{empty_history}
 use Rattle.cdc_laws.specs.Line.{line}
 use Rattle.cdc_subscriber.specs.SubscriberState.{SubscriberState}
@@ -6,9 +6,7 @@ use Rattle.cdc_commands.specs.declared.batches.Answered.{Answered}
 use Rattle.cdc_commands.specs.Feeds.{kept_by}
 use Rattle.cdc_commands.specs.Printed.{answers_to, history_of}
 use Rattle.cdc_json.specs.Lines.{answered_values, json_lines, kept_values}
-use Rattle.cdc_json.specs.Private.Taking.{kept_of_queue}
 use Rattle.cdc_json.proofs.LineLemmas.{json_lines-append}
-use Rattle.cdc_json.proofs.TakenLemmas.{kept_of_filled}
 use Rattle.cdc_json.proofs.books.books_lines.Goals as goal
 
 pub returns : goal.returns
@@ -19,8 +17,7 @@ returns c = λ script is.
     c.in_ok-push_answers.ensures
     ∙ ap₂ (λ (text : List ℕ) (given : List Answered). text ++ json_lines (answered_values given)) c.new-lines.ensures
     (c.as_slice.ensures.value ∙ is.answers) in
-    let takers : map kept_of_queue c.args.report.broker.queues ≡ map (kept_by items) script.bindings =
-    ap (map kept_of_queue) is.queues ∙ kept_of_filled items script.bindings in
-    c.in_ok-push_takers.ensures
-    ∙ ap₂ (λ (text : List ℕ) (kept : List SubscriberState). text ++ json_lines (kept_values 1 kept)) printed takers
+    c.in_ok-push_subscribers.ensures
+    ∙ ap₂ (λ (text : List ℕ) (kept : List SubscriberState). text ++ json_lines (kept_values 1 kept)) printed
+    (c.as_slice-2.ensures.value ∙ is.subscribers)
     ∙ sym (json_lines-append (answered_values answers) (kept_values 1 (map (kept_by items) script.bindings)))

@@ -1,8 +1,9 @@
 use Rattle.std.proofs.Common.{◌≡◌, get_or, refl, sym, arith}
 use Rattle.std.proofs.lemmas.Bool.Decides.{nat_tests}
+use Rattle.cdc_message.proofs.LeadingDigits.{ends_all, ends_at}
 use Rattle.cdc_message.proofs.ShortNumbers.{begun, below, more, printed}
 use Rattle.cdc_message.proofs.decimals.short_number.Goals as goal
-use Rattle.cdc_message.proofs.decimals.short_number.Goals.{then-count-gt1, else-count-gt1}
+use Rattle.cdc_message.proofs.decimals.short_number.Goals.{then-count-gt1, else-count-gt1, then-loop-count-test+else-is_ascii_digit, else-loop-count-test}
 
 pub loop-count-init : goal.loop-count-init
 loop-count-init c = begun c.args.text.now
@@ -27,8 +28,8 @@ loop-count-preserved c = rw c.from.ensures
     (sym c.if-is_ascii_digit.ensures.value))
 
 -- more digits than one don't begin with a zero
-pub returns : goal.returns
-returns c =
+pub returns-clause-digits : goal.returns-clause-digits
+returns-clause-digits c =
     let plain : get_or c.args.text.now 0 0 ≡ 48 → c.loop-count.count ≡ 1 =
     elim c.if-count-gt1.branch [
       | then-count-gt1 w ↦ λ first. grind (arith, nat_tests, w.value-is)
@@ -38,3 +39,12 @@ returns c =
       printed c.args.text.now c.loop-count.count c.loop-count.number c.loop-count.invariant
           (omega (arith, c.if-count-eq0.false)) plain,
     )
+
+-- and no digit follows
+pub returns-clause-whole : goal.returns-clause-whole
+returns-clause-whole c =
+    elim c.loop-count-test.branch [
+      | then-loop-count-test+else-is_ascii_digit w ↦ ends_at c.args.text.now c.loop-count.count w.loop-count-test.true
+          (sym w.if-is_ascii_digit.ensures.value)
+      | else-loop-count-test w ↦ ends_all c.args.text.now c.loop-count.count w.loop-count-test.false
+    ]

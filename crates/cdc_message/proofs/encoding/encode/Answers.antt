@@ -2,7 +2,7 @@ use Rattle.std.proofs.Common.{ap, ◌∙◌}
 use Rattle.std.proofs.lemmas.Result.{IfOk-weaker}
 use Rattle.cdc_message.specs.Reading.{read}
 use Rattle.cdc_message.proofs.Law.{read-body}
-use Rattle.cdc_message.proofs.Sent.{IfOk-or_err, body_text}
+use Rattle.cdc_message.proofs.Sent.{IfOk-or_err, OnOk-from, body_text}
 use Rattle.cdc_message.proofs.encoding.encode.Goals as goal
 
 pub returns-in_err-with_capacity-clause-law : goal.returns-in_err-with_capacity-clause-law
@@ -28,6 +28,9 @@ returns-clause-reads_back c =
     IfOk-weaker c.or.result _ _
     (λ text is_body. ap read is_body ∙ read-body c.args.event.now c.in_ok-send_event.ensures.fits)
     (returns-clause-text c)
+
+pub returns-clause-fits : goal.returns-clause-fits
+returns-clause-fits c = OnOk-from c.or.result _ c.in_ok-send_event.ensures.fits
 
 pub returns-clause-law : goal.returns-clause-law
 returns-clause-law c = read-body

@@ -1,11 +1,17 @@
-use Rattle.std.proofs.Common.{◌≡◌, length, arith}
-use Rattle.std.proofs.lemmas.Bool.Decides.{nat_tests}
-use Rattle.cdc_message.proofs.Law.{read_own}
+use Rattle.std.proofs.Common.{◌≡◌, ◌∙◌, ℕ, List, Ok, Option, Some, None, ap}
+use Rattle.std.specs.Prelude.{IfSome}
+use Rattle.cdc_types.specs.declared.events.Event.{Event}
+use Rattle.cdc_message.specs.Bodies.{body}
+use Rattle.cdc_message.specs.Reading.{read}
+use Rattle.cdc_message.specs.Widths.{EventFits}
+use Rattle.cdc_message.proofs.Law.{read-body}
 use Rattle.cdc_message.proofs.own_bodies.own_event.Goals as goal
 
--- nothing follows the event
-pub returns-then-is_empty : goal.returns-then-is_empty
-returns-then-is_empty c =
-    let none : length c.event.new.self.rest.now ≡ 0 = grind (arith, nat_tests) in
-    read_own c.in_ok-event.event c.args.bytes.now c.event.new.self.rest.now c.in_ok-event.ensures.fits
-    c.in_ok-event.ensures.text none
+-- the bytes of an event's body are read as the event
+is_read : (answer : Option Event) (bytes : List ℕ) → IfSome answer EventFits
+    → IfSome answer (λ event. bytes ≡ body event) → IfSome answer (λ event. read bytes ≡ Ok event)
+is_read None bytes fits is = tt
+is_read (Some event) bytes fits is = ap read is ∙ read-body event fits
+
+pub returns-clause-event : goal.returns-clause-event
+returns-clause-event c = is_read c.event.result c.args.bytes.now c.event.ensures.fits c.event.ensures.text

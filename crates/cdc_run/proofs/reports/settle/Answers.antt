@@ -16,7 +16,7 @@ use Rattle.cdc_actors.specs.Connector.{ConnectorCore}
 use Rattle.cdc_run.specs.Streams.{AllCome, ArePacketsTo, Middle}
 use Rattle.cdc_run.specs.SubscriberMail.{AreSubscribersOf, HasFinishedWith as BrokerHasFinishedWith}
 use Rattle.cdc_run.proofs.Refused.{asked_more, passed_on}
-use Rattle.cdc_run.proofs.Reported.{all_subscribed, books_of, finished, left_by, start_known, streams_of}
+use Rattle.cdc_run.proofs.Reported.{all_subscribed, books_of, finished, finished_honest, left_by, start_known, streams_of}
 use Rattle.cdc_run.proofs.Seated.{AreBetween, joined, polls_to, wired}
 use Rattle.cdc_run.proofs.Totals.{is_count}
 use Rattle.cdc_run.proofs.reports.settle.Goals as goal
@@ -94,6 +94,8 @@ returns-clause-report g c =
       deliveries = streams.deliveries
           ∙ map-map (λ (s : SubscriberCore). s.arrivals) (λ (s : ActorState SubscriberCore). s.work) subscribers;
       received = streams.received;
+      honest = finished_honest ends.connector.work c.in-Some.ensures.kept
+          (and_parts (is_none ends.connector.fault) ends.connector.work.finished over).1;
       subscribers = λ start seat.
           let come : AllCome ends.ledger.work start ends.broker.work 0 (works_of subscribers) =
           subst (λ (n : ℕ). AllCome ends.ledger.work n ends.broker.work 0 (works_of subscribers))

@@ -55,7 +55,7 @@ returns-in-Ok-settle-clause-ran g c =
     c.in_ok-left.left.items (places_of c.in_ok-finished.finished) c.in_ok-left.ensures.left c.in_ok-tasks.ensures
     c.in_ok-finished.ensures in
     ran_from _ _ _ _ _ c.in-Ok.ends c.in-Ok.ensures.made c.in_ok-finished.finished scripts are c.in-Ok-settle.report
-    c.in-Ok-settle.ensures.report
+    c.in-Ok-settle.ensures.report c.connector_actor_laws.ensures.finished
 
 -- and what it counts that of packets
 pub returns-in-Ok-settle-clause-counts : goal.returns-in-Ok-settle-clause-counts
@@ -69,7 +69,7 @@ returns-in-Ok-settle-clause-counts g c =
 
 -- its subscribers have come to what they may rely on
 pub returns-in-Ok-settle-clause-subscribers : goal.returns-in-Ok-settle-clause-subscribers
-returns-in-Ok-settle-clause-subscribers g c = λ honest zero.
+returns-in-Ok-settle-clause-subscribers g c = λ zero.
     let scripts : List (List Batch) = map (λ s. s.items) c.args.scripts.items in
     let are = are_left g.row.S.Denot (places_of c.in-Ok.ends) scripts c.in_ok-tasks.tasks.items
     c.in_ok-left.left.items (places_of c.in_ok-finished.finished) c.in_ok-left.ensures.left c.in_ok-tasks.ensures
@@ -78,7 +78,7 @@ returns-in-Ok-settle-clause-subscribers g c = λ honest zero.
       made.closes,
       made.closes_are,
       have_subscribed _ _ _ _ _ c.in-Ok.ends made c.in_ok-finished.finished scripts are c.in-Ok-settle.report
-          c.in-Ok-settle.ensures.report honest zero,
+          c.in-Ok-settle.ensures.report zero,
     )
 
 -- the stop that counts is one of its actors

@@ -77,8 +77,8 @@ returns-in-Ok-clause-comes g c =
             c.in-Ok.ensures.ran;
       };
       counts = counted_same _ report.counts _ _ c.into_vec-bindings.ensures c.in-Ok.ensures.counts;
-      subscribers = λ honest zero.
-          let come = c.in-Ok.ensures.subscribers honest zero in (
+      subscribers = λ zero.
+          let come = c.in-Ok.ensures.subscribers zero in (
             come.0,
             (
               come.1,

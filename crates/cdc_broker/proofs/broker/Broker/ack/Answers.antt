@@ -1,9 +1,9 @@
-use Rattle.std.proofs.Common.{◌≡◌, ◌-◌, ◌<◌, sym, ap, ◌∙◌, length, subst, arith}
+use Rattle.std.proofs.Common.{◌≡◌, ◌-◌, ◌<◌, refl, sym, ap, ◌∙◌, length, subst, arith}
 use Rattle.std.specs.Prelude.{not, if◌then◌else◌}
 use Rattle.cdc_broker.specs.Broker.{BrokerState, HasAccepted, queue_of, with_queue}
 use Rattle.cdc_broker.specs.Queues.{QueueState, acknowledged, is_unknown}
 use Rattle.std.proofs.lemmas.List.Elements.{All-set}
-use Rattle.cdc_broker.specs.Kept.{IsInOrder, queue_state}
+use Rattle.cdc_broker.specs.Kept.{IsInOrder, IsLeft, queue_state}
 use Rattle.cdc_broker.proofs.Accepted.{HasAccepted-acknowledged}
 use Rattle.cdc_broker.proofs.States.{broker_of, queue_of-broker_of, queue_seen, broker_of-set_if, within_queues}
 use Rattle.cdc_broker.proofs.broker.Broker.ack.Goals as goal
@@ -26,7 +26,7 @@ returns-clause-state c =
     broker_of-set_if connection expected accepted queues i q inside c.index_mut-queue.ensures.value c.ack.result
     c.ack.new.self
     (acknowledged c.args.position (queue_state accepted q))
-    (rw c.as_slice-accepted.ensures.value at c.ack.ensures.state)
+    c.ack.ensures.state
     ∙ ap (λ (x : QueueState). if c.ack.result
     then with_queue i (acknowledged c.args.position x) (broker_of connection expected accepted queues)
     else broker_of connection expected accepted queues) (sym this)
@@ -40,13 +40,19 @@ returns-clause-accepted c =
 
 pub invariant_of-self : goal.invariant_of-self
 invariant_of-self c =
-    All-set (IsInOrder c.self.inside.accepted.items) c.self.inside.queues.items (c.args.i - 1) c.ack.new.self
-    (rw c.as_slice-accepted.ensures.value at c.ack.ensures.in_order) c.self.invariant
+    let accepted = c.self.inside.accepted in
+    let queues = c.self.inside.queues.items in
+    record {
+      in_order = All-set (IsInOrder accepted.items) queues (c.args.i - 1) c.ack.new.self c.ack.ensures.in_order
+          c.self.invariant.in_order;
+      left = All-set (IsLeft accepted.gone) queues (c.args.i - 1) c.ack.new.self c.ack.ensures.left
+          c.self.invariant.left;
+    }
 
 pub returns-clause-answer : goal.returns-clause-answer
 returns-clause-answer c =
     c.ack.ensures.answer
     ∙ ap (λ (x : QueueState). not (is_unknown x c.args.position))
     (queue_seen c.self.inside.connection c.self.inside.expected c.self.inside.accepted.items
-    c.as_slice-accepted.result.now c.self.inside.queues.items c.args.self.now c.args.i c.index_mut-queue.result.now
-    c.self.view_is c.as_slice-accepted.ensures.value c.requires.first c.requires.last c.index_mut-queue.ensures.value)
+    c.self.inside.accepted.items c.self.inside.queues.items c.args.self.now c.args.i c.index_mut-queue.result.now
+    c.self.view_is refl c.requires.first c.requires.last c.index_mut-queue.ensures.value)

@@ -14,7 +14,7 @@ returns c =
     within_queues c.self.inside.connection c.self.inside.expected accepted queues c.args.self.now i c.self.view_is
     c.requires.first c.requires.last in
     c.has_next.ensures
-    ∙ has_next_by accepted q (in_order_at accepted queues (i - 1) q inside c.index.ensures c.self.invariant)
+    ∙ has_next_by accepted q (in_order_at accepted queues (i - 1) q inside c.index.ensures c.self.invariant.in_order)
     ∙ ap (λ (x : QueueState). is_some (next_delivery x))
     (queue_seen c.self.inside.connection c.self.inside.expected accepted accepted queues c.args.self.now i q
     c.self.view_is refl c.requires.first c.requires.last c.index.ensures)

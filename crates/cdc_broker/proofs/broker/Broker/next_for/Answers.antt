@@ -1,10 +1,10 @@
-use Rattle.std.proofs.Common.{◌≡◌, ◌-◌, ◌<◌, sym, ap, ◌∙◌, length, subst, arith}
+use Rattle.std.proofs.Common.{◌≡◌, ◌-◌, ◌<◌, refl, sym, ap, ◌∙◌, length, subst, arith}
 use Rattle.std.specs.Prelude.{IfOk, IsSome, OnErr}
 use Rattle.std.proofs.lemmas.Result.{on_ok_weaker, on_err_weaker}
 use Rattle.cdc_broker.specs.Broker.{BrokerState, HasAccepted, queue_of, with_queue}
 use Rattle.cdc_broker.specs.Queues.{QueueState, delivered_event, next_delivery, with_delivery}
 use Rattle.std.proofs.lemmas.List.Elements.{All-set}
-use Rattle.cdc_broker.specs.Kept.{IsInOrder, queue_state}
+use Rattle.cdc_broker.specs.Kept.{IsInOrder, IsLeft, queue_state}
 use Rattle.cdc_broker.proofs.Accepted.{HasAccepted-with_delivery, either_way}
 use Rattle.cdc_broker.proofs.States.{broker_of, queue_of-broker_of, queue_seen, broker_of-set, with_queue-same, within_queues}
 use Rattle.cdc_broker.proofs.broker.Broker.next_for.Goals as goal
@@ -32,7 +32,7 @@ returns-clause-ok c =
     with_queue i (with_delivery (next_delivery x) x) (broker_of connection expected accepted queues))
     (sym this)
     ∙ ap turn c.self.view_is)
-    (rw c.as_slice-accepted.ensures.value at c.deliver.ensures.ok)
+    c.deliver.ensures.ok
 
 pub returns-clause-err : goal.returns-clause-err
 returns-clause-err c =
@@ -65,21 +65,27 @@ returns-clause-accepted c =
 
 pub invariant_of-self : goal.invariant_of-self
 invariant_of-self c =
-    All-set (IsInOrder c.self.inside.accepted.items) c.self.inside.queues.items (c.args.i - 1) c.deliver.new.self
-    (rw c.as_slice-accepted.ensures.value at c.deliver.ensures.in_order) c.self.invariant
+    let accepted = c.self.inside.accepted in
+    let queues = c.self.inside.queues.items in
+    record {
+      in_order = All-set (IsInOrder accepted.items) queues (c.args.i - 1) c.deliver.new.self c.deliver.ensures.in_order
+          c.self.invariant.in_order;
+      left = All-set (IsLeft accepted.gone) queues (c.args.i - 1) c.deliver.new.self c.deliver.ensures.left
+          c.self.invariant.left;
+    }
 
 pub returns-clause-answer : goal.returns-clause-answer
 returns-clause-answer c =
     subst (λ (x : QueueState). IfOk c.deliver.result (λ delivery. delivery ≡ next_delivery x))
     (queue_seen c.self.inside.connection c.self.inside.expected c.self.inside.accepted.items
-    c.as_slice-accepted.result.now c.self.inside.queues.items c.args.self.now c.args.i c.index_mut-queue.result.now
-    c.self.view_is c.as_slice-accepted.ensures.value c.requires.first c.requires.last c.index_mut-queue.ensures.value)
+    c.self.inside.accepted.items c.self.inside.queues.items c.args.self.now c.args.i c.index_mut-queue.result.now
+    c.self.view_is refl c.requires.first c.requires.last c.index_mut-queue.ensures.value)
     c.deliver.ensures.answer
 
 pub returns-clause-memory : goal.returns-clause-memory
 returns-clause-memory c =
     subst (λ (x : QueueState). OnErr c.deliver.result (IsSome (delivered_event (next_delivery x))))
     (queue_seen c.self.inside.connection c.self.inside.expected c.self.inside.accepted.items
-    c.as_slice-accepted.result.now c.self.inside.queues.items c.args.self.now c.args.i c.index_mut-queue.result.now
-    c.self.view_is c.as_slice-accepted.ensures.value c.requires.first c.requires.last c.index_mut-queue.ensures.value)
+    c.self.inside.accepted.items c.self.inside.queues.items c.args.self.now c.args.i c.index_mut-queue.result.now
+    c.self.view_is refl c.requires.first c.requires.last c.index_mut-queue.ensures.value)
     c.deliver.ensures.memory

@@ -2,9 +2,9 @@ use Rattle.std.proofs.Common.{◌≡◌, ◌-◌, ◌<◌, sym, ap, ◌∙◌, l
 use Rattle.cdc_broker.specs.Broker.{BrokerState, HasAccepted, queue_of, with_queue}
 use Rattle.cdc_broker.specs.Queues.{QueueState, rewound_queue}
 use Rattle.std.proofs.lemmas.List.Elements.{All-set}
-use Rattle.cdc_broker.specs.Kept.{IsInOrder, queue_state}
+use Rattle.cdc_broker.specs.Kept.{IsInOrder, IsLeft, queue_state}
 use Rattle.cdc_broker.proofs.Accepted.{HasAccepted-rewound}
-use Rattle.cdc_broker.proofs.States.{broker_of, queue_of-broker_of, broker_of-set, in_order_at, rewound_in_order, within_queues}
+use Rattle.cdc_broker.proofs.States.{broker_of, queue_of-broker_of, broker_of-set, in_order_at, left_at, rewound_in_order, within_queues}
 use Rattle.cdc_broker.proofs.broker.Broker.rewind.Goals as goal
 
 pub returns-clause-state : goal.returns-clause-state
@@ -42,8 +42,16 @@ invariant_of-self c =
     let inside : i - 1 < length queues =
     within_queues c.self.inside.connection c.self.inside.expected accepted queues c.args.self.now i c.self.view_is
     c.requires.first c.requires.last in
-    All-set (IsInOrder accepted) queues (i - 1) c.rewind.new.self
-    (subst (IsInOrder accepted) (sym c.rewind.ensures)
-    (rewound_in_order accepted q
-    (in_order_at accepted queues (i - 1) q inside c.index_mut-queue.ensures.value c.self.invariant)))
-    c.self.invariant
+    let order = in_order_at accepted queues (i - 1) q inside c.index_mut-queue.ensures.value
+    c.self.invariant.in_order in
+    let needed = left_at c.self.inside.accepted.gone queues (i - 1) q inside c.index_mut-queue.ensures.value
+    c.self.invariant.left in
+    record {
+      in_order = All-set (IsInOrder accepted) queues (i - 1) c.rewind.new.self
+          (subst (IsInOrder accepted) (sym c.rewind.ensures) (rewound_in_order accepted q order))
+          c.self.invariant.in_order;
+      left = All-set (IsLeft c.self.inside.accepted.gone) queues (i - 1) c.rewind.new.self
+          (subst (IsLeft c.self.inside.accepted.gone) (sym c.rewind.ensures)
+          (record { acked = needed.acked; cursor = needed.acked }))
+          c.self.invariant.left;
+    }

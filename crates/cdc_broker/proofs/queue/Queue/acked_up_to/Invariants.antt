@@ -4,7 +4,8 @@ use Rattle.cdc_broker.proofs.queue.Queue.acked_up_to.Given as goal
 
 abbrev pub invariant-loop-mark : goal.invariant-loop-mark
 invariant-loop-mark l = record {
-  is : IsMark l.accepted l.self.binding l.mark;
+  is : IsMark l.accepted.items l.self.binding l.mark;
+  left : l.accepted.gone ≤ l.mark.place;
   low : l.self.acked.position ≤ l.mark.position;
   high : l.mark.position ≤ max l.self.acked.position l.position;
 }

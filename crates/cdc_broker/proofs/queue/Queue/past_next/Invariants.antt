@@ -4,9 +4,10 @@ use Rattle.cdc_broker.proofs.queue.Queue.past_next.Given as goal
 
 abbrev pub invariant-loop-place : goal.invariant-loop-place
 invariant-loop-place l = record {
-  within : l.place ≤ length l.accepted;
-  counts : l.mark.position ≡ length (queue (take l.place l.accepted) l.self.binding);
+  past : l.mark.place ≤ l.place;
+  within : l.place ≤ length l.accepted.items;
+  counts : l.mark.position ≡ length (queue (take l.place l.accepted.items) l.self.binding);
 }
 
 abbrev pub decreases-loop-place : goal.decreases-loop-place
-decreases-loop-place l = length l.accepted - l.place
+decreases-loop-place l = length l.accepted.items - l.place

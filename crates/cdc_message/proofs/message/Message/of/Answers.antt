@@ -6,6 +6,7 @@ pub invariant_of-result : goal.invariant_of-result
 invariant_of-result c =
     let written = c.in_ok-body.ensures in
     belong _ _ _ c.args.event.now c.headers_of.ensures refl written.text written.reads_back
+    written.fits
 
 pub returns : goal.returns
 returns c =

@@ -9,4 +9,4 @@ returns-then-ends c =
     let n = c.in_ok-number.number in
     let fits : n < 2 ^ 64 = grind (arith, rules) in
     gives_after 0 (λ value. whole_number value ≡ Some n) _ _ c.number.new.self.rest.now
-    (ap (lex between) c.in_ok-number.ensures) (bare_gives n c.number.new.self.rest.now fits c.if-ends.ensures)
+    (ap (lex between) c.in_ok-number.ensures.text) (bare_gives n c.number.new.self.rest.now fits c.if-ends.ensures)

@@ -7,6 +7,6 @@ use Rattle.cdc_message.proofs.own_bodies.Cursor.quoted_number.Goals as goal
 pub returns : goal.returns
 returns c =
     let n = c.in_ok-number.number in
-    gives_after 0 (λ value. whole_number value ≡ Some n) _ _ c.number_128.new.self.rest.now
+    gives_after 0 (λ value. whole_number value ≡ Some n) _ _ c.quoted_128.new.self.rest.now
     (ap (lex between) c.in_ok-number.ensures.text)
-    (quoted_gives n c.number_128.new.self.rest.now c.in_ok-number.ensures.fits)
+    (quoted_gives n c.quoted_128.new.self.rest.now c.in_ok-number.ensures.fits)

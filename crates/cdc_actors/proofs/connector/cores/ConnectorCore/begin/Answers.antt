@@ -9,7 +9,7 @@ pub returns-clause-after : goal.returns-clause-after
 returns-clause-after g c =
     begun_entry _ c.args.self.now _ c.self.view_is
     (begun_so _ c.in_ok-session.session _ _ _ c.first_base.result _ _
-    c.in_ok-session.ensures.ok
+    c.in_ok-session.ensures.ok c.in_ok-session.ensures.loads
     c.in_ok-session.ensures.honest c.in_ok-session.ensures.same_risks c.first_base.ensures)
 
 pub returns-in_err-session-clause-failed : goal.returns-in_err-session-clause-failed

@@ -1,0 +1,6 @@
+use Rattle.std.proofs.Common.{◌≡◌, [], map, take}
+use Rattle.cdc_commands.specs.Feeds.{kept_by}
+use Rattle.cdc_commands.proofs.feeding.new_subscribers.Given as goal
+
+abbrev pub invariant-loop : goal.invariant-loop
+invariant-loop l = l.subscribers.items ≡ map (kept_by []) (take l.index l.bindings)

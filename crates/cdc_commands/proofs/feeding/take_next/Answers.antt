@@ -1,0 +1,27 @@
+use Rattle.std.proofs.Common.{◌≡◌, ◌-◌, ◌<◌, ◌∙◌, Some, ap, sym, length, rules, arith}
+use Rattle.std.specs.Prelude.{Option}
+use Rattle.cdc_broker.specs.Broker.{queue_of, with_queue}
+use Rattle.cdc_broker.specs.Queues.{next_delivery, with_delivery}
+use Rattle.cdc_message.specs.declared.items.Delivery.{Delivery}
+use Rattle.cdc_subscriber.specs.Reception.{Reception, kept_of}
+use Rattle.cdc_commands.specs.Private.Takers.{receiving_delivery, with_taken}
+use Rattle.cdc_commands.proofs.TakerLemmas.{acknowledges}
+use Rattle.cdc_commands.proofs.feeding.take_next.Goals as goal
+
+pub returns-in_ok-map_err : goal.returns-in_ok-map_err
+returns-in_ok-map_err c =
+    let s = c.args.broker.now in
+    let q = queue_of s c.args.i in
+    let d = c.in-Some.delivery in
+    let given : Some d ≡ next_delivery q = sym c.in-Some.is ∙ c.in_ok-delivery.ensures.answer in
+    let inside : c.args.i - 1 < length s.queues = omega (arith, c.requires.first, c.requires.last) in
+    let first : c.next_for.new.self ≡ with_queue c.args.i (with_delivery (Some d) q) s =
+    c.in_ok-delivery.ensures.ok
+    ∙ ap (λ (x : Option Delivery). with_queue c.args.i (with_delivery x q) s) (sym given) in
+    let received : (reception : Reception) → c.args.subscriber.now ≡ kept_of reception
+    → c.take.new.self ≡ kept_of (receiving_delivery (next_delivery q) reception) = search rules in (
+      acknowledges s c.next_for.new.self c.ack.new.self c.args.i d.position (with_delivery (Some d) q) c.ack.result
+          inside first c.ack.ensures.answer c.ack.ensures.state
+          ∙ ap (λ (x : Option Delivery). with_queue c.args.i (with_taken x q) s) given,
+      received,
+    )

@@ -1,0 +1,57 @@
+use Rattle.std.proofs.Common.{◌≡◌, [], inl, inr, IsTrue, sym, ap, ◌∙◌}
+use Rattle.sqlite.specs.Schema.{Schema}
+use Rattle.sqlite.specs.Held.{state}
+use Rattle.cdc_sqlite_book.specs.Tables.{book_schema}
+use Rattle.cdc_sqlite_book.proofs.KeptLemmas.{reads_safely}
+use Rattle.cdc_sqlite_book.proofs.books.read_text.Goals as goal
+
+pub returns-then-is_new-clause-found : goal.returns-then-is_new-clause-found
+returns-then-is_new-clause-found g c clean text kept holds =
+    let yes : IsTrue c.is_new.result = cc c.if-is_new.true in
+    let none = (c.is_new.ensures.0 yes).0 in
+    let e : book_schema.tables ≡ [] = ap (λ (s : Schema). s.tables) (sym (c.schema.ensures.value ∙ holds.schema))
+    ∙ none in
+    absurd cc
+
+pub returns-in_err-row-clause-survives : goal.returns-in_err-row-clause-survives
+returns-in_err-row-clause-survives g c =
+    reads_safely (state g.S.Store c.args.conn.now) (state g.S.Store c.find_text.new.conn) c.is_new.result
+    (λ none. c.is_new.ensures.1 (
+      ap (λ (s : Schema). s.tables) (c.schema.ensures.value ∙ none),
+      ap (λ (s : Schema). s.views)
+          (c.schema.ensures.value ∙ none),
+    ))
+    (cc c.if-is_new.false) c.find_text.ensures.survives
+
+pub returns-in_err-text-clause-survives : goal.returns-in_err-text-clause-survives
+returns-in_err-text-clause-survives g c =
+    reads_safely (state g.S.Store c.args.conn.now) (state g.S.Store c.find_text.new.conn) c.is_new.result
+    (λ none. c.is_new.ensures.1 (
+      ap (λ (s : Schema). s.tables) (c.schema.ensures.value ∙ none),
+      ap (λ (s : Schema). s.views)
+          (c.schema.ensures.value ∙ none),
+    ))
+    (cc c.if-is_new.false) c.find_text.ensures.survives
+
+pub returns-clause-survives : goal.returns-clause-survives
+returns-clause-survives g c =
+    reads_safely (state g.S.Store c.args.conn.now) (state g.S.Store c.find_text.new.conn) c.is_new.result
+    (λ none. c.is_new.ensures.1 (
+      ap (λ (s : Schema). s.tables) (c.schema.ensures.value ∙ none),
+      ap (λ (s : Schema). s.views)
+          (c.schema.ensures.value ∙ none),
+    ))
+    (cc c.if-is_new.false) c.find_text.ensures.survives
+
+pub returns-clause-schema : goal.returns-clause-schema
+returns-clause-schema g c clean of = elim of [
+  | inl none ↦ absurd (
+      let yes = c.is_new.ensures.1 (
+        ap (λ (s : Schema). s.tables) (c.schema.ensures.value ∙ none),
+        ap (λ (s : Schema). s.views)
+            (c.schema.ensures.value ∙ none),
+      ) in
+      cc (yes, c.if-is_new.false)
+      )
+  | inr book ↦ c.in_ok-row.ensures.schema clean book ∙ sym book
+]

@@ -1,0 +1,9 @@
+//! A book in SQLite, which others may query while it is kept.
+#![tactic(auto)]
+
+pub mod books;
+pub mod files;
+pub mod new_file;
+pub mod tables;
+
+pub use files::SqliteBook;

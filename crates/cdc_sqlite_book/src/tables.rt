@@ -1,0 +1,253 @@
+//! The tables of a book, and the statements that make and fill them.
+
+ghost use Rattle.std.specs.Prelude.{◌≡◌, ◌≢◌, [], ◌∷◌, ◌++◌, ℕ, List, false, if◌then◌else◌, IsTrue, IfOk, OnOk, OnErr};
+ghost use Rattle.sqlite.specs.declared.types.Value.TheVariants.{Blob};
+ghost use Rattle.sqlite.specs.Held.{state};
+ghost use Rattle.sqlite.specs.State.{HasCleanDisk, KeepsCommit, Survives};
+ghost use Rattle.cdc_subscriber.specs.SubscriberState.{SubscriberState};
+ghost use Rattle.cdc_subscriber.specs.declared.book.BookEntry.{BookEntry as Shown};
+ghost use Rattle.cdc_sqlite_book.specs.Tables.{no_schema, book_only, book_schema, book_row, rows_from, HoldsBook, MayHold};
+
+use cdc_subscriber::{Book, BookEntry, Subscriber};
+use itoa::Buffer;
+use sqlite::{Alter, Connection, Error, ErrorCode, Row, Transaction, params};
+
+/// Makes the table of the book's text.
+pub fn make_book<S: Alter>(tx: &mut Transaction<'_, S>) -> Result<usize, Error>
+    ensures same_reference { tx.new.conn.ghost_name ≡ tx.old.conn.ghost_name }
+    ensures schema { HasCleanDisk (state S.Store tx.new.conn.now)
+        → (state S.Store tx.old.conn.now).now.schema ≡ no_schema
+        → OnOk result ((state S.Store tx.new.conn.now).now.schema ≡ book_only) }
+    ensures empty { HasCleanDisk (state S.Store tx.new.conn.now)
+        → (state S.Store tx.old.conn.now).now.schema ≡ no_schema
+        → OnOk result ((state S.Store tx.new.conn.now).now.trees 0 ≡ []) }
+    ensures kept { HasCleanDisk (state S.Store tx.new.conn.now)
+        → KeepsCommit (state S.Store tx.old.conn.now) (state S.Store tx.new.conn.now) }
+    ensures survives { Survives (state S.Store tx.old.conn.now) (state S.Store tx.new.conn.now) (λ _. ⊥) }
+{
+    tx.execute(
+        "CREATE TABLE book (id INTEGER PRIMARY KEY, text BLOB NOT NULL, last TEXT NOT NULL, applied TEXT NOT NULL) \
+         STRICT",
+        &[],
+    )
+}
+
+/// Makes the table of the accounts.
+pub fn make_accounts<S: Alter>(tx: &mut Transaction<'_, S>) -> Result<usize, Error>
+    ensures same_reference { tx.new.conn.ghost_name ≡ tx.old.conn.ghost_name }
+    ensures schema { HasCleanDisk (state S.Store tx.new.conn.now)
+        → (state S.Store tx.old.conn.now).now.schema ≡ book_only
+        → OnOk result ((state S.Store tx.new.conn.now).now.schema ≡ book_schema) }
+    ensures empty { HasCleanDisk (state S.Store tx.new.conn.now)
+        → (state S.Store tx.old.conn.now).now.schema ≡ book_only
+        → OnOk result ((state S.Store tx.new.conn.now).now.trees 1 ≡ []) }
+    ensures book { HasCleanDisk (state S.Store tx.new.conn.now) → (state S.Store tx.old.conn.now).now.schema ≡ book_only
+        → OnOk result ((state S.Store tx.new.conn.now).now.trees 0 ≡ (state S.Store tx.old.conn.now).now.trees 0) }
+    ensures kept { HasCleanDisk (state S.Store tx.new.conn.now)
+        → KeepsCommit (state S.Store tx.old.conn.now) (state S.Store tx.new.conn.now) }
+    ensures survives { Survives (state S.Store tx.old.conn.now) (state S.Store tx.new.conn.now) (λ _. ⊥) }
+{
+    tx.execute(
+        "CREATE TABLE accounts (place INTEGER PRIMARY KEY, id TEXT NOT NULL, debits_pending TEXT NOT NULL, \
+         debits_posted TEXT NOT NULL, credits_pending TEXT NOT NULL, credits_posted TEXT NOT NULL) STRICT",
+        &[],
+    )
+}
+
+/// Drops the table of the accounts.
+pub fn drop_accounts<S: Alter>(tx: &mut Transaction<'_, S>) -> Result<usize, Error>
+    ensures same_reference { tx.new.conn.ghost_name ≡ tx.old.conn.ghost_name }
+    ensures schema { HasCleanDisk (state S.Store tx.new.conn.now)
+        → (state S.Store tx.old.conn.now).now.schema ≡ book_schema
+        → OnOk result ((state S.Store tx.new.conn.now).now.schema ≡ book_only) }
+    ensures kept { HasCleanDisk (state S.Store tx.new.conn.now)
+        → KeepsCommit (state S.Store tx.old.conn.now) (state S.Store tx.new.conn.now) }
+    ensures survives { Survives (state S.Store tx.old.conn.now) (state S.Store tx.new.conn.now) (λ _. ⊥) }
+{
+    tx.execute("DROP TABLE accounts", &[])
+}
+
+/// Drops the table of the book's text.
+pub fn drop_book<S: Alter>(tx: &mut Transaction<'_, S>) -> Result<usize, Error>
+    ensures same_reference { tx.new.conn.ghost_name ≡ tx.old.conn.ghost_name }
+    ensures schema { HasCleanDisk (state S.Store tx.new.conn.now)
+        → (state S.Store tx.old.conn.now).now.schema ≡ book_only
+        → OnOk result ((state S.Store tx.new.conn.now).now.schema ≡ no_schema) }
+    ensures kept { HasCleanDisk (state S.Store tx.new.conn.now)
+        → KeepsCommit (state S.Store tx.old.conn.now) (state S.Store tx.new.conn.now) }
+    ensures survives { Survives (state S.Store tx.old.conn.now) (state S.Store tx.new.conn.now) (λ _. ⊥) }
+{
+    tx.execute("DROP TABLE book", &[])
+}
+
+/// Inserts the row of the book's text, with the timestamp of the last event applied and the count of those.
+pub fn put_text<S: Alter>(
+    tx: &mut Transaction<'_, S>,
+    text: &[u8],
+    last: u64,
+    applied: u64,
+) -> Result<usize, Error>
+    ensures same_reference { tx.new.conn.ghost_name ≡ tx.old.conn.ghost_name }
+    ensures schema { HasCleanDisk (state S.Store tx.new.conn.now)
+        → (state S.Store tx.old.conn.now).now.schema ≡ book_schema
+        → (state S.Store tx.old.conn.now).now.trees 0 ≡ []
+        → OnOk result ((state S.Store tx.new.conn.now).now.schema ≡ book_schema) }
+    ensures book { HasCleanDisk (state S.Store tx.new.conn.now)
+        → (state S.Store tx.old.conn.now).now.schema ≡ book_schema
+        → (state S.Store tx.old.conn.now).now.trees 0 ≡ []
+        → OnOk result ((state S.Store tx.new.conn.now).now.trees 0 ≡ book_row text.now last applied ∷ []) }
+    ensures accounts { HasCleanDisk (state S.Store tx.new.conn.now)
+        → (state S.Store tx.old.conn.now).now.schema ≡ book_schema
+        → (state S.Store tx.old.conn.now).now.trees 0 ≡ []
+        → OnOk result ((state S.Store tx.new.conn.now).now.trees 1 ≡ (state S.Store tx.old.conn.now).now.trees 1) }
+    ensures kept { HasCleanDisk (state S.Store tx.new.conn.now)
+        → KeepsCommit (state S.Store tx.old.conn.now) (state S.Store tx.new.conn.now) }
+    ensures survives { Survives (state S.Store tx.old.conn.now) (state S.Store tx.new.conn.now) (λ _. ⊥) }
+{
+    let (mut last_digits, mut applied_digits) = (Buffer::new(), Buffer::new());
+    tx.execute(
+        "INSERT INTO book (text, last, applied) VALUES (?1, ?2, ?3)",
+        params![
+            text,
+            last_digits.format(last),
+            applied_digits.format(applied)
+        ],
+    )
+}
+
+/// Inserts the row of an account, after those of the accounts that are there.
+pub fn put_account<S: Alter>(tx: &mut Transaction<'_, S>, entry: &BookEntry) -> Result<usize, Error>
+    ensures same_reference { tx.new.conn.ghost_name ≡ tx.old.conn.ghost_name }
+    ensures schema { HasCleanDisk (state S.Store tx.new.conn.now) → (entries : List Shown)
+        → (state S.Store tx.old.conn.now).now.schema ≡ book_schema
+        → (state S.Store tx.old.conn.now).now.trees 1 ≡ rows_from 1 entries
+        → OnOk result ((state S.Store tx.new.conn.now).now.schema ≡ book_schema) }
+    ensures book { HasCleanDisk (state S.Store tx.new.conn.now) → (entries : List Shown)
+        → (state S.Store tx.old.conn.now).now.schema ≡ book_schema
+        → (state S.Store tx.old.conn.now).now.trees 1 ≡ rows_from 1 entries
+        → OnOk result ((state S.Store tx.new.conn.now).now.trees 0 ≡ (state S.Store tx.old.conn.now).now.trees 0) }
+    ensures accounts { HasCleanDisk (state S.Store tx.new.conn.now) → (entries : List Shown)
+        → (state S.Store tx.old.conn.now).now.schema ≡ book_schema
+        → (state S.Store tx.old.conn.now).now.trees 1 ≡ rows_from 1 entries
+        → OnOk result ((state S.Store tx.new.conn.now).now.trees 1 ≡ rows_from 1 (entries ++ entry.now ∷ [])) }
+    ensures kept { HasCleanDisk (state S.Store tx.new.conn.now)
+        → KeepsCommit (state S.Store tx.old.conn.now) (state S.Store tx.new.conn.now) }
+    ensures survives { Survives (state S.Store tx.old.conn.now) (state S.Store tx.new.conn.now) (λ _. ⊥) }
+{
+    let (mut id, mut debits_pending, mut debits_posted) = (
+        Buffer::new(),
+        Buffer::new(),
+        Buffer::new(),
+    );
+    let (mut credits_pending, mut credits_posted) = (Buffer::new(), Buffer::new());
+    tx.execute(
+        "INSERT INTO accounts (id, debits_pending, debits_posted, credits_pending, credits_posted) \
+         VALUES (?1, ?2, ?3, ?4, ?5)",
+        params![
+            id.format(entry.id),
+            debits_pending.format(entry.balances.debits_pending),
+            debits_posted.format(entry.balances.debits_posted),
+            credits_pending.format(entry.balances.credits_pending),
+            credits_posted.format(entry.balances.credits_posted)
+        ],
+    )
+}
+
+/// Inserts a row for each account of a book, in their order.
+pub fn put_accounts<S: Alter>(tx: &mut Transaction<'_, S>, book: &Book) -> Result<(), Error>
+    ensures same_reference { tx.new.conn.ghost_name ≡ tx.old.conn.ghost_name }
+    ensures schema { HasCleanDisk (state S.Store tx.new.conn.now)
+        → (state S.Store tx.old.conn.now).now.schema ≡ book_schema → (state S.Store tx.old.conn.now).now.trees 1 ≡ []
+        → OnOk result ((state S.Store tx.new.conn.now).now.schema ≡ book_schema) }
+    ensures book { HasCleanDisk (state S.Store tx.new.conn.now)
+        → (state S.Store tx.old.conn.now).now.schema ≡ book_schema → (state S.Store tx.old.conn.now).now.trees 1 ≡ []
+        → OnOk result ((state S.Store tx.new.conn.now).now.trees 0 ≡ (state S.Store tx.old.conn.now).now.trees 0) }
+    ensures accounts { HasCleanDisk (state S.Store tx.new.conn.now)
+        → (state S.Store tx.old.conn.now).now.schema ≡ book_schema → (state S.Store tx.old.conn.now).now.trees 1 ≡ []
+        → OnOk result ((state S.Store tx.new.conn.now).now.trees 1 ≡ rows_from 1 book.now) }
+    ensures kept { HasCleanDisk (state S.Store tx.new.conn.now)
+        → KeepsCommit (state S.Store tx.old.conn.now) (state S.Store tx.new.conn.now) }
+    ensures survives { Survives (state S.Store tx.old.conn.now) (state S.Store tx.new.conn.now) (λ _. ⊥) }
+{
+    'accounts: for place in 0..book.len() {
+        let Some((id, balances)) = book.at_place(place) else {
+            return Err(Error::SqliteFailure(ErrorCode::Closed));
+        };
+        put_account(tx, &BookEntry { id, balances })?;
+    }
+    Ok(())
+}
+
+/// Drops the tables, unless the file is new.
+pub fn clear<S: Alter>(tx: &mut Transaction<'_, S>, is_new: bool) -> Result<(), Error>
+    ensures same_reference { tx.new.conn.ghost_name ≡ tx.old.conn.ghost_name }
+    ensures schema { HasCleanDisk (state S.Store tx.new.conn.now)
+        → (state S.Store tx.old.conn.now).now.schema ≡ (if is_new then no_schema else book_schema)
+        → OnOk result ((state S.Store tx.new.conn.now).now.schema ≡ no_schema) }
+    ensures kept { HasCleanDisk (state S.Store tx.new.conn.now)
+        → KeepsCommit (state S.Store tx.old.conn.now) (state S.Store tx.new.conn.now) }
+    ensures survives { Survives (state S.Store tx.old.conn.now) (state S.Store tx.new.conn.now) (λ _. ⊥) }
+{
+    if !is_new {
+        drop_accounts(tx)?;
+        drop_book(tx)?;
+    }
+    Ok(())
+}
+
+/// Makes both tables, and fills them with the text of a book and what its subscriber keeps.
+pub fn fill<S: Alter>(
+    tx: &mut Transaction<'_, S>,
+    text: &[u8],
+    subscriber: &Subscriber,
+) -> Result<(), Error>
+    ensures same_reference { tx.new.conn.ghost_name ≡ tx.old.conn.ghost_name }
+    ensures holds { HasCleanDisk (state S.Store tx.new.conn.now)
+        → (state S.Store tx.old.conn.now).now.schema ≡ no_schema
+        → OnOk result (HoldsBook text.now subscriber.now (state S.Store tx.new.conn.now).now) }
+    ensures kept { HasCleanDisk (state S.Store tx.new.conn.now)
+        → KeepsCommit (state S.Store tx.old.conn.now) (state S.Store tx.new.conn.now) }
+    ensures survives { Survives (state S.Store tx.old.conn.now) (state S.Store tx.new.conn.now) (λ _. ⊥) }
+{
+    make_book(tx)?;
+    make_accounts(tx)?;
+    put_text(tx, text, subscriber.last(), subscriber.applied_count())?;
+    put_accounts(tx, subscriber.book())
+}
+
+/// Saves the text of a book and what its subscriber keeps, in one transaction. `is_new`: the file has no table yet.
+pub fn save_rows<S: Alter>(
+    conn: &mut Connection<S>,
+    is_new: bool,
+    text: &[u8],
+    subscriber: &Subscriber,
+) -> Result<(), Error>
+    requires { conn.old.in_transaction ≡ false }
+    ensures saved { HasCleanDisk (state S.Store conn.new)
+        → (state S.Store conn.old).now.schema ≡ (if is_new then no_schema else book_schema)
+        → OnOk result (HoldsBook text.now subscriber.now (state S.Store conn.new).committed) }
+    ensures refused { HasCleanDisk (state S.Store conn.new) → IsTrue (state S.Store conn.new).is_open
+        → OnErr result ((state S.Store conn.new).committed ≡ (state S.Store conn.old).committed) }
+    ensures crash { Survives (state S.Store conn.old) (state S.Store conn.new)
+        (MayHold ((state S.Store conn.old).now.schema ≡ (if is_new then no_schema else book_schema)) text.now
+        subscriber.now) }
+{
+    let mut tx = conn.transaction();
+    clear(&mut tx, is_new)?;
+    fill(&mut tx, text, subscriber)?;
+    tx.commit()
+}
+
+/// The row of the book's text.
+pub fn find_text<S: Alter>(conn: &mut Connection<S>) -> Result<Row, Error>
+    ensures mode { conn.old.in_transaction ≡ false → conn.new.in_transaction ≡ false }
+    ensures found { HasCleanDisk (state S.Store conn.new) → (text : List ℕ) → (kept : SubscriberState)
+        → HoldsBook text kept (state S.Store conn.old).now
+        → IfOk result (λ row. row ≡ Blob text ∷ []) }
+    ensures schema { HasCleanDisk (state S.Store conn.new) → (state S.Store conn.old).now.schema ≡ book_schema
+        → OnOk result ((state S.Store conn.new).now.schema ≡ book_schema) }
+    ensures survives { Survives (state S.Store conn.old) (state S.Store conn.new)
+        (λ _. (state S.Store conn.old).now.schema ≢ book_schema) }
+{
+    conn.query_row("SELECT text FROM book", &[])
+}

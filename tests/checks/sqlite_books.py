@@ -1,0 +1,264 @@
+#!/usr/bin/env python3
+"""The command follow with a book in an SQLite file: what SQL finds there, beside whom it saves, and saves that are killed.
+
+  tests/checks/sqlite_books.py [PROGRAM]    PROGRAM: crates/cdc_app/out/cdc_app
+
+What a book has to hold comes from the model of follow.py, and is read by Python's own sqlite3. Other files are refused, and stay as
+they are. A program that has the file open, and reads nothing at that time, keeps no save waiting; one amid its rows does. Killed and
+refused: the program ends at each open, read, write and sync of a stream with a book, or one of these is refused; sqlite3 has to find
+a whole book, of what was reported as saved or of later events, and following goes on to the book of a run without a stop.
+
+Killed and refused need a C compiler, `cc`. The last line is `follow: N passed, M failed`; the status is 1 where one failed.
+"""
+import contextlib
+import fcntl
+import json
+import os
+import shutil
+import sqlite3
+import subprocess
+import sys
+
+sys.dont_write_bytecode = True
+sys.path += [os.path.join(os.path.dirname(os.path.realpath(__file__)), "..", it) for it in ("common", "faults")]
+import commands
+import ending
+import follow
+import interrupted
+import rooms
+from commands import check, run
+
+BALANCES = "debits_pending, debits_posted, credits_pending, credits_posted"
+EVERY = 40  # of the allocations, one in so many is refused
+REFUSED = (1, "fault: store\n")
+
+
+def text_of(lines):
+    return "".join(f"{it}\n" for it in lines).encode()
+
+
+def model_of(lines):
+    model = follow.Model(True)
+    for number, line in enumerate(lines, 1):
+        model.take(number, line)
+    return model
+
+
+def expected(model):
+    """The rows that the tables have to hold."""
+    names = BALANCES.split(", ")
+    accounts = [(str(id), *(str(shown[name]) for name in names)) for id, shown in model.book.items()]
+    return (str(model.last), str(model.applied)), accounts
+
+
+def rows_in(connection):
+    """The row of the book without its text, the accounts, and the text."""
+    ((last, applied, text),) = connection.execute("SELECT last, applied, text FROM book").fetchall()
+    accounts = connection.execute(f"SELECT id, {BALANCES} FROM accounts ORDER BY place").fetchall()
+    return ((last, applied), accounts), text.decode()
+
+
+def rows_of(path):
+    with contextlib.closing(sqlite3.connect(path)) as connection:
+        assert connection.execute("PRAGMA integrity_check").fetchall() == [("ok",)]
+        return rows_in(connection)
+
+
+def folder_of(path):
+    """What a folder holds, by name."""
+    return {name: open(os.path.join(path, name), "rb").read() for name in sorted(os.listdir(path))}
+
+
+# ---------------------------------------------------------------------------------------------------------------------
+# Tables.
+
+
+def tables(folder):
+    """What SQL finds after a run, and after one that goes on."""
+    lines = follow.stream_of(30)
+    path, text_path = os.path.join(folder, "a.db"), os.path.join(folder, "a.book")
+    for part in (lines[:12], lines):
+        found = run(["--chained", "--book", f"sqlite:{path}", "--every", "7"], text_of(part))
+        in_text = run(["--chained", "--book", text_path, "--every", "7"], text_of(part))
+        check("a run with a book in SQLite", found[0] == 0 and found == in_text, (found, in_text))
+        rows, text = rows_of(path)
+        check("its tables", rows == expected(model_of(part)), rows)
+        check("its text", text == open(text_path, encoding="ascii").read(), text)
+        check("nothing is left beside it", sorted(os.listdir(folder)) == ["a.book", "a.db"], os.listdir(folder))
+        check("its journal", open(path, "rb").read()[18:20] == b"\1\1", "")
+    before = folder_of(folder)
+    for wrong in (["--book", f"sqlite:{path}"], ["--chained", "--binding", "all ledger=700", "--book", f"sqlite:{path}"]):
+        found = run(wrong, text_of(lines))
+        check("a book of another stream", found[:2] == REFUSED and f"sqlite:{path}: store" in found[2], found)
+        check("it stays", folder_of(folder) == before, wrong)
+    link = os.path.join(folder, "link")
+    os.symlink(path, link)
+    found = run(["--chained", "--book", f"sqlite:{link}"], text_of(lines))
+    check("a book behind a link", found[0] == 0 and os.path.islink(link) and sorted(os.listdir(folder)) == ["a.book", "a.db", "link"], found)
+
+
+# ---------------------------------------------------------------------------------------------------------------------
+# Other files.
+
+
+def made(path, *statements):
+    with contextlib.closing(sqlite3.connect(path)) as connection:
+        for it in statements:
+            connection.execute(it)
+        connection.commit()
+
+
+def others(folder):
+    """Files that hold no book are refused, and stay as they are, with nothing beside them."""
+    lines = follow.stream_of(6)
+    room = os.path.join(folder, "room")
+    for name, make in [
+        ("a text", lambda path: open(path, "w", encoding="ascii").write("book 1 chained yes seen 0\n")),
+        ("a longer text", lambda path: open(path, "w", encoding="ascii").write("SQLite format 2\n" * 1000)),
+        ("a byte", lambda path: open(path, "wb").write(b"S")),
+        ("no page", lambda path: open(path, "wb").write(b"SQLite format 3\0")),
+        ("no header", lambda path: open(path, "wb").write(b"SQLite format 3\0" + bytes(8176))),
+        ("a table", lambda path: made(path, "CREATE TABLE note (id INTEGER PRIMARY KEY, title TEXT)", "INSERT INTO note VALUES (1, 'a')")),
+        ("a table in WAL mode", lambda path: made(path, "PRAGMA journal_mode = WAL", "CREATE TABLE note (title TEXT)")),
+        ("a view", lambda path: made(path, "CREATE VIEW note AS SELECT 1")),
+        ("a table of that name", lambda path: made(path, "CREATE TABLE book (id INTEGER PRIMARY KEY, text BLOB)")),
+        ("two others", lambda path: made(path, "CREATE TABLE book (id INTEGER PRIMARY KEY)", "CREATE TABLE accounts (id TEXT)")),
+        ("another text", lambda path: made(path, "CREATE TABLE book (text BLOB)", "CREATE TABLE accounts (id TEXT)", "INSERT INTO book VALUES (x'00')")),
+    ]:
+        os.mkdir(room)
+        path = os.path.join(room, "a.db")
+        make(path)
+        before = folder_of(room)
+        found = run(["--chained", "--book", f"sqlite:{path}"], text_of(lines))
+        check(f"a file that holds no book: {name}", found[:2] == REFUSED and f"sqlite:{path}: store" in found[2], found)
+        check(f"it stays: {name}", folder_of(room) == before, (name, sorted(os.listdir(room))))
+        shutil.rmtree(room)
+    os.mkdir(room)
+    path = os.path.join(room, "a.db")
+    open(path, "wb").close()
+    found = run(["--chained", "--book", f"sqlite:{path}"], text_of(lines))
+    check("an empty file", found[0] == 0 and rows_of(path)[0] == expected(model_of(lines)), found)
+    before = folder_of(room)
+    with open(path, "rb") as held:
+        fcntl.flock(held, fcntl.LOCK_EX)
+        found = run(["--chained", "--book", f"sqlite:{path}"], text_of(lines))
+        check("a book that another follower has", found[:2] == REFUSED, found)
+    with contextlib.closing(sqlite3.connect(path, isolation_level=None)) as connection:
+        connection.execute("BEGIN EXCLUSIVE")
+        found = run(["--chained", "--book", f"sqlite:{path}"], text_of(lines))
+        check("a book that another program writes", found[:2] == REFUSED, found)
+    check("it stays as it was", folder_of(room) == before, sorted(os.listdir(room)))
+    found = run(["--chained", "--book", f"sqlite:{room}"], b"")
+    check("a folder", found[:2] == REFUSED and "regular file" in found[2], found)
+    found = run(["--chained", "--book", f"sqlite:{os.path.join(folder, 'no', 'where')}"], b"")
+    check("a book in no folder", found[:2] == REFUSED, found)
+
+
+# ---------------------------------------------------------------------------------------------------------------------
+# Readers.
+
+
+def followed(path):
+    return subprocess.Popen(
+        [commands.program, "follow", "--chained", "--book", f"sqlite:{path}", "--every", "1"],
+        stdin=subprocess.PIPE, stdout=subprocess.PIPE, stderr=subprocess.PIPE, bufsize=0,
+    )
+
+
+def readers(folder):
+    """A program that keeps the file open sees each save. One amid its rows has a save wait."""
+    lines = [it for it in follow.stream_of(24) if "end" not in json.loads(it)]
+    path = os.path.join(folder, "a.db")
+    run(["--chained", "--book", f"sqlite:{path}"], text_of(lines[:6]))
+    with contextlib.closing(sqlite3.connect(path, timeout=60)) as reader:
+        check("a reader's first rows", rows_in(reader)[0] == expected(model_of(lines[:6])), "")
+        child = followed(path)
+        for count in range(7, len(lines) + 1):
+            child.stdin.write(text_of(lines[count - 1 : count]))
+            line = child.stdout.readline()
+            rows = rows_in(reader)[0]
+            check("a reader sees a save", line.startswith(b"saved ") and rows == expected(model_of(lines[:count])), (line, rows))
+        child.stdin.close()
+        check("an idle reader keeps nobody waiting", child.wait(commands.SECONDS) == 0, child.stderr.read())
+    run(["--chained", "--book", f"sqlite:{path}"], b"")
+    before = rows_of(path)
+    with contextlib.closing(sqlite3.connect(path, timeout=60)) as reader:
+        rows = reader.execute("SELECT * FROM accounts")
+        rows.fetchone()
+        found = run(["--chained", "--book", f"sqlite:{path}"], text_of(lines))
+        check("a reader amid its rows", found[:2] == REFUSED, found)
+        rows.fetchall()
+    check("its book stays", rows_of(path) == before, "")
+
+
+# ---------------------------------------------------------------------------------------------------------------------
+# Killed and refused.
+
+
+class InterruptedFollow(interrupted.Interrupted):
+    """A stream whose book is saved after every three events."""
+
+    def __init__(self, library, folder):
+        self.lines = follow.stream_of(6)
+        self.stream = text_of(self.lines)
+        self.whole = run(["--chained"], self.stream)[1]
+        self.books = [model_of(self.lines[:count]) for count in range(len(self.lines) + 1)]
+        super().__init__(library, folder)
+
+    def plans(self):
+        """Of the allocations, some."""
+        plans = super().plans()
+        some = [it for it in plans if it.startswith("allocation:")][::EVERY]
+        return [it for it in plans if not it.startswith("allocation:")] + some
+
+    def arguments(self, name):
+        return ["--chained", "--book", f"sqlite:{self.path(name)}", "--every", "3"]
+
+    def unlike(self, path, last):
+        """What sqlite3 finds, if that is no book of what was saved, or of later events."""
+        if not os.path.exists(path):
+            return None if last == 0 else "no file"
+        with contextlib.closing(sqlite3.connect(path)) as connection:
+            names = [it for (it,) in connection.execute("SELECT name FROM sqlite_master")]
+            if not names:
+                return None if last == 0 else "no tables"
+        rows, text = rows_of(path)
+        fits = any(rows == expected(it) and text.endswith(it.text()) and it.last >= last for it in self.books)
+        return None if fits else (rows, text)
+
+    def wrong_of(self, name, saved):
+        """sqlite3 reads a copy of the files first; of every other run also the files."""
+        last, path = saved[-1] if saved else 0, self.path(name)
+        copy = path + ".copy"
+        for suffix in ("", "-wal"):
+            if os.path.exists(path + suffix):
+                shutil.copy(path + suffix, copy + suffix)
+        wrong = self.unlike(copy, last)
+        if not wrong and int(name.split(".")[0]) % 2:
+            wrong = self.unlike(path, last)
+        if wrong:
+            return wrong
+        left = [it for it in self.lines if "end" in json.loads(it) or int(json.loads(it)["body"]["timestamp"]) > last]
+        again = run(["--chained", "--book", f"sqlite:{path}"], text_of(left))
+        if again[0] != 0 or not again[1].endswith(self.whole) or os.path.exists(path + "-wal"):
+            return again
+        return self.unlike(path, self.books[-1].last)
+
+
+def killed(folder):
+    interrupted.check_all(InterruptedFollow, folder)
+
+
+def main(arguments):
+    options = rooms.options_of(rooms.parser_of_first(__doc__), arguments)
+    commands.begin(options.program, "follow")
+    with rooms.room("sqlite-books-") as folder:
+        for part in (tables, others, readers, killed):
+            room = os.path.join(folder, part.__name__)
+            os.mkdir(room)
+            part(room)
+    return commands.ended()
+
+
+if __name__ == "__main__":
+    ending.run(main)
