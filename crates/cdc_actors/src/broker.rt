@@ -24,9 +24,10 @@ use std::alloc::{AllocError, Global};
 /// sent to the connector and to each subscriber, with how many copies that one has yet to acknowledge; the broker;
 /// the planned faults, and the counts that these go by; and whether it has finished.
 ///
-/// A turn receives and processes the next message, delivers from each queue what it may, and once the connector is done
-/// and each copy is acknowledged, sends each subscriber its last message. `PeerGone`: a message was refused by its
-/// link, or an acknowledgement isn't due. `OutOfMemory`: a publish was not taken, or a delivery not sent.
+/// A turn receives the next message and those that are ready, up to 64 more, and processes each before it receives the
+/// one after. Then it delivers from each queue what it may, and once the connector is done and each copy is
+/// acknowledged, sends each subscriber its last message. `PeerGone`: a message was refused by its link, or an
+/// acknowledgement isn't due. `OutOfMemory`: a publish was not taken, or a delivery not sent.
 pub type BrokerEnd = End<BrokerCore>;
 
 impl BrokerEnd {

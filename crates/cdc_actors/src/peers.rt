@@ -2,7 +2,7 @@
 
 ghost use Rattle.std.specs.Prelude.{◌≡◌, IfErr, IfOk};
 ghost use Rattle.cdc_actors.specs.declared.faults.RunFault.TheVariants.{PeerGone};
-ghost use Rattle.cdc_links.specs.Links.{Takes, with_sent};
+ghost use Rattle.cdc_links.specs.Links.{Takes, TakesIfSome, with_sent};
 
 use crate::faults::RunFault;
 use cdc_links::{LinkIn, LinkOut, Message, Naming};
@@ -38,6 +38,20 @@ pub(crate) fn receive_from<M: Message, R: Wait>(link: &mut LinkIn<M>, rt: &R) ->
 {
     match link.receive(rt) {
         Ok(message) => Ok(message),
+        Err(_) => Err(RunFault::PeerGone),
+    }
+}
+
+/// Receives the next message if there is one, and never waits. If the link never will have one, the peers are gone.
+pub(crate) fn receive_ready_from<M: Message, R: Wait>(
+    link: &mut LinkIn<M>,
+    rt: &R,
+) -> Result<Option<M>, RunFault>
+    ensures received { IfOk result (λ ready. TakesIfSome M.may_follow link.old ready link.new) }
+    ensures refused { IfErr result (λ fault. (fault ≡ PeerGone) × (link.new ≡ link.old)) }
+{
+    match link.receive_ready(rt) {
+        Ok(ready) => Ok(ready),
         Err(_) => Err(RunFault::PeerGone),
     }
 }

@@ -129,7 +129,7 @@ fn a_broker_delivers_and_finishes(rt: HostRuntime) {
     );
     assert!(rt; publish_and_finish(&rt, &mut packets).is_ok());
     drop(packets);
-    turn_so(&rt, rt.alloc(), &mut end, &[Ok(Turn::More); 3]);
+    turn_so(&rt, rt.alloc(), &mut end, &[Ok(Turn::More)]);
     assert!(rt; acknowledge(&rt, &mut acks).is_ok());
     drop(acks);
     turn_so(&rt, rt.alloc(), &mut end, &[Ok(Turn::Finished)]);

@@ -1,6 +1,6 @@
 -- What was sent over a link, and what was received. A message is paired with what it names: (message, name). What was
 -- received is preceded by the number of its sender: (sender, (message, name)).
-use Rattle.std.specs.Prelude.{◌≡◌, ◌==◌, ◌<◌, ◌+◌, ℕ, zero, suc, List, [], ◌∷◌, ◌++◌, All, Contains, map, length, sum_by}
+use Rattle.std.specs.Prelude.{◌≡◌, ◌==◌, ◌<◌, ◌+◌, ℕ, zero, suc, Option, Some, None, List, [], ◌∷◌, ◌++◌, All, Contains, map, length, sum_by}
 use Rattle.std.specs.List.{filter}
 use Rattle.crossbeam_channel.specs.declared.flavors.array.Key.{Key}
 use Rattle.atomic_table.specs.declared.badge.Badge.{Badge}
@@ -69,6 +69,11 @@ module _ {M N : Type 0} where
         × (j < before.senders)
         × may_follow j (of_sender j before.received) (value, name)
         × (after ≡ with_received before (j, (value, name)))
+
+    -- the same of a receive that may find no message: then nothing has changed
+    abbrev pub TakesIfSome : Incoming M N → Option M → Incoming M N → Type 0
+    TakesIfSome before None after = after ≡ before
+    TakesIfSome before (Some value) after = Takes before value after
 
   -- what holds after all senders have returned their endpoints: what was received, together with what was left in the
   -- link, is what each of them has sent, in its order; each of them is there; and there is nothing of anyone else

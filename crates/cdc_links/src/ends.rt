@@ -4,7 +4,7 @@ ghost use Rattle.std.specs.Prelude.{◌≡◌, ◌<◌, ◌-◌, ◌^◌, ℕ, t
 ghost use Rattle.crossbeam_channel.specs.Claims.{IsSeatAt, view as known};
 ghost use Rattle.crossbeam_channel.specs.Ends.{receives_on, sends_on};
 ghost use Rattle.cdc_links.specs.declared.errors.LinkFault.TheVariants.{PeerGone, OutOfMemory};
-ghost use Rattle.cdc_links.specs.Links.{of_sender, fresh_endpoint, fresh_endpoints, with_sent, with_sender, Takes, CanSend, IsAccount};
+ghost use Rattle.cdc_links.specs.Links.{of_sender, fresh_endpoint, fresh_endpoints, with_sent, with_sender, Takes, TakesIfSome, CanSend, IsAccount};
 ghost use Rattle.cdc_links.specs.Rule.{IsPassOf, Received, IsReceiver, HasTakenNone, with_joined, with_all_joined, IsSettled, IsLinkOf};
 
 use crate::errors::{LinkFault, SendRefused};
@@ -280,6 +280,26 @@ impl<M: Message> LinkIn<M> {
                 Ok(value)
             }
             Ok(Parcel::Halt) | Err(_) => Err(LinkFault::PeerGone),
+        }
+    }
+
+    /// Receives the message at the front if there is one, and never waits. If there is none, nothing has changed, also
+    /// if the senders are gone. `PeerGone`: the next parcel is the notice that a sender was aborted, or 2^64-1 messages
+    /// were received. Then nothing has changed either.
+    pub fn receive_ready<R: Wait>(&mut self, rt: &R) -> Result<Option<M>, LinkFault>
+        ensures received { IfOk result (λ ready. TakesIfSome M.may_follow self.old ready self.new) }
+        ensures refused { IfErr result (λ fault. (fault ≡ PeerGone) × (self.new ≡ self.old)) }
+    {
+        if self.received == u64::MAX {
+            return Err(LinkFault::PeerGone);
+        }
+        match self.receiver.try_recv_as::<Receives, R>(rt, &mut self.pass) {
+            Ok(Parcel::Message { sender: _, value }) => {
+                self.received += 1;
+                Ok(Some(value))
+            }
+            Ok(Parcel::Halt) => Err(LinkFault::PeerGone),
+            Err(_) => Ok(None),
         }
     }
 

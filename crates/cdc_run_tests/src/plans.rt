@@ -67,20 +67,21 @@ impl Hold {
     }
 }
 
-// Two holds. The test fails if one waits too long.
+// Several holds. The test fails if one waits too long.
 #[derive(Drop)]
 struct HoldingGate<'a, R: Abort> {
     rt: &'a R,
-    first: Hold,
-    second: Hold,
+    holds: &'a [Hold],
 }
 
 impl<R: Abort> Gate for HoldingGate<'_, R> {
     fn pass(&self, place: Place, turn: u64) {
-        self.first.note(place, turn);
-        self.second.note(place, turn);
-        self.first.wait(self.rt, place, turn);
-        self.second.wait(self.rt, place, turn);
+        for hold in self.holds {
+            hold.note(place, turn);
+        }
+        for hold in self.holds {
+            hold.wait(self.rt, place, turn);
+        }
     }
 
     fn observe_broker(&self, _story: Story) {}
@@ -136,13 +137,12 @@ fn count_whole<R: Threads + Wait + Abort + Sync>(
     alloc: Global,
     config: Config,
     events: u64,
-    first: Hold,
-    second: Hold,
+    holds: &[Hold],
 ) -> usize
     requires fits { Fits config }
     requires clients { config.clients ≡ 1 }
 {
-    let gate = HoldingGate { rt, first, second };
+    let gate = HoldingGate { rt, holds };
     let scripts = scripts(rt, alloc, events);
     let faults = Faults::none(alloc);
     let report = run(
@@ -164,17 +164,21 @@ fn count_whole<R: Threads + Wait + Abort + Sync>(
         .count()
 }
 
-// The session begins once the ledger has both batches, and has received that the client is done. Then the connector
-// takes the reply to its poll and the broker's answer to its connection, and waits. Meanwhile the broker takes the
-// connection and as many publishes as the window lets through, confirms each, and asks for more.
+// The session begins once the ledger has both batches, and has received that the client is done.
+fn begin_late() -> Hold {
+    Hold::new((Place::Connector, 1), (Place::Ledger, 4), 1)
+}
+
+// The connector takes the reply to its poll and the broker's answer to its connection, and waits. Meanwhile the broker
+// takes as many publishes as the window lets through, and confirms each. Then the subscriber has taken each of them,
+// and asks for more.
 fn fill_window<R: Threads + Wait + Abort + Sync>(rt: &R, alloc: Global, window: u64) -> usize
     requires some { 1 ≤ window }
     requires few { window ≤ 64 }
 {
     let config = config_of(one_of_all(rt, alloc), window as usize, 8);
-    let all_there = Hold::new((Place::Connector, 1), (Place::Ledger, 4), 1);
-    let published = Hold::new((Place::Connector, 4), (Place::Broker, window + 2), 1);
-    count_whole(rt, alloc, config, window + 1, all_there, published)
+    let published = Hold::new((Place::Connector, 4), (Place::Subscriber(1), window + 1), 1);
+    count_whole(rt, alloc, config, window + 1, &[begin_late(), published])
 }
 
 #[test]
@@ -187,9 +191,9 @@ fn a_window_of_64_is_published_before_any_confirm_comes(rt: HostRuntime) {
     assert_eq!(rt; fill_window(&rt, rt.alloc(), 64), 1);
 }
 
-// The subscribers wait until the broker has taken the connection and all publishes. Then the broker waits until each
-// subscriber has taken and acknowledged as many deliveries as the prefetch lets through, and asks for more. So the
-// broker's link has room for all these acknowledgements.
+// The broker waits until the connector has sent the connection and all publishes, and takes all of them in its first
+// turn. Then it waits until each subscriber has taken and acknowledged as many deliveries as the prefetch lets through,
+// and asks for more. So the broker's link has room for all these acknowledgements.
 fn fill_prefetch<R: Threads + Wait + Abort + Sync>(
     rt: &R,
     alloc: Global,
@@ -203,13 +207,13 @@ fn fill_prefetch<R: Threads + Wait + Abort + Sync>(
 {
     let subscribers = bindings.len() as u64;
     let config = config_of(bindings, 64, prefetch);
-    let all_there = Hold::new((Place::Subscriber(0), 1), (Place::Broker, 66), 1);
+    let all_sent = Hold::new((Place::Broker, 1), (Place::Connector, 3), 1);
     let delivered = Hold::new(
-        (Place::Broker, 66),
+        (Place::Broker, 2),
         (Place::Subscriber(0), prefetch + 1),
         subscribers,
     );
-    count_whole(rt, alloc, config, 64, all_there, delivered)
+    count_whole(rt, alloc, config, 64, &[begin_late(), all_sent, delivered])
 }
 
 #[test]

@@ -5,13 +5,13 @@ use Rattle.std.proofs.lemmas.List.{length-set}
 use Rattle.std.proofs.lemmas.Option.{same_Some, slice_get_within}
 use Rattle.cdc_broker.specs.Broker.{BrokerState, queue_of, takes_packet, with_queue}
 use Rattle.cdc_broker.specs.Queues.{QueueState, next_delivery, with_delivery}
-use Rattle.cdc_actors.specs.Broker.Steps.{HasBecome, HasReceivedNext}
+use Rattle.cdc_actors.specs.Broker.Steps.{HasBecome, HasTaken}
 use Rattle.cdc_actors.specs.Broker.{Dealings, BrokerCore, IsBrokerCore, IsConsumerServed, acks_at, confirm_of, dealings, dealings_of, answer_after, counted, deliveries_in, is_lost, with_packet}
 use Rattle.cdc_actors.specs.Connector.{packets_in}
 use Rattle.cdc_actors.specs.Broker.Fails.{AreStopping, DeliversSoFar, IsCutOff, IsStuck, IsUnanswered}
-use Rattle.cdc_actors.specs.Broker.SoFar.{BrokersComeSoFar, HasFailed, IsBrokerSoFar, IsServedSoFar, ReceivesAtMostOne}
+use Rattle.cdc_actors.specs.Broker.SoFar.{BrokersComeSoFar, HasFailed, IsBrokerSoFar, IsServedSoFar, Receives}
 use Rattle.cdc_actors.specs.Faults.{IsTurnFault}
-use Rattle.cdc_actors.specs.Broker.Turns.{HasSameLinks, Lane, acked_if, all_served, coming_if, reception, lane_of, served_if, with_coming, with_counted, with_lane, with_next, with_stop}
+use Rattle.cdc_actors.specs.Broker.Turns.{HasReceived, HasReceivedAll, HasReceivedNext, HasSameLinks, Lane, acked_if, all_served, coming_if, reception, lane_of, served_if, with_coming, with_counted, with_lane, with_next, with_stop}
 use Rattle.cdc_actors.specs.declared.broker.plans.BrokerPlan.{BrokerPlan}
 use Rattle.cdc_actors.specs.declared.broker.consumers.Consumer.{Consumer}
 use Rattle.cdc_actors.specs.declared.faults.RunFault.{RunFault}
@@ -19,7 +19,7 @@ use Rattle.cdc_actors.specs.declared.faults.RunFault.TheVariants.{PeerGone, OutO
 use Rattle.cdc_actors.proofs.BrokerLemmas.Dealing.{packets_in-push}
 use Rattle.cdc_actors.proofs.BrokerLemmas.Receiving.{IsBrokerCore-packet, made_packet, served_one}
 use Rattle.cdc_actors.proofs.BrokerLemmas.Lanes.{DeliversOn, queue_of-with, with_queue-twice}
-use Rattle.cdc_actors.proofs.BrokerLemmas.Linked.{all_same, coming_same, received_same, lane_same, same_links, then_same}
+use Rattle.cdc_actors.proofs.BrokerLemmas.Linked.{all_same, coming_same, lane_same, next_same, same_links, then_same}
 use Rattle.cdc_actors.proofs.BrokerLemmas.Places.{HoldsOfAll-set}
 use Rattle.cdc_actors.proofs.BrokerLemmas.Serving.{HasArrived-queue, HasSameItems, IsConsumerServed-stop, next_served, same_next}
 use Rattle.cdc_actors.proofs.BrokerLemmas.Subscribers.{stopped_up_to}
@@ -572,13 +572,17 @@ cut_ack d is j ack fault new gone first same =
 
 -- if all that it received before was handled
 pub failed_of : (old mid new : BrokerCore) (fault : RunFault) → HasSameLinks old mid → mid.plan ≡ old.plan
-    → mid.finished ≡ old.finished → ReceivesAtMostOne old.inbox mid.inbox → IsTurnFault fault → IsCutOff mid fault new
+    → mid.finished ≡ old.finished → (n : ℕ) × Receives n old.inbox mid.inbox → IsTurnFault fault
+    → IsCutOff mid fault new
     → HasFailed old fault new
 failed_of old mid new fault links plan finished receives kind cut = record {
   links = then_same old mid new links cut.links;
   plan = cut.plan ∙ plan;
   finished = cut.finished ∙ finished;
-  inbox = subst (ReceivesAtMostOne old.inbox) (sym cut.inbox) receives;
+  inbox = (
+    receives.0,
+    subst (λ (i : Incoming ToBroker (Unit {0})). Receives receives.0 old.inbox i) (sym cut.inbox) receives.1,
+  );
   kind = kind;
   so_far = cut.so_far;
   memory = cut.memory;
@@ -593,7 +597,7 @@ failed_unheard old new fault is (gone, same) =
       links = same_links old;
       plan = refl;
       finished = refl;
-      inbox = inl refl;
+      inbox = (0, refl);
       kind = inl gone;
       so_far = core_so_far old is;
       memory = λ short. cc;
@@ -614,7 +618,7 @@ failed_message old new fault inbox message takes kind cut =
       bindings = refl;
       plan = refl;
       prefetch = refl;
-    }) refl refl (inr (message, takes)) kind cut
+    }) refl refl (1, (message, inbox, takes, refl)) kind cut
 
 -- a message was received, and handling it failed
 record ReceivingKeeps (old : BrokerCore) (entry : ℕ × (ToBroker × Unit {0})) (new : BrokerCore) : Type 0 where
@@ -646,25 +650,44 @@ received_keeps d j (to_broker.Ack ack) name = go (slice_get d.consumers (ack.sub
     go None = record { plan = refl; finished = refl; inbox = refl }
     go (Some c) = record { plan = refl; finished = refl; inbox = refl }
 
-pub failed_then : (old mid new : BrokerCore) (fault : RunFault) → HasReceivedNext old mid → IsTurnFault fault
+next_takes : (old new : BrokerCore) (came : HasReceivedNext old new)
+    → Takes FollowsToBroker old.inbox came.entry.1.0 new.inbox
+next_takes old new came =
+    let keeps = received_keeps old came.entry.0 came.entry.1.0 came.entry.1.1 in (
+      came.entry.0,
+      came.entry.1.1,
+      came.sender,
+      came.follows,
+      ap (λ (d : BrokerCore). d.inbox) came.after ∙ keeps.inbox,
+    )
+
+failed_next : (old mid new : BrokerCore) (fault : RunFault) → HasReceivedNext old mid → HasFailed mid fault new
+    → HasFailed old fault new
+failed_next old mid new fault came has =
+    let keeps = received_keeps old came.entry.0 came.entry.1.0 came.entry.1.1 in
+    record {
+      links = then_same old mid new (next_same old mid came) has.links;
+      plan = has.plan ∙ (ap (λ (d : BrokerCore). d.plan) came.after ∙ keeps.plan);
+      finished = has.finished ∙ (ap (λ (d : BrokerCore). d.finished) came.after ∙ keeps.finished);
+      inbox = (suc has.inbox.0, (came.entry.1.0, mid.inbox, next_takes old mid came, has.inbox.1));
+      kind = has.kind;
+      so_far = has.so_far;
+      memory = has.memory;
+    }
+
+-- several messages were handled, and then the turn failed
+pub failed_after : (n : ℕ) (old mid new : BrokerCore) (fault : RunFault) → HasReceived n old mid
+    → HasFailed mid fault new → HasFailed old fault new
+failed_after zero old mid new fault same has = subst (λ (d : BrokerCore). HasFailed d fault new) same has
+failed_after (suc n) old mid new fault (last, before, came) has =
+    failed_after n old last new fault before (failed_next last mid new fault came has)
+
+pub failed_then : (old mid new : BrokerCore) (fault : RunFault) → HasReceivedAll old mid → IsTurnFault fault
     → IsCutOff mid fault new
     → HasFailed old fault new
-failed_then old mid new fault came kind cut =
-    let keeps = received_keeps old came.entry.0 came.entry.1.0 came.entry.1.1 in
-    failed_of old mid new fault
-    (subst (HasSameLinks old) (sym came.after) (received_same old came.entry.0 came.entry.1.0 came.entry.1.1))
-    (ap (λ (d : BrokerCore). d.plan) came.after ∙ keeps.plan)
-    (ap (λ (d : BrokerCore). d.finished) came.after ∙ keeps.finished)
-    (inr (
-      came.entry.1.0,
-      (
-        came.entry.0,
-        came.entry.1.1,
-        came.sender,
-        came.follows,
-        ap (λ (d : BrokerCore). d.inbox) came.after ∙ keeps.inbox,
-      ),
-    )) kind cut
+failed_then old mid new fault all kind cut =
+    failed_after (suc all.more) old mid new fault all.received
+    (failed_of mid mid new fault (same_links mid) refl refl (0, refl) kind cut)
 
 -- ---- what a call that fails leaves
 
@@ -679,13 +702,13 @@ unanswered_kind packet old SessionsExhausted new un = absurd un
 unanswered_kind packet old NotOneSystem new un = absurd un
 unanswered_kind packet old StartNotAllowed new un = absurd un
 
-pub packet_failed : {A : Type 0} (old new : BrokerCore) (inbox : Incoming ToBroker (Unit {0})) (packet : Packet)
+unanswered_failed : {A : Type 0} (old new : BrokerCore) (inbox : Incoming ToBroker (Unit {0})) (packet : Packet)
     → IsBrokerCore old
     → Takes FollowsToBroker old.inbox (to_broker.Packet packet) inbox → (result : Result A RunFault)
     → IfErr result (λ fault. IsUnanswered packet (record old { inbox = inbox }) fault new)
     → IfErr result (λ fault. HasFailed old fault new)
-packet_failed old new inbox packet is takes (Ok x) un = tt
-packet_failed old new inbox packet is (j, name, below, follows, after) (Err fault) un =
+unanswered_failed old new inbox packet is takes (Ok x) un = tt
+unanswered_failed old new inbox packet is (j, name, below, follows, after) (Err fault) un =
     let here : inbox ≡ with_received old.inbox (0, (to_broker.Packet packet, tt)) =
     after ∙ ap (λ (k : ℕ). with_received old.inbox (k, (to_broker.Packet packet, tt))) follows.may.0 in
     failed_message old new fault inbox (to_broker.Packet packet) (j, name, below, follows, after)
@@ -694,14 +717,28 @@ packet_failed old new inbox packet is (j, name, below, follows, after) (Err faul
     (cut_packet old is packet fault new
     (subst (λ (i : Incoming ToBroker (Unit {0})). IsUnanswered packet (record old { inbox = i }) fault new) here un)))
 
-pub ack_failed : {A : Type 0} (old new : BrokerCore) (inbox : Incoming ToBroker (Unit {0})) (ack : Ack)
+pub packet_failed : {A : Type 0} (old here new : BrokerCore) (packet : Packet)
+    → HasTaken old (to_broker.Packet packet) here → (result : Result A RunFault)
+    → IfErr result (λ fault. IsUnanswered packet here fault new) → IfErr result (λ fault. HasFailed old fault new)
+packet_failed old here new packet taken result un =
+    unanswered_failed old new here.inbox packet taken.core taken.takes result
+    (subst (λ (d : BrokerCore). IfErr result (λ fault. IsUnanswered packet d fault new)) taken.after un)
+
+unacked_failed : {A : Type 0} (old new : BrokerCore) (inbox : Incoming ToBroker (Unit {0})) (ack : Ack)
     → IsBrokerCore old
     → Takes FollowsToBroker old.inbox (to_broker.Ack ack) inbox → (result : Result A RunFault)
     → IfErr result (λ fault. (fault ≡ PeerGone) × (new ≡ record old { inbox = inbox }))
     → IfErr result (λ fault. HasFailed old fault new)
-ack_failed old new inbox ack is takes (Ok x) refused = tt
-ack_failed old new inbox ack is (j, name, below, follows, after) (Err fault) (gone, same) =
+unacked_failed old new inbox ack is takes (Ok x) refused = tt
+unacked_failed old new inbox ack is (j, name, below, follows, after) (Err fault) (gone, same) =
     failed_message old new fault inbox (to_broker.Ack ack) (j, name, below, follows, after) (inl gone)
     (subst (λ (i : Incoming ToBroker (Unit {0})). IsCutOff (record old { inbox = i }) fault new) (sym after)
     (cut_ack old is j ack fault new gone follows.may.0
     (same ∙ ap (λ (i : Incoming ToBroker (Unit {0})). record old { inbox = i }) after)))
+
+pub ack_failed : {A : Type 0} (old here new : BrokerCore) (ack : Ack) → HasTaken old (to_broker.Ack ack) here
+    → (result : Result A RunFault) → IfErr result (λ fault. (fault ≡ PeerGone) × (new ≡ here))
+    → IfErr result (λ fault. HasFailed old fault new)
+ack_failed old here new ack taken result refused =
+    unacked_failed old new here.inbox ack taken.core taken.takes result
+    (subst (λ (d : BrokerCore). IfErr result (λ fault. (fault ≡ PeerGone) × (new ≡ d))) taken.after refused)

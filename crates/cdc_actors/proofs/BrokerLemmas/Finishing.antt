@@ -10,13 +10,13 @@ use Rattle.std.proofs.lemmas.Option.{get_or_from_slice_get, slice_get-get_or, sl
 use Rattle.cdc_broker.specs.Broker.{empty_broker, nobody, queue_of}
 use Rattle.cdc_broker.specs.Packets.{items_of}
 use Rattle.cdc_broker.specs.Queues.{QueueState, empty_queue, next_delivery}
-use Rattle.cdc_actors.specs.Broker.Steps.{HasReceivedNext, MayStop}
+use Rattle.cdc_actors.specs.Broker.Steps.{MayStop}
 use Rattle.cdc_actors.specs.Broker.{Dealings, BrokerCore, IsBrokerActor, IsBrokerCore, IsConsumerServed, IsWhole, acks_at, as_confirm, dealings, is_over, no_dealings}
 use Rattle.cdc_actors.specs.Connector.{packets_in}
-use Rattle.cdc_actors.specs.Broker.Turns.{HasTurned, IsFreshLink, all_served, first_consumer, first_broker, reception, stopped, stopped_if, with_stop}
+use Rattle.cdc_actors.specs.Broker.Turns.{HasReceivedAll, HasTurned, IsFreshLink, all_served, first_consumer, first_broker, stopped, stopped_if, with_stop}
 use Rattle.cdc_actors.specs.declared.broker.plans.BrokerPlan.{BrokerPlan}
 use Rattle.cdc_actors.specs.declared.broker.consumers.Consumer.{Consumer}
-use Rattle.cdc_actors.proofs.BrokerLemmas.Receiving.{GoesOn, GoesOn-reception, IsServedTo, IsServedTo-first, IsServedTo-next, served_one}
+use Rattle.cdc_actors.proofs.BrokerLemmas.Receiving.{GoesOn, GoesOn-received, IsServedTo, IsServedTo-first, IsServedTo-next, served_one}
 use Rattle.cdc_actors.proofs.BrokerLemmas.Places.{HoldsOfAll, HoldsOfAll-consumers, slice_get_made}
 use Rattle.cdc_actors.proofs.BrokerLemmas.Serving.{IsConsumerServed-first, IsConsumerServed-stop, MayStop-served, deliveries_in-stop, whole_queue}
 use Rattle.cdc_laws.specs.Arrivals.{taken_of}
@@ -142,27 +142,25 @@ served_first count zero d goes below =
 served_first count (suc n) d goes below =
     IsServedTo-next count n (all_served n d) (served_first count n d goes (omega (arith, below))) (omega (arith, below))
 
--- all of them have, after a message
-pub served_all : (old new : BrokerCore) → IsBrokerCore old → old.finished ≡ false → HasReceivedNext old new
+-- all of them are, after messages
+pub served_all : (old new : BrokerCore) → IsBrokerCore old → old.finished ≡ false → HasReceivedAll old new
     → IsServedTo (length old.consumers) (length old.consumers) (all_served (length new.consumers) new)
-served_all old new is goes came =
-    let on : GoesOn (length old.consumers) new = GoesOn-reception old new is goes came in
+served_all old new is goes all =
+    let on : GoesOn (length old.consumers) new = GoesOn-received (suc all.more) old new is goes all.received in
     subst (λ (n : ℕ). IsServedTo (length old.consumers) (length old.consumers) (all_served n new)) (sym on.many)
     (served_first (length old.consumers) (length old.consumers) new on (omega arith))
 
 -- so an actor that has taken a turn keeps the invariant
 pub turned_is : (old new : BrokerCore) → IsBrokerActor old → old.finished ≡ false → HasTurned old new
     → IsBrokerActor new
-turned_is old new is goes has =
-    let came : HasReceivedNext old (reception has.entry old) =
-    record { entry = has.entry; sender = has.sender; follows = has.follows; due = has.due; after = refl } in
-    let on : GoesOn (length old.consumers) (reception has.entry old) =
-    GoesOn-reception old (reception has.entry old) is.core goes came in
+turned_is old new is goes turn =
+    let on : GoesOn (length old.consumers) turn.received =
+    GoesOn-received (suc turn.has.more) old turn.received is.core goes turn.has.received in
     let all : IsServedTo (length old.consumers) (length old.consumers)
-    (all_served (length old.consumers) (reception has.entry old)) =
-    served_first (length old.consumers) (length old.consumers) (reception has.entry old) on (omega arith) in
-    subst IsBrokerActor (sym has.after)
-    (IsBrokerActor-stopped (all_served (length old.consumers) (reception has.entry old)) (length old.consumers) all)
+    (all_served (length old.consumers) turn.received) =
+    served_first (length old.consumers) (length old.consumers) turn.received on (omega arith) in
+    subst IsBrokerActor (sym turn.after)
+    (IsBrokerActor-stopped (all_served (length old.consumers) turn.received) (length old.consumers) all)
 
 -- ---- the first state
 

@@ -6,7 +6,7 @@ use Rattle.std.proofs.lemmas.Option.{get_or_from_slice_get, unwrap_or-slice_get}
 use Rattle.cdc_broker.specs.Broker.{BrokerState, after_packet, nobody, queue_of, takes_packet}
 use Rattle.cdc_broker.specs.Queues.{QueueState, acknowledged, empty_queue, item_for, next_delivery, queued, with_item}
 use Rattle.cdc_actors.specs.Broker.{BrokerCore, is_lost, is_over}
-use Rattle.cdc_actors.specs.Broker.Turns.{HasSameLinks, HasTurned, Lane, acked_if, all_served, coming_if, delivered_some, reception, lane_of, served_if, stopped, stopped_if, with_counted, with_lane, with_next, with_one_fewer, with_served, with_stop}
+use Rattle.cdc_actors.specs.Broker.Turns.{HasReceived, HasReceivedNext, HasSameLinks, HasTurned, Lane, acked_if, all_served, coming_if, delivered_some, reception, lane_of, served_if, stopped, stopped_if, with_counted, with_lane, with_next, with_one_fewer, with_served, with_stop}
 use Rattle.cdc_actors.specs.declared.broker.consumers.Consumer.{Consumer}
 use Rattle.cdc_actors.specs.Seats.{broker_seat}
 use Rattle.cdc_actors.proofs.BrokerLemmas.Serving.{same_delivered}
@@ -185,14 +185,25 @@ stopped_same true d =
     }
 stopped_same false d = same_links d
 
+-- messages that were handled
+pub next_same : (old new : BrokerCore) → HasReceivedNext old new → HasSameLinks old new
+next_same old new came =
+    subst (HasSameLinks old) (sym came.after)
+    (received_same old came.entry.0 came.entry.1.0 came.entry.1.1)
+
+pub has_same : (n : ℕ) (old new : BrokerCore) → HasReceived n old new → HasSameLinks old new
+has_same zero old new same = subst (HasSameLinks old) (sym same) (same_links old)
+has_same (suc n) old new (mid, before, came) =
+    then_same old mid new (has_same n old mid before) (next_same mid new came)
+
 -- so a turn does
 turned_links : (old new : BrokerCore) → HasTurned old new → HasSameLinks old new
-turned_links old new has =
-    let came : BrokerCore = reception has.entry old in
-    let all : BrokerCore = all_served (length old.consumers) came in
-    subst (HasSameLinks old) (sym has.after)
-    (then_same old came (stopped all) (received_same old has.entry.0 has.entry.1.0 has.entry.1.1)
-    (then_same came all (stopped all) (all_same (length old.consumers) came) (stopped_same (is_over all) all)))
+turned_links old new turn =
+    let all : BrokerCore = all_served (length old.consumers) turn.received in
+    subst (HasSameLinks old) (sym turn.after)
+    (then_same old turn.received (stopped all) (has_same (suc turn.has.more) old turn.received turn.has.received)
+    (then_same turn.received all (stopped all) (all_same (length old.consumers) turn.received)
+    (stopped_same (is_over all) all)))
 
 -- and its seat stays
 pub links_seat : (old new : BrokerCore) → HasSameLinks old new → broker_seat new ≡ broker_seat old

@@ -1,19 +1,19 @@
 -- The broker actor keeps its invariant as it receives messages and as its queues deliver.
-use Rattle.std.proofs.Common.{◌≡◌, ◌≢◌, ℕ, suc, ◌+◌, ◌-◌, ◌<◌, Bool, true, false, Option, Some, None, List, [], ◌∷◌, ◌++◌, refl, sym, ap, ap₂, ◌∙◌, subst, length, inl, inr, append-nil, arith}
+use Rattle.std.proofs.Common.{◌≡◌, ◌≢◌, ℕ, zero, suc, ◌+◌, ◌-◌, ◌<◌, Bool, true, false, Option, Some, None, List, [], ◌∷◌, ◌++◌, refl, sym, ap, ap₂, ◌∙◌, subst, length, inl, inr, append-nil, arith}
 use Rattle.std.specs.Prelude.{◌||◌, slice_get, slice_set}
 use Rattle.std.proofs.lemmas.List.{length-map, length-set, length_push}
 use Rattle.std.proofs.lemmas.Option.{slice_get_within}
 use Rattle.cdc_broker.specs.Broker.{BrokerState, after_packet, queue_of, takes_packet}
 use Rattle.cdc_broker.specs.Queues.{QueueState, acknowledged, is_unknown, next_delivery, queued}
-use Rattle.cdc_actors.specs.Broker.Steps.{HasBecome, HasReceivedNext, MayDeliver}
+use Rattle.cdc_actors.specs.Broker.Steps.{HasBecome, HasReceivedIf, HasTaken, MayDeliver}
 use Rattle.cdc_actors.specs.Broker.{Dealings, BrokerCore, IsBrokerCore, IsConsumerServed, acks_at, dealings, dealings_of, is_lost, with_packet}
 use Rattle.cdc_actors.specs.Connector.{packets_in}
-use Rattle.cdc_actors.specs.Broker.Turns.{IsDue, Lane, MayAck, acked_if, coming_if, delivered_some, reception, lane_of, served_if, with_ack, with_coming, with_counted, with_lane, with_one_fewer, with_served}
+use Rattle.cdc_actors.specs.Broker.Turns.{HasReceived, HasReceivedAll, HasReceivedNext, IsDue, Lane, MayAck, acked_if, coming_if, delivered_some, reception, lane_of, served_if, with_ack, with_coming, with_counted, with_lane, with_one_fewer, with_served}
 use Rattle.cdc_actors.specs.declared.broker.consumers.Consumer.{Consumer}
 use Rattle.cdc_actors.proofs.BrokerLemmas.Dealing.{HasDealt, HasDealt-packet, dealings-push, packets_in-push}
 use Rattle.cdc_actors.proofs.BrokerLemmas.Places.{HoldsOfAll, HoldsOfAll-queues, HoldsOfAll-set, has_ended-push, slice_get_some}
 use Rattle.cdc_actors.proofs.BrokerLemmas.Serving.{HasArrived-queue, HasSameItems, IsConsumerServed-ack, IsConsumerServed-delivered_some, IsConsumerServed-queued, MayDeliver-served, delivered_some-all, same_delivered}
-use Rattle.cdc_links.specs.Links.{of_sender, with_received}
+use Rattle.cdc_links.specs.Links.{Incoming, of_sender, with_received}
 use Rattle.cdc_links.proofs.Entries.{of_sender-snoc_other, of_sender-snoc_own}
 use Rattle.cdc_message.specs.declared.packets.Packet.{Packet}
 use Rattle.cdc_message.specs.declared.packets.Packet.TheVariants.{Connect, Publish}
@@ -472,3 +472,38 @@ pub GoesOn-reception : (old new : BrokerCore) → IsBrokerCore old → old.finis
 GoesOn-reception old new is goes came =
     subst (GoesOn (length old.consumers)) (sym came.after)
     (received_goes_on old is goes came.entry.0 came.entry.1.0 came.entry.1.1 came.sender came.follows.may came.due)
+
+-- the connector's last message was received and handled
+pub ended_next : (old here : BrokerCore) → HasTaken old to_broker.Finish here
+    → HasReceivedNext old (record here { connector_done = true })
+ended_next old here taken = record {
+  entry = (taken.takes.0, (to_broker.Finish, taken.takes.1));
+  sender = taken.takes.2;
+  follows = taken.takes.3;
+  due = tt;
+  after = ap (λ (d : BrokerCore). record d { connector_done = true })
+      (taken.after ∙ ap (λ (i : Incoming ToBroker (Unit {0})). record old { inbox = i }) taken.takes.4);
+}
+
+-- and after several
+pub GoesOn-received : (n : ℕ) (old new : BrokerCore) → IsBrokerCore old → old.finished ≡ false → HasReceived n old new
+    → GoesOn (length old.consumers) new
+GoesOn-received zero old new is goes same =
+    subst (GoesOn (length old.consumers)) (sym same) (record { core = is; goes_on = goes; many = refl })
+GoesOn-received (suc n) old new is goes (mid, before, came) =
+    let on : GoesOn (length old.consumers) mid = GoesOn-received n old mid is goes before in
+    subst (λ (count : ℕ). GoesOn count new) on.many (GoesOn-reception mid new on.core on.goes_on came)
+
+-- one more message, or none
+pub one_more : (old mid new : BrokerCore) (some : Bool) → some ≡ true → length old.plan.repeat.items ≡ 0
+    → HasReceivedAll old mid → HasReceivedIf some mid new → HasReceivedAll old new
+one_more old mid new some is unplanned all came = record {
+  more = suc all.more;
+  alone = λ planned. absurd (omega (arith, planned, unplanned));
+  received = (mid, all.received, subst (λ (b : Bool). HasReceivedIf b mid new) is came);
+}
+
+pub no_more : (old mid new : BrokerCore) (some : Bool) → some ≡ false → HasReceivedAll old mid
+    → HasReceivedIf some mid new → HasReceivedAll old new
+no_more old mid new some isnt all came =
+    subst (HasReceivedAll old) (sym (subst (λ (b : Bool). HasReceivedIf b mid new) isnt came)) all

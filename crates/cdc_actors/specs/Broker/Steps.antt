@@ -1,10 +1,10 @@
 -- What the steps of a turn of the broker's do. Private contracts alone cite this file.
-use Rattle.std.specs.Prelude.{◌≡◌, ℕ, ◌≤◌, ◌<◌, false}
+use Rattle.std.specs.Prelude.{◌≡◌, ℕ, ◌≤◌, Bool, true, false}
 use Rattle.cdc_broker.specs.Broker.{BrokerState, takes_packet, with_queue}
-use Rattle.cdc_actors.specs.Broker.{BrokerCore}
-use Rattle.cdc_actors.specs.Broker.Turns.{IsDue, Lane, admitted, answer_if, reception}
+use Rattle.cdc_actors.specs.Broker.{BrokerCore, IsBrokerCore}
+use Rattle.cdc_actors.specs.Broker.Turns.{HasReceivedNext, Lane, admitted, answer_if}
 use Rattle.cdc_actors.specs.declared.broker.consumers.Consumer.{Consumer}
-use Rattle.cdc_links.specs.Links.{of_sender}
+use Rattle.cdc_links.specs.Links.{Takes}
 use Rattle.cdc_message.specs.declared.packets.Answer.{Answer}
 use Rattle.cdc_message.specs.declared.packets.Packet.{Packet}
 use Rattle.cdc_traffic.specs.Following.{FollowsToBroker, ends_to_subscriber, has_ended}
@@ -22,13 +22,16 @@ pub record HasBecome (number : ℕ) (lane : Lane) (old : BrokerState) (new : Bro
   pub broker : new ≡ with_queue number lane.queue old
   pub consumer : c ≡ lane.consumer
 
--- a message to the broker actor was received
-pub record HasReceivedNext (old new : BrokerCore) : Type 0 where
-  pub entry : ℕ × (ToBroker × Unit {0})
-  pub sender : entry.0 < old.inbox.senders
-  pub follows : FollowsToBroker entry.0 (of_sender entry.0 old.inbox.received) entry.1
-  pub due : IsDue entry.1.0 old
-  pub after : new ≡ reception entry old
+-- a message was received, and isn't handled yet
+pub record HasTaken (old : BrokerCore) (message : ToBroker) (new : BrokerCore) : Type 0 where
+  pub core : IsBrokerCore old
+  pub takes : Takes FollowsToBroker old.inbox message new.inbox
+  pub after : new ≡ record old { inbox = new.inbox }
+
+-- a message to the broker actor was received and handled, or there was none
+abbrev pub HasReceivedIf : Bool → BrokerCore → BrokerCore → Type 0
+HasReceivedIf true old new = HasReceivedNext old new
+HasReceivedIf false old new = new ≡ old
 
 -- a packet came to the broker, which took it or passed it over, and this is the answer
 pub record HasCome (packet : Packet) (old : BrokerCore) (answer : Answer) (new : BrokerCore) : Type 0 where

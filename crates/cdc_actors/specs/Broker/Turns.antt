@@ -190,17 +190,31 @@ stopped_if over d = if over then record d { consumers = map with_stop d.consumer
 abbrev pub stopped : BrokerCore → BrokerCore
 stopped d = stopped_if (is_over d) d
 
--- the whole turn
-abbrev pub turned : ℕ × (ToBroker × Unit {0}) → BrokerCore → BrokerCore
-turned entry d = stopped (all_served (length d.consumers) (reception entry d))
-
--- a message that may come was received, and all that follows was done
-pub record HasTurned (old new : BrokerCore) : Type 0 where
+-- a message that may come was received and handled
+pub record HasReceivedNext (old new : BrokerCore) : Type 0 where
   pub entry : ℕ × (ToBroker × Unit {0})
   pub sender : entry.0 < old.inbox.senders
   pub follows : FollowsToBroker entry.0 (of_sender entry.0 old.inbox.received) entry.1
   pub due : IsDue entry.1.0 old
-  pub after : new ≡ turned entry old
+  pub after : new ≡ reception entry old
+
+-- so many were, one after another
+abbrev pub HasReceived : ℕ → BrokerCore → BrokerCore → Type 0
+HasReceived zero old new = new ≡ old
+HasReceived (suc n) old new = (mid : BrokerCore) × HasReceived n old mid × HasReceivedNext mid new
+
+-- one was, and so many more; none more if the plan repeats deliveries, since a second message could acknowledge a
+-- position that is about to be redelivered
+pub record HasReceivedAll (old new : BrokerCore) : Type 0 where
+  pub more : ℕ
+  pub alone : 0 < length old.plan.repeat.items → more ≡ 0
+  pub received : HasReceived (suc more) old new
+
+-- messages that may come were received, one or more, and then all queues were served, and the last messages sent
+pub record HasTurned (old new : BrokerCore) : Type 0 where
+  pub received : BrokerCore
+  pub has : HasReceivedAll old received
+  pub after : new ≡ stopped (all_served (length old.consumers) received)
 
 -- it works over the same links, by the same plan and prefetch, and its broker has the same bindings
 pub record HasSameLinks (old new : BrokerCore) : Type 0 where

@@ -2,14 +2,14 @@
 
 ghost use Rattle.std.specs.Prelude.{◌≡◌, ◌<◌, ◌≤◌, ◌+◌, All, IfErr, IfOk, OnErr, false, length, map};
 ghost use Rattle.cdc_broker.specs.Broker.{empty_broker, takes_packet};
-ghost use Rattle.cdc_actors.specs.Broker.Steps.{HasCome, HasReceivedNext, MayStop};
+ghost use Rattle.cdc_actors.specs.Broker.Steps.{HasCome, HasReceivedIf, HasTaken, MayStop};
 ghost use Rattle.cdc_actors.specs.Broker.{IsBrokerActor, IsBrokerCore, as_confirm, is_over};
 ghost use Rattle.cdc_actors.specs.Broker.Fails.{AreStopping, IsCutOff, IsUnanswered, IsUnpublished};
 ghost use Rattle.cdc_actors.specs.Broker.SoFar.{HasFailed};
-ghost use Rattle.cdc_actors.specs.Broker.Turns.{ArePartsOf, HasTurned, MayAck, admitted, all_served, answer_if, first_consumer, first_broker, stopped, with_ack, with_coming, with_served, with_stop};
+ghost use Rattle.cdc_actors.specs.Broker.Turns.{ArePartsOf, HasReceivedAll, HasReceivedNext, HasTurned, MayAck, admitted, all_served, answer_if, first_consumer, first_broker, stopped, with_ack, with_coming, with_served, with_stop};
 ghost use Rattle.cdc_actors.specs.Faults.{IsTurnFault};
 ghost use Rattle.cdc_actors.specs.declared.faults.RunFault.TheVariants.{PeerGone};
-ghost use Rattle.cdc_links.specs.Links.{Takes, with_sent};
+ghost use Rattle.cdc_links.specs.Links.{Takes, TakesIfSome, with_sent};
 ghost use Rattle.cdc_message.specs.declared.packets.Packet.TheVariants.{Connect as ConnectOf, Publish as PublishOf};
 ghost use Rattle.cdc_traffic.specs.Following.{FollowsToBroker, IsConfirm, IsPacket};
 ghost use Rattle.cdc_types.specs.Widths.{max_64};
@@ -18,7 +18,7 @@ use crate::broker::consumers::{Consumer, abort_all, deliver, delivered_of};
 use crate::broker::plans::BrokerPlan;
 use crate::ends::{Noted, Turns, Work};
 use crate::faults::RunFault;
-use crate::peers::{receive_from, send_to};
+use crate::peers::{receive_from, receive_ready_from, send_to};
 use crate::places::Place;
 use crate::stories::{Fate, Story};
 use cdc_broker::{Broker, Taken};
@@ -30,6 +30,9 @@ use std::alloc::{AllocError, Global};
 use std::marker::Model;
 use std::mem;
 use std::sync::Wait;
+
+// How many more messages a turn handles after its first, if they are ready, before it serves the queues.
+const MOST_READY: usize = 64;
 
 /// What a finished broker actor leaves behind.
 #[derive(Drop)]
@@ -142,6 +145,17 @@ fn receive<R: Wait>(inbox: &mut LinkIn<ToBroker>, rt: &R) -> Result<ToBroker, Ru
     ensures refused { IfErr result (λ fault. (fault ≡ PeerGone) × (inbox.new ≡ inbox.old)) }
 {
     receive_from(inbox, rt)
+}
+
+fn receive_ready<R: Wait>(
+    inbox: &mut LinkIn<ToBroker>,
+    rt: &R,
+) -> Result<Option<ToBroker>, RunFault>
+    ensures after { IfOk result (λ ready.
+        TakesIfSome FollowsToBroker inbox.old ready inbox.new) }
+    ensures refused { IfErr result (λ fault. (fault ≡ PeerGone) × (inbox.new ≡ inbox.old)) }
+{
+    receive_ready_from(inbox, rt)
 }
 
 fn first_consumers(
@@ -338,14 +352,15 @@ impl BrokerCore {
         Ok(())
     }
 
-    /// Receives the next message and handles it.
-    fn receive_next<R: Wait>(&mut self, rt: &R, alloc: Global) -> Result<(), RunFault>
-        requires { IsBrokerCore self.old }
-        ensures after { IfOk result (λ _. HasReceivedNext self.old self.new) }
-        ensures failed { IfErr result (λ fault.
-            HasFailed self.old fault self.new) }
+    /// Handles a message that was just received.
+    fn handle<R: Wait>(&mut self, rt: &R, alloc: Global, message: ToBroker) -> Result<(), RunFault>
+        requires { (before : BrokerCore) × HasTaken before message self.old }
+        ensures after { (before : BrokerCore) → HasTaken before message self.old
+            → IfOk result (λ _. HasReceivedNext before self.new) }
+        ensures failed { (before : BrokerCore) → HasTaken before message self.old
+            → IfErr result (λ fault. HasFailed before fault self.new) }
     {
-        match receive(&mut self.inbox, rt)? {
+        match message {
             ToBroker::Packet(packet) => self.take_packet(rt, alloc, packet),
             ToBroker::Finish => {
                 self.connector_done = true;
@@ -353,6 +368,52 @@ impl BrokerCore {
             }
             ToBroker::Ack(ack) => self.take_ack(ack),
         }
+    }
+
+    /// Receives the next message and handles it.
+    fn receive_next<R: Wait>(&mut self, rt: &R, alloc: Global) -> Result<(), RunFault>
+        requires { IsBrokerCore self.old }
+        ensures after { IfOk result (λ _. HasReceivedNext self.old self.new) }
+        ensures failed { IfErr result (λ fault.
+            HasFailed self.old fault self.new) }
+    {
+        let message = receive(&mut self.inbox, rt)?;
+        self.handle(rt, alloc, message)
+    }
+
+    /// Receives the next message and handles it, if there is one. Returns whether there was one.
+    fn receive_ready<R: Wait>(&mut self, rt: &R, alloc: Global) -> Result<bool, RunFault>
+        requires { IsBrokerCore self.old }
+        ensures after { IfOk result (λ some. HasReceivedIf some self.old self.new) }
+        ensures failed { IfErr result (λ fault.
+            HasFailed self.old fault self.new) }
+    {
+        let Some(message) = receive_ready(&mut self.inbox, rt)? else {
+            return Ok(false);
+        };
+        self.handle(rt, alloc, message)?;
+        Ok(true)
+    }
+
+    /// Receives the next message, and then those that are ready. Each is handled before the next one is received. If
+    /// the plan repeats deliveries, it takes one message: a later one could acknowledge what is about to be repeated.
+    fn receive_all<R: Wait>(&mut self, rt: &R, alloc: Global) -> Result<(), RunFault>
+        requires core { IsBrokerCore self.old }
+        requires goes_on { self.old.finished ≡ false }
+        ensures after { IfOk result (λ _. HasReceivedAll self.old self.new) }
+        ensures failed { IfErr result (λ fault.
+            HasFailed self.old fault self.new) }
+    {
+        self.receive_next(rt, alloc)?;
+        if !self.plan.repeat.is_empty() {
+            return Ok(());
+        }
+        for _ in 0..MOST_READY {
+            if !self.receive_ready(rt, alloc)? {
+                return Ok(());
+            }
+        }
+        Ok(())
     }
 
     /// Delivers from the queue at a place while it may.
@@ -430,8 +491,8 @@ impl BrokerCore {
         Ok(())
     }
 
-    /// One turn: receives the next message, delivers from each queue while it may, and sends each subscriber its last
-    /// message if all is over.
+    /// One turn: receives the next message and those that are ready, delivers from each queue while it may, and sends
+    /// each subscriber its last message if all is over.
     fn turn<R: Wait>(&mut self, rt: &R, alloc: Global) -> Result<(), RunFault>
         requires kept { IsBrokerActor self.old }
         requires goes_on { self.old.finished ≡ false }
@@ -440,7 +501,7 @@ impl BrokerCore {
             HasFailed self.old fault self.new) }
         ensures kind { IfErr result IsTurnFault }
     {
-        self.receive_next(rt, alloc)?;
+        self.receive_all(rt, alloc)?;
         self.serve_all(rt, alloc)?;
         self.stop(rt)?;
         Ok(())
