@@ -1,6 +1,10 @@
-use Rattle.std.proofs.Common.{◌≡◌, suc, false, true, refl, rules}
+use Rattle.std.proofs.Common.{◌≡◌, suc, false, true, refl, sym, ap, ◌∙◌, length, rules}
+use Rattle.cdc_actors.specs.Broker.{BrokerCore}
 use Rattle.cdc_actors.specs.Broker.SoFar.{HasFailed}
+use Rattle.cdc_actors.specs.Broker.Turns.{HasReceivedAll, HasReceivedNext}
+use Rattle.cdc_actors.specs.declared.broker.plans.BrokerPlan.{BrokerPlan}
 use Rattle.cdc_actors.proofs.BrokerLemmas.Failing.{failed_after}
+use Rattle.cdc_actors.proofs.BrokerLemmas.Linked.{has_same}
 use Rattle.cdc_actors.proofs.BrokerLemmas.Receiving.{GoesOn-received, no_more, one_more}
 use Rattle.cdc_actors.proofs.PassedOn.{passed_on}
 use Rattle.cdc_actors.proofs.broker.cores.BrokerCore.receive_all.Goals as goal
@@ -9,8 +13,8 @@ use Rattle.cdc_actors.proofs.broker.cores.BrokerCore.receive_all.Goals as goal
 first : (old new : BrokerCore) → HasReceivedNext old new → HasReceivedAll old new
 first old new came = record { more = 0; alone = λ planned. refl; received = (old, refl, came) }
 
-pub returns-then-branch-clause-after : goal.returns-then-branch-clause-after
-returns-then-branch-clause-after g c = first c.args.self.now c.receive_next.new.self c.in_ok-receive_next.ensures.after
+pub returns-then-not-is_empty-clause-after : goal.returns-then-not-is_empty-clause-after
+returns-then-not-is_empty-clause-after g c = first c.args.self.now c.receive_next.new.self c.in_ok-receive_next.ensures.after
 
 pub loop-init : goal.loop-init
 loop-init g c = first c.args.self.now c.receive_next.new.self c.in_ok-receive_next.ensures.after
@@ -37,6 +41,11 @@ returns-then-not-branch-clause-after g c =
 
 pub loop-preserved : goal.loop-preserved
 loop-preserved g c =
+    let old = c.args.self.now in
+    let first : BrokerCore = c.receive_next.new.self in
+    let plan = (has_same 1 old first (old, refl, c.in_ok-receive_next.ensures.after)).plan in
+    let empty : length first.plan.repeat.items ≡ 0 = search rules in
     let is : c.in_ok-receive_ready.field-0 ≡ true = search rules in
-    one_more c.args.self.now c.loop.self c.receive_ready.new.self c.in_ok-receive_ready.field-0 is c.loop.invariant
+    one_more old c.loop.self c.receive_ready.new.self c.in_ok-receive_ready.field-0 is
+    (ap (λ (p : BrokerPlan). length p.repeat.items) (sym plan) ∙ empty) c.loop.invariant
     c.in_ok-receive_ready.ensures.after
