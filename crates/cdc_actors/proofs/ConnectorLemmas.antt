@@ -7,4 +7,5 @@ pub mod Restarts
 pub mod Rounds
 pub mod Sessions
 pub mod Steps
+pub mod Taking
 pub mod Turns

@@ -4,7 +4,7 @@ use Rattle.std.specs.Prelude.{IfErr, IfOk}
 use Rattle.cdc_actors.specs.Client.SoFar.{AsksSoFar, IsReceivedOnly}
 use Rattle.cdc_actors.specs.Client.{IsAnswered, ClientCore}
 use Rattle.cdc_actors.specs.Connector.{IsOfSame, IsWorkingTurn, Origin, ConnectorCore, origin_of}
-use Rattle.cdc_actors.specs.Connector.SoFar.{HasFailed as WorkHasFailed, ReceivesAtMostOne}
+use Rattle.cdc_actors.specs.Connector.SoFar.{HasFailed as WorkHasFailed}
 use Rattle.cdc_actors.specs.Ledger.{LedgerCore, IsLedgerTurn}
 use Rattle.cdc_actors.specs.Ledger.SoFar.{ComesSoFar as LedgerComes, TakesSoFar}
 use Rattle.cdc_actors.specs.Ledger.Steps.{IsTaken}
@@ -13,10 +13,7 @@ use Rattle.cdc_actors.specs.Subscriber.{HasReceived, SubscriberCore, with_messag
 use Rattle.cdc_actors.specs.Subscriber.SoFar.{ComesSoFar as SubscriberComes, HasFailed as SubscriberHasFailed}
 use Rattle.cdc_actors.specs.declared.faults.RunFault.{RunFault}
 use Rattle.cdc_actors.specs.declared.faults.RunFault.TheVariants.{PeerGone, OutOfMemory, Store, SessionsExhausted, NotOneSystem, StartNotAllowed}
-use Rattle.cdc_links.specs.Links.{Takes}
 use Rattle.cdc_publisher.specs.SessionState.{SessionState}
-use Rattle.cdc_traffic.specs.Following.{FollowsToConnector}
-use Rattle.cdc_traffic.specs.declared.messages.ToConnector.{ToConnector}
 use Rattle.cdc_traffic.specs.declared.messages.ToLedger.{ToLedger}
 use Rattle.cdc_traffic.specs.declared.messages.ToLedger.TheVariants as to_ledger
 use Rattle.cdc_traffic.specs.declared.messages.ToLedger.TheVariants.{Done}
@@ -24,6 +21,8 @@ use Rattle.cdc_traffic.specs.declared.messages.ToSubscriber.{ToSubscriber}
 use Rattle.cdc_traffic.specs.declared.messages.ToSubscriber.TheVariants.{Delivery as Carries, Stop}
 use Rattle.cdc_traffic.specs.declared.requests.Reply.{Reply}
 use Rattle.cdc_types.specs.declared.batches.Batch.{Batch}
+use Rattle.cdc_actors.proofs.ConnectorLemmas.Taking.{link_of_many, link_of_taken, taken_same}
+use Rattle.cdc_actors.proofs.ConnectorLemmas.Turns.{same_trans}
 
 -- the ledger's
 pub served_seat : (old new : LedgerCore) → IsLedgerTurn old new → ledger_seat new ≡ ledger_seat old
@@ -106,19 +105,14 @@ same_seat old new same inbox =
 pub working_seat : (session : Option SessionState) (old new : ConnectorCore) → IsWorkingTurn session old new
     → connector_seat new ≡ connector_seat old
 working_seat None old new is = same_seat old new is.same (λ i. (is.inbox i).link)
-working_seat (Some kept) old new is = same_seat old new is.same (λ i. (is.takes.4 i).link)
+working_seat (Some kept) old new is =
+    same_seat old new (same_trans old is.taken new (taken_same old is.messages is.taken is.takes) is.follows.same)
+    ((λ i. (is.follows.inbox i).link) ∙ link_of_taken old is.messages is.taken is.takes)
 
 pub failed_work_seat : (old : ConnectorCore) (fault : RunFault) (new : ConnectorCore) → WorkHasFailed old fault new
     → connector_seat new ≡ connector_seat old
-failed_work_seat old fault new has = same_seat old new has.same (go has.inbox)
-  where
-    took : (message : ToConnector) → Takes FollowsToConnector old.inbox message new.inbox
-        → new.inbox.link ≡ old.inbox.link
-    took message takes = λ i. (takes.4 i).link
-
-    go : ReceivesAtMostOne old.inbox new.inbox → new.inbox.link ≡ old.inbox.link
-    go (inl same) = λ i. (same i).link
-    go (inr received) = took received.0 received.1
+failed_work_seat old fault new has =
+    same_seat old new has.same (link_of_many has.inbox.0 old.inbox new.inbox has.inbox.1)
 
 -- a client's
 pub replied_seat : (old : ClientCore) (batch : Batch) (reply : Reply) (new : ClientCore)

@@ -3,7 +3,7 @@ pub mod Fails
 pub mod Moves
 pub mod SoFar
 use Rattle.std.specs.Prelude.{◌≡◌, ◌==◌, ◌⊎◌, ℕ, zero, suc, ◌+◌, ◌-◌, ◌<◌, ◌≤◌, ◌&&◌, Bool, is_some, true, false, Option, Some, None, IfSome, List, [], ◌∷◌, ◌++◌, Contains, length, map, slice_get, unwrap_or, if◌then◌else◌}
-use Rattle.std.specs.List.{filter, filter_map, list_any}
+use Rattle.std.specs.List.{AllByRecursion, filter, filter_map, list_any}
 use Rattle.std.specs.Option.{option_map}
 use Rattle.cdc_laws.specs.Connectors.{ConnectorState, held_number, held_start, held_timestamp}
 use Rattle.cdc_laws.specs.Readings.{KeepsToReadings}
@@ -359,11 +359,10 @@ pub record IsFirstTurn (old new : ConnectorCore) : Type 0 where
   pub sessions : RisesBy 1 old new
   pub same : IsOfSame old new
 
--- a later one receives a message. It begins a session besides those that the plan has if the message reports that a
--- packet of the session that is held was lost. Progress is saved after a confirm that moves how far the session has
--- come, and after no other message. A reply to another poll than the open one changes nothing else
-pub record IsLaterTurn (old new : ConnectorCore) : Type 0 where
-  pub message : ToConnector
+-- one message was received and taken. It begins a session besides those that the plan has if it reports that a packet of
+-- the session that is held was lost. Progress is saved after a confirm that moves how far the session has come, and
+-- after no other message. A reply to another poll than the open one changes nothing else
+pub record HasTaken (old : ConnectorCore) (message : ToConnector) (new : ConnectorCore) : Type 0 where
   pub takes : Takes FollowsToConnector old.inbox message new.inbox
   pub sessions : RisesBy (ended_by (held_number old.held) message) old new
   pub course : Course
@@ -372,6 +371,28 @@ pub record IsLaterTurn (old new : ConnectorCore) : Type 0 where
       → held_timestamp new.held ≡ saved_by (held_timestamp old.held) course message
   pub unasked : IsUnasked old.poll message → new ≡ record old { inbox = new.inbox }
   pub same : IsOfSame old new
+
+-- these messages were, one after another
+abbrev pub HasTakenAll : ConnectorCore → List ToConnector → ConnectorCore → Type 0
+HasTakenAll old [] new = new ≡ old
+HasTakenAll old (message ∷ later) new = (mid : ConnectorCore) × HasTaken old message mid × HasTakenAll mid later new
+
+-- nothing was received or saved. No session has begun besides those that the plan has
+pub record HasSentOn (old new : ConnectorCore) : Type 0 where
+  pub inbox : new.inbox ≡ old.inbox
+  pub sessions : RisesBy 0 old new
+  pub saves : old.honest ≡ true → held_timestamp new.held ≡ held_timestamp old.held
+  pub same : IsOfSame old new
+
+-- a later one takes messages, one at least, and then sends what follows. After replies to other polls than the open one
+-- nothing does
+pub record IsLaterTurn (old new : ConnectorCore) : Type 0 where
+  pub messages : List ToConnector
+  pub some : 0 < length messages
+  pub taken : ConnectorCore
+  pub takes : HasTakenAll old messages taken
+  pub follows : HasSentOn taken new
+  pub unasked : AllByRecursion (IsUnasked old.poll) messages → new ≡ taken
 
 -- a turn in which no session runs is the first
 abbrev pub IsWorkingTurn : Option SessionState → ConnectorCore → ConnectorCore → Type 0

@@ -19,7 +19,8 @@ pub use cores::{ConnectorCore, ConnectorParts};
 /// A connector actor of a run. Its work: what it has sent to the ledger and to the broker, what it has received from
 /// them, what its store holds, and what its session keeps.
 ///
-/// The first turn starts a session, and each later one receives a message. Then all that follows is sent. `PeerGone`:
+/// The first turn starts a session. Each later one receives the next message and those that are ready, so the connector
+/// takes all confirms that have come before it publishes more. Then all that follows is sent. `PeerGone`:
 /// a link refused to send or to receive, or a confirm came that answers no packet. `OutOfMemory`: there was no memory
 /// for a session or for a packet, or in the store. `Store`: the store refused to load or to save.
 /// `SessionsExhausted`: there is no further number for a session. `StartNotAllowed`: a start was given to the first

@@ -75,6 +75,12 @@ module _ {M N : Type 0} where
     TakesIfSome before None after = after ≡ before
     TakesIfSome before (Some value) after = Takes before value after
 
+    -- so many messages were received, one after another
+    abbrev pub TakesMany : ℕ → Incoming M N → Incoming M N → Type 0
+    TakesMany zero before after = after ≡ before
+    TakesMany (suc n) before after =
+        (value : M) × (mid : Incoming M N) × Takes before value mid × TakesMany n mid after
+
   -- what holds after all senders have returned their endpoints: what was received, together with what was left in the
   -- link, is what each of them has sent, in its order; each of them is there; and there is nothing of anyone else
   abbrev pub IsAccount : Incoming M N → List (Outgoing M N) → List (ℕ × (M × N)) → Type 0

@@ -169,16 +169,19 @@ fn begin_late() -> Hold {
     Hold::new((Place::Connector, 1), (Place::Ledger, 4), 1)
 }
 
-// The connector takes the reply to its poll and the broker's answer to its connection, and waits. Meanwhile the broker
-// takes as many publishes as the window lets through, and confirms each. Then the subscriber has taken each of them,
-// and asks for more.
+// The connector waits until the reply to its poll and the broker's answer to its connection have come, takes both in
+// one turn, and publishes. Then it waits. Meanwhile the broker takes as many publishes as the window lets through, and
+// confirms each. Then the subscriber has taken each of them, and asks for more.
 fn fill_window<R: Threads + Wait + Abort + Sync>(rt: &R, alloc: Global, window: u64) -> usize
     requires some { 1 ≤ window }
     requires few { window ≤ 64 }
 {
     let config = config_of(one_of_all(rt, alloc), window as usize, 8);
-    let published = Hold::new((Place::Connector, 4), (Place::Subscriber(1), window + 1), 1);
-    count_whole(rt, alloc, config, window + 1, &[begin_late(), published])
+    let replied = Hold::new((Place::Connector, 2), (Place::Ledger, 5), 1);
+    let connected = Hold::new((Place::Connector, 2), (Place::Broker, 2), 1);
+    let published = Hold::new((Place::Connector, 3), (Place::Subscriber(1), window + 1), 1);
+    let holds = [begin_late(), replied, connected, published];
+    count_whole(rt, alloc, config, window + 1, &holds)
 }
 
 #[test]

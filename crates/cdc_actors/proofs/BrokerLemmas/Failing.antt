@@ -9,7 +9,7 @@ use Rattle.cdc_actors.specs.Broker.Steps.{HasBecome, HasTaken}
 use Rattle.cdc_actors.specs.Broker.{Dealings, BrokerCore, IsBrokerCore, IsConsumerServed, acks_at, confirm_of, dealings, dealings_of, answer_after, counted, deliveries_in, is_lost, with_packet}
 use Rattle.cdc_actors.specs.Connector.{packets_in}
 use Rattle.cdc_actors.specs.Broker.Fails.{AreStopping, DeliversSoFar, IsCutOff, IsStuck, IsUnanswered}
-use Rattle.cdc_actors.specs.Broker.SoFar.{BrokersComeSoFar, HasFailed, IsBrokerSoFar, IsServedSoFar, Receives}
+use Rattle.cdc_actors.specs.Broker.SoFar.{BrokersComeSoFar, HasFailed, IsBrokerSoFar, IsServedSoFar}
 use Rattle.cdc_actors.specs.Faults.{IsTurnFault}
 use Rattle.cdc_actors.specs.Broker.Turns.{HasReceived, HasReceivedAll, HasReceivedNext, HasSameLinks, Lane, acked_if, all_served, coming_if, reception, lane_of, served_if, with_coming, with_counted, with_lane, with_next, with_stop}
 use Rattle.cdc_actors.specs.declared.broker.plans.BrokerPlan.{BrokerPlan}
@@ -26,7 +26,7 @@ use Rattle.cdc_actors.proofs.BrokerLemmas.Subscribers.{stopped_up_to}
 use Rattle.cdc_laws.specs.Arrivals.{taken_of}
 use Rattle.cdc_laws.specs.Brokers.{HasDelivered}
 use Rattle.cdc_laws.specs.Deliveries.{deliveries}
-use Rattle.cdc_links.specs.Links.{Incoming, LinkId, Outgoing, Takes, of_sender, with_received}
+use Rattle.cdc_links.specs.Links.{Incoming, LinkId, Outgoing, Takes, TakesMany, of_sender, with_received}
 use Rattle.cdc_links.proofs.Entries.{of_sender-snoc_other, of_sender-snoc_own}
 use Rattle.cdc_message.specs.Replays.{IsReplay}
 use Rattle.cdc_message.specs.declared.items.Delivery.{Delivery}
@@ -572,7 +572,7 @@ cut_ack d is j ack fault new gone first same =
 
 -- if all that it received before was handled
 pub failed_of : (old mid new : BrokerCore) (fault : RunFault) → HasSameLinks old mid → mid.plan ≡ old.plan
-    → mid.finished ≡ old.finished → (n : ℕ) × Receives n old.inbox mid.inbox → IsTurnFault fault
+    → mid.finished ≡ old.finished → (n : ℕ) × TakesMany FollowsToBroker n old.inbox mid.inbox → IsTurnFault fault
     → IsCutOff mid fault new
     → HasFailed old fault new
 failed_of old mid new fault links plan finished receives kind cut = record {
@@ -581,7 +581,7 @@ failed_of old mid new fault links plan finished receives kind cut = record {
   finished = cut.finished ∙ finished;
   inbox = (
     receives.0,
-    subst (λ (i : Incoming ToBroker (Unit {0})). Receives receives.0 old.inbox i) (sym cut.inbox) receives.1,
+    subst (λ (i : Incoming ToBroker (Unit {0})). TakesMany FollowsToBroker receives.0 old.inbox i) (sym cut.inbox) receives.1,
   );
   kind = kind;
   so_far = cut.so_far;

@@ -6,7 +6,7 @@ use Rattle.cdc_actors.specs.Connector.{HasSent, IsAtStart, IsOfSame, IsPublishin
 use Rattle.cdc_publisher.specs.Stands.{SessionStands}
 use Rattle.cdc_actors.specs.Connector.Fails.{IsAnswerFailed, IsConfirmFailed, IsCutShort, IsHeldOrNext, IsNotBegun, IsSaveRisked, IsUnfinished, IsUnsaved, IsUnsent}
 use Rattle.cdc_actors.specs.Connector.Moves.{GoesOn, IsAdvanced, IsBegunOrReceived, IsSending}
-use Rattle.cdc_actors.specs.Connector.SoFar.{HasFailed, IsConnectorSoFar, IsFaultOf, ReceivesAtMostOne}
+use Rattle.cdc_actors.specs.Connector.SoFar.{HasFailed, IsConnectorSoFar, IsFaultOf}
 use Rattle.cdc_actors.specs.Faults.{start_fault, store_fault}
 use Rattle.cdc_actors.specs.declared.faults.RunFault.{RunFault}
 use Rattle.cdc_actors.specs.declared.faults.RunFault.TheVariants.{PeerGone, OutOfMemory, Store, SessionsExhausted, NotOneSystem, StartNotAllowed}
@@ -14,11 +14,12 @@ use Rattle.cdc_actors.proofs.ConnectorLemmas.Receiving.{IsConfirmOf, IsPublishin
 use Rattle.cdc_actors.proofs.ConnectorLemmas.Messages.{HasSent-finished}
 use Rattle.cdc_actors.proofs.ConnectorLemmas.Restarts.{RestartsAsPlanned-confirmed}
 use Rattle.cdc_actors.proofs.ConnectorLemmas.Steps.{origin_kept}
+use Rattle.cdc_actors.proofs.ConnectorLemmas.Taking.{taken_same, taken_then}
 use Rattle.cdc_actors.proofs.ConnectorLemmas.Turns.{GoesOn-same, GoesOn-trans, same_of, same_trans}
 use Rattle.cdc_laws.specs.Connectors.{ConnectorState, KeepsTo}
 use Rattle.cdc_laws.specs.Readings.{AreReadings, KeepsToReadings}
 use Rattle.cdc_laws.proofs.Connectors.{KeepsTo-confirm, KeepsTo-end, KeepsTo-half_started}
-use Rattle.cdc_links.specs.Links.{Incoming, Takes, of_sender, with_sent as with_message}
+use Rattle.cdc_links.specs.Links.{Incoming, Takes, TakesMany, of_sender, with_sent as with_message}
 use Rattle.cdc_message.specs.declared.packets.Answer.{Answer}
 use Rattle.cdc_message.specs.declared.packets.Answer.TheVariants.{Connected, Confirmed, Ignored, Broken}
 use Rattle.cdc_message.specs.declared.packets.Confirm.{Confirm}
@@ -352,10 +353,11 @@ not_saved old course session held honest risks failed failed' error stands half 
 
 -- so a turn has failed if all that it received and began before succeeded
 pub failed_of : (old mid new : ConnectorCore) (fault : RunFault) → old.finished ≡ false
-    → ReceivesAtMostOne old.inbox mid.inbox → IsOfSame old mid → IsCutShort mid fault new → HasFailed old fault new
-failed_of old mid new fault working receives same cut = record {
+    → (n : ℕ) × TakesMany FollowsToConnector n old.inbox mid.inbox → IsOfSame old mid → IsCutShort mid fault new
+    → HasFailed old fault new
+failed_of old mid new fault working (n, receives) same cut = record {
   working = working;
-  inbox = subst (ReceivesAtMostOne old.inbox) (sym cut.goes_on.inbox) receives;
+  inbox = (n, subst (TakesMany FollowsToConnector n old.inbox) (sym cut.goes_on.inbox) receives);
   same = same_trans old mid new same (same_of mid new cut.goes_on);
   risked = cut.risked;
   so_far = cut.so_far;
@@ -365,7 +367,7 @@ failed_of old mid new fault working receives same cut = record {
 pub failed_unheard : (old new : ConnectorCore) (fault : RunFault) → IsSending old → (fault ≡ PeerGone) × (new ≡ old)
     → HasFailed old fault new
 failed_unheard old new fault sends cut =
-    failed_of old old new fault sends.working (inl refl) (same_of old old (GoesOn-same old))
+    failed_of old old new fault sends.working (0, refl) (same_of old old (GoesOn-same old))
     (cut_unasked old new fault sends cut)
 
 module _ (old : ConnectorCore) (course : Course) (is : IsPublishing old (Some course)) (working : old.finished ≡ false)
@@ -381,7 +383,7 @@ module _ (old : ConnectorCore) (course : Course) (is : IsPublishing old (Some co
       → HasFailed old fault new
   after_it answer takes unanswered s new fault cut =
       failed_of old (record old { inbox = inbox; unanswered = unanswered; session = s }) new fault working
-      (inr (to_connector.Confirm (record { session = session; answer = answer }), takes))
+      (1, (to_connector.Confirm (record { session = session; answer = answer }), inbox, takes, refl))
       (record {
         polls = refl;
         packets = refl;
@@ -469,8 +471,10 @@ pub failed_then : (old mid new : ConnectorCore) (moved : Bool) (fault : RunFault
 failed_then old mid new moved fault working is cut = go old.session is.moves
   where
     go : (s : Option SessionState) → IsBegunOrReceived s old moved mid → HasFailed old fault new
-    go None first = failed_of old mid new fault working (inl first.inbox) first.same cut
-    go (Some kept) later = failed_of old mid new fault working (inr (later.message, later.takes)) later.same cut
+    go None first = failed_of old mid new fault working (0, first.inbox) first.same cut
+    go (Some kept) later =
+        failed_of old mid new fault working (taken_then old later.messages mid mid.inbox later.takes (0, refl))
+        (taken_same old later.messages mid later.takes) cut
 
 -- ---- the work inside a connector actor
 

@@ -5,16 +5,16 @@ use Rattle.std.proofs.lemmas.Bool.{and_parts, eqb-true, leb-true}
 use Rattle.std.proofs.lemmas.Bool.Decides.{nat_tests}
 use Rattle.std.proofs.lemmas.List.Elements.{Contains-push}
 use Rattle.std.proofs.lemmas.Option.{none-some}
-use Rattle.cdc_actors.specs.Connector.{FinishedConnectorsAreDone, HasFollowed, HasSent, IsAtRest, IsBroken, IsConnectorActor, IsDone, IsInTurn, IsOfSame, IsPublishing, IsTurnOf, IsWorkingTurn, MayConnect, ConnectorCore, RestartsAsPlanned, RisesBy, broken_by, confirms_in, ended_by, finish_if, first_origin, first_connector, packets_in, planned_up_to, polls_in, IsAtStart, origin_of, timestamp_after, saved_by}
+use Rattle.cdc_actors.specs.Connector.{FinishedConnectorsAreDone, HasFollowed, HasSent, IsAtRest, IsBroken, IsConnectorActor, IsDone, IsInTurn, IsOfSame, IsPublishing, IsTurnOf, IsWorkingTurn, MayConnect, ConnectorCore, RestartsAsPlanned, RisesBy, broken_by, confirms_in, finish_if, first_origin, first_connector, packets_in, planned_up_to, polls_in, IsAtStart, origin_of, timestamp_after, saved_by}
 use Rattle.cdc_publisher.specs.Stands.{SessionStands}
-use Rattle.cdc_actors.specs.Connector.Moves.{IsAdvanced, IsAnswerTaken, IsBegun, IsBegunOrReceived, IsBrokenOff, IsConfirmTaken, IsFollowed, IsReplyReceived, IsReplyTaken, IsSending}
+use Rattle.cdc_actors.specs.Connector.Moves.{AreReceived, IsAdvanced, IsAnswerTaken, IsBegun, IsBegunOrReceived, IsBrokenOff, IsConfirmTaken, IsFollowed, IsReplyReceived, IsReplyTaken, IsSending}
 use Rattle.cdc_actors.proofs.ConnectorLemmas.Receiving.{IsPublishing-answered, IsPublishing-offered, IsPublishing-saved, IsPublishing-unused, confirm_came, number_kept, origin_saved, reply_came, turn_answered, turn_offered}
 use Rattle.cdc_actors.proofs.ConnectorLemmas.Restarts.{MayConnect-broken, MayConnect-first, RestartsAsPlanned-none, unplanned_last}
 use Rattle.cdc_actors.proofs.ConnectorLemmas.Steps.{GoesOn-begun, IsPublishing-begun, finished-begun, number_begun, start_held, turn_begun}
-use Rattle.cdc_actors.proofs.ConnectorLemmas.Turns.{KeepsTimestamp-begun, RisesBy-begun, RisesBy-same, RisesBy-trans, same_of, same_trans}
+use Rattle.cdc_actors.proofs.ConnectorLemmas.Turns.{GoesOn-same, KeepsTimestamp-begun, RisesBy-begun, RisesBy-same, RisesBy-trans, same_of, same_trans}
 use Rattle.cdc_laws.specs.Connectors.{KeepsTo, held_number, held_start, held_timestamp}
 use Rattle.cdc_laws.proofs.Connectors.{KeepsTo-begin}
-use Rattle.cdc_links.specs.Links.{Incoming, Outgoing, Takes, of_sender}
+use Rattle.cdc_links.specs.Links.{Incoming, Outgoing, Takes, TakesIfSome, of_sender}
 use Rattle.cdc_message.specs.declared.packets.Answer.{Answer}
 use Rattle.cdc_message.specs.declared.packets.Answer.TheVariants.{Connected, Confirmed, Ignored, Broken}
 use Rattle.cdc_message.specs.declared.packets.Confirm.{Confirm}
@@ -317,7 +317,7 @@ pub received_confirm : (old : ConnectorCore) (course : Course) → IsPublishing 
 received_confirm old course is inbox confirm takes new taken =
     received_answer old course is inbox confirm.session taken.unanswered taken.less new confirm.answer takes taken.taken
 
--- ---- a session begins, or a message is received
+-- ---- a session begins, or messages are received
 
 -- what holds between two turns
 not_none : (o : Option SessionState) → o ≡ None → is_some o ≡ true → ⊥
@@ -355,24 +355,15 @@ module _ (old : ConnectorCore) (end : IsConnectorActor old) (working : old.finis
     unfolding running runs
     followed = followed_by
 
-    -- a message was received
-    received_moves : (moved : Bool) (new : ConnectorCore) → IsReplyReceived old running.course moved new
+    -- messages were received
+    received_moves : (moved : Bool) (new : ConnectorCore) → AreReceived old running.course moved new
         → (s : Option SessionState)
         → old.session ≡ s → IsBegunOrReceived s old moved new
-    received_moves moved new is None down = absurd (not_none old.session down up)
-    received_moves moved new is (Some kept) there = record {
-      message = is.message;
-      takes = is.takes;
-      sessions = is.sessions;
-      course = running.course;
-      stood = running.publishing.stands;
-      saves = is.saves;
-      same = is.same;
-      unasked = is.unasked;
-      still = λ quiet. (is.still quiet).1;
-    }
+    received_moves moved new are None down = absurd (not_none old.session down up)
+    received_moves moved new are (Some kept) there =
+        record { messages = are.messages; some = are.some; takes = are.takes; unasked = are.unasked }
 
-    -- if the message had no effect, it is as before
+    -- if they had no effect, it is as before
     stays : (new : ConnectorCore) (next : Course) → IsTurnOf new next → next ≡ running.course
         → new ≡ record old { inbox = new.inbox } → HasFollowed new next
     stays new next turn same after =
@@ -392,15 +383,15 @@ module _ (old : ConnectorCore) (end : IsConnectorActor old) (working : old.finis
               ∙ ap (λ n. is_done running.course && (n == 0)) (sym (ap (λ (c : ConnectorCore). c.unanswered) after));
         })
 
-    pub received_so : (moved : Bool) (new : ConnectorCore) → IsReplyReceived old running.course moved new
+    pub received_so : (moved : Bool) (new : ConnectorCore) → AreReceived old running.course moved new
         → IsAdvanced old moved new
-    received_so moved new is = record {
-      next = is.next;
-      publishing = is.publishing;
-      turn = is.turn running.turn;
-      working = is.working ∙ working;
-      moves = received_moves moved new is old.session refl;
-      still = λ quiet. let same = is.still quiet in stays new is.next (is.turn running.turn) same.0 same.1;
+    received_so moved new are = record {
+      next = are.next;
+      publishing = are.publishing;
+      turn = are.turn;
+      working = are.working ∙ working;
+      moves = received_moves moved new are old.session refl;
+      still = λ quiet. let same = are.still quiet in stays new are.next are.turn same.0 same.1;
     }
 
   -- the first session has begun
@@ -443,17 +434,17 @@ module _ (old mid new : ConnectorCore) where
     same = same_trans old mid new is.same (same_of mid new on.goes_on);
   }
   followed_turn (Some kept) some is on = record {
-    message = is.message;
-    takes = subst (Takes FollowsToConnector old.inbox is.message) (sym on.goes_on.inbox) is.takes;
-    sessions =
-        let n = ended_by (held_number old.held) is.message in
-        subst (λ m. RisesBy m old new) (sym (add_none n))
-        (RisesBy-trans n 0 old mid new is.same.honest is.sessions on.sessions);
-    course = is.course;
-    stood = is.stood;
-    saves = λ gives. on.time.time (is.same.honest ∙ gives) some ∙ is.saves gives;
-    unasked = λ other. let moved = is.unasked other in cc;
-    same = same_trans old mid new is.same (same_of mid new on.goes_on);
+    messages = is.messages;
+    some = is.some;
+    taken = mid;
+    takes = is.takes;
+    follows = record {
+      inbox = on.goes_on.inbox;
+      sessions = on.sessions;
+      saves = λ gives. on.time.time gives some;
+      same = same_of mid new on.goes_on;
+    };
+    unasked = λ others. absurd (true≢false (is.unasked others));
   }
 
   pub turned : IsAdvanced old true mid → IsFollowed mid new → IsWorkingTurn old.session old new
@@ -467,14 +458,17 @@ module _ (old new : ConnectorCore) where
   still_turn : (s : Option SessionState) → IsBegunOrReceived s old false new → IsWorkingTurn s old new
   still_turn None is = is
   still_turn (Some kept) is = record {
-    message = is.message;
+    messages = is.messages;
+    some = is.some;
+    taken = new;
     takes = is.takes;
-    sessions = is.sessions;
-    course = is.course;
-    stood = is.stood;
-    saves = is.saves;
-    unasked = λ other. is.still refl;
-    same = is.same;
+    follows = record {
+      inbox = refl;
+      sessions = RisesBy-same new new refl refl refl;
+      saves = λ gives. refl;
+      same = same_of new new (GoesOn-same new);
+    };
+    unasked = λ others. refl;
   }
 
   pub turned_still : IsAdvanced old false new → IsWorkingTurn old.session old new
@@ -487,11 +481,18 @@ pub rests_then : (mid new : ConnectorCore) → IsFollowed mid new → IsConnecto
 rests_then mid new is = record { course = Some is.course; publishing = is.publishing; rest = is.followed }
 
 -- what the work inside a connector received, the connector received
-pub took : (inside now new : Incoming ToConnector (Option Past)) (message other : ToConnector) → inside ≡ now
-    → message ≡ other → Takes FollowsToConnector inside message new → Takes FollowsToConnector now other new
-took inside now new message other same is takes =
-    subst (λ (i : Incoming ToConnector (Option Past)). Takes FollowsToConnector i other new) same
-    (subst (λ m. Takes FollowsToConnector inside m new) is takes)
+pub took : (inside now : ConnectorCore) (message : ToConnector) (new : Incoming ToConnector (Option Past))
+    → inside ≡ now → Takes FollowsToConnector inside.inbox message new → Takes FollowsToConnector now.inbox message new
+took inside now message new same takes =
+    subst (λ (c : ConnectorCore). Takes FollowsToConnector c.inbox message new) same takes
+
+-- the same of a message that was ready
+pub took_ready : (inside now : ConnectorCore) (ready : Option ToConnector) (message : ToConnector)
+    (new : Incoming ToConnector (Option Past)) → inside ≡ now → ready ≡ Some message
+    → TakesIfSome FollowsToConnector inside.inbox ready new → Takes FollowsToConnector now.inbox message new
+took_ready inside now ready message new same is takes =
+    took inside now message new same
+    (subst (λ (r : Option ToConnector). TakesIfSome FollowsToConnector inside.inbox r new) is takes)
 
 -- ---- it begins
 

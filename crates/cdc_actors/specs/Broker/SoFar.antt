@@ -1,5 +1,5 @@
 -- How far the broker actor has come, whether it has met a fault or not.
-use Rattle.std.specs.Prelude.{◌≡◌, ℕ, zero, suc, ◌+◌, ◌≤◌, Bool, Some, List, [], ◌++◌, length, map, slice_get}
+use Rattle.std.specs.Prelude.{◌≡◌, ℕ, ◌+◌, ◌≤◌, Bool, Some, List, [], ◌++◌, length, map, slice_get}
 use Rattle.cdc_broker.specs.Broker.{queue_of}
 use Rattle.cdc_broker.specs.Queues.{QueueState}
 use Rattle.cdc_actors.specs.Broker.{BrokerCore, IsBrokerActor, as_confirm, as_sent, dealings, deliveries_in, stop_sent_if}
@@ -11,12 +11,11 @@ use Rattle.cdc_actors.specs.declared.faults.RunFault.{RunFault}
 use Rattle.cdc_actors.specs.declared.faults.RunFault.TheVariants.{OutOfMemory}
 use Rattle.cdc_laws.specs.Brokers.{HasArrived, HasDelivered}
 use Rattle.cdc_laws.specs.Deliveries.{deliveries}
-use Rattle.cdc_links.specs.Links.{Incoming, Takes, of_sender}
+use Rattle.cdc_links.specs.Links.{TakesMany, of_sender}
 use Rattle.cdc_message.specs.Replays.{IsReplay}
 use Rattle.cdc_message.specs.declared.packets.Confirm.{Confirm}
 use Rattle.cdc_message.specs.declared.packets.Packet.{Packet}
 use Rattle.cdc_traffic.specs.Following.{FollowsToBroker}
-use Rattle.cdc_traffic.specs.declared.messages.ToBroker.{ToBroker}
 
 -- ---- at any time
 
@@ -48,13 +47,6 @@ pub record IsBrokerSoFar (d : BrokerCore) : Type 0 where
 
 -- ---- a turn that fails
 
--- so many messages were received, one after another
-abbrev pub Receives : ℕ → Incoming ToBroker (Unit {0}) → Incoming ToBroker (Unit {0}) → Type 0
-Receives zero old new = new ≡ old
-Receives (suc n) old new =
-    (message : ToBroker) × (mid : Incoming ToBroker (Unit {0}))
-    × Takes FollowsToBroker old message mid × Receives n mid new
-
 -- each queue has delivered exactly what its subscriber was sent
 abbrev pub AreDelivered : BrokerCore → Type 0
 AreDelivered d = (place : ℕ) (c : Consumer) → slice_get d.consumers place ≡ Some c
@@ -66,7 +58,7 @@ pub record HasFailed (old : BrokerCore) (fault : RunFault) (new : BrokerCore) : 
   pub links : HasSameLinks old new
   pub plan : new.plan ≡ old.plan
   pub finished : new.finished ≡ old.finished
-  pub inbox : (n : ℕ) × Receives n old.inbox new.inbox
+  pub inbox : (n : ℕ) × TakesMany FollowsToBroker n old.inbox new.inbox
   pub kind : IsTurnFault fault
   pub so_far : IsBrokerSoFar new
   pub memory : fault ≡ OutOfMemory → (so_far.unsent ≡ []) × AreDelivered new

@@ -1,6 +1,7 @@
 -- What the parts of a connector's turn do. Private contracts and proofs alone cite this file.
-use Rattle.std.specs.Prelude.{◌≡◌, ◌==◌, ◌⊎◌, ℕ, ◌+◌, ◌<◌, ◌≤◌, Bool, true, false, Option, Some, None, Ok, cond, unwrap_or, if◌then◌else◌}
-use Rattle.cdc_actors.specs.Connector.{HasFollowed, IsFirstTurn, IsOfSame, IsPublishing, IsTurnOf, IsUnasked, ConnectorCore, RisesBy, ended_by, is_publish, origin_of, poll_for, saved_by}
+use Rattle.std.specs.Prelude.{◌≡◌, ◌==◌, ◌⊎◌, ℕ, ◌+◌, ◌<◌, ◌≤◌, Bool, true, false, Option, Some, None, Ok, List, length, cond, unwrap_or, if◌then◌else◌}
+use Rattle.std.specs.List.{AllByRecursion}
+use Rattle.cdc_actors.specs.Connector.{HasFollowed, HasTakenAll, IsFirstTurn, IsOfSame, IsPublishing, IsTurnOf, IsUnasked, ConnectorCore, RisesBy, ended_by, is_publish, origin_of, poll_for, saved_by}
 use Rattle.cdc_publisher.specs.Stands.{SessionStands}
 use Rattle.cdc_laws.specs.Connectors.{held_number, held_timestamp}
 use Rattle.cdc_links.specs.Links.{Takes, with_sent as with_message}
@@ -176,6 +177,12 @@ pub record IsConfirmTaken (old : ConnectorCore) (course : Course) (confirm : Con
   pub less : old.unanswered ≡ unanswered + 1
   pub taken : IsAnswerTaken (record old { unanswered = unanswered }) course confirm.session confirm.answer new
 
+-- a message was received, and isn't taken yet
+pub record HasCome (old : ConnectorCore) (message : ToConnector) (new : ConnectorCore) : Type 0 where
+  pub sends : IsSending old
+  pub takes : Takes FollowsToConnector old.inbox message new.inbox
+  pub after : new ≡ record old { inbox = new.inbox }
+
 -- a message was received and taken. If it had no effect, nothing else has changed
 pub record IsReplyReceived (old : ConnectorCore) (course : Course) (moved : Bool) (new : ConnectorCore) : Type 0 where
   pub message : ToConnector
@@ -191,20 +198,31 @@ pub record IsReplyReceived (old : ConnectorCore) (course : Course) (moved : Bool
   pub unasked : IsUnasked old.poll message → moved ≡ false
   pub still : moved ≡ false → (next ≡ course) × (new ≡ record old { inbox = new.inbox })
 
--- of a turn that goes on from a session, before anything follows: a message was received
-pub record IsReceived (old : ConnectorCore) (moved : Bool) (new : ConnectorCore) : Type 0 where
-  pub message : ToConnector
-  pub takes : Takes FollowsToConnector old.inbox message new.inbox
-  pub sessions : RisesBy (ended_by (held_number old.held) message) old new
-  pub course : Course
-  pub stood : SessionStands old.session (Some course)
-  pub saves : old.honest ≡ true
-      → held_timestamp new.held ≡ saved_by (held_timestamp old.held) course message
-  pub same : IsOfSame old new
-  pub unasked : IsUnasked old.poll message → moved ≡ false
-  pub still : moved ≡ false → new ≡ record old { inbox = new.inbox }
+-- no message was received, or one was, and was taken
+abbrev pub IsReceivedIf : ConnectorCore → Course → Option Bool → ConnectorCore → Type 0
+IsReceivedIf old course None new = new ≡ old
+IsReceivedIf old course (Some moved) new = IsReplyReceived old course moved new
 
--- the first session has begun, or a message was received
+-- messages were received and taken, one at least. If none had an effect, nothing else has changed
+pub record AreReceived (old : ConnectorCore) (course : Course) (moved : Bool) (new : ConnectorCore) : Type 0 where
+  pub messages : List ToConnector
+  pub some : 0 < length messages
+  pub takes : HasTakenAll old messages new
+  pub next : Course
+  pub publishing : IsPublishing new (Some next)
+  pub turn : IsTurnOf new next
+  pub working : new.finished ≡ old.finished
+  pub unasked : AllByRecursion (IsUnasked old.poll) messages → moved ≡ false
+  pub still : moved ≡ false → (next ≡ course) × (new ≡ record old { inbox = new.inbox })
+
+-- of a turn that goes on from a session, before anything follows: messages were received
+pub record IsReceived (old : ConnectorCore) (moved : Bool) (new : ConnectorCore) : Type 0 where
+  pub messages : List ToConnector
+  pub some : 0 < length messages
+  pub takes : HasTakenAll old messages new
+  pub unasked : AllByRecursion (IsUnasked old.poll) messages → moved ≡ false
+
+-- the first session has begun, or messages were received
 abbrev pub IsBegunOrReceived : Option SessionState → ConnectorCore → Bool → ConnectorCore → Type 0
 IsBegunOrReceived None old moved new = IsFirstTurn old new
 IsBegunOrReceived (Some kept) old moved new = IsReceived old moved new

@@ -1,12 +1,12 @@
 -- How far a connector actor has come, whether it has met a fault or not.
-use Rattle.std.specs.Prelude.{◌≡◌, ◌⊎◌, ℕ, ◌+◌, Bool, IsTrue, true, false, Option, None, Err, List, ◌++◌, length, map}
+use Rattle.std.specs.Prelude.{◌≡◌, ◌⊎◌, ℕ, ◌+◌, Bool, IsTrue, true, false, None, Err, List, ◌++◌, length, map}
 use Rattle.std.specs.List.{filter}
 use Rattle.cdc_actors.specs.Connector.{HasRestarted, IsAtStart, IsConnectorActor, IsOfSame, IsWired, ConnectorCore, confirms_in, connector_of, finish_if, is_publish, origin_of, packets_in, polls_in}
 use Rattle.cdc_actors.specs.declared.faults.RunFault.{RunFault}
 use Rattle.cdc_actors.specs.declared.faults.RunFault.TheVariants.{PeerGone, OutOfMemory, Store, SessionsExhausted, NotOneSystem, StartNotAllowed}
 use Rattle.cdc_laws.specs.ConnectorRuns.{IsConnectorRun}
 use Rattle.cdc_laws.specs.Readings.{KeepsToReadings}
-use Rattle.cdc_links.specs.Links.{CanSend, Incoming, Takes, of_sender}
+use Rattle.cdc_links.specs.Links.{CanSend, TakesMany, of_sender}
 use Rattle.cdc_progress.specs.declared.errors.StoreError.TheVariants as store
 use Rattle.cdc_publisher.specs.Courses.{begun}
 use Rattle.cdc_publisher.specs.declared.errors.StartError.TheVariants as start
@@ -15,10 +15,8 @@ use Rattle.cdc_traffic.specs.Laws.{readings_of}
 use Rattle.cdc_traffic.specs.Pasts.{history_of}
 use Rattle.cdc_traffic.specs.declared.messages.ToBroker.{ToBroker}
 use Rattle.cdc_traffic.specs.declared.messages.ToBroker.TheVariants as to_broker
-use Rattle.cdc_traffic.specs.declared.messages.ToConnector.{ToConnector}
 use Rattle.cdc_traffic.specs.declared.messages.ToLedger.{ToLedger}
 use Rattle.cdc_traffic.specs.declared.messages.ToLedger.TheVariants as to_ledger
-use Rattle.cdc_traffic.specs.declared.pasts.Past.{Past}
 
 -- ---- faults
 
@@ -66,14 +64,10 @@ pub record IsConnectorSoFar (c : ConnectorCore) : Type 0 where
 
 -- ---- a turn that fails
 
--- nothing was received, or one message
-abbrev pub ReceivesAtMostOne : Incoming ToConnector (Option Past) → Incoming ToConnector (Option Past) → Type 0
-ReceivesAtMostOne old new = (new ≡ old) ⊎ ((message : ToConnector) × Takes FollowsToConnector old message new)
-
--- a turn of an actor that hasn't finished fails
+-- a turn of an actor that hasn't finished fails. It may have received messages
 pub record HasFailed (old : ConnectorCore) (fault : RunFault) (new : ConnectorCore) : Type 0 where
   pub working : old.finished ≡ false
-  pub inbox : ReceivesAtMostOne old.inbox new.inbox
+  pub inbox : (n : ℕ) × TakesMany FollowsToConnector n old.inbox new.inbox
   pub same : IsOfSame old new
   pub risked : IsFaultOf new fault
   pub so_far : IsConnectorSoFar new

@@ -1,9 +1,9 @@
 //! What a connector works with: its session and its store, what it asks the ledger for, and what it publishes.
 
 ghost use Rattle.std.specs.Prelude.{◌≡◌, ◌≤◌, ◌==◌, ◌&&◌, IfErr, IfOk, Some, false};
-ghost use Rattle.cdc_actors.specs.Connector.{IsConnectorActor, IsPublishing, IsWorkingTurn, first_connector};
+ghost use Rattle.cdc_actors.specs.Connector.{ConnectorCore as Core, IsConnectorActor, IsPublishing, IsTurnOf, IsWorkingTurn, first_connector};
 ghost use Rattle.cdc_publisher.specs.Stands.{SessionStands};
-ghost use Rattle.cdc_actors.specs.Connector.Moves.{AreSent, IsAdvanced, IsAnswerTaken, IsBegun, IsConfirmTaken, IsFollowed, IsReplyReceived, IsPacketSent, IsReplyTaken, IsSending, IsSentNext, asked_if, finished_if, wanted_by};
+ghost use Rattle.cdc_actors.specs.Connector.Moves.{AreReceived, AreSent, HasCome, IsAdvanced, IsAnswerTaken, IsBegun, IsConfirmTaken, IsFollowed, IsReceivedIf, IsReplyReceived, IsPacketSent, IsReplyTaken, IsSending, IsSentNext, asked_if, finished_if, wanted_by};
 ghost use Rattle.cdc_actors.specs.Connector.Fails.{IsConfirmFailed, IsCutShort, IsNotBegun, IsUnfinished, IsUnsaved, IsUnsent};
 ghost use Rattle.cdc_actors.specs.Connector.SoFar.{HasFailed};
 ghost use Rattle.cdc_actors.specs.declared.faults.RunFault.TheVariants.{PeerGone};
@@ -12,7 +12,7 @@ ghost use Rattle.cdc_publisher.specs.Courses.{Course, is_done, next_packet, with
 ghost use Rattle.cdc_publisher.specs.Offers.{IsOffered};
 ghost use Rattle.cdc_types.specs.Windows.{IsWindow};
 
-use crate::connector::links::{publish, receive, send_message};
+use crate::connector::links::{publish, receive, receive_ready, send_message};
 use crate::connector::rules::{count_publish, first_base, is_due, is_open, is_own};
 use crate::ends::{Turns, Work};
 use crate::faults::RunFault;
@@ -26,6 +26,9 @@ use cdc_types::EventTimestamp;
 use std::alloc::Global;
 use std::marker::Model;
 use std::sync::Wait;
+
+// How many more messages a turn takes after its first, if they are ready, before it sends what follows.
+const MOST_READY: usize = 64;
 
 /// A connector's endpoints; its store; the timestamp that its first session is to start after; its session, if one
 /// runs, with how many polls that has sent and the open one; how many packets are without an answer; after which
@@ -343,15 +346,17 @@ impl<S: ProgressStore> ConnectorCore<S> {
         }
     }
 
-    /// Receives a message and takes it. Returns whether anything may follow from it: nothing does from a reply to
-    /// another poll.
-    fn receive_next<R: Wait>(&mut self, rt: &R, alloc: Global) -> Result<bool, RunFault>
-        requires { IsSending self.old }
-        ensures after { (course : Course) → IsPublishing self.old (Some course)
-            → IfOk result (λ moved. IsReplyReceived self.old course moved self.new) }
-        ensures failed { IfErr result (λ fault. HasFailed self.old fault self.new) }
+    /// Takes a message that was just received. Returns whether anything may follow from it: nothing does from a reply
+    /// to another poll.
+    fn handle(&mut self, alloc: Global, message: ToConnector) -> Result<bool, RunFault>
+        requires { (before : Core) × HasCome before message self.old }
+        ensures after { (before : Core) → HasCome before message self.old
+            → (course : Course) → IsPublishing before (Some course)
+            → IfOk result (λ moved. IsReplyReceived before course moved self.new) }
+        ensures failed { (before : Core) → HasCome before message self.old
+            → IfErr result (λ fault. HasFailed before fault self.new) }
     {
-        match receive(&mut self.inbox, rt)? {
+        match message {
             ToConnector::PollReply(reply) => Ok(self.take_reply(&reply)),
             ToConnector::Confirm(confirm) => {
                 self.take_confirm(alloc, confirm)?;
@@ -360,7 +365,50 @@ impl<S: ProgressStore> ConnectorCore<S> {
         }
     }
 
-    /// Begins the first session if none has begun; otherwise receives a message. Returns whether anything may follow.
+    /// Receives the next message and takes it. Returns whether anything may follow from it.
+    fn receive_next<R: Wait>(&mut self, rt: &R, alloc: Global) -> Result<bool, RunFault>
+        requires { IsSending self.old }
+        ensures after { (course : Course) → IsPublishing self.old (Some course)
+            → IfOk result (λ moved. IsReplyReceived self.old course moved self.new) }
+        ensures failed { IfErr result (λ fault. HasFailed self.old fault self.new) }
+    {
+        let message = receive(&mut self.inbox, rt)?;
+        self.handle(alloc, message)
+    }
+
+    /// Receives the next message and takes it, if there is one. Returns whether anything may follow from it.
+    fn receive_ready<R: Wait>(&mut self, rt: &R, alloc: Global) -> Result<Option<bool>, RunFault>
+        requires { IsSending self.old }
+        ensures after { (course : Course) → IsPublishing self.old (Some course)
+            → IfOk result (λ moved. IsReceivedIf self.old course moved self.new) }
+        ensures failed { IfErr result (λ fault. HasFailed self.old fault self.new) }
+    {
+        let Some(message) = receive_ready(&mut self.inbox, rt)? else {
+            return Ok(None);
+        };
+        let moved = self.handle(alloc, message)?;
+        Ok(Some(moved))
+    }
+
+    /// Receives the next message, and then those that are ready. Each is taken before the next one is received. Returns
+    /// whether anything may follow from them.
+    fn receive_all<R: Wait>(&mut self, rt: &R, alloc: Global) -> Result<bool, RunFault>
+        requires { IsSending self.old }
+        ensures after { (course : Course) → IsPublishing self.old (Some course) → IsTurnOf self.old course
+            → IfOk result (λ moved. AreReceived self.old course moved self.new) }
+        ensures failed { IfErr result (λ fault. HasFailed self.old fault self.new) }
+    {
+        let mut moved = self.receive_next(rt, alloc)?;
+        for _ in 0..MOST_READY {
+            let Some(more) = self.receive_ready(rt, alloc)? else {
+                return Ok(moved);
+            };
+            moved = moved || more;
+        }
+        Ok(moved)
+    }
+
+    /// Begins the first session if none has begun; otherwise receives messages. Returns whether anything may follow.
     fn advance<R: Wait>(&mut self, rt: &R, alloc: Global) -> Result<bool, RunFault>
         requires rest { IsConnectorActor self.old }
         requires working { self.old.finished ≡ false }
@@ -368,13 +416,14 @@ impl<S: ProgressStore> ConnectorCore<S> {
         ensures failed { IfErr result (λ fault. HasFailed self.old fault self.new) }
     {
         if self.session.is_some() {
-            return self.receive_next(rt, alloc);
+            return self.receive_all(rt, alloc);
         }
         self.begin(alloc)?;
         Ok(true)
     }
 
-    /// Receives a message, and sends what follows from it. The first turn begins the first session, and only sends.
+    /// Receives the next message and those that are ready, and sends what follows from them. The first turn begins the
+    /// first session, and only sends.
     fn turn<R: Wait>(&mut self, rt: &R, alloc: Global) -> Result<(), RunFault>
         requires kept { IsConnectorActor self.old }
         requires goes_on { self.old.finished ≡ false }

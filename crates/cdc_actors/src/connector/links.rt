@@ -2,11 +2,11 @@
 
 ghost use Rattle.std.specs.Prelude.{◌≡◌, IfErr, IfOk};
 ghost use Rattle.cdc_actors.specs.declared.faults.RunFault.TheVariants.{PeerGone};
-ghost use Rattle.cdc_links.specs.Links.{Takes, with_sent};
+ghost use Rattle.cdc_links.specs.Links.{Takes, TakesIfSome, with_sent};
 ghost use Rattle.cdc_traffic.specs.Following.{FollowsToBroker, FollowsToConnector, FollowsToLedger};
 
 use crate::faults::RunFault;
-use crate::peers::{Nothing, receive_from, send_to};
+use crate::peers::{Nothing, receive_from, receive_ready_from, send_to};
 use cdc_links::{LinkIn, LinkOut};
 use cdc_traffic::{ToBroker, ToConnector, ToLedger};
 use std::sync::Wait;
@@ -44,4 +44,15 @@ pub(crate) fn receive<R: Wait>(
     ensures refused { IfErr result (λ fault. (fault ≡ PeerGone) × (inbox.new ≡ inbox.old)) }
 {
     receive_from(inbox, rt)
+}
+
+/// Receives the next message if there is one, and never waits.
+pub(crate) fn receive_ready<R: Wait>(
+    inbox: &mut LinkIn<ToConnector>,
+    rt: &R,
+) -> Result<Option<ToConnector>, RunFault>
+    ensures taken { IfOk result (λ ready. TakesIfSome FollowsToConnector inbox.old ready inbox.new) }
+    ensures refused { IfErr result (λ fault. (fault ≡ PeerGone) × (inbox.new ≡ inbox.old)) }
+{
+    receive_ready_from(inbox, rt)
 }

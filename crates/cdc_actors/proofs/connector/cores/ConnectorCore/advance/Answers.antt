@@ -1,18 +1,18 @@
 use Rattle.std.proofs.Common.{◌≡◌, false, true, sym, ap, ◌∙◌}
 use Rattle.std.specs.Prelude.{is_some}
 use Rattle.cdc_actors.specs.Connector.{ConnectorCore}
-use Rattle.cdc_actors.specs.Connector.Moves.{IsAdvanced, IsReplyReceived}
+use Rattle.cdc_actors.specs.Connector.Moves.{AreReceived, IsAdvanced}
 use Rattle.cdc_actors.proofs.ConnectorLemmas.Rounds.{first_so, received_so, running}
 use Rattle.cdc_actors.proofs.ConnectorLemmas.Turns.{if_ok_then}
-use Rattle.std.proofs.Common.{inl, refl}
+use Rattle.std.proofs.Common.{refl}
 use Rattle.cdc_actors.specs.Connector.SoFar.{HasFailed}
 use Rattle.cdc_actors.proofs.ConnectorLemmas.Failing.{cut_begin, failed_of, publishing_so_far}
 use Rattle.cdc_actors.proofs.ConnectorLemmas.Turns.{GoesOn-same, same_of}
 use Rattle.cdc_actors.proofs.PassedOn.{passed_on}
 use Rattle.cdc_actors.proofs.connector.cores.ConnectorCore.advance.Goals as goal
 
-pub receive_next-requires : goal.receive_next-requires
-receive_next-requires g c =
+pub receive_all-requires : goal.receive_all-requires
+receive_all-requires g c =
     let up : is_some c.args.self.now.session ≡ true =
     ap (λ (w : ConnectorCore). is_some w.session) (sym c.self.view_is) ∙ sym c.is_some.ensures ∙ c.if-is_some.true in
     running c.args.self.now c.requires.rest c.requires.working up
@@ -23,10 +23,10 @@ returns-then-is_some-clause-after g c =
     let up : is_some now.session ≡ true =
     ap (λ (w : ConnectorCore). is_some w.session) (sym c.self.view_is) ∙ sym c.is_some.ensures ∙ c.if-is_some.true in
     let sends = running now c.requires.rest c.requires.working up in
-    if_ok_then c.receive_next.result (λ moved. IsReplyReceived now sends.course moved c.receive_next.new.self)
-    (λ moved. IsAdvanced now moved c.receive_next.new.self)
-    (λ moved is. received_so now c.requires.rest c.requires.working up moved c.receive_next.new.self is)
-    (c.receive_next.ensures.after sends.course sends.publishing)
+    if_ok_then c.receive_all.result (λ moved. AreReceived now sends.course moved c.receive_all.new.self)
+    (λ moved. IsAdvanced now moved c.receive_all.new.self)
+    (λ moved are. received_so now c.requires.rest c.requires.working up moved c.receive_all.new.self are)
+    (c.receive_all.ensures.after sends.course sends.publishing sends.turn)
 
 pub returns-clause-after : goal.returns-clause-after
 returns-clause-after g c =
@@ -39,6 +39,6 @@ returns-in_err-begin-clause-failed g c =
     let now = c.args.self.now in
     let fault = c.in_err-begin.field-0.0 in
     passed_on (λ f. HasFailed now f c.begin.new.self) c.from_residual.result fault c.from_residual.ensures.1
-    (failed_of now now c.begin.new.self fault c.requires.working (inl refl) (same_of now now (GoesOn-same now))
+    (failed_of now now c.begin.new.self fault c.requires.working (0, refl) (same_of now now (GoesOn-same now))
     (cut_begin now c.begin.new.self fault (publishing_so_far now c.requires.rest.course c.requires.rest.publishing)
     c.in_err-begin.ensures.failed))
