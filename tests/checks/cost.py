@@ -5,10 +5,11 @@
   tests/checks/cost.py [PROGRAM] --top N                     the N functions that a full script spends most in
 
 The parts are accounts-2 and accounts-5000 (`books` on more and more transfers), full (a script of the greatest size),
-subscribers (what each further one takes), phases (pending transfers, posts and a pulse), chains (transfers that are linked),
-log (reads of the log under `simulate`) and memory (the bytes that `books` asks for). Valgrind counts, so other work on the
-machine disturbs no figure. All of it takes some minutes of CPU time. The last line is 'N passed, M failed', of the figures
-that have limits; exit status 1 where one is over, 2 where nothing could be counted.
+subscribers (what each further one takes), peak (the memory that such a script holds), phases (pending transfers, posts and
+a pulse), chains (transfers that are linked), log (reads of the log under `simulate`) and memory (the bytes that `books` asks
+for). Valgrind counts, so other work on the machine disturbs no figure. All of it takes some minutes of CPU time. The last
+line is 'N passed, M failed', of the figures that have limits; exit status 1 where one is over, 2 where nothing could be
+counted.
 """
 import concurrent.futures
 import math
@@ -29,9 +30,10 @@ from scripts import BATCH_ITEMS, SCRIPT_BYTES, TRANSFERS, batches, most_transfer
 # The limits.
 MORE = 3.0  # per cent, of what a further transfer costs, for each doubling
 EXPONENT = 1.03  # of the instructions: a hash table that doubles between two sizes adds up to 0.021; n log n would be 1.12
-FULL = 30_000  # instructions for each transfer of a full script, of the program that LLVM makes
-OWN = 1.25  # how many times these the program may take that Rattle's own compiler makes, as it does of records
-FURTHER = 7_500  # instructions for each transfer and each subscriber beyond the first
+# Instructions of the program that LLVM makes, and of the one that Rattle's own compiler makes, as it does of records.
+FULL = {"books": (20_500, 29_500), "messages": (17_000, 24_500)}  # for each transfer of a full script
+FURTHER = (5_000, 7_500)  # for each transfer and each subscriber beyond the first
+PEAK = 14.0  # megabytes that `books` of a full script may hold at once
 LINKED = 1.05  # what a transfer of a chain may cost, in single-phase transfers
 FAILED = 2.0  # what an item of a chain may cost that fails at its end, in single-phase transfers
 TIMES = 2.0  # what an item of two phases may cost, in single-phase transfers
@@ -84,28 +86,42 @@ class Counter:
     def __init__(self, program, folder, jobs):
         self.program = program
         with open(program, "rb") as it:
-            self.full = FULL * (OWN if b" backend=rattle " in it.read() else 1)
+            self.compiler = 1 if b" backend=rattle " in it.read() else 0
         self.folder = folder
         self.pool = concurrent.futures.ThreadPoolExecutor(jobs)
         self.made = 0
 
-    def run(self, tool, text, steps):
+    def script_of(self, text):
+        """Writes a script, and returns the name of its file without its ending."""
         self.made += 1
         base = f"{self.folder}/{self.made}"
-        arguments = ["books", f"{base}.script"]
         with open(f"{base}.script", "w") as file:
             file.write(text)
         if len(text) > SCRIPT_BYTES:
             sys.exit(f"cost: a script of {len(text)} bytes is too long")
+        return base
+
+    def run(self, tool, text, steps, command="books"):
+        base = self.script_of(text)
+        arguments = [command, f"{base}.script"]
         if steps is not None:
             arguments = ["simulate", f"{base}.script", f"{base}.steps"]
             with open(f"{base}.steps", "w") as file:
                 file.write(steps)
         return self.pool.submit(counted, [*tool_arguments(tool, f"{base}.out"), self.program, *arguments], f"{base}.out")
 
-    def total(self, text, steps=None):
+    def total(self, text, steps=None, command="books"):
         """A future of the instructions that the run takes."""
-        return self.run("cachegrind", text, steps)
+        return self.run("cachegrind", text, steps, command)
+
+    def peak(self, text):
+        """Returns the greatest memory that `books` of the script holds at once, in bytes."""
+        running = subprocess.Popen([self.program, "books", f"{self.script_of(text)}.script"], stdout=subprocess.DEVNULL)
+        _, status, used = os.wait4(running.pid, 0)
+        running.returncode = os.WEXITSTATUS(status) if os.WIFEXITED(status) else -os.WTERMSIG(status)
+        if running.returncode:
+            sys.exit(f"cost: `books` ended with status {running.returncode}")
+        return used.ru_maxrss * 1024
 
 
 # ---------------------------------------------------------------- The table
@@ -172,9 +188,13 @@ def accounts_5000(counter, table):
 
 def full(counter, table):
     count = most_transfers(2)
-    total = total_of(counter.total(script(2, count)).result())
-    table.head(f"books, a full script of 2 accounts and {count:,} transfers: instructions; of each transfer")
-    table.row("from its text to the printed book", total, total / count, counter.full)
+    runs = {command: counter.total(script(2, count), command=command) for command in FULL}
+    totals = {command: total_of(run.result()) for command, run in runs.items()}
+    table.head(f"a full script of 2 accounts and {count:,} transfers: instructions; of each transfer")
+    for command, limits in FULL.items():
+        table.row(f"{command}, from its text to what is printed", totals[command], totals[command] / count,
+                  limits[counter.compiler])
+    total = totals["books"]
     back = total_of(counter.total(script(2, count, 1)).result())
     table.row("the same at decreasing timestamps, which is noted", back, back / total, NOTED)
 
@@ -185,7 +205,16 @@ def subscribers(counter, table):
     totals = {more: total_of(run.result()) for more, run in [(it, counter.total("subscriber all\n" * it + text)) for it in (0, *further)]}
     table.head(f"books, {count:,} transfers: instructions; of each transfer for each further subscriber")
     for more in further:
-        table.row(f"{more + 1} subscribers", totals[more], (totals[more] - totals[0]) / count / more, FURTHER)
+        table.row(f"{more + 1} subscribers", totals[more], (totals[more] - totals[0]) / count / more,
+                  FURTHER[counter.compiler])
+
+
+def peak(counter, table):
+    table.head("books, a full script of 2 accounts: bytes held at once; in megabytes")
+    for more in (0, 7):
+        # Each line of a subscriber takes the room of a transfer.
+        held = counter.peak("subscriber all\n" * more + script(2, most_transfers(2) - more))
+        table.row("8 subscribers" if more else "1 subscriber", held, held / 1e6, PEAK)
 
 
 def chains(counter, table):
@@ -301,7 +330,7 @@ def top(counter, count):
 
 
 COUNTS = {"accounts-2": accounts_2, "accounts-5000": accounts_5000, "full": full, "subscribers": subscribers,
-          "phases": phases, "chains": chains, "log": log, "memory": memory}
+          "peak": peak, "phases": phases, "chains": chains, "log": log, "memory": memory}
 
 
 def main(arguments):
