@@ -136,20 +136,18 @@ fn publish<R: Wait + Abort>(rt: &R, alloc: Global, ends: &mut Ends<MemoryStore>)
     turn_connector(rt, alloc, &mut ends.connector);
 }
 
-// The broker takes two messages, and the subscriber takes what it is sent on the second.
+// The broker takes both messages that are ready in one turn, and the subscriber takes what it is sent.
 fn deliver<R: Wait + Abort>(rt: &R, alloc: Global, ends: &mut Ends<MemoryStore>)
     ensures { seats_of ends.new ≡ seats_of ends.old }
 {
     turn_broker(rt, alloc, &mut ends.broker);
-    turn_broker(rt, alloc, &mut ends.broker);
     turn_subscribers(rt, alloc, &mut ends.subscribers);
 }
 
-// The connector receives both answers of the broker, and has finished. Then the ledger has finished too.
+// The connector receives both answers of the broker in one turn, and has finished. Then the ledger has finished too.
 fn confirm<R: Wait + Abort>(rt: &R, alloc: Global, ends: &mut Ends<MemoryStore>)
     ensures { seats_of ends.new ≡ seats_of ends.old }
 {
-    turn_connector(rt, alloc, &mut ends.connector);
     turn_connector(rt, alloc, &mut ends.connector);
     turn_ledger(rt, alloc, &mut ends.ledger);
 }
