@@ -24,6 +24,7 @@ sys.dont_write_bytecode = True
 sys.path.insert(0, os.path.join(os.path.dirname(os.path.realpath(__file__)), "..", "common"))
 import ending
 import rooms
+import spent
 from counting import bytes_of, counted, tool_arguments, total_of
 from scripts import BATCH_ITEMS, SCRIPT_BYTES, TRANSFERS, batches, most_transfers, opened, script, single_phase, transfer
 
@@ -116,12 +117,7 @@ class Counter:
 
     def peak(self, text):
         """Returns the greatest memory that `books` of the script holds at once, in bytes."""
-        running = subprocess.Popen([self.program, "books", f"{self.script_of(text)}.script"], stdout=subprocess.DEVNULL)
-        _, status, used = os.wait4(running.pid, 0)
-        running.returncode = os.WEXITSTATUS(status) if os.WIFEXITED(status) else -os.WTERMSIG(status)
-        if running.returncode:
-            sys.exit(f"cost: `books` ended with status {running.returncode}")
-        return used.ru_maxrss * 1024
+        return spent.Meter(self.folder).run([self.program, "books", f"{self.script_of(text)}.script"], self.folder).memory
 
 
 # ---------------------------------------------------------------- The table
