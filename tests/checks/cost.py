@@ -34,7 +34,8 @@ EXPONENT = 1.03  # of the instructions: a hash table that doubles between two si
 # Instructions of the program that LLVM makes, and of the one that Rattle's own compiler makes, as it does of records.
 FULL = {"books": (20_500, 29_500), "messages": (17_000, 24_500)}  # for each transfer of a full script
 FURTHER = (5_000, 7_500)  # for each transfer and each subscriber beyond the first
-PEAK = 14.0  # megabytes that `books` of a full script may hold at once
+# Megabytes that `books` of a full script may hold at once. The code of the program takes 2 and 3 of them.
+PEAK = (14.5, 15.5)
 LINKED = 1.05  # what a transfer of a chain may cost, in single-phase transfers
 FAILED = 2.0  # what an item of a chain may cost that fails at its end, in single-phase transfers
 TIMES = 2.0  # what an item of two phases may cost, in single-phase transfers
@@ -210,7 +211,7 @@ def peak(counter, table):
     for more in (0, 7):
         # Each line of a subscriber takes the room of a transfer.
         held = counter.peak("subscriber all\n" * more + script(2, most_transfers(2) - more))
-        table.row("8 subscribers" if more else "1 subscriber", held, held / 1e6, PEAK)
+        table.row("8 subscribers" if more else "1 subscriber", held, held / 1e6, PEAK[counter.compiler])
 
 
 def chains(counter, table):
