@@ -34,8 +34,9 @@ EXPONENT = 1.03  # of the instructions: a hash table that doubles between two si
 # Instructions of the program that LLVM makes, and of the one that Rattle's own compiler makes, as it does of records.
 FULL = {"books": (20_500, 29_500), "messages": (17_000, 24_500)}  # for each transfer of a full script
 FURTHER = (5_000, 7_500)  # for each transfer and each subscriber beyond the first
-# Megabytes that `books` of a full script may hold at once. The code of the program takes 2 and 3 of them.
-PEAK = (14.5, 15.5)
+# Megabytes that `books` of a full script may hold at once: 14 and 15 were measured, of which the code of the program takes 2 and
+# 3; with each event kept to the end it was 27. What a system gives in larger pages adds some.
+PEAK = (16, 17)
 LINKED = 1.05  # what a transfer of a chain may cost, in single-phase transfers
 FAILED = 2.0  # what an item of a chain may cost that fails at its end, in single-phase transfers
 TIMES = 2.0  # what an item of two phases may cost, in single-phase transfers
