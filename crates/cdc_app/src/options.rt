@@ -102,7 +102,7 @@ fn read_arguments<'a>(alloc: Global, args: &'a [&'a str]) -> Result<ArgMatches<'
     let program = Command::new(alloc, "relayplum")
         .no_binary_name(true)
         .bin_name("relayplum")?
-        .version("1.0.0")
+        .version("1.1.0")
         .about(ABOUT)
         .after_help(MORE)
         .subcommand_required(true)
