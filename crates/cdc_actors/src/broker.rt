@@ -8,6 +8,7 @@ ghost use Rattle.cdc_actors.specs.Ends.{new_end};
 
 mod consumers;
 mod cores;
+mod links;
 mod plans;
 
 use crate::ends::End;

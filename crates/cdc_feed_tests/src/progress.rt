@@ -184,8 +184,8 @@ fn a_store_goes_by_its_file(rt: HostRuntime) -> Result<(), Fail> {
     Ok(())
 }
 
-// What a store keeps locked, and for how long: the file that it has loaded, until its next call; after a call that failed
-// nothing.
+// A store keeps the file that it has loaded locked until its next call. After a call that failed it keeps nothing
+// locked.
 #[test]
 fn a_loaded_file_stays_locked(rt: HostRuntime) -> Result<(), Fail> {
     let folder = scratch(&rt)?;
@@ -232,8 +232,8 @@ fn a_store_keeps_what_it_read(rt: HostRuntime) -> Result<(), Fail> {
     Ok(())
 }
 
-// A store that couldn't read its file as a record refuses each load, whatever the file holds later; it saves once nothing
-// else is in the way.
+// A store that couldn't read its file as a record refuses each load, whatever the file holds later. It saves once
+// nothing else is in the way.
 #[test]
 fn what_was_no_record_is_never_loaded(rt: HostRuntime) -> Result<(), Fail> {
     let folder = scratch(&rt)?;

@@ -221,7 +221,8 @@ pub(crate) fn push_at_event(
     )
 }
 
-/// Adds the line of an event that is refused by this rule, with an account that was created at the timestamp of another one.
+/// Adds the line of an event that is refused by this rule, with an account that was created at the timestamp of
+/// another one.
 pub(crate) fn push_together(
     alloc: Global,
     lines: &mut Lines,

@@ -5,10 +5,10 @@ use cdc_actors::{Place, Repeats, Story};
 /// Lets the actors of a run pass. It is called before each turn of each place, counted from 1, on the thread of that
 /// place, and may take its time. So a test can hold one actor until another one has come so far.
 pub trait Gate {
-    /// Returns once the actor of this place may take this turn. A client's turn is one batch. A turn of the broker or of
-    /// the connector is the next message and up to 64 more that are ready; but a broker whose plan repeats deliveries
-    /// takes one, and the connector's first turn receives nothing: its first session begins. A turn of the ledger or of
-    /// a subscriber is one message. Each sends what follows.
+    /// Returns once the actor of this place may take this turn. A client's turn is one batch. A turn of the broker or
+    /// of the connector is the next message and up to 64 more that are ready. But a broker whose plan repeats
+    /// deliveries takes one, and in the connector's first turn its first session begins and nothing is received. A
+    /// turn of the ledger or of a subscriber is one message. In each turn the actor sends what follows.
     fn pass(&self, place: Place, turn: u64);
 
     /// Receives what the broker actor saw of the publishes of the run, once that has finished, on its thread.

@@ -1,12 +1,12 @@
 //! What the broker actor keeps of each subscriber, and how a queue is delivered to it.
 
-ghost use Rattle.std.specs.Prelude.{◌≡◌, ◌<◌, ◌≤◌, ◌-◌, ℕ, IfErr, IfOk, is_some, length, map};
+ghost use Rattle.std.specs.Prelude.{◌≡◌, ◌<◌, ◌≤◌, ◌-◌, ℕ, All, IfErr, IfOk, is_some, length, map};
 ghost use Rattle.cdc_broker.specs.Broker.{queue_of};
 ghost use Rattle.cdc_broker.specs.Queues.{next_delivery};
 ghost use Rattle.cdc_actors.specs.Broker.{as_sent};
-ghost use Rattle.cdc_actors.specs.Broker.Turns.{delivered_some, lane_of, with_copy, with_next, with_one_fewer, with_stop};
-ghost use Rattle.cdc_actors.specs.Broker.Steps.{HasBecome, MayDeliver};
-ghost use Rattle.cdc_actors.specs.Broker.Fails.{DeliversSoFar, IsStuck};
+ghost use Rattle.cdc_actors.specs.Broker.Turns.{delivered_some, first_consumer, lane_of, with_copy, with_next, with_one_fewer, with_stop};
+ghost use Rattle.cdc_actors.specs.Broker.Steps.{HasBecome, MayDeliver, MayStop};
+ghost use Rattle.cdc_actors.specs.Broker.Fails.{AreStopping, DeliversSoFar, IsStuck};
 ghost use Rattle.cdc_actors.specs.Faults.{IsTurnFault};
 ghost use Rattle.cdc_actors.specs.declared.faults.RunFault.TheVariants.{PeerGone};
 ghost use Rattle.cdc_traffic.specs.Following.{FollowsToSubscriber};
@@ -55,6 +55,24 @@ impl Consumer {
     {
         send_to::<Nothing, ToSubscriber, R>(&mut self.link, rt, ToSubscriber::Stop)
     }
+}
+
+/// A consumer for each link, at its place, which was sent nothing yet.
+pub(crate) fn first_consumers(
+    alloc: Global,
+    links: Vec<LinkOut<ToSubscriber>>,
+) -> Result<Vec<Consumer>, AllocError>
+    ensures { IfOk result (λ consumers. consumers.items ≡ map first_consumer links.items) }
+{
+    let mut consumers = Vec::with_capacity(alloc, links.len())?;
+    for link in links {
+        consumers.push_reserved(Consumer {
+            link,
+            unacked: 0,
+            delivered: 0,
+        });
+    }
+    Ok(consumers)
 }
 
 /// Sends the next delivery of a queue, if it has one, and rewinds the queue if the plan has it. Returns whether there
@@ -142,4 +160,19 @@ pub(crate) fn abort_all<R: Wait>(consumers: &mut [Consumer], rt: &R)
         let consumer = &mut consumers[i];
         consumer.link.abort(rt);
     }
+}
+
+/// Sends each subscriber its last message. If a link refuses, the subscribers before it were sent theirs.
+pub(crate) fn stop_all<R: Wait>(consumers: &mut [Consumer], rt: &R) -> Result<(), RunFault>
+    requires { All MayStop consumers.old }
+    ensures after { IfOk result (λ _. consumers.new ≡ map with_stop consumers.old) }
+    ensures failed { IfErr result (λ fault.
+        (fault ≡ PeerGone) × AreStopping consumers.old consumers.new) }
+    ensures kind { IfErr result IsTurnFault }
+{
+    for i in 0..consumers.len() {
+        let consumer = &mut consumers[i];
+        consumer.send_stop(rt)?;
+    }
+    Ok(())
 }

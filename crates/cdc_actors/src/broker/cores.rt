@@ -1,31 +1,32 @@
 //! The broker actor's core: its state, and what it does in a turn.
 
-ghost use Rattle.std.specs.Prelude.{◌≡◌, ◌<◌, ◌≤◌, ◌+◌, All, IfErr, IfOk, OnErr, false, length, map};
-ghost use Rattle.cdc_broker.specs.Broker.{empty_broker, takes_packet};
-ghost use Rattle.cdc_actors.specs.Broker.Steps.{HasCome, HasReceivedIf, HasTaken, MayStop};
-ghost use Rattle.cdc_actors.specs.Broker.{IsBrokerActor, IsBrokerCore, as_confirm, is_over};
-ghost use Rattle.cdc_actors.specs.Broker.Fails.{AreStopping, IsCutOff, IsUnanswered, IsUnpublished};
+ghost use Rattle.std.specs.Prelude.{◌≡◌, ◌<◌, ◌≤◌, ◌+◌, IfErr, IfOk, false, length, map};
+ghost use Rattle.cdc_broker.specs.Broker.{empty_broker};
+ghost use Rattle.cdc_actors.specs.Broker.Steps.{HasCome, HasReceivedIf, HasTaken};
+ghost use Rattle.cdc_actors.specs.Broker.{IsBrokerActor, IsBrokerCore, is_over};
+ghost use Rattle.cdc_actors.specs.Broker.Fails.{IsCutOff, IsUnanswered, IsUnpublished};
 ghost use Rattle.cdc_actors.specs.Broker.SoFar.{HasFailed};
-ghost use Rattle.cdc_actors.specs.Broker.Turns.{ArePartsOf, HasReceivedAll, HasReceivedNext, HasTurned, MayAck, admitted, all_served, answer_if, first_consumer, first_broker, stopped, with_ack, with_coming, with_served, with_stop};
+ghost use Rattle.cdc_actors.specs.Broker.Turns.{ArePartsOf, HasReceivedAll, HasReceivedNext, HasTurned, MayAck, all_served, first_broker, stopped, with_ack, with_coming, with_served};
 ghost use Rattle.cdc_actors.specs.Faults.{IsTurnFault};
 ghost use Rattle.cdc_actors.specs.declared.faults.RunFault.TheVariants.{PeerGone};
-ghost use Rattle.cdc_links.specs.Links.{Takes, TakesIfSome, with_sent};
 ghost use Rattle.cdc_message.specs.declared.packets.Packet.TheVariants.{Connect as ConnectOf, Publish as PublishOf};
-ghost use Rattle.cdc_traffic.specs.Following.{FollowsToBroker, IsConfirm, IsPacket};
+ghost use Rattle.cdc_traffic.specs.Following.{IsPacket};
 ghost use Rattle.cdc_types.specs.Widths.{max_64};
 
-use crate::broker::consumers::{Consumer, abort_all, deliver, delivered_of};
+use crate::broker::consumers::{
+    Consumer, abort_all, deliver, delivered_of, first_consumers, stop_all,
+};
+use crate::broker::links::{confirm, receive, receive_ready};
 use crate::broker::plans::BrokerPlan;
 use crate::ends::{Noted, Turns, Work};
 use crate::faults::RunFault;
-use crate::peers::{receive_from, receive_ready_from, send_to};
 use crate::places::Place;
 use crate::stories::{Fate, Story};
 use cdc_broker::{Broker, Taken};
-use cdc_links::{LinkIn, LinkOut, Naming};
+use cdc_links::{LinkIn, LinkOut};
 use cdc_match::Binding;
-use cdc_message::{Answer, Confirm, Item, Packet};
-use cdc_traffic::{Ack, Past, ToBroker, ToConnector, ToSubscriber};
+use cdc_message::{Answer, Item, Packet};
+use cdc_traffic::{Ack, ToBroker, ToConnector, ToSubscriber};
 use std::alloc::{AllocError, Global};
 use std::marker::Model;
 use std::mem;
@@ -104,31 +105,6 @@ impl Model for BrokerCore {
     } };
 }
 
-// Names a message that names no past.
-struct NoPast;
-
-impl Naming<Option<Past>> for NoPast {
-    ghost use Rattle.std.specs.Prelude.{None};
-
-    ghost name = { None };
-}
-
-fn confirm<R: Wait>(
-    confirms: &mut LinkOut<ToConnector>,
-    rt: &R,
-    session: u64,
-    answer: Answer,
-) -> Result<(), RunFault>
-    requires own { confirms.old.number ≡ 1 }
-    requires is_one { IsConfirm (record { session = session; answer = answer }) }
-    ensures after { IfOk result (λ _. confirms.new
-        ≡ with_sent confirms.old (as_confirm (record { session = session; answer = answer }))) }
-    ensures refused { IfErr result (λ fault. (fault ≡ PeerGone) × (confirms.new ≡ confirms.old)) }
-{
-    let confirm = ToConnector::Confirm(Confirm { session, answer });
-    send_to::<NoPast, ToConnector, R>(confirms, rt, confirm)
-}
-
 // Fails with `PeerGone` at the greatest number.
 fn one_more(count: u64) -> Result<u64, RunFault>
     ensures after { IfOk result (λ next. next ≡ count + 1) }
@@ -138,56 +114,6 @@ fn one_more(count: u64) -> Result<u64, RunFault>
         Some(next) => Ok(next),
         None => Err(RunFault::PeerGone),
     }
-}
-
-fn receive<R: Wait>(inbox: &mut LinkIn<ToBroker>, rt: &R) -> Result<ToBroker, RunFault>
-    ensures after { IfOk result (λ message. Takes FollowsToBroker inbox.old message inbox.new) }
-    ensures refused { IfErr result (λ fault. (fault ≡ PeerGone) × (inbox.new ≡ inbox.old)) }
-{
-    receive_from(inbox, rt)
-}
-
-fn receive_ready<R: Wait>(
-    inbox: &mut LinkIn<ToBroker>,
-    rt: &R,
-) -> Result<Option<ToBroker>, RunFault>
-    ensures after { IfOk result (λ ready.
-        TakesIfSome FollowsToBroker inbox.old ready inbox.new) }
-    ensures refused { IfErr result (λ fault. (fault ≡ PeerGone) × (inbox.new ≡ inbox.old)) }
-{
-    receive_ready_from(inbox, rt)
-}
-
-fn first_consumers(
-    alloc: Global,
-    links: Vec<LinkOut<ToSubscriber>>,
-) -> Result<Vec<Consumer>, AllocError>
-    ensures { IfOk result (λ consumers. consumers.items ≡ map first_consumer links.items) }
-{
-    let mut consumers = Vec::with_capacity(alloc, links.len())?;
-    for link in links {
-        consumers.push_reserved(Consumer {
-            link,
-            unacked: 0,
-            delivered: 0,
-        });
-    }
-    Ok(consumers)
-}
-
-// If a link refuses, the subscribers before it were sent their last message.
-fn stop_all<R: Wait>(consumers: &mut [Consumer], rt: &R) -> Result<(), RunFault>
-    requires { All MayStop consumers.old }
-    ensures after { IfOk result (λ _. consumers.new ≡ map with_stop consumers.old) }
-    ensures failed { IfErr result (λ fault.
-        (fault ≡ PeerGone) × AreStopping consumers.old consumers.new) }
-    ensures kind { IfErr result IsTurnFault }
-{
-    for i in 0..consumers.len() {
-        let consumer = &mut consumers[i];
-        consumer.send_stop(rt)?;
-    }
-    Ok(())
 }
 
 impl BrokerCore {

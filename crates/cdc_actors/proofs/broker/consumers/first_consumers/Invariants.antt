@@ -1,6 +1,6 @@
 use Rattle.std.proofs.Common.{vec_len, vec_capacity}
 use Rattle.cdc_actors.proofs.BrokerLemmas.Subscribers.{AreFirst}
-use Rattle.cdc_actors.proofs.broker.cores.first_consumers.Given as goal
+use Rattle.cdc_actors.proofs.broker.consumers.first_consumers.Given as goal
 
 abbrev pub invariant-loop-link : goal.invariant-loop-link
 invariant-loop-link l =

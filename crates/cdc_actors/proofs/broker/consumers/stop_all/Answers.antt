@@ -8,7 +8,7 @@ use Rattle.cdc_actors.specs.Broker.Fails.{AreStopping}
 use Rattle.cdc_actors.specs.declared.faults.RunFault.TheVariants.{PeerGone}
 use Rattle.cdc_actors.proofs.BrokerLemmas.Failing.{stopping_so}
 use Rattle.cdc_actors.proofs.PassedOn.{passed_on}
-use Rattle.cdc_actors.proofs.broker.cores.stop_all.Goals as goal
+use Rattle.cdc_actors.proofs.broker.consumers.stop_all.Goals as goal
 
 pub loop-i-preserved : goal.loop-i-preserved
 loop-i-preserved g c =

@@ -1,6 +1,6 @@
 use Rattle.std.proofs.Common.{◌≡◌, length}
 use Rattle.cdc_actors.proofs.BrokerLemmas.Subscribers.{stopped_up_to}
-use Rattle.cdc_actors.proofs.broker.cores.stop_all.Given as goal
+use Rattle.cdc_actors.proofs.broker.consumers.stop_all.Given as goal
 
 abbrev pub invariant-loop-i : goal.invariant-loop-i
 invariant-loop-i g l =
