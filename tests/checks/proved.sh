@@ -210,14 +210,14 @@ write_all() { # writes all that proved/ has, of what stands here
     as_ci
 }
 gate
-check 'check: where there is nothing, there is nothing to compare' '1 passed, 0 failed' "$(tail -n 1 <<<"$out")"
+check 'check: where there is nothing, there is nothing to compare' '2 passed, 0 failed' "$(tail -n 1 <<<"$out")"
 write_all
 call "$room/top/tools/records"
 check 'records are listed' 'low: record current, library current
 high: record current, library current
 cdc_app: record current' "$out"
 gate --all
-check 'check: all of it' '13 passed, 0 failed' "$(tail -n 1 <<<"$out")"
+check 'check: all of it' '14 passed, 0 failed' "$(tail -n 1 <<<"$out")"
 has 'check: a record' '^records: low as its record makes it is what `rt ci` has built' "$out"
 has 'check: a library' '^records: the library of low as it is packed is what `rt ci` has built$' "$out"
 has 'check: a record from scratch' '^records: the record of high from scratch is the one in proved/$' "$out"
@@ -261,6 +261,15 @@ truncate -s 50000000 "$room/top/proved/more"
 gate
 fails 'check: more than 50 MB' 'proved/ has 50,0[0-9,]* bytes, of at most 50,000,000$'
 rm "$room/top/proved/more"
+other() { # adds the record of a crate that the program no longer has
+    cp "$room/top/proved/low.record.tar.xz" "$room/top/proved/gone.record.tar.xz"
+    sed -i 's/^{$/{\n "gone": {"record": "x"},/' "$room/top/proved/index.json"
+}
+other
+gate
+fails 'check: files of no crate' 'proved/ has files of the program.s crates alone$'
+has 'check: a file of no crate is named' '^  gone.record.tar.xz$' "$out"
+has 'check: a line of no crate is named' '^  gone$' "$out"
 
 # Writing: what is missing is proved from scratch, and packed.
 git -C "$room/top" init -q
@@ -277,8 +286,10 @@ as_ci
 gate --all
 check 'write: and is what a check makes' '0 failed' "$(tail -n 1 <<<"$out" | sed 's/.*, //')"
 rm "$room/top/proved/high.library.tar.xz"
+other
 call "$room/top/tools/records" --write
 check 'write: a library that is missing needs no proof' '' "$(grep proved <<<"$calls")"
+check 'write: what is of no crate goes' '' "$(grep -l gone "$room/top/proved/index.json"; find "$room/top/proved" -name 'gone*')"
 echo '// more' >>"$room/top/crates/high/src/lib.rt"
 call "$room/top/tools/records" --write
 check 'write: of what is committed alone' '1 records: the crates have changes that are not committed' "$status $err"

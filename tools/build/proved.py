@@ -1,5 +1,5 @@
-"""What proved/ holds of each crate: its proof record, and its library as built. A record is what a check of the crate
-wrote; the toolchain makes the library from it and the sources without proving them again. A library is taken as it is."""
+"""What proved/ has of each crate: its proof record, and its library as built. A check of the crate wrote the record; from it and
+the sources the toolchain makes the library without a second proof. A library is used as it is."""
 import hashlib
 import io
 import json
@@ -13,11 +13,11 @@ from .crates import sum_of
 from .parts import CHECKED, LIST, OF_TOOLCHAIN, Missing, rows_of
 from .parts import sum_of as sum_of_part
 
-# What a record has in the place of the file of parts: its own parts, and where which part of the toolchain's stands.
+# What a record has instead of the file of parts: its own parts, and the places of the toolchain's parts.
 OWN, CUT = "toolchain/checked.own", "toolchain/checked.cut"
-# The list of a library's files: where each comes from.
+# The list of a library's files, with the source of each.
 FILES = "files"
-# Up to how many bytes a file or a part of the toolchain's may be written for a second time.
+# The most bytes of a file or a part of the toolchain that may be stored again.
 SMALL = 2048
 
 
@@ -26,8 +26,8 @@ class Stale(Exception):
 
 
 class Proved:
-    """The folder proved/, and its list, index.json: of each crate the commit, the kit and its identity, the sum of all that it was
-    made from, and the sums of the two files."""
+    """The folder proved/, and its list, index.json. It has, for each crate, the commit, the kit and its identity, the sum of all that
+    the crate was made from, and the sums of the two files."""
 
     def __init__(self, top):
         self.folder = f"{top}/proved"
@@ -43,15 +43,15 @@ class Proved:
         return f"{self.folder}/{crate.name}.{what}.tar.xz"
 
     def has(self, crate, what):
-        """Returns whether there is a record or a library of the crate, of whatever sources."""
+        """Returns whether there is a record or a library of the crate, even of other sources."""
         return what in self.index.get(crate.name, {}) and os.path.isfile(self.file(crate, what))
 
     def serves(self, crate, what, key):
-        """Returns whether there is one that was made from what stands here."""
+        """Returns whether there is one that was made from the sources with this key."""
         return self.has(crate, what) and self.index[crate.name]["key"] == key
 
     def archive(self, crate, what):
-        """Returns the archive's bytes, where they are those that were written."""
+        """Returns the archive's bytes. Raises Stale if they aren't those that were written."""
         try:
             with open(self.file(crate, what), "rb") as it:
                 text = it.read()
@@ -69,10 +69,31 @@ class Proved:
             known = {}
         known.update(key=key, **said, **{what: hashlib.sha256(text).hexdigest()})
         self.index[crate.name] = known
-        for name, bytes in ((f"{crate.name}.{what}.tar.xz", text), ("index.json", listing(self.index))):
-            with open(f"{self.folder}/{name}.new", "wb") as out:
-                out.write(bytes)
-            os.replace(f"{self.folder}/{name}.new", f"{self.folder}/{name}")
+        self.replace(f"{crate.name}.{what}.tar.xz", text)
+        self.write_index()
+
+    def write_index(self):
+        self.replace("index.json", listing(self.index))
+
+    def replace(self, name, text):
+        with open(f"{self.folder}/{name}.new", "wb") as out:
+            out.write(text)
+        os.replace(f"{self.folder}/{name}.new", f"{self.folder}/{name}")
+
+    def others(self, crates):
+        """Returns the files of the folder, and the names in the list, that are of none of these crates."""
+        own = {"index.json", "derived.xz"} | {f"{it.name}.{what}.tar.xz" for it in crates for what in ("record", "library")}
+        names = {it.name for it in crates}
+        return [it for it in files_in(self.folder) if it not in own] + [it for it in sorted(self.index) if it not in names]
+
+    def remove_others(self, crates):
+        """Removes them."""
+        for it in self.others(crates):
+            if it in self.index:
+                del self.index[it]
+            else:
+                os.remove(f"{self.folder}/{it}")
+        self.write_index()
 
     def commit(self, crate):
         return self.index.get(crate.name, {}).get("commit", "?")

@@ -46,7 +46,8 @@ replies_have_their_batches client order = dispatched_batches client [] order
 
 -- what one more batch adds, after earlier ones
 dispatched_push : (client : ℕ) (before order : List (ℕ × Batch)) (p : ℕ × Batch)
-    → named_replies_from client before (order ++ p ∷ []) ≡ named_replies_from client before order ++ named_replies_of client (before ++ order) p
+    → named_replies_from client before (order ++ p ∷ [])
+    ≡ named_replies_from client before order ++ named_replies_of client (before ++ order) p
 dispatched_push client before [] p =
     append-nil (named_replies_of client before p)
     ∙ ap (λ (l : List (ℕ × Batch)). named_replies_of client l p) (sym (append-nil before))
@@ -82,7 +83,8 @@ left_push client before p dispatched true on =
     subst (λ (past : Past). Continues past (past_of (before ++ p ∷ []))) (sym is)
     (subst (Continues next) (sym (past_push before p)) (Continues-same next))
 left_push client before p dispatched false on =
-    subst (λ (l : List (Reply × Past)). Continues (last_left l) (past_of (before ++ p ∷ []))) (sym (append-nil dispatched))
+    subst (λ (l : List (Reply × Past)). Continues (last_left l) (past_of (before ++ p ∷ [])))
+    (sym (append-nil dispatched))
     (subst (Continues (last_left dispatched)) (sym (past_push before p))
     (Continues-trans (last_left dispatched) (past_of before) (with_batch p.1 (past_of before)) on
     (Continues-batch p.1 (past_of before) refl)))

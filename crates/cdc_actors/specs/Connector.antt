@@ -124,7 +124,7 @@ abbrev pub is_planned : List ℕ → List Packet → Packet → Bool
 is_planned plan sent last =
     is_publish last && list_any (λ number. number == length (filter is_publish sent)) plan
 
--- one of the confirms reports that a packet of this session was lost
+-- one of the confirms reports that a packet of this session, or its confirm, was lost
 abbrev pub IsBroken : List Confirm → ℕ → Type 0
 IsBroken confirms session = Contains confirms (record { session = session; answer = Broken })
 
@@ -135,8 +135,8 @@ pub record MayPublish (plan : List ℕ) (sent : List Packet) (session : ℕ) : T
   pub own : session_of last ≡ session
   pub unplanned : is_planned plan sent last ≡ false
 
--- a session may begin right after this last packet: the plan names the packet, or one of its session was lost. If the
--- store is honest, the number of the session is greater, and a packet of each session in between was lost
+-- a session may begin right after this last packet: the plan names the packet, or a packet or a confirm of its session
+-- was lost. If the store is honest, the number of the session is greater, and each session in between lost one too
 pub record MayRestart (plan : List ℕ) (honest : Bool) (confirms : List Confirm) (sent : List Packet) (session : ℕ)
     (last : Packet) : Type 0 where
   pub cause : (is_planned plan sent last ≡ true) ⊎ IsBroken confirms (session_of last)
@@ -153,8 +153,8 @@ MayBeSent plan honest confirms sent (Connect session) = MayConnect plan honest c
 MayBeSent plan honest confirms sent (Publish session tag item) = MayPublish plan sent session
 
 -- each packet may be sent right after those before it. So right after a publish packet that the plan names comes the
--- connect packet of a new session. A connect packet comes nowhere else, except first, or after a packet of a session of
--- which one was lost
+-- connect packet of a new session. A connect packet comes nowhere else, except first, or after a packet of a session
+-- that lost a packet or a confirm
 abbrev pub RestartsAsPlanned : List ℕ → Bool → List Confirm → List Packet → Type 0
 RestartsAsPlanned plan honest confirms sent = (earlier : List Packet) (packet : Packet) (later : List Packet)
     → sent ≡ earlier ++ packet ∷ later → MayBeSent plan honest confirms earlier packet
@@ -359,9 +359,9 @@ pub record IsFirstTurn (old new : ConnectorCore) : Type 0 where
   pub sessions : RisesBy 1 old new
   pub same : IsOfSame old new
 
--- one message was received and taken. It begins a session besides those that the plan has if it reports that a packet of
--- the session that is held was lost. Progress is saved after a confirm that moves how far the session has come, and
--- after no other message. A reply to another poll than the open one changes nothing else
+-- one message was received and taken. It begins a session besides those that the plan has if it reports that a packet
+-- of the session that is held, or its confirm, was lost. Progress is saved after a confirm that moves how far the
+-- session has come, and after no other message. A reply to another poll than the open one changes nothing else
 pub record HasTaken (old : ConnectorCore) (message : ToConnector) (new : ConnectorCore) : Type 0 where
   pub takes : Takes FollowsToConnector old.inbox message new.inbox
   pub sessions : RisesBy (ended_by (held_number old.held) message) old new

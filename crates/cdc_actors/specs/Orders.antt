@@ -40,7 +40,8 @@ named_replies_of client before p =
 -- its replies for an order that comes after these, batch by batch
 abbrev pub named_replies_from : ℕ → List (ℕ × Batch) → List (ℕ × Batch) → List (Reply × Past)
 named_replies_from client before [] = []
-named_replies_from client before (p ∷ order) = named_replies_of client before p ++ named_replies_from client (before ++ p ∷ []) order
+named_replies_from client before (p ∷ order) =
+    named_replies_of client before p ++ named_replies_from client (before ++ p ∷ []) order
 
 -- its replies for a whole order
 abbrev pub named_replies_to : ℕ → List (ℕ × Batch) → List (Reply × Past)

@@ -47,7 +47,8 @@ first_audited state number line rest read is =
     ∙ ap (λ read. stream_with number read (stream_of_lines false (number + 1) rest)) is)
 
 -- a line that is ignored
-pub past_line : (state : AuditState) (number : ℕ) (line : List ℕ) (rest : List (List ℕ)) → line_entry false line ≡ Ok None
+pub past_line : (state : AuditState) (number : ℕ) (line : List ℕ) (rest : List (List ℕ))
+    → line_entry false line ≡ Ok None
     → lines_audited state number (line ∷ rest) ≡ lines_audited state (number + 1) rest
 past_line state number line rest is = first_audited state number line rest (Ok None) is
 

@@ -199,7 +199,8 @@ unfolding refusal
 broken_chain = refl
 
 -- a post between other accounts than its pending transfer's, and an expiry with another code
-other_accounts : refusal (moved ∷ held_back ∷ []) (record posted_then { credit_account = record (credited 3 0 6) { timestamp = 3 } })
+other_accounts : refusal (moved ∷ held_back ∷ [])
+    (record posted_then { credit_account = record (credited 3 0 6) { timestamp = 3 } })
     ≡ Some (OtherFields 11)
 unfolding refusal
 other_accounts = refl

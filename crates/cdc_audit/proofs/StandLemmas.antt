@@ -314,7 +314,8 @@ unless_error (Ok value) P is holds = holds
 unless_error (Err error) P is holds = cc
 
 -- an auditor's answer to an entry is that to what is audited of its event
-pub taken_answer : {E : Type 0} (result : Result (Option Refusal) E) (old : AuditorState) (entry : Content) (e own : Event)
+pub taken_answer : {E : Type 0} (result : Result (Option Refusal) E) (old : AuditorState) (entry : Content)
+    (e own : Event)
     → entry ≡ content.Event e → own ≡ audited_event old.foreign e
     → IfOk result (λ answer. (state : AuditState) → StandsFor old state → answer ≡ event_refusal state own)
     → IfOk result (λ answer. (state : AuditState) → StandsFor old state → answer ≡ entry_refusal state entry)

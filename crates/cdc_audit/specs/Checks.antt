@@ -1,4 +1,5 @@
--- The rules again, by the few facts of the earlier events that they need (private: for the code's own contracts).
+-- The rules again, by the few facts of the earlier events that they need (private: for the code's own contracts, except
+-- what `IsKnownOf` cites).
 use Rattle.std.specs.Prelude.{ℕ, Bool, true, false, ◌&&◌, is_none, is_some, List, [], ◌∷◌, ◌++◌, Option, Some, None, unwrap_or, if◌then◌else◌}
 use Rattle.cdc_types.specs.declared.accounts.Balances.{Balances}
 use Rattle.cdc_types.specs.declared.events.Event.{Event}

@@ -16,7 +16,7 @@ abbrev pub own_timestamp : Event → ℕ
 own_timestamp e =
     if stores e.kind && has_other_flag e.transfer.flags transfer.ACCEPTED then e.timestamp else e.transfer.timestamp
 
--- an event with our flags alone
+-- an event with our flags alone; if its transfer had others, also with the event's timestamp as the transfer's
 abbrev pub own_event : Event → Event
 own_event e = record e {
   transfer = record e.transfer {

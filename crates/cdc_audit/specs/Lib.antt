@@ -12,5 +12,5 @@ pub mod Audits
 pub mod Standing
 pub mod Stops
 pub mod Texts
--- private: what the code's own contracts cite
+-- private, except what `IsKnownOf` of Standing cites: for the code's own contracts
 pub mod Checks

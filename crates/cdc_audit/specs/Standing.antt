@@ -27,9 +27,9 @@ use Rattle.cdc_audit.specs.Fields.{accounts_of, fields_before}
 use Rattle.cdc_audit.specs.Known.{ends_in_chain, is_settled, is_stored, last_expiry, open_event, pending_amount, pending_event, settled_id}
 use Rattle.cdc_audit.specs.Settling.{expires_at}
 
--- what an auditor keeps: whether the stream is another ledger's, what its subscriber keeps, what is known of each stored transfer, by its id, the event of each
--- open pending one, the fields of each account that never change, the timestamps of the events, whether the last event
--- stored a linked transfer, and the last expiry
+-- what an auditor keeps: whether the stream is another ledger's, what its subscriber keeps, what is known of each
+-- stored transfer, by its id, the event of each open pending one, the fields of each account that never change, the
+-- timestamps of the events, whether the last event stored a linked transfer, and the last expiry
 pub record AuditorState : Type 0 where
   pub foreign : Bool
   pub kept : SubscriberState
@@ -72,10 +72,10 @@ pub record IsKnownOf (known : Option Stored) (past : List Event) (id : ℕ) : Ty
 abbrev pub IsOnce : List Event → Event → Type 0
 IsOnce past e = holds e.kind ≡ true → pending_event past e.transfer.id ≡ Some e
 
--- an auditor stands for an audit: it has the book, the last timestamp, the count and the end of the audited events,
--- knows each of their transfers, has the events of the open pending ones and the fields of each account, in the order in
--- which they were shown, has the timestamps of the events, which rise, and knows whether they end within a chain; no two
--- of them stored a pending transfer of one id
+-- an auditor stands for an audit: it knows whether the stream is another ledger's; it has the book, the last timestamp,
+-- the count and the end of the audited events, each of their transfers, the events of the open pending ones, the fields
+-- of each account, in the order in which they were shown, and the timestamps of the events, which rise; it knows
+-- whether they end within a chain, and the last expiry; and no two of them stored a pending transfer of one id
 pub record StandsFor (auditor : AuditorState) (state : AuditState) : Type 0 where
   pub foreign : auditor.foreign ≡ state.foreign
   pub kept : auditor.kept ≡ kept_after state

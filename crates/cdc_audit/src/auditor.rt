@@ -86,8 +86,8 @@ impl Model for Auditor {
 }
 
 impl Auditor {
-    /// An auditor of a stream from a ledger's first event on. `foreign`: another ledger's, whose flags may have more bits
-    /// than ours; these are let be.
+    /// An auditor of a stream from a ledger's first event on. `foreign`: another ledger's, whose flags may have more
+    /// bits than ours; these are let be.
     pub fn new(alloc: Global, foreign: bool) -> Auditor
         ensures { StandsFor result (begins foreign) }
     {
@@ -104,9 +104,9 @@ impl Auditor {
         }
     }
 
-    /// An auditor with these parts of another one, which goes on where that one stopped. `of_another`: whether the stream
-    /// is another ledger's. `in_chain`: whether the last event stored a linked transfer. The one error is that memory ran
-    /// out.
+    /// An auditor with these parts of another one, which goes on where that one stopped. `of_another`: whether the
+    /// stream is another ledger's. `in_chain`: whether the last event stored a linked transfer. The one error is that
+    /// memory ran out.
     pub fn resume(
         alloc: Global,
         of_another: bool,

@@ -43,7 +43,8 @@ module _ (prints : ℕ → List ℕ) (kept : Bool) (start : AuditorState) (known
     auditors = run.auditors ++ auditor ∷ [];
     keeps = keeps_now start auditor number known left run.auditors run.keeps;
     printed = prints_more prints kept run.auditors auditor old mid new run.printed
-        (subst (Appends mid new) (save_done prints keeps auditor done ∙ ap (λ k. last_save prints k auditor) same) adds);
+        (subst (Appends mid new) (save_done prints keeps auditor done
+        ∙ ap (λ k. last_save prints k auditor) same) adds);
   }
   run_saves done false keeps auditor number left mid new run same adds = record {
     auditors = run.auditors;

@@ -25,7 +25,8 @@ use Rattle.cdc_audit_laws.proofs.Requests.{account_of}
 -- no other account of the history and none of its entries has the timestamp of an account
 pub record AreOwn (h : History) : Type 0 where
   pub apart : (i j : ℕ) (o p : Opened) → opened h i ≡ Some o → opened h j ≡ Some p → i ≢ j → o.timestamp ≢ p.timestamp
-  pub alone : (i : ℕ) (o : Opened) → opened h i ≡ Some o → AllByRecursion (λ (e : Entry). e.timestamp ≢ o.timestamp) h.entries
+  pub alone : (i : ℕ) (o : Opened) → opened h i ≡ Some o
+      → AllByRecursion (λ (e : Entry). e.timestamp ≢ o.timestamp) h.entries
 
 -- each account was created by the history's last timestamp
 abbrev pub AreBy : History → Type 0

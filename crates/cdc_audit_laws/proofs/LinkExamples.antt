@@ -88,6 +88,7 @@ too_soon_fits =
 
 too_soon_no_ledgers : (h : History) → IsLegal h → events_of h ≡ too_soon ∷ [] → ⊥
 too_soon_no_ledgers h legal same =
-    let fit : AllByRecursion EventFits (events_of h) = subst (AllByRecursion EventFits) (sym same) (too_soon_fits, tt) in
+    let fit : AllByRecursion EventFits (events_of h) =
+    subst (AllByRecursion EventFits) (sym same) (too_soon_fits, tt) in
     let can : CanBeMade (too_soon ∷ []) = subst CanBeMade same (ledgers_events_can_be_made h legal fit).0 in
     (can.next_free.1.0 refl).0 refl

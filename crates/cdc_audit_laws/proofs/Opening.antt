@@ -82,7 +82,8 @@ module _ (all : List (ℕ × FixedFields)) where
 
   -- after each linked account the next one is there
   abbrev pub AreFollowed : Type 0
-  AreFollowed = (a : ℕ × FixedFields) → lookup (nat_eq a.0) all ≡ Some a.1 → is_linked_account (opening_of a).request ≡ true
+  AreFollowed = (a : ℕ × FixedFields) → lookup (nat_eq a.0) all ≡ Some a.1
+      → is_linked_account (opening_of a).request ≡ true
       → IsThere (a.1.timestamp + 1)
 
   -- of as many timestamps as a batch has room for, one isn't that of a linked account

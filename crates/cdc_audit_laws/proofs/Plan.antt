@@ -114,7 +114,8 @@ rises-place_in t o (x ∷ rest) after rises =
         (rises.0, more (omega (arith, most, other)))
 
 -- what holds of all of a plan, and of the account
-all-place_by : (P : Planned → Type 0) (sooner same : Bool) (o : Opened) (x : Planned) (rest later : List Planned) → P (inl o)
+all-place_by : (P : Planned → Type 0) (sooner same : Bool) (o : Opened) (x : Planned)
+    (rest later : List Planned) → P (inl o)
     → P x → AllByRecursion P rest → AllByRecursion P later → AllByRecursion P (place_by sooner same o x rest later)
 all-place_by P true same o x rest later here first others more = (here, (first, others))
 all-place_by P false true o x rest later here first others more = (first, others)
@@ -146,7 +147,8 @@ Admits o (inl x) = x.timestamp ≡ o.timestamp → x ≡ o
 Admits o (inr e) = e.timestamp ≢ o.timestamp
 
 -- then the account is opened too
-opens_then : (o : Opened) (x : Planned) (rest : List Planned) → o.timestamp ≡ time_of x → Admits o x → Opens o (x ∷ rest)
+opens_then : (o : Opened) (x : Planned) (rest : List Planned) → o.timestamp ≡ time_of x → Admits o x
+    → Opens o (x ∷ rest)
 opens_then o (inl x) rest same admits = inl (admits (let is : x.timestamp ≡ o.timestamp = cc in is))
 opens_then o (inr e) rest same admits = absurd (admits (let is : e.timestamp ≡ o.timestamp = cc in is))
 

@@ -352,7 +352,8 @@ module _ (events : List Event) (can : CanBeMade events) (accepted : is_accepted 
       AllByRecursion-weaker IsFit (λ a. 0 < (opening_of a).timestamp) (λ a is. is.some) all fit_all in
       subst Reaches same_events
       (made_from_empty all plan followed few (λ a found. found_has (λ b. Opens (opening_of b) plan) all a opens found)
-      (rises-place_all opening_of 0 all (only events) after (only-rises 0 events (accepted_events_rise events accepted)))
+      (rises-place_all opening_of 0 all (only events) after (only-rises 0 events
+      (accepted_events_rise events accepted)))
       can_make ready (ap (follows_on []) same_events ∙ accepted)
       (subst (HaveRoom 0) (sym same_events) can.room))
 

@@ -162,7 +162,8 @@ module _ (all : List (ℕ × FixedFields)) where
           by : (b : Bool) → is_linked e ≡ b → Mode with_own
           by false is =
               inl (subst (λ (x : Entry). IsLegal (pushed h x)) (entry_is h e comes storing)
-              (runs-done transfer_rules NewTransferFits h e.timestamp (linked_run (events h)) request runs.0 goes.room.0 in_time (linked_is ∙ is)
+              (runs-done transfer_rules NewTransferFits h e.timestamp
+              (linked_run (events h)) request runs.0 goes.room.0 in_time (linked_is ∙ is)
               (unrefused h e comes storing) fit))
           by true is =
               inr (inl (record {
@@ -171,7 +172,8 @@ module _ (all : List (ℕ × FixedFields)) where
                     (sym (ap linked_run same_own ∙ run-push (events h) e is))
                     (subst (λ (x : Entry). RunsOn (pushed h x) (e.timestamp + 1) (linked_run (events h) + 1))
                     (entry_is h e comes storing)
-                    (runs-taken transfer_rules NewTransferFits h e.timestamp (linked_run (events h)) request runs.0 (linked_is ∙ is)
+                    (runs-taken transfer_rules NewTransferFits h e.timestamp (linked_run (events h)) request runs.0
+                    (linked_is ∙ is)
                     (unrefused h e comes storing) fit));
                 chained = ap ends_in_chain same_own ∙ chain-push (events h) e ∙ is;
                 at_end = ap last_timestamp same_own ∙ last_timestamp_from-push 0 (events h) e;
@@ -208,7 +210,8 @@ module _ (all : List (ℕ × FixedFields)) where
       pulses_then =
           subst (λ (x : Entry). Pulses (pushed h x) now) (expiry_is h e comes storing)
           (pulses-expired h now e.timestamp gone pulses next
-          (next_due h e comes storing (none_before_expiry (events h) e first.0 storing) now up e.timestamp goes.rises.0))
+          (next_due h e comes storing (none_before_expiry (events h) e first.0 storing) now up e.timestamp
+          goes.rises.0))
 
       -- none that is left expires sooner
       least : AllThatExpire (events with_gone) (λ y. now ≤ expires_at y.transfer)
@@ -356,7 +359,8 @@ module _ (all : List (ℕ × FixedFields)) where
   -- from a new ledger on
   pub made_from_empty : (plan : List Planned) → AreFollowed all → AreFew all
       → ((a : ℕ × FixedFields) → lookup (nat_eq a.0) all ≡ Some a.1 → Opens (opening_of a) plan) → Rises 0 plan
-      → AllByRecursion (CanMake all) plan → AllByRecursion (IsReady all empty_history plan) (accounts_in (events_in plan))
+      → AllByRecursion (CanMake all) plan
+      → AllByRecursion (IsReady all empty_history plan) (accounts_in (events_in plan))
       → follows_on [] (events_in plan) ≡ true → HaveRoom 0 (events_in plan) → Reaches (events_in plan)
   made_from_empty plan followed few opened_all rises can ready follow room =
       reaches plan empty_history (record {

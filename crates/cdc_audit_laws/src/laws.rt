@@ -12,17 +12,17 @@ pub fn ledgers_are_accepted()
 
 /// Does nothing. The converse: events that are accepted are those of a legal history, if a ledger can make them. Their
 /// numbers are within their widths, no event comes right after a linked account, and a batch has room for each chain of
-/// accounts or of transfers. If a chain or a pulse is cut off at the end, a legal history has the events before it. If no
-/// account and no event is linked and no event is an expiry, only the premise on numbers is left.
+/// accounts or of transfers. If a chain or a pulse is cut off at the end, a legal history has the events before it. If
+/// no account and no event is linked and no event is an expiry, only the premise on numbers is left.
 pub fn accepted_events_are_a_ledgers()
     ensures all { AcceptedEventsAreALedgers }
     ensures start { AcceptedEventsStartAsALedgers }
     ensures alone { EventsAloneAreALedgers }
 {}
 
-/// Does nothing. A ledger's events are whole: a batch has room for each chain, and no chain and no pulse is cut off. All
-/// premises of the converse hold of every ledger's events, if their numbers are within their widths. So among accepted
-/// events they hold of a ledger's, and of no others.
+/// Does nothing. A ledger's events are whole: a batch has room for each chain, and no chain and no pulse is cut off.
+/// All premises of the converse hold of every ledger's events, if their numbers are within their widths. So among
+/// accepted events they hold of a ledger's, and of no others.
 pub fn ledgers_events_are_whole()
     ensures whole { LedgersEventsAreWhole }
     ensures made { LedgersEventsCanBeMade }

@@ -132,7 +132,8 @@ pub account_reads : (text left : List ℕ) (entry : BookEntry) → first_of text
 account_reads text left entry is reads (Account shown) rest fits whole =
     let both = reads shown rest fits (ap (drop 7) (whole ∙ account_start shown rest)) in (ap Account both.0, both.1)
 account_reads text left entry is reads (Transfer of stored) rest fits whole =
-    absurd (no_transfer 97 of stored (begins text 97 (Transfer of stored) rest is whole) (λ e. omega arith) (λ e. omega arith)
+    absurd (no_transfer 97 of stored (begins text 97 (Transfer of stored) rest is whole) (λ e. omega arith)
+    (λ e. omega arith)
     (λ e. omega arith))
 account_reads text left entry is reads row rest fits whole =
     let byte : 97 ≡ row_first row = begins text 97 row rest is whole in absurd (omega arith)
@@ -183,7 +184,8 @@ fields_reads text mid left id fields is first second (Fields shown those) rest f
     let all = second those rest fits.1 one.1 in
     (ap (λ i. Fields i fields) one.0 ∙ ap (λ f. Fields shown f) all.0, all.1)
 fields_reads text mid left id fields is first second (Transfer of stored) rest fits whole =
-    absurd (no_transfer 102 of stored (begins text 102 (Transfer of stored) rest is whole) (λ e. omega arith) (λ e. omega arith)
+    absurd (no_transfer 102 of stored (begins text 102 (Transfer of stored) rest is whole) (λ e. omega arith)
+    (λ e. omega arith)
     (λ e. omega arith))
 fields_reads text mid left id fields is first second row rest fits whole =
     let byte : 102 ≡ row_first row = begins text 102 row rest is whole in absurd (omega arith)
@@ -194,7 +196,8 @@ time_reads text mid left timestamp is reads left_is (Time shown) rest fits whole
     let both = reads shown 10 rest fits refl (ap (drop 4) (whole ∙ time_start shown rest)) in
     (ap Time both.0, left_is ∙ ap (drop 1) both.1)
 time_reads text mid left timestamp is reads left_is (Transfer of stored) rest fits whole =
-    absurd (no_transfer 116 of stored (begins text 116 (Transfer of stored) rest is whole) (λ e. omega arith) (λ e. omega arith)
+    absurd (no_transfer 116 of stored (begins text 116 (Transfer of stored) rest is whole) (λ e. omega arith)
+    (λ e. omega arith)
     (λ e. omega arith))
 time_reads text mid left timestamp is reads left_is row rest fits whole =
     let byte : 116 ≡ row_first row = begins text 116 row rest is whole in absurd (omega arith)
@@ -212,7 +215,8 @@ pub expired_is : (text : List ℕ) (row : Row) (rest : List ℕ) → first_of te
 expired_is text (Expired e) rest is fits whole =
     (e, refl, record { fits = fits; whole = ap (drop 8) (whole ∙ expired_start e rest) })
 expired_is text (Transfer of stored) rest is fits whole =
-    absurd (no_transfer 101 of stored (begins text 101 (Transfer of stored) rest is whole) (λ e. omega arith) (λ e. omega arith)
+    absurd (no_transfer 101 of stored (begins text 101 (Transfer of stored) rest is whole) (λ e. omega arith)
+    (λ e. omega arith)
     (λ e. omega arith))
 expired_is text row rest is fits whole =
     let byte : 101 ≡ row_first row = begins text 101 row rest is whole in absurd (omega arith)
@@ -222,7 +226,8 @@ pub open_is : (text : List ℕ) (row : Row) (rest : List ℕ) → first_of text 
 open_is text (Open e) rest is fits whole =
     (e, refl, record { fits = fits; whole = ap (drop 5) (whole ∙ open_start e rest) })
 open_is text (Transfer of stored) rest is fits whole =
-    absurd (no_transfer 111 of stored (begins text 111 (Transfer of stored) rest is whole) (λ e. omega arith) (λ e. omega arith)
+    absurd (no_transfer 111 of stored (begins text 111 (Transfer of stored) rest is whole) (λ e. omega arith)
+    (λ e. omega arith)
     (λ e. omega arith))
 open_is text row rest is fits whole =
     let byte : 111 ≡ row_first row = begins text 111 row rest is whole in absurd (omega arith)
@@ -325,8 +330,10 @@ same_fields fields p q r s t u v = λ i. record {
 pub no_row : (byte : ℕ) (text : List ℕ) (row : Row) (rest : List ℕ) → byte ≡ first_of text
     → text ≡ row_line row ++ rest → byte ≢ 97 → byte ≢ 101 → byte ≢ 102 → byte ≢ 104 → byte ≢ 111 → byte ≢ 112
     → byte ≢ 115 → byte ≢ 116 → ⊥
-no_row byte text (Account entry) rest is whole a e f h o p s t = a (begins text byte (Account entry) rest (sym is) whole)
-no_row byte text (Expired shown) rest is whole a e f h o p s t = e (begins text byte (Expired shown) rest (sym is) whole)
+no_row byte text (Account entry) rest is whole a e f h o p s t =
+    a (begins text byte (Account entry) rest (sym is) whole)
+no_row byte text (Expired shown) rest is whole a e f h o p s t =
+    e (begins text byte (Expired shown) rest (sym is) whole)
 no_row byte text (Transfer id Plain) rest is whole a e f h o p s t =
     p (begins text byte (Transfer id Plain) rest (sym is) whole)
 no_row byte text (Transfer id (Pending amount)) rest is whole a e f h o p s t =

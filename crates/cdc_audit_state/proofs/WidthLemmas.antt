@@ -313,7 +313,8 @@ can_be_saved auditor state stands fit transfers open_ones fields =
           (mapped (λ (t : ℕ × Stored). Transfer t.0 t.1) auditor.transfers _ stored
           (mapped (λ (o : ℕ × Event). Open o.1) auditor.open_ones _ (firsts auditor.open_ones opened)
           (mapped (λ (f : ℕ × FixedFields). Fields f.0 f.1) auditor.fields _ shown
-          (mapped_last Time auditor.times (subst (AllByRecursion (λ t. t < 2 ^ 64)) (sym stands.times) (times_fit past fit))))));
+          (mapped_last Time auditor.times (subst (AllByRecursion (λ t. t < 2 ^ 64)) (sym stands.times)
+          (times_fit past fit))))));
       transfers = transfers;
       open_ones = open_ones;
       by_ids = seconds auditor.open_ones opened;

@@ -76,7 +76,8 @@ read_before PrintsFault old new (Err why) ending text (line, (stated, printed)) 
     printed_read old new (record { text = line; ending = Failed why }) ending printed read
 
 -- the batches of the script stay those of the text once the output is printed
-pub parsed_printed : (bytes old new : Option (List ℕ)) (wished : Outcome) (ending : Ending) (parsed : Option ParsedBatches)
+pub parsed_printed : (bytes old new : Option (List ℕ)) (wished : Outcome) (ending : Ending)
+    (parsed : Option ParsedBatches)
     → IsPrinted old new wished ending → AreParsedFrom bytes wished.ending parsed → AreParsedFrom bytes ending parsed
 parsed_printed bytes old new wished ending (Some parsed) printed are = are
 parsed_printed bytes old new wished ending None (inl failed) none = λ done. subst IsWriteFault done failed

@@ -47,7 +47,8 @@ numbered_found xs i x h =
 -- one more subscriber is printed
 pub printed_more : (place : ℕ) (subscriptions : List Subscription) (s : Subscription) (kept : SubscriberState)
     (old new whole : List ℕ)
-    → slice_get subscriptions place ≡ Some s → kept ≡ kept_of s.reception → new ≡ old ++ subscriber_text (place + 1) kept
+    → slice_get subscriptions place ≡ Some s → kept ≡ kept_of s.reception
+    → new ≡ old ++ subscriber_text (place + 1) kept
     → old ++ subscriptions_text (place + 1) (drop place subscriptions) ≡ whole
     → new ++ subscriptions_text (place + 1 + 1) (drop (place + 1) subscriptions) ≡ whole
 printed_more place subscriptions s kept old new whole found reception added before =

@@ -22,8 +22,8 @@ pub record AreBatchesOf (script : Script) (parsed : ParsedBatches) : Type 0 wher
   pub batches : parsed.batches ≡ script.batches
   pub lines : parsed.lines ≡ script.lines
 
--- these are the batches of the script that a text writes, whose bytes are known or not; there are none if the command
--- ends otherwise than well
+-- these are the batches of the script that a text writes, whose bytes are known or not; if there are none, the command
+-- didn't end well
 abbrev pub AreParsedFrom : Option (List ℕ) → Ending → Option ParsedBatches → Type 0
 AreParsedFrom bytes ending None = ending ≡ Done → ⊥
 AreParsedFrom bytes ending (Some parsed) =

@@ -16,8 +16,8 @@ use Rattle.cdc_commands.specs.Printed.{history_of}
 abbrev pub binding_at : List Arguments → ℕ → Option Arguments
 binding_at bindings number = if number == 0 then None else slice_get bindings (number - 1)
 
--- what is printed for a script, and how it ends: the lines of the queue of the subscriber of this number, or nothing and
--- a usage error if there is none
+-- what is printed for a script, and how it ends: the lines of the queue of the subscriber of this number, or nothing
+-- and a usage error if there is none
 abbrev pub AnswersQueue : Script → ℕ → Ending → List ℕ → Type 0
 AnswersQueue script number Done printed = (binding : Arguments) × (binding_at script.bindings number ≡ Some binding)
     × (printed ≡ queue_text binding (events (history_of script)))

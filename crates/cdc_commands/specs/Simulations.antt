@@ -68,8 +68,8 @@ after_act before want did w = record {
   seen = before.seen ++ seen_of before.world want.0 did w ∷ [];
 }
 
--- what is asked for is answered so at a stage, over a store that never runs out of memory and has no faults: it is done, and
--- leads to the other one, or it is refused
+-- what is asked for is answered so at a stage, over a store that never runs out of memory and has no faults: it is
+-- done, and leads to the other one, or it is refused
 abbrev pub AnswersTo : Stage → Option (Step × ℕ) → Option StepError → Stage → Type 0
 AnswersTo before None None after = ⊥
 AnswersTo before None (Some why) after = (why ≡ NotEnabled) × (after ≡ before)
@@ -128,4 +128,5 @@ pub record Simulates (plan : Plan) (refusal : Option StepError) (printed : List 
   pub end : Stage
   pub plays : PlaysActs plan.script.batches (at_start plan.script.bindings plan.window) plan.acts refusal end
   pub prints : printed ≡ simulation_text (length plan.acts) refusal end
-  pub faithful : All (λ s. IsFaithful end.world.history (start_of end.world) s.binding s.reception) end.world.subscriptions
+  pub faithful : All (λ s. IsFaithful end.world.history (start_of end.world) s.binding s.reception)
+      end.world.subscriptions

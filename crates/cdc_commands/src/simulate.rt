@@ -145,8 +145,9 @@ fn steps_simulation<F: Form, O: Observer>(
     })
 }
 
-/// Reads a script and then a step file, and prints what `simulation_of` makes of their bytes. The observer sees the steps
-/// that are done. A command that fails prints why, and nothing else; nothing is written after a write that failed.
+/// Reads a script and then a step file, and prints what `simulation_of` makes of their bytes. The observer sees the
+/// steps that are done. A command that fails prints why, and nothing else; nothing is written after a write that
+/// failed.
 pub fn simulate<F: Form, R: Read, Q: Read, W: Write, O: Observer>(
     form: &F,
     alloc: Global,

@@ -41,7 +41,8 @@ diagram_after-more n [] s = append-nil (diagram_line (taken_with n s.step) s)
 diagram_after-more n (x ∷ seen) s =
     let m = taken_with n x.step in
     ap (λ (lines : List ℕ). diagram_line m x ++ lines) (diagram_after-more m seen s)
-    ∙ sym (append_assoc (diagram_line m x) (diagram_after m seen) (diagram_line (taken_with (taken_after m seen) s.step) s))
+    ∙ sym (append_assoc (diagram_line m x) (diagram_after m seen)
+    (diagram_line (taken_with (taken_after m seen) s.step) s))
 
 pub diagram_text-more : (subscribers : ℕ) (seen : List Seen) (s : Seen)
     → diagram_text subscribers (seen ++ s ∷ [])

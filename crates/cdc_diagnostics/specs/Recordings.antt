@@ -19,7 +19,8 @@ if_asked asked text = if asked then text else []
 pub record Records (recording : Recording) (seen : List Seen) : Type 0 where
   pub batches : recording.batches ≡ taken_after 0 seen
   pub trace : Holds recording.trace (if_asked recording.asked.trace (trace_text seen))
-  pub diagram : Holds recording.diagram.text (if_asked recording.asked.diagram (diagram_text recording.subscribers seen))
+  pub diagram : Holds recording.diagram.text (if_asked recording.asked.diagram
+      (diagram_text recording.subscribers seen))
 
 -- these steps were seen; that is claimed of fewer than 2^64 steps
 abbrev pub HasSeen : Recording → List Seen → Type 0

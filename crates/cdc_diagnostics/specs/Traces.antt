@@ -86,7 +86,8 @@ abbrev pub confirm_text : Did → ℕ → ℕ → ℕ → List ℕ
 confirm_text answer session tag running =
     if has_counted answer then codes "counted"
     else if session == running then codes "ignored, its tag " ++ decimal tag ++ codes " was confirmed already"
-    else codes "ignored, it is of session " ++ decimal session ++ codes ", and session " ++ decimal running ++ codes " runs"
+    else codes "ignored, it is of session " ++ decimal session ++ codes ", and session " ++ decimal running
+    ++ codes " runs"
 
 -- what a session has saved
 abbrev pub saved_text : ℕ → ℕ → List ℕ

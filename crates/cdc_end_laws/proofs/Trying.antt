@@ -1,27 +1,18 @@
 -- Steps that are tried again fail each time, or are taken.
-use Rattle.std.proofs.Common.{◌≡◌, ℕ, suc, List, [], ◌∷◌, refl, subst, inl, inr}
+use Rattle.std.proofs.Common.{◌≡◌, ℕ, suc, List, [], ◌∷◌, refl, subst}
 use Rattle.std.specs.Prelude.{IsTrue, Some, Err, drop}
-use Rattle.std.proofs.lemmas.Bool.{cases_Bool}
 use Rattle.cdc_progress.specs.Stores.{Risks}
 use Rattle.cdc_types.specs.declared.steps.Step.{Step}
 use Rattle.cdc_world.specs.declared.steps.StepError.{StepError}
 use Rattle.cdc_world.specs.Moves.{StopsAt}
 use Rattle.cdc_world.specs.Tries.{FailsTimes, NextPast, is_passing}
 use Rattle.cdc_world.specs.Worlds.{WorldState}
-use Rattle.cdc_end_laws.specs.Tries.{EnoughTriesRefuseNothing, RefusedPlaysFailedEachTime, RefusedStepsFailedEachTime}
+use Rattle.cdc_end_laws.specs.Tries.{RefusedPlaysFailedEachTime, RefusedStepsFailedEachTime}
 
 pub steps_failed : RefusedStepsFailedEachTime
 steps_failed risks tries w step answer w' past passing =
     subst (λ (n : ℕ). FailsTimes risks (suc n) w step w') (past.spent passing)
     (answer, past.before, (past.fails, (passing, past.last)))
-
-pub enough_tries : EnoughTriesRefuseNothing
-enough_tries risks tries w step answer w' past cannot =
-    elim (cases_Bool (is_passing answer)) [
-      | inl passes ↦
-          absurd (cannot w' (steps_failed risks tries w step answer w' past passes))
-      | inr taken ↦ taken
-    ]
 
 -- a play stops at the first of the steps that are left
 stops_at : (risks : Risks) (tries : ℕ) (w : WorldState) (steps left : List Step) (done : ℕ) (before w' : WorldState)

@@ -1,5 +1,5 @@
 -- When a step that is tried again is refused all the same.
-use Rattle.std.specs.Prelude.{◌≡◌, ℕ, suc, IsTrue, false, List, ◌∷◌, Some, Result, Err, drop, take}
+use Rattle.std.specs.Prelude.{◌≡◌, ℕ, suc, IsTrue, List, ◌∷◌, Some, Result, Err, drop, take}
 use Rattle.cdc_progress.specs.Stores.{Risks}
 use Rattle.cdc_types.specs.declared.steps.Step.{Step}
 use Rattle.cdc_world.specs.declared.steps.Did.{Did}
@@ -14,17 +14,6 @@ abbrev pub RefusedStepsFailedEachTime : Type 0
 RefusedStepsFailedEachTime = (risks : Risks) (tries : ℕ) (w : WorldState) (step : Step) (answer : Result Did StepError)
     (w' : WorldState) → NextPast risks tries w step answer w' → IsTrue (is_passing answer)
     → FailsTimes risks (suc tries) w step w'
-
--- from this world the step can't fail so many times in a row
-abbrev pub CannotFailTimes : Risks → ℕ → WorldState → Step → Type 0
-CannotFailTimes risks n w step = (w' : WorldState) → FailsTimes risks n w step w' → ⊥
-
--- so if a store fails at most so many times in a row, as many tries more refuse nothing because of it: with one that
--- never fails twice in a row, one try more is enough
-abbrev pub EnoughTriesRefuseNothing : Type 0
-EnoughTriesRefuseNothing = (risks : Risks) (tries : ℕ) (w : WorldState) (step : Step) (answer : Result Did StepError)
-    (w' : WorldState) → NextPast risks tries w step answer w' → CannotFailTimes risks (suc tries) w step
-    → is_passing answer ≡ false
 
 -- a play that ended at a step that was refused so: the steps before it were done, and it failed each time
 pub record FailedEachTime (risks : Risks) (tries : ℕ) (w : WorldState) (steps : List Step) (done : ℕ)

@@ -10,9 +10,10 @@ use cdc_actors::{
 use cdc_laws::{run_laws, subscriber_laws};
 use cdc_traffic::traffic_laws;
 
-/// Does nothing. Wherever a run is cut off, what each actor has sent is a prefix of what it owes for all that it has
-/// received, and lacks one message at most. What a connector over an honest store has sent is always that of a
-/// connector run, if the run began at its start.
+/// Does nothing. Wherever a run is cut off, what actors have sent is a prefix of what they owe for all that they have
+/// received: the ledger lacks one reply to each client at most, the broker one confirm, and a subscriber one
+/// acknowledgement. A client has sent one message more than it has kept replies, at most. What a connector over an
+/// honest store has sent is always that of a connector run, if the run began at its start.
 pub fn actors_lack_one_message()
     ensures ledger { LedgersLackOne }
     ensures client { ClientsLackOne }

@@ -69,7 +69,8 @@ is_taken binding content.End = true
 abbrev pub items_taken : Arguments → List Entry → List Item
 items_taken binding entries = map item_of (filter (is_taken binding) (map (λ entry. entry.content) entries))
 
--- where no entry names its predecessor, a follower keeps what a subscriber keeps that receives what the binding takes
+-- if no entry names its predecessor, and the last event seen is the last one applied, as of a new follower, a follower
+-- keeps what a subscriber keeps that receives what the binding takes
 abbrev pub PlainFollowersAreSubscribers : Type 0
 PlainFollowersAreSubscribers = (binding : Arguments) (state : FollowState) (entries : List Entry)
     → state.seen ≡ state.kept.last → AllByRecursion (λ entry. entry.previous ≡ None) entries

@@ -20,7 +20,7 @@ pub fn going_on_is_once()
 {}
 
 /// Does nothing. If no entry names its predecessor, a follower keeps what a subscriber keeps that receives only what
-/// the binding takes.
+/// the binding takes. The last event that it has seen has to be the last one that it has applied, as of a new follower.
 pub fn plain_followers_are_subscribers()
     ensures { PlainFollowersAreSubscribers }
 {}

@@ -26,7 +26,8 @@ use Rattle.cdc_types.specs.declared.events.Event.{Event}
 -- ---- events by their places
 
 -- an item of a line that is an event is at the same place among the line's events
-pub event_at : (es : List Event) (closed : Bool) (k : ℕ) (e : Event) → slice_get (emitted es closed) k ≡ Some (OfEvent e)
+pub event_at : (es : List Event) (closed : Bool) (k : ℕ) (e : Event)
+    → slice_get (emitted es closed) k ≡ Some (OfEvent e)
     → slice_get es k ≡ Some e
 event_at [] true zero e there = cc
 event_at [] true (suc k) e there = cc

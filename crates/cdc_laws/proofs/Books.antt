@@ -216,7 +216,8 @@ holds_front h sound front back whole id =
 
 -- the book of a prefix of a ledger's events holds, for every number, the ledger's balances as of the last event of
 -- the prefix
-pub holds-balances : (h : History) (emitted : List Event) → IsSound h → IsPrefix emitted (events h) → HoldsBalances h emitted
+pub holds-balances : (h : History) (emitted : List Event) → IsSound h → IsPrefix emitted (events h)
+    → HoldsBalances h emitted
 holds-balances h emitted sound start =
     let split = front_of (event_of h) h.entries emitted start.rest start.whole in
     subst (HoldsBalances h) split.made (holds_front h sound split.front split.back split.whole)
@@ -250,6 +251,8 @@ last_shown-prefix h emitted sound start id =
 -- the whole book of a prefix of a ledger's events: the accounts of these events, in the order of their first
 -- appearance, each with the ledger's balances as of the last of these events
 pub book_of-prefix : (h : History) (emitted : List Event) → IsSound h → IsPrefix emitted (events h)
-    → book_of emitted ≡ map (λ id. record { id = id; balances = as_of h (last_timestamp emitted) id }) (accounts_of emitted)
+    → book_of emitted ≡ map (λ id. record { id = id; balances = as_of h (last_timestamp emitted) id })
+    (accounts_of emitted)
 book_of-prefix h emitted sound start =
-    map_same _ _ (accounts_of emitted) (AllByRecursion-every _ (last_shown-prefix h emitted sound start) (accounts_of emitted))
+    map_same _ _ (accounts_of emitted) (AllByRecursion-every _ (last_shown-prefix h emitted sound start)
+    (accounts_of emitted))

@@ -108,7 +108,8 @@ feed_of_one = refl
 -- ---- what was applied
 
 -- duplicates change nothing, and neither does the time at which they come
-with_repeats : times (applied (receiving (emitted_at 0 ∷ emitted_at 0 ∷ emitted_at 1 ∷ emitted_at 0 ∷ emitted_at 1 ∷ [])))
+with_repeats : times (applied (receiving (emitted_at 0 ∷ emitted_at 0 ∷ emitted_at 1 ∷ emitted_at 0
+    ∷ emitted_at 1 ∷ [])))
     ≡ 2000 ∷ 2001 ∷ []
 with_repeats = refl
 

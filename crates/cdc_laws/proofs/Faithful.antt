@@ -40,7 +40,8 @@ IsReplay-reception items ds n replay =
 
 module _ (h : History) (start : ℕ) (binding : Arguments) (reception : Reception) (is : IsSound h) where
   -- if it received a replay of the queue of all that the ledger has to publish after the start, it is faithful
-  pub IsFaithful-line : IsReplay reception.items (queue (line_after h start) binding) → IsFaithful h start binding reception
+  pub IsFaithful-line : IsReplay reception.items (queue (line_after h start) binding)
+      → IsFaithful h start binding reception
   IsFaithful-line replay =
       let receives : IsReplay reception.items (emitted (feed_after h start binding) h.closed) =
       subst (IsReplay reception.items) (queue-line_after h start binding) replay in
@@ -51,7 +52,8 @@ module _ (h : History) (start : ℕ) (binding : Arguments) (reception : Receptio
         prefix = front;
         rising = TimestampsRise-prefix (applied reception) (feed_after h start binding) rise front;
         whole = whole-emitted (feed_after h start binding) rise h.closed reception.items receives;
-        balances = λ all. holds-accounts h start (applied reception) is (subst (IsPrefix (applied reception)) all front);
+        balances = λ all. holds-accounts h start (applied reception) is
+            (subst (IsPrefix (applied reception)) all front);
         every = λ zero all.
             holds-balances h (applied reception) is
             (subst (IsPrefix (applied reception))
@@ -59,7 +61,8 @@ module _ (h : History) (start : ℕ) (binding : Arguments) (reception : Receptio
       }
 
   -- and its state is determined by what it has applied
-  pub kept_of-line : IsReplay reception.items (queue (line_after h start) binding) → kept_of reception ≡ kept_from reception
+  pub kept_of-line : IsReplay reception.items (queue (line_after h start) binding)
+      → kept_of reception ≡ kept_from reception
   kept_of-line replay =
       let same : applied reception ≡ applied_of reception =
       rises-emitted (feed_after h start binding) (feed_after_rises h start binding is) h.closed reception.items
@@ -114,12 +117,14 @@ receives-behind before (e ∷ es) none =
     (append_assoc before (OfEvent e ∷ []) (emitted es true))
 
 -- and so by a new subscriber
-pub receives-emitted : (es : List Event) → fold next nothing (emitted es true) ≡ record { items = emitted es true; closed = false }
+pub receives-emitted : (es : List Event)
+    → fold next nothing (emitted es true) ≡ record { items = emitted es true; closed = false }
 receives-emitted es = receives-behind [] es refl
 
 -- a subscriber that received all of its queue of a closed ledger has ended, and is faithful
 pub receives-all : (h : History) (start : ℕ) (binding : Arguments) (reception : Reception) → IsSound h → h.closed ≡ true
-    → reception.items ≡ queue (line_after h start) binding → (has_ended reception ≡ true) × IsFaithful h start binding reception
+    → reception.items ≡ queue (line_after h start) binding
+    → (has_ended reception ≡ true) × IsFaithful h start binding reception
 receives-all h start binding reception is shut all =
     let es : List Event = feed_after h start binding in
     let whole : List Item = queue (line_after h start) binding in

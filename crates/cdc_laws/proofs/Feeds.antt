@@ -89,7 +89,8 @@ module _ (es : List Event) (rise : TimestampsRise es) where
       let front = IsPrefix-firsts same_item Decides-same_item w f (apart closed) replay in
       record {
         rest = events_of front.rest;
-        whole = sym (events_of-append (firsts same_item w) front.rest) ∙ ap events_of front.whole ∙ events_emitted closed;
+        whole = sym (events_of-append (firsts same_item w) front.rest) ∙ ap events_of front.whole
+            ∙ events_emitted closed;
       }
 
   -- if an end mark has come, there is one, and they are all the events
@@ -113,7 +114,8 @@ module _ (es : List Event) (rise : TimestampsRise es) where
   -- the first ones of each of its items are a prefix of the line
   pub IsPrefix-line : (closed : Bool) (w : List Item) → IsReplay w (emitted es closed)
       → IsPrefix (firsts same_item w) (emitted es closed)
-  IsPrefix-line closed w replay = IsPrefix-firsts same_item Decides-same_item w (emitted es closed) (apart closed) replay
+  IsPrefix-line closed w replay =
+      IsPrefix-firsts same_item Decides-same_item w (emitted es closed) (apart closed) replay
 
   -- and if the end mark has come, they are the whole line
   pub whole-line : (closed : Bool) (w : List Item) → IsReplay w (emitted es closed) → Contains w EndMark

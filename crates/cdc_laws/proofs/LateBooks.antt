@@ -192,5 +192,6 @@ holds-accounts h start emitted sound front =
       whole = append_assoc cut.0 emitted front.rest ∙ ap (λ es. cut.0 ++ es) front.whole ∙ sym cut.1.whole;
     } in
     map_same _ _ (accounts_of emitted) (each_shown h sound cut.0 emitted all)
-    ∙ ap (map (λ id. let entry : BookEntry = record { id = id; balances = as_of h (last_timestamp emitted) id } in entry))
+    ∙ ap (map (λ id. let entry : BookEntry =
+    record { id = id; balances = as_of h (last_timestamp emitted) id } in entry))
     (sym accounts)

@@ -80,7 +80,11 @@ HasTaken-next reception taken d has =
           rw stays (HasTaken-settled reception taken d has settled)
       | inr listens ↦
           let parts = or_parts reception.closed (has_ended reception) listens in
-          let more : next reception d.item ≡ record { items = reception.items ++ d.item ∷ []; closed = reception.closed } =
+          let more : next reception d.item ≡ record {
+            items = reception.items ++ d.item ∷ [];
+            closed =
+                reception.closed;
+          } =
           ap after listens in
           rw more (HasTaken-listening reception taken d (has.all parts.0 parts.1))
     ]
@@ -96,7 +100,8 @@ IsReplay-front {X} some w f front replay =
     subst (λ (xs : List X). IsReplay xs f) is (IsReplay-take (length some) (some ++ front.rest) f all)
 
 -- what it received is a replay of its queue
-pub IsReplay-of_queue : (q : QueueState) (reception : Reception) → ReceivesFrom q reception → IsReplay reception.items q.items
+pub IsReplay-of_queue : (q : QueueState) (reception : Reception) → ReceivesFrom q reception
+    → IsReplay reception.items q.items
 IsReplay-of_queue q reception receives =
     let came : IsReplay receives.taken (deliveries q.items) =
     IsReplay-front receives.taken receives.out (deliveries q.items) receives.front receives.delivered.replay in
@@ -124,4 +129,5 @@ pub IsFaithful-run : (h : History) (start : ℕ) (b : BrokerState) (t : Traffic)
 IsFaithful-run h start b t q reception sound is among receives =
     let items : List Item = items_of (taken_of t.arrived) in
     IsFaithful-queue h start q.binding reception sound items (IsReplay-of_run h start b t sound is)
-    (subst (IsReplay reception.items) (its_queue b items q is.broker.queues among) (IsReplay-of_queue q reception receives))
+    (subst (IsReplay reception.items) (its_queue b items q is.broker.queues among)
+    (IsReplay-of_queue q reception receives))

@@ -30,7 +30,7 @@ abbrev pub held_timestamp : Option Saved → ℕ
 held_timestamp None = 0
 held_timestamp (Some saved) = saved.timestamp
 
--- the start, the timestamp after which the first session began; 0 if none has begun
+-- the start, the timestamp after which the first session began; 0 if no record is held
 abbrev pub held_start : Option Saved → ℕ
 held_start None = 0
 held_start (Some saved) = saved.start

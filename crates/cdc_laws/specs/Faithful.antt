@@ -61,7 +61,8 @@ pub record IsFaithful (h : History) (start : ℕ) (binding : Arguments) (recepti
   pub every : start ≡ 0 → feed_after h start binding ≡ events_after start (events h)
       → HoldsBalances h (applied reception)
 
--- a subscriber's state, determined by what it has applied; its count saturates at 2^64-1
+-- a subscriber's state, determined by what it has applied, and whether it has ended and is closed; its count saturates
+-- at 2^64-1
 abbrev pub kept_from : Reception → SubscriberState
 kept_from reception = record {
   book = book_of (applied reception);

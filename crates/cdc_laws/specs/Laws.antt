@@ -27,7 +27,8 @@ LegalHistoriesAreSound = (h : History) → IsLegal h → IsSound h
 -- its queue, the subscriber is faithful: on either way items may have come late, again or not at all, and be cut off
 -- anywhere
 abbrev pub SubscribersOfReplaysAreFaithful : Type 0
-SubscribersOfReplaysAreFaithful = (h : History) (start : ℕ) (binding : Arguments) (taken : List Item) (reception : Reception)
+SubscribersOfReplaysAreFaithful =
+    (h : History) (start : ℕ) (binding : Arguments) (taken : List Item) (reception : Reception)
     → IsSound h → IsReplay taken (line_after h start) → IsReplay reception.items (queue taken binding)
     → IsFaithful h start binding reception
 
@@ -42,7 +43,8 @@ SubscribersOfReplaysKeepWhatTheyApply = (h : History) (start : ℕ) (binding : A
 -- start
 abbrev pub WholeQueuesEnd : Type 0
 WholeQueuesEnd = (h : History) (start : ℕ) (binding : Arguments) (reception : Reception) → IsSound h → h.closed ≡ true
-    → reception.items ≡ queue (line_after h start) binding → (has_ended reception ≡ true) × IsFaithful h start binding reception
+    → reception.items ≡ queue (line_after h start) binding
+    → (has_ended reception ≡ true) × IsFaithful h start binding reception
 
 -- no event has timestamp 0, so what a ledger has to publish after 0 is all that it has to publish
 abbrev pub AllIsAfterZero : Type 0
@@ -56,7 +58,8 @@ DeliveriesAreReceivedAsReplays = (items : List Item) (ds : List Delivery) (n : �
 
 -- nothing changes what a closed subscriber has received
 abbrev pub ClosedSubscribersReceiveNothing : Type 0
-ClosedSubscribersReceiveNothing = (reception : Reception) (item : Item) → reception.closed ≡ true → next reception item ≡ reception
+ClosedSubscribersReceiveNothing =
+    (reception : Reception) (item : Item) → reception.closed ≡ true → next reception item ≡ reception
 
 -- the book of a prefix of a ledger's events has, for every number, the ledger's balances as of the last of these
 abbrev pub BooksHoldBalances : Type 0

@@ -56,4 +56,5 @@ ExtensionsGoOn = (g h : History) → IsSound h → Extends g h → GoesOn h g ×
 abbrev pub SubscribersOfRunsAreFaithful : Type 0
 SubscribersOfRunsAreFaithful = (h : History) (start : ℕ) (b : BrokerState) (t : Traffic) (q : QueueState)
     (reception : Reception)
-    → IsSound h → IsTrafficOf h start b t → Contains b.queues q → ReceivesFrom q reception → IsFaithful h start q.binding reception
+    → IsSound h → IsTrafficOf h start b t → Contains b.queues q → ReceivesFrom q reception
+    → IsFaithful h start q.binding reception

@@ -281,13 +281,15 @@ module _ {A R : Type 0} (rules : Rules A R) where
 
   -- one more result
   pub unjudged_more : (done : List R) (all : List A) (i : ℕ) (d : A) → i < length all
-      → (done ++ unvalidated_one rules (get_or all i d) (i + 1 == length all) ∷ []) ++ unvalidated rules (drop (i + 1) all)
+      → (done ++ unvalidated_one rules (get_or all i d) (i + 1 == length all) ∷ [])
+      ++ unvalidated rules (drop (i + 1) all)
       ≡ done ++ unvalidated rules (drop i all)
   unjudged_more done all i d inside =
       append_assoc done (unvalidated_one rules (get_or all i d) (i + 1 == length all) ∷ [])
       (unvalidated rules (drop (i + 1) all))
       ∙ ap (λ xs. done ++ xs)
-      (ap (λ b. unvalidated_one rules (get_or all i d) b ∷ unvalidated rules (drop (i + 1) all)) (last_left all i inside)
+      (ap (λ b. unvalidated_one rules (get_or all i d) b ∷ unvalidated rules (drop (i + 1) all))
+      (last_left all i inside)
       ∙ sym (at_drop_more (unvalidated rules) all i d inside))
 
   -- all of them

@@ -104,7 +104,8 @@ pub record IsEmittedAlike (g h : History) : Type 0 where
   pub indexed : index_of g ≡ index_of h
 
 -- so a log and an index of one history are also those of the other
-pub IsEmitted-alike : (h g : History) (emitted : Emitted) → IsEmittedAlike g h → IsEmitted h emitted → IsEmitted g emitted
+pub IsEmitted-alike : (h g : History) (emitted : Emitted) → IsEmittedAlike g h → IsEmitted h emitted
+    → IsEmitted g emitted
 IsEmitted-alike h g emitted alike is =
     record { logged = is.logged ∙ sym alike.logged; indexed = is.indexed ∙ sym alike.indexed }
 
@@ -142,7 +143,8 @@ IsEmitted-accounts shown h g emitted now items (Ok results) sound is answers =
     let parts : (is_past_the_end h now (length items) ≡ false) ×
     (taken h (batch.Accounts now items) ≡ (shown results, g)) =
     submit_parts h (batch.Accounts now items) (shown results, g) answers in
-    let alike = emitted_accounts h (base h now) items sound (after_last h now) (within_end h now (length items) parts.0) in
+    let alike = emitted_accounts h (base h now) items sound (after_last h now)
+    (within_end h now (length items) parts.0) in
     let made : (accounts_from h (base h now) items).1 ≡ g =
     ap (λ (a : BatchResults × History). a.1) parts.1 in
     subst (λ k. IsEmitted k emitted) made (IsEmitted-alike h (accounts_from h (base h now) items).1 emitted alike is)

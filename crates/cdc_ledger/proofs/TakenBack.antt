@@ -146,7 +146,8 @@ tail-later h emitted rs i d inside all is =
     (get_or rs i d).event (AreRecorded_at h rs i d inside all).event
 
 -- after it is logged, one more of the entries is logged
-pub IsEmitted-tail : (h : History) (emitted emitted' : Emitted) (rs : List Recorded) (i : ℕ) (d : Recorded) → i < length rs
+pub IsEmitted-tail : (h : History) (emitted emitted' : Emitted) (rs : List Recorded) (i : ℕ) (d : Recorded)
+    → i < length rs
     → AreRecorded h rs → IsEmitted (grown h (take i rs)) emitted
     → emitted'.log.events ≡ emitted.log.events ++ (get_or rs i d).event ∷ []
     → emitted'.index.triples ≡ ends_after (settled_transfer (get_or rs i d).movement) (get_or rs i d).movement.entry
@@ -155,7 +156,8 @@ pub IsEmitted-tail : (h : History) (emitted emitted' : Emitted) (rs : List Recor
 IsEmitted-tail h emitted emitted' rs i d inside all is log index =
     let was = AreRecorded_at h rs i d inside all in
     subst (λ (g : History). IsEmitted g emitted') (sym (grown_more h rs i d inside))
-    (IsEmitted-emitted (grown h (take i rs)) emitted (get_or rs i d).movement (CanEmit-tail h emitted rs i d inside all is) emitted'
+    (IsEmitted-emitted (grown h (take i rs)) emitted (get_or rs i d).movement
+    (CanEmit-tail h emitted rs i d inside all is) emitted'
     (get_or rs i d).place (get_or rs i d).event was.place was.event log index)
 
 -- ---- a chain that failed

@@ -1,4 +1,5 @@
--- Accounts as the ledger keeps them, each with its balances so far (for private contracts and the laws).
+-- Accounts as the ledger keeps them, each with its balances so far (for private contracts and the laws, except
+-- `no_balances`, which the rules of an audit cite).
 use Rattle.std.specs.Prelude.{ℕ, ◌+◌, ◌≤◌, Bool, ◌==◌, not, List, ◌∷◌, find, unwrap_or, option_map}
 use Rattle.cdc_types.specs.declared.accounts.Account.{Account}
 use Rattle.cdc_types.specs.declared.accounts.Balances.{Balances}

@@ -10,9 +10,10 @@ pub mod Filling
 pub mod Fits
 pub mod History
 pub mod Kinds
+pub mod Sound
 pub mod Submit
 pub mod Verdict
--- what only private contracts and the laws cite
+-- what only private contracts and the laws cite, except `no_balances` of Accounts, which the rules of an audit cite
 pub mod Accounts
 pub mod Contents
 pub mod Effects
@@ -22,7 +23,6 @@ pub mod Movements
 pub mod OpenTriples
 pub mod PlacesById
 pub mod Recorded
-pub mod Sound
 pub mod Stops
 pub mod Tables
 pub mod EmittedHistory

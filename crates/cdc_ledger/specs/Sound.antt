@@ -1,4 +1,4 @@
--- What holds of every history that a ledger makes (for private contracts and the laws).
+-- What holds of every history that a ledger makes. Contracts of a run cite `IsSound`.
 use Rattle.std.specs.Prelude.{ℕ, ◌≤◌, ◌<◌, ◌≡◌, ◌≢◌, true, IsSome, Some, List, [], ◌∷◌, map, filter}
 use Rattle.std.specs.List.{AllByRecursion}
 use Rattle.cdc_types.specs.declared.events.Entry.{Entry}

@@ -102,7 +102,7 @@ is_too_large (batch.Accounts now items) = nat_lt BATCH_ITEMS (length items)
 is_too_large (batch.Transfers now items) = nat_lt BATCH_ITEMS (length items)
 is_too_large (batch.Pulse now) = false
 
--- n items from the timestamp now on would exceed the greatest timestamp
+-- the last of n items of a batch at the timestamp now would have a timestamp above the greatest one
 abbrev pub is_past_the_end : History → ℕ → ℕ → Bool
 is_past_the_end h now n = nat_lt 0 n && nat_lt max_timestamp (base h now + n - 1)
 

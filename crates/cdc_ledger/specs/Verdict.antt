@@ -121,7 +121,7 @@ abbrev pub is_over : History → Transfer → ℕ → Bool
 is_over h p t =
     some_by h t (λ e. expires e.kind e.transfer p) || (not (p.timeout == 0) && nat_le (expires_at p) t)
 
--- the lines on a pending transfer that was already settled by the timestamp t
+-- the lines on a pending transfer that was settled, or whose time was up, by the timestamp t
 abbrev pub end_lines : History → Transfer → ℕ → List (Bool × TransferResult)
 end_lines h p t =
     (some_by h t (λ x. posts x.kind x.transfer p), transfer.PendingTransferAlreadyPosted) ∷

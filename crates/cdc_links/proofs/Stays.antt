@@ -31,7 +31,8 @@ module _ {M N : Type 0} where
 
   -- one sender more
   pub fresh_more : (link : LinkId M) (n : ℕ)
-      → fresh_endpoints {N = N} link (n + 1) ≡ fresh_endpoints link n ++ record { link = link; number = n; sent = [] } ∷ []
+      → fresh_endpoints {N = N} link (n + 1)
+      ≡ fresh_endpoints link n ++ record { link = link; number = n; sent = [] } ∷ []
   fresh_more link n = ap (fresh_endpoints {N = N} link) (add-one n)
 
   module _ (may_follow : ℕ → List (M × N) → M × N → Type 0) where

@@ -8,12 +8,13 @@ use Rattle.cdc_types.specs.Timestamps.{RiseFrom}
 abbrev pub joined : List (List Event) → List Event
 joined segments = flat_map (λ s. s) segments
 
--- so many events fill the segments one after another, each of them with 1,024
+-- so many events fill the segments one after another: each has 1,024 while there are as many left, the next one has the
+-- rest, and later ones have none
 abbrev pub AreFilled : ℕ → List (List Event) → Type 0
 AreFilled n [] = n ≡ 0
 AreFilled n (s ∷ segments) = (length s ≡ min n 1024) × AreFilled (n - 1024) segments
 
--- the first event is no later than the timestamp t
+-- there is a first event, and it is no later than the timestamp t
 abbrev pub begins_by : ℕ → List Event → Bool
 begins_by t [] = false
 begins_by t (e ∷ events) = nat_le e.timestamp t

@@ -27,7 +27,8 @@ equals_header headers (TransferCode code) = headers.transfer_code == code
 equals_header headers (DebitAccountCode code) = headers.debit_account_code == code
 equals_header headers (CreditAccountCode code) = headers.credit_account_code == code
 
--- how many of the pairs have to pass a test: each one, or some one
+-- whether the pairs pass a test: each one under `all`, at least one under `any`; of no pairs `all` is true and `any`
+-- false
 abbrev pub pass : Mode → (Pair → Bool) → List Pair → Bool
 pass All test pairs = list_all test pairs
 pass Any test pairs = list_any test pairs

@@ -41,7 +41,8 @@ digit_is d digit =
 pub more : (text : List ℕ) (count number d : ℕ) → Reads text count number → count ≤ 18 → count < length text
     → d ≡ get_or text count 0 → is_ascii_digit d ≡ true → Reads text (count + 1) (number * 10 + (d - 48))
 more text count number d reads few within is digit =
-    let both : (list_all is_ascii_digit (take count text) && list_all is_ascii_digit (get_or text count 0 ∷ [])) ≡ true =
+    let both : (list_all is_ascii_digit (take count text)
+    && list_all is_ascii_digit (get_or text count 0 ∷ [])) ≡ true =
     rw reads.digits (rw (sym is) (rw digit refl)) in
     let sum : digits_value 10 (take count text) * 10 + digit_value (get_or text count 0) ≡ number * 10 + (d - 48) =
     rw (sym reads.value) (rw (sym is) (ap (λ v. number * 10 + v) (digit_is d digit))) in

@@ -213,7 +213,8 @@ pub one_more : (place : Place) (most : ℕ) (Is : Data → Type 0) (k a b c d re
 one_more place most Is k a b c d rest ms may named given next ends =
     member_more place most Is k a b c d may named given next
     ∙ ap (λ ts. key k ∷ (json_tokens given.json ++ ts)) ends
-    ∙ sym (ap (λ ts. key k ∷ ts) (append_assoc (json_tokens given.json) (members_tokens ms) (tokens_at after_value rest)))
+    ∙ sym (ap (λ ts. key k ∷ ts) (append_assoc (json_tokens given.json) (members_tokens ms)
+    (tokens_at after_value rest)))
 
 -- the last member
 pub last_one : (place : Place) (most : ℕ) (Is : Data → Type 0) (k a b c rest : List ℕ)

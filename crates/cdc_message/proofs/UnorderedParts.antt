@@ -29,7 +29,8 @@ use Rattle.cdc_message.proofs.Unordered.{Ends, one_more, last_one, object_tokens
 abbrev all_names : List FieldName
 all_names =
     Timestamp ∷ Kind ∷ Ledger ∷ TransferPart ∷ DebitAccount ∷ CreditAccount ∷ Id ∷ Amount ∷ PendingId ∷ UserData128 ∷
-    UserData64 ∷ UserData32 ∷ Timeout ∷ Code ∷ Flags ∷ DebitsPending ∷ DebitsPosted ∷ CreditsPending ∷ CreditsPosted ∷ []
+    UserData64 ∷ UserData32 ∷ Timeout ∷ Code ∷ Flags ∷ DebitsPending ∷ DebitsPosted ∷ CreditsPending
+    ∷ CreditsPosted ∷ []
 
 -- the name at a place
 abbrev name_at : ℕ → Option FieldName
@@ -150,7 +151,8 @@ so_far_more text a b c d old new name n before is_named given next same others =
         all = whole.all;
         tokens = whole.tokens;
         shallow = whole.shallow;
-        converts = whole.converts ∙ ap (option_and_then (λ d. of_members ms (put (key_of name) d before.found))) given.converts;
+        converts = whole.converts ∙ ap (option_and_then (λ d. of_members ms (put (key_of name) d before.found)))
+            given.converts;
       };
   holds = holds_put old new before.found name n given.value before.holds given.holds same others;
 }

@@ -1,4 +1,4 @@
--- What the parts of a message have to do with its event.
+-- What the parts of a message have to do with its event. Only the view and the invariant of `Message` cite it.
 use Rattle.std.specs.Prelude.{◌≡◌, ℕ, List, Ok}
 use Rattle.std.specs.Result.{result_unwrap_or}
 use Rattle.cdc_types.specs.declared.events.EventKind.TheVariants.{SinglePhase}

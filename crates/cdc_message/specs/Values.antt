@@ -1,4 +1,4 @@
--- The JSON value that an event is written as.
+-- The JSON value that an event is written as. Public contracts cite `wide` and `narrow` alone.
 use Rattle.std.specs.Prelude.{ℕ, codes, decimal}
 use Rattle.serde_json.specs.Data.{Data, number, unsigned, string, object, Members, no_members, member}
 use Rattle.cdc_types.specs.declared.events.EventTransfer.{EventTransfer}

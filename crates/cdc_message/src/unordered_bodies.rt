@@ -297,8 +297,8 @@ impl Cursor<'_> {
     }
 }
 
-/// The event of a body that has the members of an event in the documented order, those of its parts in any order, and no
-/// others. Each number is in quotes or bare, and white space may be anywhere. `None` for every other body, and for
+/// The event of a body that has the members of an event in the documented order, those of its parts in any order, and
+/// no others. Each number is in quotes or bare, and white space may be anywhere. `None` for every other body, and for
 /// numbers with leading zeros and names with escapes.
 pub fn documented_event(bytes: &[u8]) -> Option<Event>
     ensures { IfSome result (λ event. read bytes.now ≡ Ok event) }

@@ -85,7 +85,8 @@ queued_pieces headers seconds queues body =
     [] in
     let rest : List ℕ = codes ",\"body\":" ++ (body ++ codes "}\n") in
     sym (object_text-append members (codes "\n")
-    ∙ ap (λ (t : List ℕ). codes "{\"kind\":\"message\",\"headers\":" ++ (headers ++ ((codes ",\"timestamp\":" ++ seconds)
+    ∙ ap (λ (t : List ℕ). codes "{\"kind\":\"message\",\"headers\":"
+    ++ (headers ++ ((codes ",\"timestamp\":" ++ seconds)
     ++ (codes ",\"queues\":[" ++ t))))
     (append_assoc queues (codes "]") rest))
 

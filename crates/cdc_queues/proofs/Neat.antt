@@ -112,7 +112,8 @@ neat_decimal n fits =
 
 -- a member that is a JSON number
 neat_narrow : (name : List ℕ) (n : ℕ) → is_name name ≡ true → n < 2 ^ 128 → IsNeat 80 (narrow_member name n)
-neat_narrow name n is fits = neat_within 75 80 _ (neat_member 40 name (decimal n) is (neat_decimal n fits)) (omega arith)
+neat_narrow name n is fits =
+    neat_within 75 80 _ (neat_member 40 name (decimal n) is (neat_decimal n fits)) (omega arith)
 
 -- a member that is a decimal string
 neat_wide : (name : List ℕ) (n : ℕ) → is_name name ≡ true → n < 2 ^ 128 → IsNeat 80 (wide_member name n)
@@ -138,7 +139,8 @@ neat_joined most (t ∷ u ∷ ts) all =
     let comma : IsNeat 1 (44 ∷ []) = record { plain = refl; short = omega arith } in
     neat_within (most + (1 + total most (u ∷ ts))) (total most (t ∷ u ∷ ts)) _
     (neat_append most (1 + total most (u ∷ ts)) t (44 ∷ join_with_byte 44 (u ∷ ts)) all.0
-    (neat_append 1 (total most (u ∷ ts)) (44 ∷ []) (join_with_byte 44 (u ∷ ts)) comma (neat_joined most (u ∷ ts) all.1)))
+    (neat_append 1 (total most (u ∷ ts)) (44 ∷ []) (join_with_byte 44 (u ∷ ts)) comma
+    (neat_joined most (u ∷ ts) all.1)))
     (omega arith)
 
 neat_object : (most n : ℕ) (ts : List (List ℕ)) → AllByRecursion (IsNeat most) ts → 1 + total most ts + 1 ≤ n
@@ -247,7 +249,8 @@ neat_body event fits =
         (
           short 80 _ (neat_narrow (codes "ledger") event.ledger refl (omega (arith, fits.ledger))) (omega arith),
           (
-            short 80 _ (neat_wide (codes "timestamp") event.timestamp refl (omega (arith, fits.timestamp))) (omega arith),
+            short 80 _ (neat_wide (codes "timestamp") event.timestamp refl (omega (arith, fits.timestamp)))
+                (omega arith),
             (
               neat_part 1000 1100 (codes "transfer") _ refl (neat_transfer event.transfer fits.transfer) (omega arith),
               (

@@ -144,7 +144,8 @@ pub length-last_after : (event : Event) (bindings : List Arguments) (last : List
 length-last_after event [] last same = refl
 length-last_after event (binding ∷ rest) [] same = refl
 length-last_after event (binding ∷ rest) (t ∷ others) same =
-    ap suc (length-last_after event rest others (let fewer : length others ≡ length rest = omega (arith, same) in fewer))
+    ap suc (length-last_after event rest others (let fewer : length others ≡ length rest =
+    omega (arith, same) in fewer))
 
 -- ---- one event after another
 

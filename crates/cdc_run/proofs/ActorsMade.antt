@@ -33,7 +33,8 @@ client_of system number requests answers =
 clients_push : (system : ℕ) (link : LinkId ToLedger) (number : ℕ) (links : List (LinkId Reply)) (answers : LinkId Reply)
     → made_clients system link number (links ++ answers ∷ [])
     ≡ made_clients system link number links
-    ++ client_of system (number + length links) (fresh_endpoint link (number + length links)) (fresh_inbox answers 1) ∷ []
+    ++ client_of system (number + length links) (fresh_endpoint link (number + length links))
+    (fresh_inbox answers 1) ∷ []
 clients_push system link number [] answers =
     let same : number ≡ number + 0 = omega arith in
     ap (λ (k : ℕ). client_of system k (fresh_endpoint link k) (fresh_inbox answers 1) ∷ []) same
@@ -90,7 +91,8 @@ subscribers_push : (system : ℕ) (acks : LinkId ToBroker) (number : ℕ) (links
     (closes : List (Option ℕ)) (inbox : LinkId ToSubscriber) (close : Option ℕ) → length closes ≡ length links
     → made_subscribers system acks number (links ++ inbox ∷ []) (closes ++ close ∷ [])
     ≡ made_subscribers system acks number links closes
-    ++ subscriber_of system (number + length links) (fresh_inbox inbox 1) (fresh_endpoint acks (number + length links)) close
+    ++ subscriber_of system (number + length links) (fresh_inbox inbox 1)
+    (fresh_endpoint acks (number + length links)) close
     ∷ []
 subscribers_push system acks number [] [] inbox close long =
     let same : number ≡ number + 0 = omega arith in

@@ -55,7 +55,8 @@ dispatched_in_turn client before (p ∷ order) own =
     let dispatched : List (Reply × Past) = named_replies_from client (before ++ p ∷ []) order in
     let first : Result BatchResults BatchError = answer_shown (history_of (past_of before)) p.1 in
     ap (λ (b : Bool). map (λ (m : Reply × Past). m.0.answer)
-    ((if b then (reply_after client before p.1, past_of before) ∷ [] else []) ++ dispatched)) (is_own client p order own)
+    ((if b then (reply_after client before p.1, past_of before) ∷ [] else []) ++ dispatched))
+    (is_own client p order own)
     ∙ ap (λ (answers : List (Result BatchResults BatchError)). first ∷ answers)
     (dispatched_in_turn client (before ++ p ∷ []) order (All-tail (λ (q : ℕ × Batch). q.0 ≡ client) p order own)
     ∙ ap (λ (h : History). answers_from h (batches_in order)) (history_push before p))

@@ -11,7 +11,8 @@ use Rattle.cdc_types.specs.Widths.{max_64}
 use Rattle.cdc_run.proofs.Firsts.{rises-of_firsts}
 
 -- if the timestamps of that rise, as for a faithful one, it is what is kept by timestamps alone
-pub kept_emitted : (reception : Reception) → TimestampsRise (applied reception) → kept_of reception ≡ kept_from reception
+pub kept_emitted : (reception : Reception) → TimestampsRise (applied reception)
+    → kept_of reception ≡ kept_from reception
 kept_emitted reception rise =
     ap (λ (es : List Event). record {
       book = book_of es;

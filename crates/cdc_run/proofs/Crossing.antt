@@ -1,5 +1,5 @@
--- What a broker's actor holds may be moved to another thread. A search that goes down through it from all actors runs out
--- of steps.
+-- What a broker's actor holds may be moved to another thread. A search that goes down through it from all actors runs
+-- out of steps.
 use denote.Param.Send.{IsSend, sendable}
 use Rattle.std.proofs.Crossing.{crosses}
 use Rattle.cdc_broker.specs.contracts.broker.Broker as Broker

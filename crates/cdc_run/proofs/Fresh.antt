@@ -8,7 +8,8 @@ use Rattle.cdc_run.specs.Wires.{AreOwn, IsFresh, fresh_from, only_sender}
 module _ {M N : Type 0} (link : LinkId M) where
   -- one more has the next number
   from_push : (number n : ℕ)
-      → fresh_from {M = M} {N = N} link number n ++ fresh_endpoint link (number + n) ∷ [] ≡ fresh_from link number (suc n)
+      → fresh_from {M = M} {N = N} link number n ++ fresh_endpoint link (number + n) ∷ []
+      ≡ fresh_from link number (suc n)
   from_push number zero =
       let same : number + 0 ≡ number = omega arith in
       ap (λ (k : ℕ). fresh_endpoint {M = M} {N = N} link k ∷ []) same

@@ -36,7 +36,8 @@ kept es ended closed = record {
 }
 
 -- one that is faithful, has ended and isn't closed keeps what its whole feed makes, and so does one that takes the line
-keeps_line : (h : History) (start : ℕ) (binding : Arguments) (reception : Reception) → IsFaithful h start binding reception
+keeps_line : (h : History) (start : ℕ) (binding : Arguments) (reception : Reception)
+    → IsFaithful h start binding reception
     → has_ended reception ≡ true → reception.closed ≡ false → kept_of reception ≡ kept_of_line h start binding
 keeps_line h start binding reception faithful ended open_yet =
     let es : List Event = feed_after h start binding in
@@ -48,7 +49,8 @@ keeps_line h start binding reception faithful ended open_yet =
     let receives : fold next nothing (queue (line_after h start) binding) ≡
     record { items = emitted es true; closed = false } =
     ap (fold next nothing) line_is ∙ receives-emitted es in
-    let all : rises (events_of (emitted es true)) ≡ es = ap rises (events_emitted es rise true) ∙ rises-rising es rise in
+    let all : rises (events_of (emitted es true)) ≡ es =
+    ap rises (events_emitted es rise true) ∙ rises-rising es rise in
     ap (λ (l : List Event). kept l (has_ended reception) reception.closed) took
     ∙ ap₂ (kept es) ended open_yet
     ∙ sym (ap₂ (λ (l : List Event) (b : Bool). kept l b false) all (ends-emitted es))

@@ -58,8 +58,13 @@ module _ (S : Type 0) where
   clients_left (old ∷ olds) rest [] all = absurd all
   clients_left (old ∷ olds) rest (l ∷ lefts) all =
       let one = client_left old l all.0 in
-      let more = clients_left olds rest lefts all.1 in
-      (one.0 ∷ more.0, more.1, ap₂ (λ (x : Actor S) (xs : List (Actor S)). x ∷ xs) one.1 more.2, (one.2, more.3), more.4)
+      let more = clients_left olds rest lefts all.1 in (
+        one.0 ∷ more.0,
+        more.1,
+        ap₂ (λ (x : Actor S) (xs : List (Actor S)). x ∷ xs) one.1 more.2,
+        (one.2, more.3),
+        more.4,
+      )
 
   -- all subscribers
   subscribers_left : (olds : List (ActorState SubscriberCore)) (lefts : List (Actor S))
@@ -76,7 +81,8 @@ module _ (S : Type 0) where
 
   -- those after the clients
   others_left : (old : Placed) (lefts : List (Actor S))
-      → AllZip Leaves (task.Connector old.connector ∷ task.Broker old.broker ∷ map task.Subscriber old.subscribers) lefts
+      → AllZip Leaves (task.Connector old.connector ∷ task.Broker old.broker
+      ∷ map task.Subscriber old.subscribers) lefts
       → (connector : ActorState ConnectorCore) × (broker : ActorState BrokerCore)
       × (subscribers : List (ActorState SubscriberCore))
       × (lefts ≡ actor.Connector connector ∷ actor.Broker broker ∷ map actor.Subscriber subscribers)

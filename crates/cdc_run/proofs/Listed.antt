@@ -65,5 +65,6 @@ module _ (S : Type 0) where
       ∙ ap (λ (l : List (Task S)). l ++ map task.Subscriber p.subscribers)
       (four ∙ ap (λ (l : List (Task S)). l ++ task.Broker p.broker ∷ [])
       (three ∙ ap (λ (l : List (Task S)). l ++ task.Connector p.connector ∷ []) whole))
-      ∙ append_assoc (first ++ task.Connector p.connector ∷ []) (task.Broker p.broker ∷ []) (map task.Subscriber p.subscribers)
+      ∙ append_assoc (first ++ task.Connector p.connector ∷ []) (task.Broker p.broker ∷ [])
+      (map task.Subscriber p.subscribers)
       ∙ append_assoc first (task.Connector p.connector ∷ []) (task.Broker p.broker ∷ map task.Subscriber p.subscribers)

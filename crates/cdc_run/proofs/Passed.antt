@@ -137,7 +137,8 @@ ends_come done pass law d c b place consumer s are found stopped =
     record {
       reception = received_by s.close_after taken;
       come =
-          subst (λ (h : History). HasCome h (origin_of c).start q.binding s.close_after (received_by s.close_after taken))
+          subst (λ (h : History). HasCome h (origin_of c).start q.binding s.close_after
+          (received_by s.close_after taken))
           (sym are.core.booked.history)
           (subst (λ (n : ℕ). HasCome (history_of (past_of_inbox d.inbox)) n q.binding s.close_after
           (received_by s.close_after taken)) start

@@ -148,7 +148,8 @@ module _ (h : History) (p : Passage) (keeps : KeepsTo h p.connector)
             keeps.each published.among among
             published.its in
             let items : List Item = map OfEvent p.course.offered in
-            let shown : slice_get (take (tags_sent p.course) (emitted p.course.offered true)) published.place ≡ Some item =
+            let shown : slice_get (take (tags_sent p.course) (emitted p.course.offered true)) published.place
+            ≡ Some item =
             subst (λ (s : Shown). slice_get s.items published.place ≡ Some item) same published.here in
             let there : slice_get (emitted p.course.offered true) published.place ≡ Some item =
             get_taken (tags_sent p.course) (emitted p.course.offered true) published.place item shown in

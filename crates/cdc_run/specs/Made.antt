@@ -35,7 +35,8 @@ AreCloses number given (close ∷ closes) = IsLeastClose number given close × A
 abbrev pub made_ledger : ℕ → Wiring → ActorState LedgerCore
 made_ledger system w = record {
   system = system;
-  work = first_ledger (fresh_inbox w.to_ledger (length w.to_clients + 1)) (map (λ link. fresh_endpoint link 0) w.to_clients)
+  work = first_ledger (fresh_inbox w.to_ledger (length w.to_clients + 1))
+      (map (λ link. fresh_endpoint link 0) w.to_clients)
       (fresh_endpoint w.to_connector 0);
   fault = None;
 }

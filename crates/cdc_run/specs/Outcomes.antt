@@ -26,8 +26,8 @@ abbrev pub later_or : Place × Met → Option (Place × Met) → Option (Place �
 later_or one None = Some one
 later_or one (Some later) = if is_gone later.1 then Some one else Some later
 
--- the stop that counts of one place and of those after it: the first, but that a peer is gone counts only if there is no
--- other reason
+-- the stop that counts of one place and of those after it: the first, but that a peer is gone counts only if there is
+-- no other reason
 abbrev pub first_of : Option (Place × Met) → Option (Place × Met) → Option (Place × Met)
 first_of None later = later
 first_of (Some one) later = if is_gone one.1 then later_or one later else Some one

@@ -52,8 +52,8 @@ pub record HasStopped (consumer : Consumer) (s : SubscriberCore) : Type 0 where
   pub finished : s.finished ≡ true
   pub account : IsAccounted s.inbox consumer.link
 
--- against the ledger of a desk after this start, the subscriber of this queue has come so far, and its state is what is
--- kept of that
+-- against the ledger of a ledger's actor after this start, the subscriber of this queue has come so far, and its state
+-- is what is kept of that
 pub record ComesOf (d : LedgerCore) (start : ℕ) (b : BrokerCore) (place : ℕ) (s : SubscriberCore) : Type 0 where
   pub reception : Reception
   pub come : HasCome d.ledger start (queue_of b.broker (place + 1)).binding s.close_after reception

@@ -16,7 +16,7 @@ use Rattle.cdc_types.specs.declared.batches.Batch.{Batch}
 -- the report is of a run: its actors were made of this config and these faults, over a store that holds this, is honest
 -- or not, and may refuse for these reasons; each has worked until it had finished, the clients through these scripts;
 -- and the report is of what they left. The connector has restarted right after each publish packet that the faults
--- name, the last one included, and besides only after a session of which a packet was lost. The type of the store
+-- name, the last one included, and besides only after a session that lost a packet or a confirm. The type of the store
 -- doesn't show in actors, so any will do
 pub record RanFrom (config : Config) (faults : Faults) (held : Option Saved) (honest : Bool) (risks : Risks)
     (scripts : List (List Batch)) (report : Report) : Type 0 where

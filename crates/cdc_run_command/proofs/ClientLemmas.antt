@@ -249,7 +249,8 @@ lawful_lines n context (line ∷ rest) out is =
     (λ (ss : List Numbered). Ok (cons_option (numbered n stated.0) ss)) out stated.1.1 in
     let same : cons_option (numbered n stated.0) more.0 ≡ out = cc (more.1.1) in
     let below = lawful_lines (n + 1) (after_line n context stated.0) rest more.0 more.1.0 in
-    let counts = subst (λ (above : ℕ). AreLawful above (statements more.0)) (after_line_counts n context stated.0) below in
+    let counts = subst (λ (above : ℕ). AreLawful above (statements more.0))
+    (after_line_counts n context stated.0) below in
     subst (λ (o : List Numbered). AreLawful context.subscribers (statements o)) same
     (subst (AreLawful context.subscribers) (statements_joined n stated.0 more.0)
     (lawful_line context (spoken line) stated.0 (statements more.0)
@@ -320,4 +321,5 @@ runnable bytes script is =
     let few = few_bindings 0 (statements stated.0) (omega arith) lawful in
     runnable_with (bindings_of (statements stated.0)) (batches_of 1 (statements stated.0)) (lines_of stated.0) script
     (omega (arith, few))
-    (lawful_batches 0 1 (statements stated.0) (record { least = omega arith; greatest = omega arith }) lawful) stated.1.1
+    (lawful_batches 0 1 (statements stated.0) (record { least = omega arith; greatest = omega arith })
+    lawful) stated.1.1

@@ -41,8 +41,8 @@ IsUnstopped program.SessionsExhausted = ⊥
 IsUnstopped program.StartNotAllowed = ⊥
 IsUnstopped program.NotOneSystem = ⊥
 
--- a run over such a store may fail so: no actor stopped; or one did, and the fault is the one that it met, which an actor
--- of its place may meet
+-- a run over such a store may fail so: no actor stopped; or one did, and the fault is the one that it met, which an
+-- actor of its place may meet
 abbrev pub MayFail : Bool → Risks → RunFailed → Type 0
 MayFail honest risks failed = MatchOption failed.stop (IsUnstopped failed.fault)
     (λ s. (failed.fault ≡ run_fault (fault_met s.1)) × MayStop honest risks s.0 s.1)

@@ -120,8 +120,8 @@ pub record IsRunOf (setting : Setting) (script : Script) (ran : Ran) : Type 0 wh
   pub lines : ran.lines ≡ script.lines
   pub comes : MayComeTo setting script ran.report
 
--- a run of the script that a text writes, whose bytes are known or not, came to this; there is none if the command
--- ends otherwise than well
+-- a run of the script that a text writes, whose bytes are known or not, came to this; if there is none, the command
+-- didn't end well
 abbrev pub HasRunOf : Setting → Option (List ℕ) → Ending → Option Ran → Type 0
 HasRunOf setting bytes ending None = ending ≡ Done → ⊥
 HasRunOf setting bytes ending (Some ran) =

@@ -70,7 +70,8 @@ refuses_words : (script_of (codes "subscriber all\naccounts x\n") ≡ fault 2 10
 refuses_words = (refl, refl, refl, refl)
 
 -- a missing word is located right after the last word, whatever spaces follow; one word too many
-refuses_counts : (script_of (codes "subscriber all\r\n  pulse  \n") ≡ fault 2 8 (bytes 23 0) (bytes 18 5) kind.WrongCount)
+refuses_counts : (script_of (codes "subscriber all\r\n  pulse  \n")
+    ≡ fault 2 8 (bytes 23 0) (bytes 18 5) kind.WrongCount)
     × (script_of (codes "subscriber all\npulse 5 6\n") ≡ fault 2 9 (bytes 23 1) (bytes 15 5) kind.WrongCount)
 refuses_counts = (refl, refl)
 

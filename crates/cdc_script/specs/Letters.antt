@@ -24,7 +24,8 @@ letter_length [] = 0
 letter_length (first ∷ rest) =
     if letter_size first == 1 then 1 else length_if_utf8 (take (letter_size first) (first ∷ rest))
 
--- the letter at the start of bytes that begin at this place: a text may begin with a byte order mark
+-- the letter at the start of bytes that begin at this place; the byte order mark of UTF-16 at the start of a text
+-- counts as one letter of two bytes
 abbrev pub letter_at : ℕ → List ℕ → Span
 letter_at start bytes =
     record { start = start; length = if (start == 0) && begins_utf_16 bytes then 2 else letter_length bytes }

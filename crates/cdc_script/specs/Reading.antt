@@ -18,7 +18,7 @@ ConsumesAtMost most old new = (bytes : List ℕ) × (length bytes ≤ most) × C
 abbrev pub ConsumesSome : Option (List ℕ) → Option (List ℕ) → Type 0
 ConsumesSome old new = (bytes : List ℕ) × (0 < length bytes) × Consumes old new bytes
 
--- a text gains the bytes that known bytes lose: at most so many, and whether there are any
+-- a text gains the bytes that known bytes lose: at most so many, and whether there are any (for private contracts)
 pub record AppendsPiece (some : Bool) (most : ℕ) (old new : Option (List ℕ)) (before after : List ℕ) : Type 0 where
   pub bytes : List ℕ
   pub any : some ≡ nat_lt 0 (length bytes)

@@ -63,8 +63,8 @@ StatesOr words (Ok None) later = later
 StatesOr words (Ok (Some stated)) later = Unit {0}
 StatesOr words (Err fault) later = BeginsSubscriber words
 
--- some line up to the first fault has a statement, or the line of that fault is a subscriber line, so there is
--- something to keep
+-- some line up to the first fault has a statement, or the line of that fault is a subscriber line: there may be
+-- something to keep. A line `client N` counts too
 abbrev pub StateSomething : Context → List Placed → Type 0
 StateSomething context [] = ⊥
 StateSomething context (line ∷ rest) = StatesOr (spoken line) (line_states context line) (StateSomething context rest)
@@ -92,7 +92,8 @@ batches_of client (states.Transfers now ∷ rest) =
     record { client = client; batch = batch.Transfers now (leading_transfers rest) } ∷ batches_of client rest
 batches_of client (states.Account a ∷ rest) = batches_of client rest
 batches_of client (states.Transfer t ∷ rest) = batches_of client rest
-batches_of client (states.Pulse now ∷ rest) = record { client = client; batch = batch.Pulse now } ∷ batches_of client rest
+batches_of client (states.Pulse now ∷ rest) =
+    record { client = client; batch = batch.Pulse now } ∷ batches_of client rest
 
 -- the bindings of the subscribers that statements make
 abbrev pub bindings_of : List Statement → List Arguments

@@ -142,7 +142,7 @@ abbrev pub ended_in : {A : Type 0} → A → Option ItemKind → A → A
 ended_in now (Some kind) before = now
 ended_in now None before = before
 
--- what a line that is no item leaves for those below it
+-- what a line that ends a batch, and begins none of items, leaves for those below it
 abbrev pub after_end : ℕ → BatchEnd → Context → ℕ → Context
 after_end n end context subscribers = record {
   open_batch = None;

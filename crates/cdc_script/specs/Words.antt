@@ -18,7 +18,8 @@ abbrev pub lines_of_parts : ℕ → List (List ℕ) → List Placed
 lines_of_parts start [] = []
 lines_of_parts start (part ∷ []) = if length part == 0 then [] else record { start = start; bytes = part } ∷ []
 lines_of_parts start (part ∷ next ∷ more) =
-    record { start = start; bytes = strip_carriage_return part } ∷ lines_of_parts (start + length part + 1) (next ∷ more)
+    record { start = start; bytes = strip_carriage_return part }
+    ∷ lines_of_parts (start + length part + 1) (next ∷ more)
 
 -- the lines of bytes that begin at this place
 abbrev pub lines_from : ℕ → List ℕ → List Placed

@@ -48,7 +48,8 @@ Listens-unsettled kept none = record {
     at_end false false h = refl
 
 -- a subscriber that listens receives the item
-next-listening : (reception : Reception) (item : Item) → Listens (kept_of reception) → next reception item ≡ more reception item
+next-listening : (reception : Reception) (item : Item) → Listens (kept_of reception)
+    → next reception item ≡ more reception item
 next-listening reception item listens = rw (listens.open_yet, listens.before_end) refl
 
 -- the end mark has no event
@@ -57,7 +58,8 @@ applied_of-end reception = rw (events_of-push_end reception.items) refl
 
 -- an event is applied if it is later than the last one applied
 applied_of-event : (reception : Reception) (e : Event) → applied_of (more reception (item.Event e))
-    ≡ cond (nat_lt (last_timestamp (applied_of reception)) e.timestamp) (applied_of reception ++ e ∷ []) (applied_of reception)
+    ≡ cond (nat_lt (last_timestamp (applied_of reception)) e.timestamp) (applied_of reception ++ e ∷ [])
+    (applied_of reception)
 applied_of-event reception e = rw (events_of-push_event reception.items e) (rises-push (events_of reception.items) e)
 
 -- after one more item, the end mark has been received if it was before or if that item is the end mark
@@ -77,7 +79,8 @@ kept_of-end reception listens =
     rw (receives_it, applied_of-end reception, has_ended-more reception item.EndMark, listens.before_end) refl
 
 -- receiving an event that isn't later than the last one applied
-pub kept_of-repeat : (reception : Reception) (e : Event) → Listens (kept_of reception) → e.timestamp ≤ (kept_of reception).last
+pub kept_of-repeat : (reception : Reception) (e : Event) → Listens (kept_of reception)
+    → e.timestamp ≤ (kept_of reception).last
     → kept_of (next reception (item.Event e)) ≡ kept_of reception
 kept_of-repeat reception e listens late =
     let receives_it = next-listening reception (item.Event e) listens in

@@ -86,8 +86,8 @@ impl Subscriber {
         }
     }
 
-    /// Resumes from a saved book: the timestamp of the last event applied, the number of events applied, and whether the
-    /// end mark was received. The subscriber is open.
+    /// Resumes from a saved book: the timestamp of the last event applied, the number of events applied, and whether
+    /// the end mark was received. The subscriber is open.
     pub fn resume(book: Book, last: u64, applied: u64, ended: bool) -> Subscriber
         ensures { result ≡ record {
           book = book;

@@ -255,7 +255,8 @@ unsent a i s s' b' (Some delivery) why above here is delivers = (
   delivers.1.0,
   (
     delivers.1.1,
-    subst (λ (e : StepError). ActorsMove a (Send i) (Err e) a) (sym delivers.0) (unsent_some a i s delivery above here is),
+    subst (λ (e : StepError). ActorsMove a (Send i) (Err e) a) (sym delivers.0)
+        (unsent_some a i s delivery above here is),
   ),
 )
 
@@ -283,7 +284,8 @@ send_refused a i s s' b' why above here delivers =
 -- ---- a queue rewinds
 
 -- what was delivered stays so if the queue rewinds
-delivered_rewound : (delivered : ℕ) (s : Subscription) → WereDelivered delivered s → WereDelivered delivered (with_rewind s)
+delivered_rewound : (delivered : ℕ) (s : Subscription) → WereDelivered delivered s
+    → WereDelivered delivered (with_rewind s)
 delivered_rewound delivered s has = record { first = omega arith; flight = has.flight; acks = has.acks }
 
 -- the queue rewinds
@@ -311,7 +313,8 @@ rewind_done a i s above here = (
 )
 
 -- nothing is on its way after a break
-delivered_broken : (delivered : ℕ) (s : Subscription) → WereDelivered delivered s → WereDelivered delivered (with_break s)
+delivered_broken : (delivered : ℕ) (s : Subscription) → WereDelivered delivered s
+    → WereDelivered delivered (with_break s)
 delivered_broken delivered s has =
     record { first = omega arith; flight = λ d there. absurd (none_there d there); acks = has.acks }
 
@@ -620,7 +623,8 @@ module _ (a : ActorParts) (i count place : ℕ) (items : List Kept_subscription)
 
   -- so that a queue delivers to what the code found
   pub send_at : (s' : Kept_subscription) (b' : BrokerState)
-      → DeliversAt (place + 1) a.broker (subscription_parts s) (next_of_queue (queue_of a.broker (place + 1))) (Ok tt) b'
+      → DeliversAt (place + 1) a.broker (subscription_parts s)
+      (next_of_queue (queue_of a.broker (place + 1))) (Ok tt) b'
       (subscription_parts s')
       → ActorsMove a (Send i) (Ok Done)
       (record a { broker = b'; subscriptions = map subscription_parts (slice_set items place s') })
@@ -736,14 +740,16 @@ parts_read a w i kept s st above here there =
 pub taken_is : (s s' : SubscriptionParts) (delivery : Delivery) (flight : List Delivery) (answer : Taking)
     → delivery ≡ get_or flight 0 delivery → 0 < length flight → s'.flight ≡ drop 1 flight
     → answer ≡ answer_to s.kept delivery.item → s'.acks ≡ s.acks ++ delivery.position ∷ []
-    → ((reception : Reception) → s.kept ≡ kept_of reception → s'.kept ≡ kept_of (next_reception reception delivery.item))
+    → ((reception : Reception) → s.kept ≡ kept_of reception
+    → s'.kept ≡ kept_of (next_reception reception delivery.item))
     → TakesAt s flight (Ok answer) s'
 taken_is s s' delivery [] answer first some rest answers acks receives = absurd (omega arith)
 taken_is s s' delivery (d ∷ ds) answer first some rest answers acks receives = record {
   answers = answers ∙ ap (λ (x : Delivery). answer_to s.kept x.item) first;
   flight = rest;
   acks = acks ∙ ap (λ (x : Delivery). s.acks ++ x.position ∷ []) first;
-  receives = λ reception is. receives reception is ∙ ap (λ (x : Delivery). kept_of (next_reception reception x.item)) first;
+  receives = λ reception is. receives reception is
+      ∙ ap (λ (x : Delivery). kept_of (next_reception reception x.item)) first;
 }
 
 -- an answer, whatever the errors

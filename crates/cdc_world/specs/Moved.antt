@@ -135,7 +135,8 @@ brought w (StartAt timestamp) did = option_map session_started w.session
 brought w Poll did = option_map events_offered w.session
 brought w Publish did = packet_sent w
 brought w (Arrive k) did = option_and_then (packet_arrived w did) (numbered w.packets k)
-brought w (Answer k) did = option_and_then (λ course. option_and_then (confirm_answered course) (numbered w.confirms k)) w.session
+brought w (Answer k) did =
+    option_and_then (λ course. option_and_then (confirm_answered course) (numbered w.confirms k)) w.session
 brought w Save did = option_map progress_saved w.session
 brought w (Send i) did = option_and_then last_sent (numbered w.subscriptions i)
 brought w (Rewind i) did = option_map queue_rewound (numbered w.subscriptions i)

@@ -103,7 +103,8 @@ ComesTo b confirms packet (Ok false) b' confirms' =
 ComesTo b confirms packet (Err _) b' confirms' = (b' ≡ b) × (confirms' ≡ confirms)
 
 -- a queue makes its next delivery, if there is one, which is added after those on their way to a subscriber
-abbrev pub DeliversAt : ℕ → BrokerState → SubscriptionParts → Option Delivery → Result (Unit {0}) StepError → BrokerState
+abbrev pub DeliversAt : ℕ → BrokerState → SubscriptionParts → Option Delivery → Result (Unit {0}) StepError
+    → BrokerState
     → SubscriptionParts
     → Type 0
 DeliversAt i b s None answer b' s' = (answer ≡ Err NotEnabled) × ((b' ≡ b) × (s' ≡ s))
@@ -118,7 +119,8 @@ pub record HasTakenFirst (s : SubscriptionParts) (delivery : Delivery) (rest : L
   pub answers : answer ≡ answer_to s.kept delivery.item
   pub flight : s'.flight ≡ rest
   pub acks : s'.acks ≡ s.acks ++ delivery.position ∷ []
-  pub receives : (reception : Reception) → s.kept ≡ kept_of reception → s'.kept ≡ kept_of (next_reception reception delivery.item)
+  pub receives : (reception : Reception) → s.kept ≡ kept_of reception
+      → s'.kept ≡ kept_of (next_reception reception delivery.item)
 
 -- a subscriber takes the first of the deliveries on their way to it, if there is one
 abbrev pub TakesAt : SubscriptionParts → List Delivery → Result Taking StepError → SubscriptionParts → Type 0
@@ -130,7 +132,8 @@ TakesAt s (delivery ∷ rest) (Err why) s' = (why ≡ OutOfMemory) × (s' ≡ s)
 pub record HasClosed (s s' : SubscriptionParts) : Type 0 where
   pub flight : s'.flight ≡ s.flight
   pub acks : s'.acks ≡ s.acks
-  pub closes : (reception : Reception) → s.kept ≡ kept_of reception → s'.kept ≡ kept_of (record reception { closed = true })
+  pub closes : (reception : Reception) → s.kept ≡ kept_of reception
+      → s'.kept ≡ kept_of (record reception { closed = true })
 
 -- the place of a number, from 1 on, among so many
 abbrev pub place_in : ℕ → ℕ → Option ℕ

@@ -581,7 +581,8 @@ failed_of old mid new fault links plan finished receives kind cut = record {
   finished = cut.finished ∙ finished;
   inbox = (
     receives.0,
-    subst (λ (i : Incoming ToBroker (Unit {0})). TakesMany FollowsToBroker receives.0 old.inbox i) (sym cut.inbox) receives.1,
+    subst (λ (i : Incoming ToBroker (Unit {0})). TakesMany FollowsToBroker receives.0 old.inbox i)
+        (sym cut.inbox) receives.1,
   );
   kind = kind;
   so_far = cut.so_far;

@@ -159,7 +159,8 @@ module _ (repeats : List (ℕ × ℕ)) (number prefetch : ℕ) (first : BrokerSt
         let same : with_next repeats number (next_delivery (queue_of b number)) (lane_of b number c)
         ≡ lane_of b number c =
         ap (λ (found : Option Delivery). with_next repeats number found (lane_of b number c)) none in
-        let is : lane_of b number c ≡ delivered_some repeats number (prefetch - one.unacked) (lane_of first number one) =
+        let is : lane_of b number c ≡ delivered_some repeats number (prefetch - one.unacked)
+        (lane_of first number one) =
         sym (delivered_some-none repeats number (prefetch - c.unacked) (lane_of b number c) none) ∙ so_far.rest in
         subst (λ (lane : Lane). HasBecome number lane first new after) is
         (record {

@@ -93,7 +93,8 @@ module _ (d : BrokerCore) (is : IsBrokerCore d) (goes : d.finished ≡ false) (p
 
   one_after : IsConsumerServed false d.prefetch (acks_at d place) lane_after.queue lane_after.consumer
   one_after =
-      IsConsumerServed-delivered_some d.prefetch (acks_at d place) d.plan.repeat.items (place + 1) (d.prefetch - c.unacked)
+      IsConsumerServed-delivered_some d.prefetch (acks_at d place) d.plan.repeat.items (place + 1)
+      (d.prefetch - c.unacked)
       (lane_of d.broker (place + 1) c) (omega (arith, served_one.at_most)) served_one
 
   inside : place < length d.consumers

@@ -119,7 +119,11 @@ module _ (c now : ClientCore) (same : c ≡ now) (is : IsClient c) (talks : c.fi
         answers = answers;
         replies = replies;
       })) same
-      (record { reception = reception; after = λ i. record c { requests = sent_so i; answers = answers; replies = kept i } })
+      (record {
+        reception = reception;
+        after =
+            λ i. record c { requests = sent_so i; answers = answers; replies = kept i };
+      })
 
   -- it isn't a reply to this batch
   pub other_so : (reply : Reply) → ((reply.number ≡ number) × (reply.batch ≡ batch) → ⊥) → IsReplyTo batch reply now → ⊥

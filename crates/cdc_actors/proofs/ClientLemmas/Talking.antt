@@ -56,7 +56,8 @@ module _ (c : ClientCore) (is : IsClient c) where
 
     -- so it hasn't sent its last message
     goes_on : has_ended ends_to_ledger c.requests.sent ≡ false
-    goes_on = ended_of c.requests.sent ∙ ap (list_any ends_to_ledger) dispatched_so_far ∙ asks_go_on c.number 1 c.replies
+    goes_on = ended_of c.requests.sent ∙ ap (list_any ends_to_ledger) dispatched_so_far
+        ∙ asks_go_on c.number 1 c.replies
 
     -- and has sent as many messages as it has replies
     pub sent_as_many : length c.requests.sent ≡ length c.replies
@@ -136,7 +137,8 @@ pub answered_so : (old : ClientCore) → IsClient old → old.finished ≡ false
     (reply : Reply)
     (requests : Outgoing ToLedger (Unit {0})) (answers : Incoming Reply Past) (replies : List Reply)
     → number ≡ length old.requests.sent + 1
-    → requests ≡ with_sent old.requests (request_for old.number number batch, tt) → IsReplyReceived old.answers reply answers
+    → requests ≡ with_sent old.requests (request_for old.number number batch, tt)
+    → IsReplyReceived old.answers reply answers
     → reply.number ≡ number → reply.batch ≡ batch → replies ≡ old.replies ++ reply ∷ []
     → IsAnswered old batch reply (record old { requests = requests; answers = answers; replies = replies })
 answered_so old is talks batch number reply requests answers replies next sent reception numbered same kept =

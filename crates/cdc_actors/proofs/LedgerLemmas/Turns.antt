@@ -109,7 +109,8 @@ core_first inbox clients connector some senders fresh untold own silent =
       booked = record {
         some = some;
         senders = senders;
-        emitted = subst (λ (r : Received). ReceiveReplies 1 (order_of r) clients) (sym fresh) (emitted_first 1 clients untold);
+        emitted = subst (λ (r : Received). ReceiveReplies 1 (order_of r) clients) (sym fresh)
+            (emitted_first 1 clients untold);
         history = ap history_of (sym past);
         left = sym left;
         connector_done = ap (is_done 0) (sym fresh);

@@ -42,7 +42,8 @@ deliveries_are_received close_after taken = taken_from close_after nothing [] ta
 -- ---- unasked
 
 -- what isn't asked for is never due
-never_due : (close_after : Option ℕ) (reception : Reception) → is_asked close_after ≡ false → is_due close_after reception ≡ false
+never_due : (close_after : Option ℕ) (reception : Reception) → is_asked close_after ≡ false
+    → is_due close_after reception ≡ false
 never_due None reception not_asked = refl
 never_due (Some n) reception not_asked = ap (λ (b : Bool). b && nat_le n (length (applied_of reception))) not_asked
 
@@ -78,7 +79,8 @@ reached : (n : ℕ) (reception : Reception) → 0 < n → is_due (Some n) recept
 reached n reception asked due = grind (arith, nat_tests)
 
 -- and one that isn't due isn't
-not_reached : (n : ℕ) (reception : Reception) → 0 < n → is_due (Some n) reception ≡ false → length (applied_of reception) < n
+not_reached : (n : ℕ) (reception : Reception) → 0 < n → is_due (Some n) reception ≡ false
+    → length (applied_of reception) < n
 not_reached n reception asked early = grind (arith, nat_tests)
 
 -- a subscriber that closes when it is due has applied exactly so many events, if it had applied no more and had not
@@ -109,7 +111,8 @@ applied_push items e =
     rw is (applied_more items e (is_newest (events_of items) e))
 
 -- a subscriber receives an item if it is neither closed nor ended, and has applied fewer events
-receives_item : (n : ℕ) (reception : Reception) (item : Item) → 0 < n → reception.closed ≡ false → has_ended reception ≡ false
+receives_item : (n : ℕ) (reception : Reception) (item : Item) → 0 < n → reception.closed ≡ false
+    → has_ended reception ≡ false
     → length (applied_of reception) < n
     → (on : Reception) → on ≡ record { items = reception.items ++ item ∷ []; closed = reception.closed }
     → ClosesAfter n (closed_if (is_due (Some n) on) on)
@@ -125,7 +128,8 @@ receives_item n reception (OfEvent e) asked open_yet goes_on below on is =
     (λ closed. let never : true ≡ false = sym closed ∙ shut in cc)
 receives_item n reception EndMark asked open_yet goes_on below on is =
     let count : length (applied_of on) ≡ length (applied_of reception) =
-    ap (λ (h : Reception). length (applied_of h)) is ∙ ap (λ es. length (rises es)) (events_of-push_end reception.items) in
+    ap (λ (h : Reception). length (applied_of h)) is
+    ∙ ap (λ es. length (rises es)) (events_of-push_end reception.items) in
     let shut : on.closed ≡ false = ap (λ (h : Reception). h.closed) is ∙ open_yet in
     closes_if n on (is_due (Some n) on) asked refl
     (λ due. absurd (omega (arith, count, below, due)))

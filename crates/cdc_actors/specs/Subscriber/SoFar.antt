@@ -29,7 +29,8 @@ abbrev pub ComesSoFar : SubscriberCore → RunFault → SubscriberCore → Type 
 ComesSoFar old PeerGone new =
     (new ≡ old)
     ⊎ ((d : Delivery) × (IsBrought old.inbox (Carries d) new.inbox × (new ≡ with_unacknowledged d old)))
-ComesSoFar old OutOfMemory new = (d : Delivery) × (IsBrought old.inbox (Carries d) new.inbox × (new ≡ with_untaken d old))
+ComesSoFar old OutOfMemory new =
+    (d : Delivery) × (IsBrought old.inbox (Carries d) new.inbox × (new ≡ with_untaken d old))
 ComesSoFar old (Store why) new = ⊥
 ComesSoFar old SessionsExhausted new = ⊥
 ComesSoFar old NotOneSystem new = ⊥

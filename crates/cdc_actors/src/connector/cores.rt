@@ -312,7 +312,7 @@ impl<S: ProgressStore> ConnectorCore<S> {
         Ok(())
     }
 
-    /// A packet of a session was lost. If it is the session that runs, the next one starts.
+    /// A packet of a session was lost, or its confirm. If it is the session that runs, the next one starts.
     fn break_off(&mut self, alloc: Global, session: u64) -> Result<(), RunFault>
         requires { IsWindow self.old.window }
         ensures after { (course : Course) → SessionStands self.old.session (Some course)

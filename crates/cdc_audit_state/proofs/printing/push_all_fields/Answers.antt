@@ -5,7 +5,8 @@ use Rattle.cdc_audit_state.proofs.printing.push_all_fields.Goals as goal
 pub loop-id-preserved : goal.loop-id-preserved
 loop-id-preserved c =
     pushed_more fields_text c.args.fields.now.entries c.args.text.now.items c.loop-id.id-iterator c.next.new.self _
-    c.loop-id.text.items c.push_fields.new.text.items c.loop-id.invariant c.in-Some.ensures.steps c.in_ok-push_fields.ensures
+    c.loop-id.text.items c.push_fields.new.text.items c.loop-id.invariant c.in-Some.ensures.steps
+    c.in_ok-push_fields.ensures
 
 pub returns : goal.returns
 returns c =

@@ -5,10 +5,12 @@ use Rattle.cdc_audit_state.proofs.printing.push_transfers.Goals as goal
 pub loop-id-preserved : goal.loop-id-preserved
 loop-id-preserved c =
     pushed_more transfer_text c.args.transfers.now.entries c.args.text.now.items c.loop-id.id-iterator c.next.new.self _
-    c.loop-id.text.items c.push_transfer.new.text.items c.loop-id.invariant c.in-Some.ensures.steps c.in_ok-push_transfer.ensures
+    c.loop-id.text.items c.push_transfer.new.text.items c.loop-id.invariant c.in-Some.ensures.steps
+    c.in_ok-push_transfer.ensures
 
 pub returns : goal.returns
 returns c =
-    pushed_all transfer_text c.args.transfers.now.entries c.args.text.now.items c.loop-id.id-iterator c.loop-id.text.items
+    pushed_all transfer_text c.args.transfers.now.entries c.args.text.now.items c.loop-id.id-iterator
+    c.loop-id.text.items
     c.loop-id.invariant c.in-None.ensures.steps.0
     ∙ ap (λ text. c.args.text.now.items ++ text) (sym (transfers_text c.args.transfers.now.entries))

@@ -5,9 +5,11 @@ use Rattle.cdc_commands.proofs.check.check_files.Goals as goal
 
 pub returns-clause-writes : goal.returns-clause-writes
 returns-clause-writes g c =
-    writes_made _ g.F.Form.prints_fault _ _ c.validate_files-output.result _ c.print_output.ensures.text c.print_output.ensures.fault
+    writes_made _ g.F.Form.prints_fault _ _ c.validate_files-output.result _ c.print_output.ensures.text
+    c.print_output.ensures.fault
     c.validate_files-output.ensures.output
-    (IfErr-weaker c.validate_files-output.result MayFailScript _ (λ why may line stated. (may, stated)) c.validate_files-output.ensures.fault)
+    (IfErr-weaker c.validate_files-output.result MayFailScript _
+    (λ why may line stated. (may, stated)) c.validate_files-output.ensures.fault)
 
 pub returns-clause-order : goal.returns-clause-order
 returns-clause-order g c = λ read.

@@ -17,11 +17,13 @@ use Rattle.cdc_commands.proofs.simulate.read_simulation.Goals as goal
 pub returns-in-Ok-clause-output : goal.returns-in-Ok-clause-output
 returns-in-Ok-clause-output g c =
     let steps = g.Q.Read.remaining c.args.steps.now in
-    made_of_script g.F.Form.prints_simulation g.F.Form.prints_fault (λ (o : Output). o.ending) (λ (o : Output). o.text.items)
+    made_of_script g.F.Form.prints_simulation g.F.Form.prints_fault (λ (o : Output). o.ending)
+    (λ (o : Output). o.text.items)
     c.args.window c.deref.result.now c.in_ok-script.script.items
     (g.R.Read.remaining c.args.script.now) (option_map acts_of steps) steps c.simulation_of.result c.deref.ensures.value
     c.in_ok-script.ensures.script
-    (made_of_steps g.F.Form.prints_simulation g.F.Form.prints_fault (λ (o : Output). o.ending) (λ (o : Output). o.text.items)
+    (made_of_steps g.F.Form.prints_simulation g.F.Form.prints_fault (λ (o : Output). o.ending)
+    (λ (o : Output). o.text.items)
     c.args.window (Some c.deref.result.now) c.deref-in-Ok.result.now c.in-Ok.steps.items steps
     c.simulation_of.result c.deref-in-Ok.ensures.value c.in-Ok.ensures.steps c.simulation_of.ensures.output)
 
@@ -29,7 +31,8 @@ pub returns-clause-output : goal.returns-clause-output
 returns-clause-output g c =
     let file = g.Q.Read.remaining c.args.steps.now in
     let steps = option_map acts_of file in
-    made_of_script g.F.Form.prints_simulation g.F.Form.prints_fault (λ (o : Output). o.ending) (λ (o : Output). o.text.items)
+    made_of_script g.F.Form.prints_simulation g.F.Form.prints_fault (λ (o : Output). o.ending)
+    (λ (o : Output). o.text.items)
     c.args.window c.deref-in-Err.result.now c.in_ok-script.script.items
     (g.R.Read.remaining c.args.script.now) steps file c.unread_steps.result c.deref-in-Err.ensures.value
     c.in_ok-script.ensures.script (c.unread_steps.ensures.output c.args.window steps file)

@@ -6,7 +6,8 @@ use Rattle.cdc_commands.proofs.simulate.script_simulation.Goals as goal
 
 pub returns-clause-output : goal.returns-clause-output
 returns-clause-output g c = λ bytes stated.
-    made_of_acts g.F.Form.prints_simulation g.F.Form.prints_fault (λ (o : Output). o.ending) (λ (o : Output). o.text.items)
+    made_of_acts g.F.Form.prints_simulation g.F.Form.prints_fault (λ (o : Output). o.ending)
+    (λ (o : Output). o.text.items)
     c.args.window (Some bytes) c.args.steps.now c.in-Ok.stated.acts.items c.steps_simulation.result
     c.in-Ok.ensures.acts (c.steps_simulation.ensures.output bytes stated)
 

@@ -11,7 +11,8 @@ loop-place-preserved c = λ w stands.
     let found = found_at w.subscriptions c.loop-place.place inside in
     printed_more c.loop-place.place w.subscriptions found.0 c.subscriber.result.now c.loop-place.text.items
     c.print_subscriber.new.text.items _ found.1
-    (c.subscriber.ensures.reception w stands found.0 (numbered_found w.subscriptions c.loop-place.place found.0 found.1))
+    (c.subscriber.ensures.reception w stands found.0 (numbered_found w.subscriptions c.loop-place.place
+    found.0 found.1))
     c.in_ok-print_subscriber.ensures (c.loop-place.invariant w stands)
 
 pub returns : goal.returns

@@ -21,7 +21,8 @@ loop-place-preserved c = λ w stands.
     let found = found_at w.subscriptions place inside in
     let there : slice_get (map keeps w.subscriptions) place ≡ Some (kept_of found.0.reception) =
     slice_get-map keeps w.subscriptions place ∙ ap (option_map keeps) found.1 in
-    let reception = c.subscriber.ensures.reception w stands found.0 (numbered_found w.subscriptions place found.0 found.1) in
+    let reception =
+    c.subscriber.ensures.reception w stands found.0 (numbered_found w.subscriptions place found.0 found.1) in
     kept_more (map keeps w.subscriptions) place (kept_of found.0.reception) _ _ _ there
     (c.in_ok-push_subscriber.ensures
     ∙ ap (λ (kept : SubscriberState). c.loop-place.lines.text.items ++ json_lines (subscriber_values (place + 1) kept))

@@ -24,7 +24,8 @@ overflow_add-number c =
 pub loop-count-preserved : goal.loop-count-preserved
 loop-count-preserved c = rw c.from.ensures
     (more c.args.text.now c.loop-count.count c.loop-count.number (get_or c.args.text.now c.loop-count.count 0)
-    c.loop-count.invariant (omega (arith, c.loop-count.invariant.few, c.if-count-eq19.false)) c.loop-count-test.true refl
+    c.loop-count.invariant (omega (arith, c.loop-count.invariant.few, c.if-count-eq19.false))
+    c.loop-count-test.true refl
     (sym c.if-is_ascii_digit.ensures.value))
 
 -- more digits than one don't begin with a zero

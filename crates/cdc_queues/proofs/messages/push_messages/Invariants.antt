@@ -5,7 +5,8 @@ use Rattle.cdc_queues.specs.Predecessors.{last_timestamps}
 use Rattle.cdc_queues.proofs.MessageTexts.{text_of}
 use Rattle.cdc_queues.proofs.messages.push_messages.Given as goal
 
--- the text so far, and that of the events that are left, make the whole text; the timestamps are those of the events so far
+-- the text so far, and that of the events that are left, make the whole text; the timestamps are those of the events so
+-- far
 abbrev pub invariant-loop-place : goal.invariant-loop-place
 invariant-loop-place l =
     (string_bytes l.text ++ text_of l.bindings (take l.place l.log.events) (drop l.place l.log.events)

@@ -6,7 +6,8 @@ use Rattle.cdc_queues.proofs.messages.push_queues.Goals.{then-place-gt0+in_ok-pu
 
 pub loop-place-preserved : goal.loop-place-preserved
 loop-place-preserved c =
-    let add = queue_added c.args.queues.now c.loop-place.place (record { queue = 0; previous = 0 }) (string_bytes c.args.text.now)
+    let add = queue_added c.args.queues.now c.loop-place.place (record { queue = 0; previous = 0 })
+    (string_bytes c.args.text.now)
     (string_bytes c.loop-place.text) (string_bytes c.if-place-gt0.text) (string_bytes c.push_queue.new.text)
     (omega arith) c.loop-place.invariant in
     elim c.if-place-gt0.branch [

@@ -14,7 +14,8 @@ returns-clause-outcomes g t c =
     let outcome = c.match-started.outcome in
     let come : ComesTo R F job outcome =
     elim c.match-started.branch [
-      | in-Ok w ↦ rw w.outcome-is (subst (λ j. ComesTo R F j w.join-outcome.result) w.in-Ok.ensures.started w.join-outcome.ensures)
+      | in-Ok w ↦ rw w.outcome-is (subst (λ j. ComesTo R F j w.join-outcome.result) w.in-Ok.ensures.started
+          w.join-outcome.ensures)
       | in-Err w ↦ rw w.outcome-is w.in-Err.ensures.refused
     ] in
     rw c.in-Some.ensures.items (rw c.push_reserved.ensures.items

@@ -137,7 +137,8 @@ returns-in_default-clause-refused g c =
 pub returns-in_err-books-clause-refused : goal.returns-in_err-books-clause-refused
 returns-in_err-books-clause-refused g c =
     let ends = c.args.ends in
-    passed_on (AreFinished ends) c.from_residual-in_err-books.result c.in_err-books.field-0.0 c.from_residual-in_err-books.ensures.1
+    passed_on (AreFinished ends) c.from_residual-in_err-books.result c.in_err-books.field-0.0
+    c.from_residual-in_err-books.ensures.1
     (asked_more (LedgerHasFinishedWith ends.ledger ends.clients.items) (AreFinished ends) c.in_err-books.field-0.0
     (books_of ends) c.in_err-books.ensures.refused)
 

@@ -41,5 +41,6 @@ returns-in-Err-clause-report g c =
 
 pub returns-in-Err-clause-stop : goal.returns-in-Err-clause-stop
 returns-in-Err-clause-stop g c =
-    stopped_so (g.S.ProgressStore.is_honest c.args.store) (g.S.ProgressStore.risks c.args.store) g.F.Form.prints_fault _ _
+    stopped_so (g.S.ProgressStore.is_honest c.args.store) (g.S.ProgressStore.risks c.args.store)
+    g.F.Form.prints_fault _ _
     c.in-Err.field-0 _ c.print_output-in-Err.ensures.fault c.in-Err.ensures.failed

@@ -12,7 +12,8 @@ returns-then-not-is_good c =
     let asked = rw (c.as_slice.ensures.value, c.in_ok-push.ensures.items)
     at (sym c.in_ok-is_good.ensures ∙ c.if-not-is_good.true) in
     rw c.span_of.ensures (ap (option_map span_of)
-    (refused_here c.loop-word.texts.items c.in-Some-printable_text.text (seen c.in-Some.word) (words_of c.in-Some.after) _
+    (refused_here c.loop-word.texts.items c.in-Some-printable_text.text (seen c.in-Some.word)
+    (words_of c.in-Some.after) _
     (rw found at c.loop-word.invariant) printable.0 printable.1 asked))
 
 pub loop-word-preserved : goal.loop-word-preserved
@@ -22,5 +23,6 @@ loop-word-preserved c =
     let asked = rw (c.as_slice.ensures.value, c.in_ok-push.ensures.items)
     at (sym c.in_ok-is_good.ensures ∙ c.if-not-is_good.false) in
     rw c.in_ok-push.ensures.items
-    (refused_later c.loop-word.texts.items c.in-Some-printable_text.text (seen c.in-Some.word) (words_of c.in-Some.after) _
+    (refused_later c.loop-word.texts.items c.in-Some-printable_text.text (seen c.in-Some.word)
+    (words_of c.in-Some.after) _
     (rw found at c.loop-word.invariant) printable.0 printable.1 asked)

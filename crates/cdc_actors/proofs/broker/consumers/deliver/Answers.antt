@@ -21,7 +21,8 @@ returns-then-not-branch-clause-after g c =
     let at = c.loop-consumer in
     let isnt : is_some (next_delivery (queue_of at.broker c.args.number)) ≡ false = search rules in
     delivers_none c.args.repeat.now c.args.number c.args.prefetch c.args.broker.now c.args.consumer.now at.broker
-    at.consumer at.invariant.on c.deliver_next.new.broker c.deliver_next.new.consumer c.in_ok-deliver_next.ensures.becomes isnt
+    at.consumer at.invariant.on c.deliver_next.new.broker c.deliver_next.new.consumer
+    c.in_ok-deliver_next.ensures.becomes isnt
 
 pub returns-in_err-deliver_next-clause-failed : goal.returns-in_err-deliver_next-clause-failed
 returns-in_err-deliver_next-clause-failed g c =

@@ -49,7 +49,8 @@ returns-clause-emitted g c =
     ∙ reply_is order request c.requires.number in
     IfOk-weaker c.reply_to_client.result _ _
     (λ x sent.
-    let emitted : c.reply_to_client.new.client ≡ with_sent link (reply_after client order request.batch, past_of order) =
+    let emitted : c.reply_to_client.new.client
+    ≡ with_sent link (reply_after client order request.batch, past_of order) =
     sent
     ∙ ap₂ (λ (o : Outgoing Reply Past) (r : Reply). with_sent o (r, past_of order))
     (sym c.index-clients-place.is) is in

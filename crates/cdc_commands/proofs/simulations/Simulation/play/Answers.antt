@@ -19,7 +19,8 @@ loop-done-preserved g c = record {
   come = λ stage at zero.
       let come = c.loop-done.invariant.come stage at zero in
       went_on (g.O.Observer.has_seen c.args.observer.now stage.seen) (g.O.Observer.has_seen c.loop-done.observer)
-      (g.O.Observer.has_seen c.play_act.new.observer) c.args.batches.items c.args.acts.now stage c.loop-done.done _ _ _ _
+      (g.O.Observer.has_seen c.play_act.new.observer) c.args.batches.items c.args.acts.now stage
+      c.loop-done.done _ _ _ _
       (slice_get_read c.args.acts.now _ c.loop-done.done _ refl c.loop-done-test.true c.index-acts-done.is)
       (sym c.is_some.ensures ∙ c.if-is_some.false) come
       (c.in_ok-refusal.ensures.acts _ c.loop-done.invariant.left come.here come.at);

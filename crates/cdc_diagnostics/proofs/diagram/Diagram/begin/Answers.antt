@@ -20,5 +20,6 @@ pub loop-place-preserved : goal.loop-place-preserved
 loop-place-preserved c bytes held kept =
     let head : List ℕ = diagram_head c.loop-place.place in
     let next : List ℕ = participant (c.loop-place.place + 1) in
-    let all = rw c.participant.ensures at (c.push_sentence.ensures (bytes ++ head) (c.loop-place.invariant bytes held) kept) in
+    let all = rw c.participant.ensures at (c.push_sentence.ensures (bytes ++ head)
+    (c.loop-place.invariant bytes held) kept) in
     all ∙ (append_assoc bytes head next ∙ ap (λ (more : List ℕ). bytes ++ more) (sym (one_more c.loop-place.place)))

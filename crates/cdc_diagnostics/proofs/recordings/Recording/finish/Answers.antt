@@ -4,4 +4,5 @@ use Rattle.cdc_diagnostics.proofs.recordings.Recording.finish.Goals as goal
 
 pub returns-clause-diagram : goal.returns-clause-diagram
 returns-clause-diagram c seen has few =
-    c.in-Ok-finish.ensures (if_asked c.args.self.asked.diagram (diagram_text c.args.self.subscribers seen)) (has few).diagram
+    c.in-Ok-finish.ensures (if_asked c.args.self.asked.diagram (diagram_text c.args.self.subscribers seen))
+    (has few).diagram

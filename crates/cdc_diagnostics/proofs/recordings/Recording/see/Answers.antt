@@ -35,7 +35,8 @@ returns-clause-seen c seen has few =
           ∙ if_asked-more c.args.self.now.asked.trace (trace_text seen) (trace_line c.taken_with-batches.result now)
           (trace_text (seen ++ now ∷ [])) trace;
       diagram = λ kept.
-          c.push_diagram.ensures (if_asked c.args.self.now.asked.diagram (diagram_text subscribers seen)) old.diagram kept
+          c.push_diagram.ensures (if_asked c.args.self.now.asked.diagram (diagram_text subscribers seen))
+          old.diagram kept
           ∙ if_asked-more c.args.self.now.asked.diagram (diagram_text subscribers seen)
           (diagram_line c.taken_with-batches.result now) (diagram_text subscribers (seen ++ now ∷ [])) diagram;
     }

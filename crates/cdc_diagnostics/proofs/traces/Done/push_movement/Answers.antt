@@ -23,5 +23,7 @@ returns-in-Some-at c bytes held kept =
     let comma : List ℕ = bytes ++ codes ", " in
     let all = c.push_to.ensures comma (c.push.ensures.holds bytes held) kept in
     all ∙ (append_assoc bytes (codes ", ") (movement_text c.in-Some-at.movement)
-    ∙ ap (λ (money : List ℕ). bytes ++ money) (sym (moves (events c.args.self.ledger.now) c.args.self.moved c.in-Some.moved
-    c.in-Some-event_moved.timestamp c.in-Some-at.movement c.in-Some.is c.in-Some-event_moved.ensures c.in-Some-at.ensures)))
+    ∙ ap (λ (money : List ℕ). bytes ++ money) (sym (moves (events c.args.self.ledger.now) c.args.self.moved
+    c.in-Some.moved
+    c.in-Some-event_moved.timestamp c.in-Some-at.movement c.in-Some.is c.in-Some-event_moved.ensures
+    c.in-Some-at.ensures)))

@@ -19,7 +19,8 @@ returns-in-StartAt c =
     let all = events c.args.self.ledger.now in
     let count : c.first_after-left_out.result ≡ left_out c.args.after all =
     left_out-place c.args.after c.first_after-left_out.result all
-    (subst (λ (es : List Event). c.first_after-left_out.result ≤ length es) c.log.ensures c.first_after-left_out.ensures.bound)
+    (subst (λ (es : List Event). c.first_after-left_out.result ≤ length es) c.log.ensures
+    c.first_after-left_out.ensures.bound)
     (subst (λ (es : List Event). drop c.first_after-left_out.result es ≡ events_after c.args.after es) c.log.ensures
     c.first_after-left_out.ensures.parts) in
     rw c.in-StartAt.is (c.late_start_sentence.ensures
@@ -28,4 +29,5 @@ returns-in-StartAt c =
 pub returns-in_default : goal.returns-in_default
 returns-in_default c =
     c.start_sentence.ensures
-    ∙ sym (unasked c.args.self.step.now c.args.session c.args.after (events c.args.self.ledger.now) c.in_default.not-StartAt)
+    ∙ sym (unasked c.args.self.step.now c.args.session c.args.after
+    (events c.args.self.ledger.now) c.in_default.not-StartAt)

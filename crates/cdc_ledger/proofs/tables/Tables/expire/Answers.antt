@@ -39,6 +39,7 @@ returns-clause-emitted c =
       so_far = c.requires.emitted;
     } in
     subst (λ (g : History). IsEmitted g c.emit.new.self) (sym c.record-event.ensures.history)
-    (IsEmitted-emitted h c.args.emitted.now m can c.emit.new.self (length c.entries-place.result.now) c.record-event.result
+    (IsEmitted-emitted h c.args.emitted.now m can c.emit.new.self
+    (length c.entries-place.result.now) c.record-event.result
     (ap length c.entries-place.ensures.entries)
     c.record-event.ensures.event c.emit.ensures.events c.emit.ensures.triples)

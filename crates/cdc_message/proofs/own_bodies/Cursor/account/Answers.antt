@@ -65,11 +65,14 @@ returns c =
           let credits_pending =
           c.number_128-credits_pending.ensures.complete written.credits_pending _ code.1 fits.credits_pending refl in
           let credits_posted =
-          c.number_128-credits_posted.ensures.complete written.credits_posted _ credits_pending.1 fits.credits_posted refl in
+          c.number_128-credits_posted.ensures.complete written.credits_posted _ credits_pending.1
+          fits.credits_posted refl in
           let debits_pending =
-          c.number_128-debits_pending.ensures.complete written.debits_pending _ credits_posted.1 fits.debits_pending refl in
+          c.number_128-debits_pending.ensures.complete written.debits_pending _ credits_posted.1
+          fits.debits_pending refl in
           let debits_posted =
-          c.number_128-debits_posted.ensures.complete written.debits_posted _ debits_pending.1 fits.debits_posted refl in
+          c.number_128-debits_posted.ensures.complete written.debits_posted _ debits_pending.1
+          fits.debits_posted refl in
           let flags = c.number_16-flags.ensures.complete written.flags _ debits_posted.1 fits.flags refl in
           let id = c.number_128-id.ensures.complete written.id _ flags.1 fits.id refl in
           let timestamp = c.number_64-timestamp.ensures.complete written.timestamp _ id.1 fits.timestamp refl in

@@ -7,7 +7,8 @@ use Rattle.cdc_message.proofs.own_bodies.Cursor.numbers.Goals as goal
 pub members-init : goal.members-init
 unfolding lex
 members-init c =
-    so_far_none c.args.self.now.rest.now c.sign.new.self.rest.now c.none-numbers.result c.in_ok-sign.ensures c.none-numbers.ensures
+    so_far_none c.args.self.now.rest.now c.sign.new.self.rest.now c.none-numbers.result c.in_ok-sign.ensures
+    c.none-numbers.ensures
 
 -- a comma follows
 pub members-preserved : goal.members-preserved

@@ -57,7 +57,8 @@ returns c =
           ) (sym (transfer_text-parts transfer c.skip.new.self.rest.now));
       complete = λ written rest is fits.
           let amount =
-          c.number_128-amount.ensures.complete written.amount _ (is ∙ transfer_text-parts written rest) fits.amount refl in
+          c.number_128-amount.ensures.complete written.amount _
+          (is ∙ transfer_text-parts written rest) fits.amount refl in
           let code = c.number_16-code.ensures.complete written.code _ amount.1 fits.code refl in
           let flags = c.number_16-flags.ensures.complete written.flags _ code.1 fits.flags refl in
           let id = c.number_128-id.ensures.complete written.id _ flags.1 fits.id refl in

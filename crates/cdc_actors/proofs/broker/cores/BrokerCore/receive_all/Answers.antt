@@ -14,7 +14,8 @@ first : (old new : BrokerCore) → HasReceivedNext old new → HasReceivedAll ol
 first old new came = record { more = 0; alone = λ planned. refl; received = (old, refl, came) }
 
 pub returns-then-not-is_empty-clause-after : goal.returns-then-not-is_empty-clause-after
-returns-then-not-is_empty-clause-after g c = first c.args.self.now c.receive_next.new.self c.in_ok-receive_next.ensures.after
+returns-then-not-is_empty-clause-after g c =
+    first c.args.self.now c.receive_next.new.self c.in_ok-receive_next.ensures.after
 
 pub loop-init : goal.loop-init
 loop-init g c = first c.args.self.now c.receive_next.new.self c.in_ok-receive_next.ensures.after

@@ -52,7 +52,8 @@ returns-clause-answered g c =
       answers = c.receive_next.new.answers;
       replies = c.push_reserved.new.self.items;
     })) c.self.view_is
-    (answered_so talk is talks c.args.batch c.in-Some.number reply c.send_message.new.requests c.receive_next.new.answers
+    (answered_so talk is talks c.args.batch c.in-Some.number reply c.send_message.new.requests
+    c.receive_next.new.answers
     c.push_reserved.new.self.items next c.in_ok-send_message.ensures.sent c.in_ok-reply.ensures.reception agree.0
     (agree.1 ∙ c.in_ok-copy.ensures) kept)
 
@@ -79,7 +80,8 @@ returns-in_err-reply-clause-failed g c =
     passed_on (λ fault. AsksSoFar c.args.batch now fault _) c.from_residual-in_err-reply.result
     c.in_err-reply.field-0.0 c.from_residual-in_err-reply.ensures.1
     (rw gone.0 (inr (inl (unheard_so talk now c.self.view_is is talks c.args.batch c.in-Some.number next
-    c.send_message.new.requests c.in_ok-send_message.ensures.sent c.reserve.new.self.items c.reserve.ensures.items c.receive_next.new.answers
+    c.send_message.new.requests c.in_ok-send_message.ensures.sent c.reserve.new.self.items c.reserve.ensures.items
+    c.receive_next.new.answers
     gone.1))))
 
 pub returns-in_err-try_copy-clause-failed : goal.returns-in_err-try_copy-clause-failed
@@ -107,7 +109,8 @@ returns-in_err-try_copy-clause-failed g c =
       reply,
       (
         received_so talk now c.self.view_is is talks c.args.batch c.in-Some.number next c.send_message.new.requests
-            c.in_ok-send_message.ensures.sent c.reserve.new.self.items c.reserve.ensures.items c.receive_next.new.answers reply
+            c.in_ok-send_message.ensures.sent c.reserve.new.self.items c.reserve.ensures.items
+            c.receive_next.new.answers reply
             c.in_ok-reply.ensures.reception,
         its_so talk now c.self.view_is is talks c.args.batch c.in-Some.number next c.send_message.new.requests
             c.in_ok-send_message.ensures.sent c.reserve.new.self.items c.reserve.ensures.items reply agree.0
@@ -140,7 +143,8 @@ returns-then-not-is_to-clause-failed g c =
       reply,
       (
         received_so talk now c.self.view_is is talks c.args.batch c.in-Some.number next c.send_message.new.requests
-            c.in_ok-send_message.ensures.sent c.reserve.new.self.items c.reserve.ensures.items c.receive_next.new.answers reply
+            c.in_ok-send_message.ensures.sent c.reserve.new.self.items c.reserve.ensures.items
+            c.receive_next.new.answers reply
             c.in_ok-reply.ensures.reception,
         other_so talk now c.self.view_is is talks c.args.batch c.in-Some.number next c.send_message.new.requests
             c.in_ok-send_message.ensures.sent c.reserve.new.self.items c.reserve.ensures.items reply other,

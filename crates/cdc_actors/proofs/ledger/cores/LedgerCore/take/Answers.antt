@@ -34,7 +34,8 @@ take_request-requires-clause-number g c =
     let d : LedgerCore = seen inside in
     let is : IsLedgerActor d = subst IsLedgerActor (sym c.self.view_is) c.requires.kept in
     let next : IsNext inside.inbox (to_ledger.Request c.in-Request.request) c.receive_next.new.inbox =
-    subst (λ (m : ToLedger). IsNext inside.inbox m c.receive_next.new.inbox) c.in-Request.is c.in_ok-message.ensures.next in
+    subst (λ (m : ToLedger). IsNext inside.inbox m c.receive_next.new.inbox) c.in-Request.is
+    c.in_ok-message.ensures.next in
     let order : g.K.Reception.order ≡ order_of inside.inbox.received =
     c.requires.order ∙ ap (λ (s : LedgerCore). order_of s.inbox.received) (sym c.self.view_is) in
     let request = c.in-Request.request in
@@ -48,7 +49,8 @@ take_request-requires-clause-history g c =
     let d : LedgerCore = seen inside in
     let is : IsLedgerActor d = subst IsLedgerActor (sym c.self.view_is) c.requires.kept in
     let next : IsNext inside.inbox (to_ledger.Request c.in-Request.request) c.receive_next.new.inbox =
-    subst (λ (m : ToLedger). IsNext inside.inbox m c.receive_next.new.inbox) c.in-Request.is c.in_ok-message.ensures.next in
+    subst (λ (m : ToLedger). IsNext inside.inbox m c.receive_next.new.inbox) c.in-Request.is
+    c.in_ok-message.ensures.next in
     let order : g.K.Reception.order ≡ order_of inside.inbox.received =
     c.requires.order ∙ ap (λ (s : LedgerCore). order_of s.inbox.received) (sym c.self.view_is) in
     history_before d is.booked next.sender next.below next.follows.may.0 next.follows.goes_on
@@ -60,7 +62,8 @@ count_done-requires g c =
     let d : LedgerCore = seen inside in
     let is : IsLedgerActor d = subst IsLedgerActor (sym c.self.view_is) c.requires.kept in
     let next : IsNext inside.inbox (to_ledger.Done c.in-Done.client) c.receive_next.new.inbox =
-    subst (λ (m : ToLedger). IsNext inside.inbox m c.receive_next.new.inbox) c.in-Done.is c.in_ok-message.ensures.next in
+    subst (λ (m : ToLedger). IsNext inside.inbox m c.receive_next.new.inbox) c.in-Done.is
+    c.in_ok-message.ensures.next in
     left_before d is.booked next.sender next.below next.follows.may.0 next.follows.goes_on
 
 pub returns-in-Request-clause-taken : goal.returns-in-Request-clause-taken
@@ -69,7 +72,8 @@ returns-in-Request-clause-taken g c =
     let d : LedgerCore = seen inside in
     let is : IsLedgerActor d = subst IsLedgerActor (sym c.self.view_is) c.requires.kept in
     let next : IsNext inside.inbox (to_ledger.Request c.in-Request.request) c.receive_next.new.inbox =
-    subst (λ (m : ToLedger). IsNext inside.inbox m c.receive_next.new.inbox) c.in-Request.is c.in_ok-message.ensures.next in
+    subst (λ (m : ToLedger). IsNext inside.inbox m c.receive_next.new.inbox) c.in-Request.is
+    c.in_ok-message.ensures.next in
     let order : g.K.Reception.order ≡ order_of inside.inbox.received =
     c.requires.order ∙ ap (λ (s : LedgerCore). order_of s.inbox.received) (sym c.self.view_is) in
     let request = c.in-Request.request in
@@ -87,7 +91,8 @@ returns-in-Request-clause-taken g c =
     subst (λ (s : LedgerCore). IsTaken s (after (with_items inside.clients clients).items)) c.self.view_is
     (subst (λ (cs : List (Outgoing Reply Past)). IsTaken d (after cs)) (sym written)
     (taken_request d is request c.receive_next.new.inbox next clients c.take_request.new.ledger
-    (subst (λ (o : List (ℕ × Batch)). ReceiveReplies 1 (o ++ (request.client, request.batch) ∷ []) clients) order emitted)
+    (subst (λ (o : List (ℕ × Batch)). ReceiveReplies 1 (o ++ (request.client, request.batch) ∷ []) clients)
+    order emitted)
     (history ∙ ap (λ (o : List (ℕ × Batch)). history_of (past_of (o ++ (request.client, request.batch) ∷ []))) order)
     (links ∙ ap links_of c.as_mut_slice.ensures.value) c.take_request.new.order.items noted)))
     c.take_request.ensures.emitted c.take_request.ensures.history c.take_request.ensures.links
@@ -99,7 +104,8 @@ returns-in-Done-clause-taken g c =
     let d : LedgerCore = seen inside in
     let is : IsLedgerActor d = subst IsLedgerActor (sym c.self.view_is) c.requires.kept in
     let next : IsNext inside.inbox (to_ledger.Done c.in-Done.client) c.receive_next.new.inbox =
-    subst (λ (m : ToLedger). IsNext inside.inbox m c.receive_next.new.inbox) c.in-Done.is c.in_ok-message.ensures.next in
+    subst (λ (m : ToLedger). IsNext inside.inbox m c.receive_next.new.inbox) c.in-Done.is
+    c.in_ok-message.ensures.next in
     subst (λ (s : LedgerCore). IsTaken s c.count_done.new.self) c.self.view_is
     (subst (IsTaken d) (sym c.count_done.ensures) (taken_done d is c.in-Done.client c.receive_next.new.inbox next))
 
@@ -109,7 +115,8 @@ returns-in_ok-reply_kept-in-Poll-clause-taken g c =
     let d : LedgerCore = seen inside in
     let is : IsLedgerActor d = subst IsLedgerActor (sym c.self.view_is) c.requires.kept in
     let next : IsNext inside.inbox (to_ledger.Poll c.in-Poll.poll) c.receive_next.new.inbox =
-    subst (λ (m : ToLedger). IsNext inside.inbox m c.receive_next.new.inbox) c.in-Poll.is c.in_ok-message.ensures.next in
+    subst (λ (m : ToLedger). IsNext inside.inbox m c.receive_next.new.inbox) c.in-Poll.is
+    c.in_ok-message.ensures.next in
     let past : g.K.Reception.past ≡ past_of_inbox inside.inbox =
     c.requires.past ∙ ap (λ (s : LedgerCore). past_of_inbox s.inbox) (sym c.self.view_is) in
     subst (λ (s : LedgerCore). IsTaken s (record d {
@@ -126,7 +133,8 @@ returns-in-Finish-clause-taken g c =
     let d : LedgerCore = seen inside in
     let is : IsLedgerActor d = subst IsLedgerActor (sym c.self.view_is) c.requires.kept in
     let next : IsNext inside.inbox to_ledger.Finish c.receive_next.new.inbox =
-    subst (λ (m : ToLedger). IsNext inside.inbox m c.receive_next.new.inbox) c.in-Finish.is c.in_ok-message.ensures.next in
+    subst (λ (m : ToLedger). IsNext inside.inbox m c.receive_next.new.inbox) c.in-Finish.is
+    c.in_ok-message.ensures.next in
     subst (λ (s : LedgerCore). IsTaken s (record d { inbox = c.receive_next.new.inbox; connector_done = true }))
     c.self.view_is
     (taken_finish d is c.receive_next.new.inbox next)
@@ -147,7 +155,8 @@ returns-in-Request-clause-failed g c =
     let now = c.args.self.now in
     let d : LedgerCore = seen inside in
     let next : IsNext inside.inbox (to_ledger.Request c.in-Request.request) c.receive_next.new.inbox =
-    subst (λ (m : ToLedger). IsNext inside.inbox m c.receive_next.new.inbox) c.in-Request.is c.in_ok-message.ensures.next in
+    subst (λ (m : ToLedger). IsNext inside.inbox m c.receive_next.new.inbox) c.in-Request.is
+    c.in_ok-message.ensures.next in
     let order : g.K.Reception.order ≡ order_of inside.inbox.received =
     c.requires.order ∙ ap (λ (s : LedgerCore). order_of s.inbox.received) (sym c.self.view_is) in
     let clients : List (Outgoing Reply Past) = c.take_request.new.clients in
@@ -162,7 +171,8 @@ returns-in-Request-clause-failed g c =
     subst
     (λ (cs : List (Outgoing Reply Past)). IfErr c.take_request.result (λ fault. ((fault ≡ PeerGone)
     × (after cs ≡ now)) ⊎ IsUntaken now fault (after cs))) (sym written)
-    (request_failed d now c.self.view_is c.in-Request.request c.receive_next.new.inbox next g.K.Reception.order order clients
+    (request_failed d now c.self.view_is c.in-Request.request c.receive_next.new.inbox next g.K.Reception.order
+    order clients
     c.take_request.new.ledger c.take_request.new.order.items c.take_request.result c.take_request.ensures.failed
     (on_err_weaker c.take_request.result (λ same. same ∙ c.as_mut_slice.ensures.value) c.take_request.ensures.untold)
     c.take_request.ensures.unnoted)
@@ -173,10 +183,12 @@ returns-in_err-reply_kept-in-Poll-clause-failed g c =
     let now = c.args.self.now in
     let d : LedgerCore = seen inside in
     let next : IsNext inside.inbox (to_ledger.Poll c.in-Poll.poll) c.receive_next.new.inbox =
-    subst (λ (m : ToLedger). IsNext inside.inbox m c.receive_next.new.inbox) c.in-Poll.is c.in_ok-message.ensures.next in
+    subst (λ (m : ToLedger). IsNext inside.inbox m c.receive_next.new.inbox) c.in-Poll.is
+    c.in_ok-message.ensures.next in
     let err = c.in_err-reply_kept-in-Poll.ensures in
     passed_on (λ fault. ((fault ≡ PeerGone) × (_ ≡ now)) ⊎ IsUntaken now fault _)
     c.from_residual-in_err-reply_kept-in-Poll.result c.in_err-reply_kept-in-Poll.field-0.0
     c.from_residual-in_err-reply_kept-in-Poll.ensures.1
-    (inr (poll_failed d now c.self.view_is c.in-Poll.poll c.receive_next.new.inbox next c.reply_kept.new.connector err.refused
+    (inr (poll_failed d now c.self.view_is c.in-Poll.poll c.receive_next.new.inbox next
+    c.reply_kept.new.connector err.refused
     err.asked c.in_err-reply_kept-in-Poll.field-0.0 err.kind))
