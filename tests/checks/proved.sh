@@ -273,7 +273,8 @@ has 'check: a line of no crate is named' '^  gone$' "$out"
 
 # Writing: what is missing is proved from scratch, and packed.
 git -C "$room/top" init -q
-git -C "$room/top" add crates crates.txt >/dev/null 2>&1
+echo out/ >"$room/top/.gitignore"
+git -C "$room/top" add .gitignore crates crates.txt >/dev/null 2>&1
 git -C "$room/top" -c user.name=t -c user.email=t@t commit -qm x
 rm -rf "$room/top/proved"
 call "$room/top/tools/records" --write
@@ -288,7 +289,8 @@ check 'write: and is what a check makes' '0 failed' "$(tail -n 1 <<<"$out" | sed
 rm "$room/top/proved/high.library.tar.xz"
 other
 call "$room/top/tools/records" --write
-check 'write: a library that is missing needs no proof' '' "$(grep proved <<<"$calls")"
+check 'write: a library that is missing is written' '0 ' "$status $err"
+check 'write: it needs no proof' '' "$(grep proved <<<"$calls")"
 check 'write: what is of no crate goes' '' "$(grep -l gone "$room/top/proved/index.json"; find "$room/top/proved" -name 'gone*')"
 echo '// more' >>"$room/top/crates/high/src/lib.rt"
 call "$room/top/tools/records" --write
