@@ -47,7 +47,7 @@ BUDGETS = [
     (2_500, "CONTRIBUTING.md"),
     (2_000, "docs/DECISIONS.md"),
     (700, "docs/MEASURED.md"),
-    (800, "CHANGELOG.md", "ROADMAP.md"),
+    (900, "CHANGELOG.md", "ROADMAP.md"),
     (600, "contrib/rabbitmq/README.md"),
 ]
 FIRST = "README.md"
