@@ -41,7 +41,7 @@ BUDGETS = [
     (1_000, "docs/EXACTLY-ONCE.md"),
     (520, "docs/AUDIT.md"),
     (2_500, "docs/REFERENCE.md"),
-    (5_600, "docs/FORMATS.md"),
+    (5_650, "docs/FORMATS.md"),
     (3_100, "docs/PROOFS.md"),
     (1_800, "docs/ARCHITECTURE.md"),
     (2_500, "CONTRIBUTING.md"),
