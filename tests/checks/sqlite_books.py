@@ -8,7 +8,7 @@ they are. A program that has the file open, and reads nothing at that time, keep
 refused: the program ends at each open, read, write and sync of a stream with a book, or one of these is refused; sqlite3 has to find
 a whole book, of what was reported as saved or of later events, and following goes on to the book of a run without a stop.
 
-Killed and refused need a C compiler, `cc`. The last line is `follow: N passed, M failed`; the status is 1 where one failed.
+Killed and refused need a C compiler, `cc`. The last line is `sqlite_books: N passed, M failed`; the status is 1 where one failed.
 """
 import contextlib
 import fcntl
@@ -257,7 +257,7 @@ def main(arguments):
             room = os.path.join(folder, part.__name__)
             os.mkdir(room)
             part(room)
-    return commands.ended()
+    return commands.ended("sqlite_books")
 
 
 if __name__ == "__main__":

@@ -32,11 +32,11 @@ def run(arguments, stream, env=None):
     return done.returncode, done.stdout.decode(), done.stderr.decode(errors="replace")
 
 
-def ended():
-    """Prints what failed, and how many checks passed; returns the status."""
+def ended(name=None):
+    """Prints what failed, and how many checks passed, under a name or the command's; returns the status."""
     for it in failures[:MOST_SHOWN]:
         print(it)
-    print(f"{command}: {passed} passed, {len(failures)} failed")
+    print(f"{name or command}: {passed} passed, {len(failures)} failed")
     return 1 if failures else 0
 
 

@@ -1,5 +1,4 @@
-"""What needs no program: help, the version, an unknown command or flag. The texts are those in docs/help, which the program
-prints."""
+"""Answers that need no program: help, the version, unknown commands and flags. docs/help has the texts that the program prints."""
 import contextlib
 import os
 import re
@@ -11,7 +10,7 @@ USAGE = 2
 
 
 def write(text):
-    """Writes a text to standard output. A reader that has gone away is no news; another failure is."""
+    """Writes a text to standard output. If the reader has gone away, this returns 1; another failure is reported."""
     left = text.encode()
     try:
         while left:

@@ -1,4 +1,4 @@
-"""What the launcher leaves to Python: the flags before the command, and the build where the program isn't current."""
+"""What the launcher leaves to Python: the flags before the command, and the build if the program isn't current."""
 import os
 import signal
 import sys

@@ -1,4 +1,4 @@
-"""Makes the crates, as many side by side as there is room for: each from its library or its record in proved/, or by a proof."""
+"""Makes the crates, in as many jobs as there is memory for: each from its library or its record in proved/, or by a proof."""
 import concurrent.futures
 import contextlib
 import functools
@@ -15,21 +15,22 @@ from .crates import Snapshot
 from .parts import Parts
 from .proved import Proved, Stale, put_together, unpack_library, unpacked
 
-# What a job needs of memory, in bytes, and the most jobs of a crate beside others.
+# The memory that a job needs, in bytes, and the most jobs that a crate has if others are made at the same time.
 EACH, MOST = 3_000_000_000, 2
-# What a crate takes however small it is, as so many bytes of its sources: the order of the crates goes by these.
+# The work that even the smallest crate takes, in bytes of sources. These bytes decide the order of the crates.
 ANYWAY = 500_000
 # How much is printed of the line why a crate isn't proved.
 MOST_OF_A_REASON = 300
-# How a crate may be made, by what has to be trusted besides the toolchain: nothing, who wrote its record, who built its library.
+# How a crate may be made, by what has to be trusted besides the toolchain: nothing, the author of its record, or the author of
+# its library.
 PROOF, RECORD, LIBRARY = "proof", "record", "library"
 WAYS = (LIBRARY, RECORD, PROOF)
-# The compilers: Rattle's own is quicker, and the program that LLVM makes is.
+# The compilers: Rattle's own is the quicker one, LLVM makes the quicker program.
 QUICK, OPTIMISING = "rattle", "llvm"
 
 
 class Interrupted(Exception):
-    """The build was ended while this crate was made."""
+    """The build was interrupted."""
 
 
 def trust(how):
@@ -38,16 +39,16 @@ def trust(how):
 
 
 class Build:
-    """A build of the program in a folder of its own, `at`: the library of each crate, and a note of what it was made from. Nothing
-    is made in a way that asks for more trust than `way`."""
+    """A build of the program in a folder of its own, `at`, which gets the library of each crate, and a note of what it was made from.
+    Nothing is made in a way that asks for more trust than `way`."""
 
     def __init__(self, top, crates, toolchain, at, way=LIBRARY, compiler=QUICK):
         self.top, self.crates, self.toolchain, self.at, self.way, self.compiler = top, crates, toolchain, at, way, compiler
         self.proved = Proved(top)
         self.parts = Parts(toolchain, self.proved.folder, sorted({it for crate in crates for it in crate.of_toolchain}))
         self.sources = Snapshot(crates, f"{at}/sources")
-        # By crate: how it was made, and the way to be trusted most of it and of those below; why its library or its record wasn't
-        # taken; how much work follows it up to the program.
+        # By crate: how it was made, and the way among it and those below that asks for the most trust; why its library or its record
+        # wasn't used; how much work depends on it.
         self.made_by, self.how, self.refused, self.behind = {}, {}, {}, {}
         self.children, self.alone = set(), threading.Lock()
 
@@ -71,11 +72,11 @@ class Build:
         return self.sources.key(crate, self.toolchain.identity)
 
     def weakest(self, crate, how):
-        """Returns which way has to be trusted most, of a crate made in one way and of all that are below it."""
+        """Returns the way that asks for the most trust, of a crate made in this way and of all below it."""
         return min([how, *(self.how[it.name] for it in crate.below)], key=trust)
 
     def is_made(self, crate):
-        """Returns whether the library that stands there was made of what stands here, in a way that is asked for."""
+        """Returns whether the crate's library was made already, from these sources, in a way that is asked for."""
         with contextlib.suppress(OSError, ValueError, KeyError):
             with open(self.note(crate), encoding="utf-8") as it:
                 note = json.load(it)
@@ -96,7 +97,7 @@ class Build:
     # How one crate is made.
 
     def run(self, crate, *commands):
-        """Runs commands in the crate's folder, each in a process group of its own, until one fails, and returns its status."""
+        """Runs commands in the crate's folder, each in a process group of its own, until one fails. Returns the last status."""
         for arguments in commands:
             with open(self.log(crate), "ab") as out:
                 how = {"cwd": self.sources.folder(crate), "stdin": subprocess.DEVNULL, "stdout": out, "stderr": subprocess.STDOUT}
@@ -119,7 +120,7 @@ class Build:
         return 0
 
     def is_ahead(self, crate):
-        """Returns whether another crate has more work behind it."""
+        """Returns whether more work depends on another crate."""
         return self.behind[crate.name] < max((self.behind[it.name] for it in self.crates if it.name not in self.how), default=0)
 
     def commands(self, crate, arguments):
@@ -142,7 +143,7 @@ class Build:
         unpack_library(text, self.unpack_record(crate), self.library(crate), {"toolchain": f"{self.toolchain.at}/rlibs", "crate": self.at})
 
     def from_record(self, crate):
-        """Has the toolchain make the crate of its sources and its proof record, which it compares."""
+        """Has the toolchain make the crate from its sources and its proof record. The toolchain compares both."""
         record = self.unpack_record(crate)
         if self.run(crate, *self.commands(crate, ["--crate-checked", record])):
             with open(self.log(crate), encoding="utf-8", errors="replace") as it:
@@ -150,13 +151,13 @@ class Build:
             raise Stale(f"the toolchain refuses it: {(lines or ['it gives no reason'])[0][:300]}")
 
     def prove(self, crate, jobs):
-        """Proves the crate from scratch and makes it; returns the status. A library holds statements alone, as one that is made from
-        a record does, so each may stand on the other."""
+        """Proves the crate from scratch and makes it; returns the status. The library has statements alone, as if it were made from a
+        record. So either kind can be built over the other."""
         statements = [] if crate.is_program else ["--statements"]
         return self.run(crate, *self.commands(crate, [*self.toolchain.proving(jobs), *statements]))
 
     def may_take(self, crate, how):
-        """Returns whether the crate may be made from its library or its record. A record may be taken over proved crates too."""
+        """Returns whether the crate may be made in this way. A record may also be used over crates that were proved here."""
         if trust(how) < trust(self.way) or not self.proved.serves(crate, "record", self.key(crate)):
             return False
         return how == RECORD or (not crate.is_program and self.proved.serves(crate, "library", self.key(crate)))
@@ -175,7 +176,7 @@ class Build:
             shutil.rmtree(self.record(crate), ignore_errors=True)
 
     def make(self, crate, jobs):
-        """Makes a crate, those below it being made."""
+        """Makes a crate. Those below it are made already."""
         begun = time.monotonic()
         if self.is_made(crate):
             return
@@ -196,13 +197,13 @@ class Build:
         say(f"{crate.name} {done}, {self.count(crate)}, {int(time.monotonic() - begun)} s")
 
     def stop_if_moved(self, crate):
-        """Stops where a source of the crate isn't as it was when the build began. What was made is of the sources as they were."""
+        """Stops if a source of the crate has changed since the build began. What was made is of the sources as they were."""
         file = self.sources.moved(crate)
         if file:
             raise Stop(f"{file} changed while the program was built: start it again")
 
     def unproved(self, crate):
-        """Returns why a crate isn't proved, in one line, and the file that has all that the checker printed."""
+        """Returns why a crate isn't proved, in one line, and then the file that has all that the checker printed."""
         log = self.log(crate)
         with open(log, encoding="utf-8", errors="replace") as it:
             why = reason_in(it.read().split("\n"))
@@ -215,7 +216,7 @@ class Build:
     # All of them.
 
     def end(self):
-        """Ends all that was started."""
+        """Ends all processes that were started."""
         with self.alone:
             children, self.children = self.children or set(), None
         for it in children:
@@ -223,21 +224,21 @@ class Build:
                 os.killpg(it.pid, 9)
 
     def measure(self):
-        """Notes for each crate how much work follows it up to the program."""
+        """Notes for each crate how much work depends on it."""
         size = {it.name: ANYWAY + sum(os.path.getsize(f"{it.folder}/{file}") for file in self.sources.of[it.name]) for it in self.crates}
         for crate in reversed(self.crates):
             above = [self.behind[it.name] for it in self.crates if crate.name in it.straight]
             self.behind[crate.name] = size[crate.name] + max(above, default=0)
 
     def jobs_for(self, crate, idle, ready, left, running, room):
-        """Returns how many jobs a crate gets: one where it isn't proved here, and all there are where everything waits for it."""
+        """Returns how many jobs a crate gets: one if it isn't proved here, and all there are if everything waits for it."""
         if self.may_take(crate, RECORD):
             return 1
         most = room if all(crate in it.below for it in left) and not running else MOST
         return max(1, min(most, idle // ready))
 
     def all(self):
-        """Makes each crate as soon as those below it are made: first those that most work waits for."""
+        """Makes each crate as soon as those below it are made. Those on which the most work depends come first."""
         self.measure()
         left, running, room = sorted(self.crates, key=lambda it: -self.behind[it.name]), {}, lanes()
         with concurrent.futures.ThreadPoolExecutor(room) as pool:
@@ -263,8 +264,8 @@ class Build:
 
 
 def reason_in(lines):
-    """Returns why a crate isn't proved, a line of what the checker printed: the first of a goal in its source, or else of an
-    error, or of a function, or the last one."""
+    """Returns the line of the checker that says why a crate isn't proved: the first about a goal in a source, or else about an error,
+    or about a function, or the last line."""
     lines = [it for it in lines if it.strip() and not it.startswith("so far: ")]
     for pattern in (r"(?:note: |error: )?(src/\S+: it is not proved .*)", r"((?:\S+: )?error\b.*)", r"(.*: not proved)"):
         for line in lines:
@@ -282,8 +283,8 @@ def killed(crate, number):
 
 
 def give_way(pid):
-    """Has a process leave the processors to those of the crate that most work waits for. Where the system shares them out among
-    sessions first, its session does."""
+    """Gives a process a low priority, so that the crate on which the most work depends comes first. A system that shares its processors
+    among sessions first needs this of the session too."""
     with contextlib.suppress(OSError):
         os.setpriority(os.PRIO_PROCESS, pid, 10)
     with contextlib.suppress(OSError):
@@ -292,7 +293,7 @@ def give_way(pid):
 
 
 def lanes():
-    """Returns how many jobs there may be at a time: one for each processor that has memory; RT_JOBS gives another number."""
+    """Returns how many jobs there may be at a time: one for each processor that has enough memory, or RT_JOBS."""
     wanted = os.environ.get("RT_JOBS", "")
     if re.fullmatch("[1-9][0-9]?", wanted):
         return int(wanted)

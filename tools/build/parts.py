@@ -1,5 +1,5 @@
-"""Parts of the toolchain's libraries that proof records contain. None is kept here: each is taken from the toolchain, whole or as
-some of its lines, and compared with the sum that the record names."""
+"""Parts of the toolchain's libraries that proof records contain. proved/ doesn't store them: each is read from the toolchain, whole
+or as some of its lines, and compared with the sum that the record has."""
 import hashlib
 import json
 import lzma
@@ -7,9 +7,9 @@ import os
 import re
 import threading
 
-# How a part of the toolchain's is named in a library's list of parts, and the library that it belongs to.
+# The name that a part of the toolchain has in a library's list of parts, with the library that it belongs to.
 OF_TOOLCHAIN = re.compile(r"part/Rattle-(?!cdc_)(\w+)")
-# The list of parts in a library or a record, and the file that they stand in, one after another.
+# The list of parts in a library or a record, and the file that has the parts, one after another.
 LIST, CHECKED = "toolchain/checked.json", "toolchain/checked.a"
 
 
@@ -46,8 +46,8 @@ class Library:
 
 
 class Parts:
-    """The parts of the toolchain's libraries, by their sums. A part that is some lines of a library's part stands in the file
-    `derived.xz` of the folder as a recipe: the lines to take, and the few lines of its own."""
+    """The parts of the toolchain's libraries, by their sums. For a part that is some lines of a library's part, the file `derived.xz` of
+    the folder has a recipe: the lines to take, and a few lines of its own."""
 
     def __init__(self, toolchain, folder, libraries):
         self.toolchain, self.file, self.names = toolchain, f"{folder}/derived.xz", libraries
@@ -79,7 +79,7 @@ class Parts:
         return next((part for _, part in self.candidates(name) if sum_of(part) == sum), None)
 
     def derived(self, name, sum):
-        """Makes a part by its recipe, or returns None where there is none, or it comes to another part."""
+        """Makes a part by its recipe. Returns None if there is none, or if it makes another part."""
         recipe = self.load().get(sum)
         if recipe is None:
             return None

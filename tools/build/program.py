@@ -1,4 +1,4 @@
-"""The program where it stands, and the notes of what it was built from."""
+"""The built program, and the notes of what it was built from."""
 import contextlib
 import fcntl
 import json
@@ -13,15 +13,15 @@ from .jobs import LIBRARY, OPTIMISING, PROOF, QUICK, RECORD, Build, Interrupted,
 from .proved import Stale
 from .toolchain import Toolchain
 
-# How the ways are named where the program prints how it was built.
+# What a build prints of the way in which it was made.
 WAYS = {LIBRARY: "the libraries in proved/", RECORD: "the proof records in proved/", PROOF: "proofs made here"}
 COMPILERS = {QUICK: "Rattle's own compiler", OPTIMISING: "LLVM"}
 
 
 class Program:
     """The program, `path`, and two notes beside it. `built` has the sums of the sources and of the program, the toolchain's
-    identity and the way. `stamps` has what `find` prints of all these files where nothing changed since: the launcher
-    compares it, and asks for the sums only where it differs."""
+    identity and the way. `stamps` has what `find` printed of all these files when the sums last agreed. The launcher
+    compares it, and asks for the sums only if it differs."""
 
     def __init__(self, top):
         self.top = top
@@ -29,7 +29,7 @@ class Program:
         self.path, self.built, self.stamps = f"{self.out}/{APP}", f"{self.out}/{APP}.built", f"{self.out}/{APP}.stamps"
 
     def note(self):
-        """Returns what the note has, or nothing where there is none."""
+        """Returns what the note has, or nothing if there is none."""
         with contextlib.suppress(OSError, ValueError):
             with open(self.built, encoding="utf-8") as it:
                 note = json.load(it)
@@ -38,8 +38,8 @@ class Program:
         return {}
 
     def is_current(self, way=LIBRARY, compiler=QUICK):
-        """Returns whether the program is what was built, of the sources and by the toolchain that stand here, in a way and by a
-        compiler at least as good as those that are asked for. Without a toolchain the sources decide."""
+        """Returns whether the program is the one that was built, from these sources and by this toolchain, in a way and by a compiler
+        at least as good as those asked for. Without a toolchain the sources alone decide."""
         note = self.note()
         try:
             if note["program"] != sum_of(self.path) or trust(note["way"]) < trust(way):
@@ -53,14 +53,14 @@ class Program:
         return os.access(self.path, os.X_OK) and note["sources"] == Sums(crates_of(self.top)).whole()
 
     def build(self, way=LIBRARY, compiler=QUICK):
-        """Builds the program. Only one does so at a time."""
+        """Builds the program. Only one process does so at a time."""
         at = f"{self.out}/start"
         os.makedirs(at, exist_ok=True)
         with open(f"{at}/lock", "w", encoding="ascii") as lock:
             try:
                 fcntl.flock(lock, fcntl.LOCK_EX | fcntl.LOCK_NB)
             except BlockingIOError:
-                say("another one builds the program already: waiting for it")
+                say("another process is building the program: waiting for it")
                 fcntl.flock(lock, fcntl.LOCK_EX)
                 if self.is_current(way, compiler):
                     return
@@ -75,7 +75,7 @@ class Program:
             build = Build(self.top, crates, toolchain, at, way, compiler)
         except Stale as why:
             raise Stop(str(why)) from None
-        say("the program is built first; a crate that proved/ doesn't have as it stands here is proved, which takes minutes")
+        say("building the program first; each crate without a current library or record in proved/ is proved, which takes minutes")
         try:
             build.all()
         except Interrupted:
@@ -85,7 +85,7 @@ class Program:
         say(f"built in {int(time.monotonic() - begun)} s")
 
     def put(self, build):
-        """Puts the program in its place, with its note."""
+        """Moves the program to its place, with its note."""
         for file in (self.built, self.stamps):
             with contextlib.suppress(FileNotFoundError):
                 os.remove(file)
@@ -99,8 +99,8 @@ class Program:
         os.replace(f"{self.built}.new", self.built)
 
     def stamp(self):
-        """Notes what `find` prints of the files that decide, unless one of them changed just now: it could change again at the same
-        time. Where it can't be noted, the next start compares the sums again."""
+        """Notes what `find` prints of the files that decide, unless one of them changed within the last second: it could change again
+        with the same time. If nothing is noted, the next start compares the sums again."""
         printed = subprocess.run([f"{self.top}/relayplum", "--stamps"], stdout=subprocess.PIPE, stderr=subprocess.DEVNULL, check=False).stdout
         changed = [float(line.rsplit(b" ", 1)[1]) for line in printed.splitlines() if line.count(b" ") > 3]
         if has_toolchain(printed) and changed and max(changed) < time.time() - 1 and self.is_current():
@@ -116,17 +116,17 @@ def has_toolchain(printed):
 
 
 def identity(otherwise):
-    """Returns the identity of this machine's toolchain, or what is said where it has none."""
+    """Returns the identity of this machine's toolchain, or `otherwise` if it has none."""
     return Toolchain().identity if shutil.which("rt") else otherwise
 
 
 def commits_of(build):
-    """Returns the commits at which the records and libraries were written that were taken."""
+    """Returns the commits of the records and libraries that were used."""
     return sorted({build.proved.commit(it) for it in build.crates if build.made_by[it.name] != PROOF})
 
 
 def report(build):
-    """Prints how the crates were made, and why a library or a record was not taken."""
+    """Prints how the crates were made, and why a library or a record wasn't used."""
     taken = [it for it in build.crates if build.made_by[it.name] != PROOF]
     if taken:
         which = "all crates" if len(taken) == len(build.crates) else f"{len(taken)} of {len(build.crates)} crates"

@@ -1,4 +1,4 @@
-"""Runs the sources as they stand, before any proof: for whoever is writing them."""
+"""Runs the sources without a proof, for anyone who is writing them."""
 import os
 import shutil
 import subprocess
@@ -7,7 +7,7 @@ import sys
 from . import Stop, say
 from .crates import APP
 
-# The flags that a number follows, which is no file even where a file has its name.
+# The flags with a value that is no file, even if a file has its name.
 NUMBERED = (
     "--window", "--prefetch", "--lose-confirm", "--lose-publish", "--restart-after", "--repeat", "--close", "--start-after",
     "--random", "--steps", "--faults", "--queue", "--every", "--binding",
@@ -39,7 +39,7 @@ def run(top, arguments):
     if not shutil.which("rt"):
         raise Stop("there is no `rt` on the path: Rattle's toolchain is needed")
     data, handed = handed_on(arguments)
-    say("nothing is proved: the sources are run as they stand, for at most 60 s and 1 MiB of output")
+    say("nothing is proved: running the sources directly, for at most 60 s and 1 MiB of output")
     ran = subprocess.run(["rt", "try", *data, "--", *handed], cwd=f"{top}/crates/{APP}", stderr=subprocess.PIPE, check=False)
     lines = ran.stderr.decode(errors="replace").splitlines(True)
     if any(it.startswith("checked: ended") for it in lines):

@@ -54,7 +54,7 @@ Launcher options, before the command:
                   sources and the toolchain, else use its record if that fits, else prove the crate]
   --prove         Prove every crate here, and use no record; continues a proof that was interrupted
   --unproved      Run the sources as they are, without a proof, while you are writing them
-  --optimised     Have LLVM build the program: 110 s more CPU time, then 0.64 of the instructions in each run
+  --optimised     Have LLVM build the program, which takes longer; each run then takes fewer instructions
                   [default: Rattle's own compiler]; combines with the default way and with --from-records
   --install DIR   Put the program into DIR/bin, and the man page and the completions into DIR/share
 
@@ -69,9 +69,9 @@ Examples:
 
 Exit status:
   0  all was done
-  1  a read, a write, memory, a thread, the store of progress or the run itself failed: the last line of standard
-     output names the fault, unless a write failed; or a step of a simulation was refused
-  2  the arguments, the script or the steps are bad: standard error reports what was expected, and where";
+  1  a read, a write, memory, a thread, a store or the run itself failed: the last line of standard output names the
+     fault, unless a write failed; or a step or an event was refused, or a stream has a gap
+  2  the arguments, a file or a line of a stream are bad: standard error reports what was expected, and where";
 
 /// What the arguments ask for, without the program's own name. Without arguments it is `run -`.
 pub fn options<'a>(alloc: Global, args: &'a [&'a str]) -> Result<Options<'a>, OptionsFault>
