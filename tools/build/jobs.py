@@ -264,8 +264,8 @@ class Build:
 
 
 def reason_in(lines):
-    """Returns the line of the checker that has the reason why a crate isn't proved: the first about a goal in a source, or else about an error,
-    or about a function, or the last line."""
+    """Returns the line of the checker that has the reason why a crate isn't proved: the first about a goal in a source, or else about
+    an error, or about a function, or the last line."""
     lines = [it for it in lines if it.strip() and not it.startswith("so far: ")]
     for pattern in (r"(?:note: |error: )?(src/\S+: it is not proved .*)", r"((?:\S+: )?error\b.*)", r"(.*: not proved)"):
         for line in lines:
