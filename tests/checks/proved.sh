@@ -9,8 +9,8 @@ printf 'low:\nhigh: low\ncdc_app: low high clap index\n' >"$room/top/crates.txt"
 
 # Records and libraries: one is taken where it is of what stands here.
 cat >"$room/proved.py" <<'PROVED'
-"""Writes what proved/ has of a crate, as it stands: proved.py TOP KIT CRATE [library] [open] [copy]. The record has a part of its own
-and two of the toolchain's; `open` spoils its verdict, and `copy` puts one of the toolchain's under a name of its own."""
+"""Writes what proved/ has of a crate, as it stands: proved.py TOP KIT CRATE [library] [open] [copy]. The record has a part of its own,
+which is that of a crate below if there is one, and two of the toolchain's; `open` spoils its verdict, and `copy` puts one of the toolchain's under a name of its own."""
 import hashlib, json, os, shutil, sys
 top, kit = sys.argv[1:3]
 sys.path.insert(0, f"{top}/tools")
@@ -51,8 +51,10 @@ if not crate.is_program:
     shutil.copytree(f"{record}/toolchain", f"{library}/toolchain")
     put(f"{library}/lib", open(f"{crate.folder}/src/lib.rt").read())
     put(f"{library}/below/index/big", open(f"{kit}/rlibs/index.rlib/big").read())
+    shutil.rmtree(f"{top}/../{name}.made", ignore_errors=True)
+    shutil.copytree(library, f"{top}/../{name}.made")
     all_parts = parts.Parts(toolchain, have.folder, ["index"])
-    proved.cut_out(record, all_parts)
+    proved.cut_out(record, all_parts, [parts.Library(f"{top}/../{it.name}.made") for it in crate.below])
     os.makedirs(have.folder, exist_ok=True)
     all_parts.write(all_parts.load())
 have.write(crate, "record", proved.packed(record, proved.files_in(record)), key, **said)
@@ -70,6 +72,9 @@ whole='has own one two line 1 mine line 3 '
 
 write low
 write high
+own() { tar -xJOf "$room/top/proved/$1.record.tar.xz" toolchain/checked.own; }
+check 'records: a part of its own is kept' own "$(own low)"
+check 'records: a part of a crate below is not kept again' '' "$(own high)"
 from_scratch
 call ./link books x
 check 'records: what has one is built from it, and the rest is proved' \
@@ -135,7 +140,7 @@ write high
 checked 'one\ntoo\nline 1\nline 2\nline 3\n'
 from_scratch
 call ./link books x
-has 'records: one of which the toolchain lacks a part is not taken' 'of low in proved/ was not taken: the toolchain has no part part/Rattle-index of the sum' "$err"
+has 'records: one of which the toolchain lacks a part is not taken' 'of low in proved/ was not taken: neither the crates below nor the toolchain have a part part/Rattle-index of the sum' "$err"
 checked 'one\ntwo\nline 1\nline 2\nline 3\n'
 seq 1001 >"$room/kit/rlibs/index.rlib/big"
 from_scratch

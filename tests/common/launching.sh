@@ -108,9 +108,10 @@ if [ "$what" = check ]; then exec cp -r "$DO/records/$name" "$to"; fi
 case "$to" in
 *.rlib)
     rm -rf "$to" && mkdir -p "$to/below/index" && echo "$seen" >"$to/lib"
-    # (what a library has of the toolchain's, and of its record)
+    # (what a library has of the toolchain's, and of its record, which a proof makes too)
     big=$(dirname "$(dirname "$0")")/rlibs/index.rlib/big
     if [ -f "$big" ]; then cp "$big" "$to/below/index/"; fi
+    [ -d "$record/toolchain" ] || record=$DO/records/$name
     if [ -d "$record/toolchain" ]; then cp -r "$record/toolchain" "$to/"; fi
     ;;
 *) echo "$name" >"$to" ;;

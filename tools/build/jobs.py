@@ -12,7 +12,7 @@ import time
 
 from . import Stop, say
 from .crates import Snapshot
-from .parts import Parts
+from .parts import Library, Parts
 from .proved import Proved, Stale, put_together, unpack_library, unpacked
 
 # The memory that a job needs, in bytes, and the most jobs that a crate has if others are made at the same time.
@@ -131,10 +131,19 @@ class Build:
         to = self.library(crate)
         return [[*build, *self.toolchain.compiling(self.compiler), "-o", f"{to}.o"], self.toolchain.linking(f"{to}.o", to)]
 
+    @functools.lru_cache(maxsize=None)
+    def parts_of(self, crate):
+        """Returns the parts of a crate's library, which is made."""
+        return Library(self.library(crate))
+
+    def libraries_below(self, crate):
+        """Returns the libraries of the crates below, those first on which it stands itself."""
+        return [self.parts_of(it) for it in reversed(crate.below)]
+
     def unpack_record(self, crate):
         record = self.record(crate)
         unpacked(self.proved.archive(crate, "record"), record)
-        put_together(record, self.parts)
+        put_together(record, self.parts, self.libraries_below(crate))
         return record
 
     def from_library(self, crate):

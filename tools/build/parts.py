@@ -1,5 +1,5 @@
-"""Parts of the toolchain's libraries that proof records contain. proved/ doesn't store them: each is read from the toolchain, whole
-or as some of its lines, and compared with the sum that the record has."""
+"""Parts of other libraries that proof records contain. proved/ doesn't store them again: each is read from the library of a crate
+below, or from the toolchain, whole or as some of its lines, and compared with the sum that the record has."""
 import hashlib
 import json
 import lzma
@@ -35,6 +35,10 @@ class Library:
         if os.path.isfile(self.file):
             self.rows = {name: (at, size) for name, at, size in rows_of(folder)}
 
+    def has(self, name, part):
+        """Returns whether a part of this name is there, with these bytes."""
+        return name in self.rows and self.rows[name][1] == len(part) and self.part(name) == part
+
     def part(self, name):
         """Returns a part, or None."""
         if name not in self.rows:
@@ -66,13 +70,16 @@ class Parts:
             if part is not None:
                 yield library, part
 
-    def find(self, name, sum):
-        """Returns the part of a name that has a sum."""
+    def find(self, name, sum, below):
+        """Returns the part of a name that has a sum: of the libraries of the crates below, or of the toolchain."""
+        for part in (it.part(name) for it in below):
+            if part is not None and sum_of(part) == sum:
+                return part
         with self.alone:
             if sum not in self.known:
                 self.known[sum] = self.taken(name, sum) or self.derived(name, sum)
             if self.known[sum] is None:
-                raise Missing(f"the toolchain has no part {name} of the sum {sum}")
+                raise Missing(f"neither the crates below nor the toolchain have a part {name} of the sum {sum}")
             return self.known[sum]
 
     def taken(self, name, sum):

@@ -13,7 +13,7 @@ from .crates import sum_of
 from .parts import CHECKED, LIST, OF_TOOLCHAIN, Missing, rows_of
 from .parts import sum_of as sum_of_part
 
-# What a record has instead of the file of parts: its own parts, and the places of the toolchain's parts.
+# What a record has instead of the file of parts: its own parts, and the places of those that are taken from other libraries.
 OWN, CUT = "toolchain/checked.own", "toolchain/checked.cut"
 # The list of a library's files, with the source of each.
 FILES = "files"
@@ -146,20 +146,21 @@ def files_in(folder):
 # Records.
 
 
-def cut_out(record, parts):
-    """Takes out of a record what is the toolchain's. A program's record has no parts."""
+def cut_out(record, parts, below):
+    """Takes out of a record the parts that the libraries of the crates below or the toolchain have. A program's record has no parts."""
     if not os.path.isfile(f"{record}/{CHECKED}"):
         return
     with open(f"{record}/{CHECKED}", "rb") as it:
         whole = it.read()
     own, cut, end = [], [], 0
     for name, at, size in sorted(rows_of(record), key=lambda it: it[1]):
-        if not OF_TOOLCHAIN.match(name):
-            continue
         part = whole[at : at + size]
         sum = sum_of_part(part)
-        if parts.taken(name, sum) is None and parts.derived(name, sum) is None and not parts.derive(name, part):
-            continue
+        if not any(it.has(name, part) for it in below):
+            if not OF_TOOLCHAIN.match(name):
+                continue
+            if parts.taken(name, sum) is None and parts.derived(name, sum) is None and not parts.derive(name, part):
+                continue
         own.append(whole[end:at])
         cut.append(f"{at} {sum}\n")
         end = at + size
@@ -170,8 +171,8 @@ def cut_out(record, parts):
     os.remove(f"{record}/{CHECKED}")
 
 
-def put_together(record, parts):
-    """Puts the toolchain's parts back into a record."""
+def put_together(record, parts, below):
+    """Puts the parts of other libraries back into a record."""
     if not os.path.isfile(f"{record}/{CUT}"):
         return
     try:
@@ -181,7 +182,7 @@ def put_together(record, parts):
         with open(f"{record}/{OWN}", "rb") as own, open(f"{record}/{CHECKED}", "wb") as out:
             for at, sum in cut:
                 out.write(own.read(int(at) - out.tell()))
-                out.write(parts.find(names[int(at)], sum))
+                out.write(parts.find(names[int(at)], sum, below))
             shutil.copyfileobj(own, out)
     except Missing as why:
         raise Stale(str(why)) from None
