@@ -9,8 +9,9 @@ printf 'low:\nhigh: low\ncdc_app: low high clap index\n' >"$room/top/crates.txt"
 
 # Records and libraries: one is taken where it is of what stands here.
 cat >"$room/proved.py" <<'PROVED'
-"""Writes what proved/ has of a crate, as it stands: proved.py TOP KIT CRATE [library] [open] [copy]. The record has a part of its own,
-which is that of a crate below if there is one, and two of the toolchain's; `open` spoils its verdict, and `copy` puts one of the toolchain's under a name of its own."""
+"""Writes what proved/ has of a crate, as it stands: proved.py TOP KIT CRATE [library] [object] [open] [copy]. The record has a part of
+its own, which is that of a crate below if there is one, and two of the toolchain's; `open` spoils its verdict, and `copy` puts one of
+the toolchain's under a name of its own. NAME=TEXT in place of `object` is object code of another name or text."""
 import hashlib, json, os, shutil, sys
 top, kit = sys.argv[1:3]
 sys.path.insert(0, f"{top}/tools")
@@ -58,6 +59,9 @@ if not crate.is_program:
     os.makedirs(have.folder, exist_ok=True)
     all_parts.write(all_parts.load())
 have.write(crate, "record", proved.packed(record, proved.files_in(record)), key, **said)
+for name, text in [(f"{name}.o", name)] if "object" in arguments else [it.split("=") for it in arguments if "=" in it]:
+    put(f"{top}/../object/{name}", f"{text}\n")
+    have.write(crate, "object", proved.packed(f"{top}/../object", [name]), key, **said)
 if "library" in arguments:
     files = proved.Files("toolchain", f"{kit}/rlibs", ["index.rlib"])
     have.write(crate, "library", proved.pack_library(library, files, proved.Files("crate", top, [])), key, **said)
@@ -109,6 +113,39 @@ call ./link --version
 has '--version: built from libraries' '^built from the libraries in proved/ of a1b2c3, with kit-1, by Rattle.s own compiler$' "$out"
 call ./link books x
 check 'libraries: nothing is built a second time' '' "$calls"
+write cdc_app object
+from_scratch
+call ./link books x
+check 'object code: the program is linked, and nothing is built' '' "$calls"
+has 'object code: it is said' '^relayplum: cdc_app linked from its object code in proved/, [0-9]* s$' "$err"
+has 'object code: what was taken is said' '^relayplum: all crates taken from the libraries in proved/, of a1b2c3; ./relayplum --prove' "$err"
+check 'object code: the program runs' 'run with books x' "$out"
+check 'object code: no library is unpacked' '' "$(find "$room/top/crates/cdc_app/out/start" -name '*.rlib')"
+call ./link --version
+has '--version: linked from object code' '^built from the libraries in proved/ of a1b2c3, with kit-1, by Rattle.s own compiler$' "$out"
+call ./link books x
+check 'object code: nothing is built a second time' '' "$calls$err"
+call ./link --optimised books x
+check 'object code: LLVM makes its own' 'cdc_app: record, by llvm' "$calls"
+from_scratch
+echo 'rm "$DO/link"; echo "error: no link"; exit 1' >"$DO/link"
+call ./link books x
+has 'object code: what can'"'"'t be linked is not taken' \
+    '^relayplum: the object code of cdc_app in proved/ was not taken: it can.t be linked: error: no link$' "$err"
+check 'object code: then the program is built from its record' 'cdc_app: record, by rattle' "$calls"
+check 'object code: and runs' 'run with books x' "$out"
+write cdc_app other.o=cdc_app
+from_scratch
+call ./link books x
+has 'object code: of another name it is not taken' 'the object code of cdc_app in proved/ was not taken: it isn.t laid out as an archive of object code$' "$err"
+write cdc_app object
+printf 'x' >>"$room/top/proved/cdc_app.object.tar.xz"
+from_scratch
+call ./link books x
+has 'object code: what was changed is not taken' 'the object code of cdc_app in proved/ was not taken: it isn.t the file that proved/index.json names$' "$err"
+check 'object code: the program is built from its record' 'cdc_app: record, by rattle' "$calls"
+write cdc_app object
+from_scratch
 call ./link --from-records books x
 check '--from-records builds each crate from its record' "$(printf '%s\n' low: high: cdc_app:)" "$(grep record <<<"$calls" | cut -d' ' -f1)"
 call ./link --from-records books x
@@ -118,6 +155,7 @@ call ./link --from-records --optimised books x
 check '--from-records --optimised' 'cdc_app: record, by llvm' "$(tail -n 1 <<<"$calls")"
 echo '// other' >>"$room/top/crates/high/src/lib.rt"
 call ./link books x
+lacks 'object code: of other sources it is not taken' linked "$err"
 check 'records: a crate of other sources is proved, and what stands on it' "$upwards" "$calls"
 has 'records: it names those that are not taken' '^relayplum: proved/ has the records of other sources, or of another toolchain, of: high cdc_app$' "$err"
 write high library
@@ -211,7 +249,7 @@ write_all() { # writes all that proved/ has, of what stands here
     rm -rf "$room/top/proved"
     write low library
     write high library
-    write cdc_app
+    write cdc_app object
     as_ci
 }
 gate
@@ -220,11 +258,12 @@ write_all
 call "$room/top/tools/records"
 check 'records are listed' 'low: record current, library current
 high: record current, library current
-cdc_app: record current' "$out"
+cdc_app: record current, object current' "$out"
 gate --all
-check 'check: all of it' '14 passed, 0 failed' "$(tail -n 1 <<<"$out")"
+check 'check: all of it' '15 passed, 0 failed' "$(tail -n 1 <<<"$out")"
 has 'check: a record' '^records: low as its record makes it is what `rt ci` has built' "$out"
 has 'check: a library' '^records: the library of low as it is packed is what `rt ci` has built$' "$out"
+has 'check: the program' '^records: cdc_app as its object code is linked is what `rt ci` has built$' "$out"
 has 'check: a record from scratch' '^records: the record of high from scratch is the one in proved/$' "$out"
 has 'check: one that is spoilt is refused' '^records: with a byte of its verdict changed, the record of low is refused$' "$out"
 gate --commit 1
@@ -241,6 +280,12 @@ write_all
 echo '# another' >>"$program.by-rattle"
 gate
 fails 'check: a program that comes out otherwise' 'cdc_app as its record makes it is what `rt ci` has built'
+fails 'check: object code of another program' 'cdc_app as its object code is linked is what `rt ci` has built'
+write_all
+write cdc_app cdc_app.o=other
+gate
+fails 'check: object code that is another' 'cdc_app as its object code is linked is what `rt ci` has built'
+lacks 'check: then the record is not blamed' 'FAILED: not cdc_app as its record' "$out"
 write_all
 write high open
 echo 'kit-9 logic l1' >"$room/kit/KIT-ID"
@@ -287,15 +332,21 @@ check 'write: status' '0 ' "$status $err"
 check 'write: each is proved from scratch, then made from its record' 'low: proved, jobs 1 low: record high: proved, jobs 1 high: record' \
     "$(grep -v has <<<"$calls" | head -n 4 | xargs)"
 call "$room/top/tools/records"
-check 'write: all is there' 2 "$(grep -c 'record current, library current' <<<"$out")"
+check 'write: all is there' '2 1' "$(grep -c 'record current, library current' <<<"$out") $(grep -c 'record current, object current' <<<"$out")"
 as_ci
 gate --all
 check 'write: and is what a check makes' '0 failed' "$(tail -n 1 <<<"$out" | sed 's/.*, //')"
-rm "$room/top/proved/high.library.tar.xz"
+noted() { grep commit "$room/top/proved/index.json"; }
+was=$(noted)
+rm "$room/top/proved/high.library.tar.xz" "$room/top/proved/cdc_app.object.tar.xz"
+git -C "$room/top" -c user.name=t -c user.email=t@t commit -qm y --allow-empty
 other
 call "$room/top/tools/records" --write
 check 'write: a library that is missing is written' '0 ' "$status $err"
 check 'write: it needs no proof' '' "$(grep proved <<<"$calls")"
+call "$room/top/tools/records"
+check 'write: what was missing is there' '0' "$(grep -c none <<<"$out")"
+check 'write: the commit that is noted stays' "$was" "$(noted)"
 check 'write: what is of no crate goes' '' "$(grep -l gone "$room/top/proved/index.json"; find "$room/top/proved" -name 'gone*')"
 echo '// more' >>"$room/top/crates/high/src/lib.rt"
 call "$room/top/tools/records" --write

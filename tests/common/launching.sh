@@ -70,7 +70,7 @@ try)
     ;;
 esac
 RT
-# What a check does at a crate stands in the file $DO/CRATE, as words of the shell.
+# What a check does at a crate stands in the file $DO/CRATE, and what linking does in $DO/link, as words of the shell.
 cat >"$room/kit/bin/rattle" <<'RATTLE'
 #!/usr/bin/env bash
 name='' to='' jobs='' record='' all=" $* " by='' what=$1
@@ -119,8 +119,9 @@ esac
 RATTLE
 cat >"$room/kit/bin/rattle-link" <<'LINK'
 #!/usr/bin/env bash
+if [ -f "$DO/link" ]; then . "$DO/link"; fi
 while [ "$1" != -o ]; do shift; done
-printf '#!/bin/sh\necho "run with $*"\n[ "$1" != fail ]\n' >"$2"
+printf '#!/bin/sh\n# of %s\necho "run with $*"\n[ "$1" != fail ]\n' "$(cat "$3")" >"$2"
 chmod +x "$2"
 LINK
 # Python as the launcher finds it, which writes down that it was asked.

@@ -1,4 +1,5 @@
-"""Makes the crates, in as many jobs as there is memory for: each from its library or its record in proved/, or by a proof."""
+"""Makes the crates, in as many jobs as there is memory for: each from its library or its record in proved/, or by a proof; or links
+the program alone, from its object code there."""
 import concurrent.futures
 import contextlib
 import functools
@@ -13,7 +14,7 @@ import time
 from . import Stop, say
 from .crates import Snapshot
 from .parts import Library, Parts
-from .proved import Proved, Stale, put_together, unpack_library, unpacked
+from .proved import Proved, Stale, as_built, put_together, unpack_library, unpack_object, unpacked
 
 # The memory that a job needs, in bytes, and the most jobs that a crate has if others are made at the same time.
 EACH, MOST = 3_000_000_000, 2
@@ -22,7 +23,7 @@ ANYWAY = 500_000
 # How much is printed of the line why a crate isn't proved.
 MOST_OF_A_REASON = 300
 # How a crate may be made, by what has to be trusted besides the toolchain: nothing, the author of its record, or the author of
-# its library.
+# its library or, for the program, its object code.
 PROOF, RECORD, LIBRARY = "proof", "record", "library"
 WAYS = (LIBRARY, RECORD, PROOF)
 # The compilers: Rattle's own is the quicker one, LLVM makes the quicker program.
@@ -47,8 +48,9 @@ class Build:
         self.proved = Proved(top)
         self.parts = Parts(toolchain, self.proved.folder, sorted({it for crate in crates for it in crate.of_toolchain}))
         self.sources = Snapshot(crates, f"{at}/sources")
-        # By crate: how it was made, and the way among it and those below that asks for the most trust; why its library or its record
-        # wasn't used; how much work depends on it.
+        self.program = crates[-1]
+        # By crate: how it was made, and the way among it and those below that asks for the most trust; by crate and what it has in
+        # proved/, why that wasn't used; by crate, how much work depends on it.
         self.made_by, self.how, self.refused, self.behind = {}, {}, {}, {}
         self.children, self.alone = set(), threading.Lock()
 
@@ -58,6 +60,9 @@ class Build:
     def library(self, crate):
         return f"{self.at}/{crate.name}" if crate.is_program else f"{self.at}/{crate.name}.rlib"
 
+    def object(self, program):
+        return f"{self.at}/{program.name}.o"
+
     def record(self, crate):
         return f"{self.at}/{crate.name}.record"
 
@@ -66,6 +71,11 @@ class Build:
 
     def log(self, crate):
         return f"{self.at}/{crate.name}.log"
+
+    def logged(self, crate):
+        """Returns the lines that the toolchain printed of a crate."""
+        with open(self.log(crate), encoding="utf-8", errors="replace") as it:
+            return it.read().split("\n")
 
     @functools.lru_cache(maxsize=None)
     def key(self, crate):
@@ -128,8 +138,10 @@ class Build:
         build = [self.toolchain.rattle, "build", *self.toolchain.arguments(crate, self.at), *arguments]
         if not crate.is_program:
             return [[*build, "-o", self.library(crate)]]
-        to = self.library(crate)
-        return [[*build, *self.toolchain.compiling(self.compiler), "-o", f"{to}.o"], self.toolchain.linking(f"{to}.o", to)]
+        return [[*build, *self.toolchain.compiling(self.compiler), "-o", self.object(crate)], self.linking(crate)]
+
+    def linking(self, program):
+        return self.toolchain.linking(self.object(program), self.library(program))
 
     @functools.lru_cache(maxsize=None)
     def parts_of(self, crate):
@@ -147,17 +159,21 @@ class Build:
         return record
 
     def from_library(self, crate):
-        """Puts the library together as it was built."""
-        text = self.proved.archive(crate, "library")
+        """Puts the library together as it was built, or links the program from its object code."""
+        text = self.proved.archive(crate, as_built(crate))
+        if crate.is_program:
+            unpack_object(text, f"{self.at}/object", self.object(crate))
+            if self.run(crate, self.linking(crate)):
+                raise Stale(f"it can't be linked: {reason_in(self.logged(crate))}")
+            return
         unpack_library(text, self.unpack_record(crate), self.library(crate), {"toolchain": f"{self.toolchain.at}/rlibs", "crate": self.at})
 
     def from_record(self, crate):
         """Has the toolchain make the crate from its sources and its proof record. The toolchain compares both."""
         record = self.unpack_record(crate)
         if self.run(crate, *self.commands(crate, ["--crate-checked", record])):
-            with open(self.log(crate), encoding="utf-8", errors="replace") as it:
-                lines = [line for line in it.read().split("\n") if line.startswith(("rattle", "error"))]
-            raise Stale(f"the toolchain refuses it: {(lines or ['it gives no reason'])[0][:300]}")
+            lines = [line for line in self.logged(crate) if line.startswith(("rattle", "error"))]
+            raise Stale(f"the toolchain refuses it: {(lines or ['it gives no reason'])[0][:MOST_OF_A_REASON]}")
 
     def prove(self, crate, jobs):
         """Proves the crate from scratch and makes it; returns the status. The library has statements alone, as if it were made from a
@@ -169,29 +185,50 @@ class Build:
         """Returns whether the crate may be made in this way. A record may also be used over crates that were proved here."""
         if trust(how) < trust(self.way) or not self.proved.serves(crate, "record", self.key(crate)):
             return False
-        return how == RECORD or (not crate.is_program and self.proved.serves(crate, "library", self.key(crate)))
+        # (the object code is by one of the compilers)
+        has_code = not crate.is_program or self.compiler == QUICK
+        return how == RECORD or (has_code and self.proved.serves(crate, as_built(crate), self.key(crate)))
 
     def take(self, crate, how, make):
-        """Makes the crate from its library or its record; returns whether that was possible."""
-        if not self.may_take(crate, how):
+        """Makes the crate from its library or its record; returns whether that was possible. What was refused isn't tried again."""
+        what = "object code" if how == LIBRARY and crate.is_program else how
+        if not self.may_take(crate, how) or (crate.name, what) in self.refused:
             return False
         try:
             make(crate)
             return True
         except Stale as why:
-            self.refused[crate.name] = how, str(why)
+            self.refused[crate.name, what] = str(why)
             return False
         finally:
             shutil.rmtree(self.record(crate), ignore_errors=True)
+
+    def forget(self, crate):
+        """Removes what was noted of the crate."""
+        for file in (self.log(crate), self.note(crate)):
+            with contextlib.suppress(FileNotFoundError):
+                os.remove(file)
+
+    def link_program(self):
+        """Links the program from its object code, which needs no crate below it; returns whether that was possible."""
+        begun = time.monotonic()
+        if not self.may_take(self.program, LIBRARY) or self.is_made(self.program):
+            return False
+        self.forget(self.program)
+        if not self.take(self.program, LIBRARY, self.from_library):
+            return False
+        for it in self.program.below:
+            self.made_by[it.name] = self.how[it.name] = LIBRARY
+        self.note_made(self.program, LIBRARY)
+        say(f"{self.program.name} linked from its object code in proved/, {time.monotonic() - begun:.0f} s")
+        return True
 
     def make(self, crate, jobs):
         """Makes a crate. Those below it are made already."""
         begun = time.monotonic()
         if self.is_made(crate):
             return
-        for file in (self.log(crate), self.note(crate)):
-            with contextlib.suppress(FileNotFoundError):
-                os.remove(file)
+        self.forget(crate)
         if self.take(crate, LIBRARY, self.from_library):
             how, done = LIBRARY, "unpacked as built"
         elif self.take(crate, RECORD, self.from_record):
@@ -213,10 +250,8 @@ class Build:
 
     def unproved(self, crate):
         """Returns why a crate isn't proved, in one line, and then the file that has all that the checker printed."""
-        log = self.log(crate)
-        with open(log, encoding="utf-8", errors="replace") as it:
-            why = reason_in(it.read().split("\n"))
-        return f"{crate.name} isn't proved: {why}\n{os.path.relpath(log)} has all that the checker printed"
+        why = reason_in(self.logged(crate))
+        return f"{crate.name} isn't proved: {why}\n{os.path.relpath(self.log(crate))} has all that the checker printed"
 
     def count(self, crate):
         return f"{self.crates.index(crate) + 1} of {len(self.crates)}"
@@ -247,11 +282,13 @@ class Build:
         return max(1, min(most, idle // ready))
 
     def all(self):
-        """Makes each crate as soon as those below it are made. Those on which the most work depends come first."""
+        """Makes the program: links it, or makes each crate as soon as those below it are made. Those on which the most work depends come
+        first."""
         self.measure()
         left, running, room = sorted(self.crates, key=lambda it: -self.behind[it.name]), {}, lanes()
         with concurrent.futures.ThreadPoolExecutor(room) as pool:
             try:
+                left = [] if self.link_program() else left
                 while left or running:
                     ready = [it for it in left if all(low.name in self.how for low in it.below)]
                     idle = room - sum(jobs for _, jobs in running.values())

@@ -89,7 +89,7 @@ class Program:
         for file in (self.built, self.stamps):
             with contextlib.suppress(FileNotFoundError):
                 os.remove(file)
-        shutil.copyfile(build.library(build.crates[-1]), f"{self.path}.new")
+        shutil.copyfile(build.library(build.program), f"{self.path}.new")
         os.chmod(f"{self.path}.new", 0o755)
         os.replace(f"{self.path}.new", self.path)
         note = {"program": sum_of(self.path), "sources": build.sources.whole(), "toolchain": build.toolchain.identity}
@@ -135,8 +135,8 @@ def report(build):
     proved = [it for it in build.crates if build.made_by[it.name] == PROOF]
     if proved:
         say(f"proved here: {' '.join(it.name for it in proved)}")
-    for name, (what, why) in build.refused.items():
+    for (name, what), why in build.refused.items():
         say(f"the {what} of {name} in proved/ was not taken: {why}")
-    stale = [it.name for it in proved if build.proved.has(it, RECORD) and it.name not in build.refused]
+    stale = [it.name for it in proved if build.proved.has(it, RECORD) and (it.name, RECORD) not in build.refused]
     if stale and build.way != PROOF:
         say(f"proved/ has the records of other sources, or of another toolchain, of: {' '.join(stale)}")

@@ -1,5 +1,6 @@
-"""What proved/ has of each crate: its proof record, and its library as built. A check of the crate wrote the record; from it and
-the sources the toolchain makes the library without a second proof. A library is used as it is."""
+"""What proved/ has of each crate: its proof record, and its library as built; of the program, its object code. A check of the crate
+wrote the record; from it and the sources the toolchain makes the library without a second proof. A library and the object code are
+used as they are."""
 import hashlib
 import io
 import json
@@ -22,7 +23,12 @@ SMALL = 2048
 
 
 class Stale(Exception):
-    """Why a record or a library doesn't serve here."""
+    """Why a record, a library or the program's object code doesn't serve here."""
+
+
+def as_built(crate):
+    """Returns what proved/ has of a crate as it was built."""
+    return "object" if crate.is_program else "library"
 
 
 class Proved:
@@ -62,13 +68,12 @@ class Proved:
         return text
 
     def write(self, crate, what, text, key, **said):
-        """Writes an archive, and its line of the list."""
+        """Writes an archive, and its line of the list. What else is said stays as it was noted with the first archive of these sources."""
         os.makedirs(self.folder, exist_ok=True)
         known = self.index.get(crate.name, {})
         if known.get("key") != key:
-            known = {}
-        known.update(key=key, **said, **{what: hashlib.sha256(text).hexdigest()})
-        self.index[crate.name] = known
+            known = {"key": key, **said}
+        self.index[crate.name] = {**known, what: hashlib.sha256(text).hexdigest()}
         self.replace(f"{crate.name}.{what}.tar.xz", text)
         self.write_index()
 
@@ -82,7 +87,7 @@ class Proved:
 
     def others(self, crates):
         """Returns the files of the folder, and the names in the list, that are of none of these crates."""
-        own = {"index.json", "derived.xz"} | {f"{it.name}.{what}.tar.xz" for it in crates for what in ("record", "library")}
+        own = {"index.json", "derived.xz"} | {f"{it.name}.{what}.tar.xz" for it in crates for what in ("record", as_built(it))}
         names = {it.name for it in crates}
         return [it for it in files_in(self.folder) if it not in own] + [it for it in sorted(self.index) if it not in names]
 
@@ -209,6 +214,20 @@ def sources_in(record):
         return {name: sum for which in ("file", "written") for what, name, sum in found if what == which}
     except (OSError, ValueError):
         raise Stale("it has no list of what was checked") from None
+
+
+# ---------------------------------------------------------------------------------------------------------------------
+# The program's object code.
+
+
+def unpack_object(text, room, to):
+    """Unpacks the program's object code into a file; `room` is a folder that is used for it."""
+    unpacked(text, room)
+    names = files_in(room)
+    if names != [os.path.basename(to)]:
+        raise Stale("it isn't laid out as an archive of object code")
+    os.replace(f"{room}/{names[0]}", to)
+    shutil.rmtree(room)
 
 
 # ---------------------------------------------------------------------------------------------------------------------
