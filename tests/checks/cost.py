@@ -37,7 +37,9 @@ FURTHER = (5_000, 7_500)  # for each transfer and each subscriber beyond the fir
 # Megabytes that `books` of a full script may hold at once: 14 and 15 were measured, of which the code of the program takes 2 and
 # 3; with each event kept to the end it was 27. What a system gives in larger pages adds some.
 PEAK = (16, 17)
-LINKED = 1.05  # what a transfer of a chain may cost, in single-phase transfers
+# What a transfer of a chain may cost, in single-phase transfers: what a chain keeps so that it can be undone takes 840 and 1,180
+# instructions for each transfer.
+LINKED = (1.05, 1.07)
 FAILED = 2.0  # what an item of a chain may cost that fails at its end, in single-phase transfers
 TIMES = 2.0  # what an item of two phases may cost, in single-phase transfers
 # Instructions that a poll may take more for each doubling of the log. What the heap takes (malloc and the moves of a realloc)
@@ -240,8 +242,8 @@ def chains(counter, table):
     single = (totals["single"] - totals["none"]) / count
     table.row(f"{count:,} transfers by themselves", round(single))
     for what, name, limit in (
-        ("in chains of 2", "two", LINKED),
-        ("in chains of 1,000", "thousand", LINKED),
+        ("in chains of 2", "two", LINKED[counter.compiler]),
+        ("in chains of 1,000", "thousand", LINKED[counter.compiler]),
         ("in chains of 1,000 that fail at their last item", "failing", FAILED),
     ):
         each = (totals[name] - totals["none"]) / count
