@@ -1,6 +1,7 @@
 """What the checks of one command share: runs of it, and the count of what passed."""
 import os
 import subprocess
+import tempfile
 
 import rooms
 
@@ -27,8 +28,12 @@ def check(name, is_right, found):
 
 
 def run(arguments, stream, env=None):
-    """Runs the command over these bytes: its status, standard output and standard error."""
-    done = subprocess.run([program, command, *arguments], input=stream, capture_output=True, env=env, timeout=SECONDS)
+    """Runs the command over these bytes: its status, standard output and standard error. They come from a file: the command saves
+    each time that no whole line is waiting, and through a pipe that depends on whether it or this process is faster."""
+    with tempfile.TemporaryFile() as file:
+        file.write(stream)
+        file.seek(0)
+        done = subprocess.run([program, command, *arguments], stdin=file, capture_output=True, env=env, timeout=SECONDS)
     return done.returncode, done.stdout.decode(), done.stderr.decode(errors="replace")
 
 
