@@ -21,8 +21,9 @@ HEAD = """\
 # CONTRIBUTING.md, "The mutation baseline", has what the digests are of.
 """
 REFUSED = "refused"
-# One in so many groups is tried again for each commit.
-SHARE = 8
+# One in so many groups is tried again for each commit: all of a crate at once, since what they call is then proved only once; of a
+# crate that takes more than so many seconds of CPU time, all of a part that takes less.
+SHARE, TOGETHER = 8, 1200
 PARTS, EDITS = ("src", "specs", "proofs"), "must-fail"
 
 # What a crate's answers rest on: its own files, what stands below it, and by what it was tried.
@@ -155,9 +156,10 @@ def commit_of(root, given=""):
     return datetime.date.today().isoformat()
 
 
-def is_chosen(commit, crate, group):
+def is_chosen(commit, entry, group):
     """Returns whether this commit has this group of a crate tried again."""
-    return int(hashlib.sha256(f"{commit} {crate} {group}".encode()).hexdigest(), 16) % SHARE == 0
+    part = group % (entry.seconds // TOGETHER + 1)
+    return int(hashlib.sha256(f"{commit} {entry.name} {part}".encode()).hexdigest(), 16) % SHARE == 0
 
 
 def stale_for(entry, digests, edits):
@@ -177,7 +179,7 @@ def plan(crate, edits, entry, digests, commit, is_named=False):
         report = f"the baseline is stale ({stale}), so all are tried" if stale else "all are tried, as was asked"
         report = report if entry else "no baseline, so all are tried"
         return Plan(crate, entry, digests, count + report, True, bool(stale), [])
-    names = sorted(edit for edit, (_, group) in entry.answers.items() if is_chosen(commit, crate.name, group))
+    names = sorted(edit for edit, (_, group) in entry.answers.items() if is_chosen(commit, entry, group))
     report = f"the answers of the baseline are taken, {len(names)} tried again"
     return Plan(crate, entry, digests, count + report, False, False, names)
 

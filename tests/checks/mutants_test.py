@@ -130,12 +130,17 @@ def python(tree, arguments):
     return subprocess.run([sys.executable, "-c", arguments], **how).stdout
 
 
+def commit_where(holds):
+    """Returns a commit that chooses so."""
+    found = next((it for it in map(str, range(2000)) if holds(it)), None)
+    assert found is not None, "none of 2,000 commits chooses so"
+    return found
+
+
 def quiet(tree, name="low"):
-    """Returns a commit that has no group tried again, and one that has group 1 of a crate tried and no other."""
-    groups = [(it, group) for it, entry in tree.recorded().items() for group in {at for _, at in entry.answers.values()}]
-    chosen = lambda commit: [it for it in groups if baseline.is_chosen(commit, *it)]
-    commits = [str(at) for at in range(2000)]
-    return next(it for it in commits if not chosen(it)), next(it for it in commits if chosen(it) == [(name, 1)])
+    """Returns a commit that has nothing tried again, and one that has a crate tried and no other."""
+    chosen = lambda commit: [it.name for it in tree.recorded().values() if baseline.is_chosen(commit, it, 1)]
+    return commit_where(lambda it: not chosen(it)), commit_where(lambda it: chosen(it) == [name])
 
 
 def wants(ran, status, last, tried, *texts):
@@ -154,19 +159,25 @@ def test_no_record(tree):
 
 
 def test_taken(tree):
-    """Where all digests agree, the answers are taken, and those of the groups that the commit chooses are tried."""
+    """Where all digests agree, the answers are taken, and those of the crates that the commit chooses are tried; of a crate that
+    takes long, those of a part."""
     wants(tree.run("--write"), 0, "9 passed, 0 failed", 9)
     none, one = quiet(tree)
     report = "low: 5 mutants: the answers of the baseline are taken, 0 tried again"
     wants(tree.run("--proved", "--commit", none), 0, "9 passed, 0 failed", 0, report, "9 answers are taken from the baseline, 0 more")
-    wants(tree.run("--proved", "--commit", one), 0, "9 passed, 0 failed", 2, "are taken, 2 tried again", "7 answers are taken")
+    wants(tree.run("--proved", "--commit", one), 0, "9 passed, 0 failed", 5, "are taken, 5 tried again", "4 answers are taken")
     wants(tree.run("--all"), 0, "9 passed, 0 failed", 9)
     wants(tree.run("--kept"), 0, "9 passed, 0 failed", 9)
+    text = re.sub(r"(crate low .*)seconds=\d+", rf"\1seconds={2 * baseline.TOGETHER}", open(f"{tree.folder}/{baseline.FILE}").read())
+    tree.put(baseline.FILE, text)
+    chosen = lambda commit: [(it.name, at) for it in tree.recorded().values() for at in (1, 2, 3) if baseline.is_chosen(commit, it, at)]
+    part = commit_where(lambda it: chosen(it) == [("low", 2)])
+    wants(tree.run("--proved", "--commit", part), 0, "9 passed, 0 failed", 2, "are taken, 2 tried again", "7 answers are taken")
     wants(tree.run("--proved", "other"), 0, "1 passed, 0 failed", 0 if not chosen_today(tree, "other") else 1)
 
 
 def chosen_today(tree, name):
-    return any(baseline.is_chosen(baseline.commit_of(tree.folder), name, group) for group in (1,))
+    return baseline.is_chosen(baseline.commit_of(tree.folder), tree.recorded()[name], 1)
 
 
 def test_other_answer(tree):
@@ -174,7 +185,7 @@ def test_other_answer(tree):
     tree.run("--write")
     _, one = quiet(tree)
     other = "NOT REFUSED; that is not the answer of the baseline"
-    wants(tree.run("--proved", "--commit", one, WRONG="edit-1.edit"), 1, "8 passed, 1 failed", 2, other)
+    wants(tree.run("--proved", "--commit", one, WRONG="edit-1.edit"), 1, "8 passed, 1 failed", 5, other)
 
 
 def stales(tree, change, tried, *texts, **environment):
@@ -394,14 +405,30 @@ def test_aliases(tree):
     assert text == "".join(f"{it}\n" for it in [*heads.values(), "{'End'}"]), text
 
 
+def entry_of(name, seconds):
+    return baseline.Entry(name, None, seconds, 0, {})
+
+
 def test_choice(tree):
-    """The choice of an eighth is the same each time, near an eighth, and each group comes up over 64 commits."""
+    """The choice of an eighth is the same each time, near an eighth, and each crate comes up over 64 commits, whole."""
     commits = [f"{at:040x}" for at in range(64)]
-    groups = [(name, group) for name in CRATES for group in range(1, 6)]
-    chosen = [(it, *group) for it in commits for group in groups if baseline.is_chosen(it, *group)]
-    assert {it[1:] for it in chosen} == {*groups}
-    assert 0.09 < len(chosen) / (len(commits) * len(groups)) < 0.16, len(chosen)
-    assert chosen == [(it, *group) for it in commits for group in groups if baseline.is_chosen(it, *group)]
+    crates = [entry_of(f"crate-{at}", 1000) for at in range(15)]
+    chosen = [(it, crate.name) for it in commits for crate in crates if baseline.is_chosen(it, crate, 1)]
+    assert {name for _, name in chosen} == {it.name for it in crates}
+    assert 0.09 < len(chosen) / (len(commits) * len(crates)) < 0.16, len(chosen)
+    for group in range(1, 9):
+        assert chosen == [(it, crate.name) for it in commits for crate in crates if baseline.is_chosen(it, crate, group)]
+
+
+def test_choice_of_parts(tree):
+    """Of a crate that takes three times as long as a part may, every third group is chosen at once, each part near an eighth."""
+    long, counts = entry_of("long", 3 * baseline.TOGETHER - 1), [0, 0, 0]
+    for commit in map(str, range(512)):
+        groups = [it for it in range(12) if baseline.is_chosen(commit, long, it)]
+        parts = {it % 3 for it in groups}
+        assert groups == [it for it in range(12) if it % 3 in parts], groups
+        counts = [count + (part in parts) for part, count in enumerate(counts)]
+    assert all(0.09 < it / 512 < 0.16 for it in counts), counts
 
 
 def test_commit(tree):
