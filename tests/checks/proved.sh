@@ -266,6 +266,19 @@ has 'check: a library' '^records: the library of low as it is packed is what `rt
 has 'check: the program' '^records: cdc_app as its object code is linked is what `rt ci` has built$' "$out"
 has 'check: a record from scratch' '^records: the record of high from scratch is the one in proved/$' "$out"
 has 'check: one that is spoilt is refused' '^records: with a byte of its verdict changed, the record of low is refused$' "$out"
+cat >"$DO/low" <<'LOW'
+if [ "$what" = check ]; then
+    for _ in $(seq 1200); do if grep -q '^cdc_app: record' "$CALLS"; then break; else sleep 0.05; fi; done
+    echo "low: proved after $(tail -n 1 "$CALLS")" >>"$CALLS"
+fi
+LOW
+RT_JOBS=2 gate --all
+has 'check: nothing waits for a record from scratch' '^low: proved after cdc_app: record, by rattle$' "$calls"
+check 'check: then all of it, too' '15 passed, 0 failed' "$(tail -n 1 <<<"$out")"
+echo 'if [ "$what" = check ]; then exit 1; fi' >"$DO/low"
+RT_JOBS=1 gate --all
+check 'check: a proof that fails' "1 records: low isn't proved: the checker printed nothing" "$status $(head -n 1 <<<"$err")"
+rm "$DO/low"
 gate --commit 1
 check 'check: an eighth from scratch' 1 "$(($(grep -c 'from scratch' <<<"$out") < 3))"
 echo different >"$DO/records/high/notes"
