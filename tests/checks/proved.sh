@@ -268,7 +268,7 @@ has 'check: a record from scratch' '^records: the record of high from scratch is
 has 'check: one that is spoilt is refused' '^records: with a byte of its verdict changed, the record of low is refused$' "$out"
 cat >"$DO/low" <<'LOW'
 if [ "$what" = check ]; then
-    for _ in $(seq 1200); do if grep -q '^cdc_app: record' "$CALLS"; then break; else sleep 0.05; fi; done
+    for _ in $(seq 2400); do if grep -q '^cdc_app: record' "$CALLS"; then break; else sleep 0.05; fi; done
     echo "low: proved after $(tail -n 1 "$CALLS")" >>"$CALLS"
 fi
 LOW
