@@ -7,6 +7,7 @@ NAME=launcher
 start books x
 check 'the first call builds each crate below the program in its order' "$built" "$calls"
 check 'the first call then runs the program' 'run with books x' "$out"
+has 'it prints what there is to do' '^relayplum: building the program first: 3 of 3 crates have to be proved, which takes minutes to an hour$' "$err"
 has 'it prints what it waits for' '^relayplum: proving low, 1 of 3$' "$err"
 has 'it prints what is proved' '^relayplum: high proved, 2 of 3, [0-9]* s$' "$err"
 has 'it prints that of the program too' '^relayplum: cdc_app proved, 3 of 3, [0-9]* s$' "$err"

@@ -83,6 +83,7 @@ from_scratch
 call ./link books x
 check 'records: what has one is built from it, and the rest is proved' \
     "$(printf '%s\n' 'low: record' "low: $whole" 'high: record' "high: $whole" 'cdc_app: proved, jobs 1, by rattle')" "$calls"
+has 'records: how many are to be proved' '^relayplum: building the program first: 1 of 3 crates have to be proved, which takes minutes to an hour$' "$err"
 has 'records: it is said' '^relayplum: 2 of 3 crates taken from the proof records in proved/, of a1b2c3; ./relayplum --prove proves them here$' "$err"
 has 'records: what was proved is said' '^relayplum: proved here: cdc_app$' "$err"
 check 'records: nothing of the toolchain is kept in one' '' "$(tar -xOf "$room/top/proved/low.record.tar.xz" toolchain/checked.own | grep -v own)"
@@ -93,6 +94,7 @@ write cdc_app
 from_scratch
 call ./link books x
 check 'records: the program is built from them' 'cdc_app: record, by rattle' "$(tail -n 1 <<<"$calls")"
+has 'records: it is said before' '^relayplum: building the program first: its crates come from their proof records in proved/, which takes minutes$' "$err"
 has 'records: that of all is said' '^relayplum: all crates taken from the proof records in proved/, of a1b2c3' "$err"
 check 'records: the program runs' 'run with books x' "$out"
 call ./link --version
@@ -103,6 +105,7 @@ write high library
 from_scratch
 call ./link books x
 check 'libraries: they are unpacked, and the program alone is built' 'cdc_app: record, by rattle' "$calls"
+has 'libraries: it is said before' '^relayplum: building the program first: its crates come from their libraries in proved/, which takes minutes$' "$err"
 has 'libraries: it is said' '^relayplum: all crates taken from the libraries in proved/, of a1b2c3; ./relayplum --prove' "$err"
 check 'libraries: one is put together' "$(printf 'own\none\ntwo\nline 1\nmine\nline 3')" \
     "$(cat "$room/top/crates/cdc_app/out/start/low.rlib/toolchain/checked.a")"
@@ -117,12 +120,14 @@ write cdc_app object
 from_scratch
 call ./link books x
 check 'object code: the program is linked, and nothing is built' '' "$calls"
-has 'object code: it is said' '^relayplum: cdc_app linked from its object code in proved/, [0-9]* s$' "$err"
-has 'object code: what was taken is said' '^relayplum: all crates taken from the libraries in proved/, of a1b2c3; ./relayplum --prove' "$err"
+has 'object code: it is said before' '^relayplum: linking the program first from its object code in proved/, which takes seconds$' "$err"
+has 'object code: it is said' '^relayplum: cdc_app linked, [0-9]* s$' "$err"
+has 'object code: what was taken is said' '^relayplum: all crates taken from the object code in proved/, of a1b2c3; ./relayplum --prove' "$err"
+lacks 'object code: nothing is proved, and so nothing is said of it' 'have to be proved' "$err"
 check 'object code: the program runs' 'run with books x' "$out"
 check 'object code: no library is unpacked' '' "$(find "$room/top/crates/cdc_app/out/start" -name '*.rlib')"
 call ./link --version
-has '--version: linked from object code' '^built from the libraries in proved/ of a1b2c3, with kit-1, by Rattle.s own compiler$' "$out"
+has '--version: linked from object code' '^built from the object code in proved/ of a1b2c3, with kit-1, by Rattle.s own compiler$' "$out"
 call ./link books x
 check 'object code: nothing is built a second time' '' "$calls$err"
 call ./link --optimised books x
@@ -155,7 +160,7 @@ call ./link --from-records --optimised books x
 check '--from-records --optimised' 'cdc_app: record, by llvm' "$(tail -n 1 <<<"$calls")"
 echo '// other' >>"$room/top/crates/high/src/lib.rt"
 call ./link books x
-lacks 'object code: of other sources it is not taken' linked "$err"
+lacks 'object code: of other sources it is not taken' link "$err"
 check 'records: a crate of other sources is proved, and what stands on it' "$upwards" "$calls"
 has 'records: it names those that are not taken' '^relayplum: proved/ has the records of other sources, or of another toolchain, of: high cdc_app$' "$err"
 write high library
@@ -236,6 +241,7 @@ as_ci() { # builds all from the records, and puts it where `rt ci` does
         cp -r "$room/top/crates/cdc_app/out/start/$crate.rlib" "$room/top/crates/$crate/out/rlib/"
     done
     cp "$room/top/crates/cdc_app/out/start/cdc_app" "$program.by-rattle"
+    cp "$room/top/crates/cdc_app/out/start/cdc_app.o" "$program.by-rattle.o"
 }
 gate() {
     call "$room/top/tools/records" --check "$@"
@@ -253,7 +259,8 @@ write_all() { # writes all that proved/ has, of what stands here
     as_ci
 }
 gate
-check 'check: where there is nothing, there is nothing to compare' '2 passed, 0 failed' "$(tail -n 1 <<<"$out")"
+check 'check: where there is nothing, only object code has to be there' '2 passed, 1 failed' "$(tail -n 1 <<<"$out")"
+fails 'check: no object code' 'the object code in proved/ is of these sources: tools/records --object writes it$'
 write_all
 call "$room/top/tools/records"
 check 'records are listed' 'low: record current, library current
@@ -300,6 +307,14 @@ gate
 fails 'check: object code that is another' 'cdc_app as its object code is linked is what `rt ci` has built'
 lacks 'check: then the record is not blamed' 'FAILED: not cdc_app as its record' "$out"
 write_all
+echo '# not linked' >>"$program.by-rattle.o"
+gate
+fails 'check: object code that another is linked from the same' 'cdc_app as its object code is linked is what `rt ci` has built'
+write_all
+rm "$program.by-rattle.o"
+gate
+check 'check: a program that `rt ci` takes from an earlier run has no object code beside it' 0 "$status"
+write_all
 write high open
 echo 'kit-9 logic l1' >"$room/kit/KIT-ID"
 gate
@@ -312,7 +327,8 @@ fails 'check: a record that was changed' 'the record of low, which is of what st
 write_all
 echo '// more' >>"$room/top/crates/high/src/lib.rt"
 gate
-check 'check: a stale record fails nothing' 0 "$status"
+fails 'check: stale object code' 'the object code in proved/ is of these sources: tools/records --object writes it$'
+check 'check: a stale record fails nothing' ', 1 failed' "$(tail -n 1 <<<"$out" | grep -o ', .*')"
 has 'check: it is named' '^records: that of high is stale: it is of other sources' "$out"
 write_all
 write low copy
@@ -364,5 +380,104 @@ check 'write: what is of no crate goes' '' "$(grep -l gone "$room/top/proved/ind
 echo '// more' >>"$room/top/crates/high/src/lib.rt"
 call "$room/top/tools/records" --write
 check 'write: of what is committed alone' '1 records: the crates have changes that are not committed' "$status $err"
+
+# The object code alone: of what was just built, while records and libraries stay as they are.
+object() { call "$room/top/tools/records" --object; }
+commit() {
+    git -C "$room/top" add crates crates.txt proved relayplum tools >/dev/null 2>&1
+    git -C "$room/top" -c user.name=t -c user.email=t@t commit -qm "$1"
+}
+nothing="1 records: crates/cdc_app/out has no object code of these sources by Rattle's compiler: run \`rt ci\` first; if that takes the program\
+ from an earlier run, \`./relayplum books FILE\`"
+object
+check 'object: of what is committed alone' '1 records: the crates have changes that are not committed' "$status $err"
+commit z
+object
+check 'object: not of what was built of other sources' "$nothing" "$status $err"
+from_scratch
+object
+check 'object: where nothing is built' "$nothing" "$status $err"
+as_ci
+rm -r "$room/top/crates/cdc_app/out/start"
+others() { cat "$room/top/proved"/*.record.* "$room/top/proved"/*.library.* "$room/top/proved/derived.xz" | sha256sum; }
+was=$(others)
+object
+check 'object: status' '0 ' "$status $err"
+check 'object: it needs no proof' '' "$calls"
+has 'object: what is written' '^records: cdc_app.object.tar.xz [0-9]* bytes, from crates/cdc_app/out/cdc_app.by-rattle.o$' "$out"
+check 'object: no record and no library is written' "$was" "$(others)"
+call "$room/top/tools/records"
+check 'object: what fits is listed' 'low: record current, library current
+high: record stale, library stale
+cdc_app: record stale, object current' "$out"
+gate
+check 'object: a check finds it, though the record is stale' '0 failed' "$(tail -n 1 <<<"$out" | sed 's/.*, //')"
+has 'object: it is compared' '^records: cdc_app as its object code is linked is what `rt ci` has built$' "$out"
+commit 'with object code'
+sources=$(git -C "$room/top" rev-parse --short=10 HEAD~)
+git clone -q "$room/top" "$room/clone"
+call "$room/clone/relayplum" books x
+check 'object: a start in a clone of the commit links it' '0 run with books x ' "$status $out $calls"
+has 'object: the commit of the sources is said' "^relayplum: all crates taken from the object code in proved/, of $sources;" "$err"
+call "$room/clone/relayplum" --from-records books x
+check 'object: --from-records takes the records that fit' "$(printf '%s\n' 'low: record' "$upwards")" "$(grep -v has <<<"$calls")"
+as_ci
+echo other >"$program.by-rattle.o"
+object
+check 'object: not one that the program was not linked from' \
+    "1 records: crates/cdc_app/out/cdc_app.by-rattle.o isn't what the program beside it was linked from" "$status $err"
+rm "$program.by-rattle.o"
+object
+has 'object: or what a start has compiled' '^records: cdc_app.object.tar.xz [0-9]* bytes, from crates/cdc_app/out/start/cdc_app.o$' "$out"
+./link --from-records --optimised books x >/dev/null 2>&1
+object
+check 'object: but by LLVM' "$nothing" "$status $err"
+from_scratch
+./link books x >/dev/null 2>&1
+object
+check 'object: nor of what it has linked itself' "$nothing" "$status $err"
+as_ci
+rm -r "$room/top/crates/cdc_app/out/start" "$room/top/crates/low/specs/Low.antt"
+commit gone
+object
+check 'object: nor of what was built with a file that is gone' "$nothing" "$status $err"
+echo '-- a definition' >"$room/top/crates/low/specs/Low.antt"
+commit back
+mkdir -p "$room/top/crates/high_tests/src"
+echo '// tests' >"$room/top/crates/high_tests/src/lib.rt"
+echo 'high_tests: high' >>"$room/top/crates.txt"
+commit tests
+as_ci
+call "$room/top/tools/records" --fits
+check 'fits: tests alone have changed' '0 ' "$status $out$err$calls"
+gate
+check 'object: a change of tests alone leaves it as it is' '0 failed' "$(tail -n 1 <<<"$out" | sed 's/.*, //')"
+from_scratch
+call ./link books x
+has 'object: and a start links it' '^relayplum: cdc_app linked, ' "$err"
+echo '// other' >>"$room/top/crates/low/src/lib.rt"
+as_ci
+call "$room/top/tools/records" --fits
+check 'fits: a crate has changed' "1 records: the object code in proved/ isn't of these sources: tools/records --object writes it" "$status $err"
+gate
+fails 'object: a change of a crate makes it stale' 'the object code in proved/ is of these sources: tools/records --object writes it$'
+
+# Release 1.1.0 has the object code in the line of the record.
+git -C "$room/top" checkout -q crates
+python3 - "$room/top/proved/index.json" <<'OLD'
+import json, sys
+with open(sys.argv[1]) as it:
+    index = json.load(it)
+index["cdc_app"] = {**index["cdc_app"], **index.pop("cdc_app.object")}
+with open(sys.argv[1], "w") as it:
+    json.dump(index, it)
+OLD
+from_scratch
+call ./link books x
+has 'object: one that release 1.1.0 wrote is linked' '^relayplum: cdc_app linked, ' "$err"
+as_ci
+object
+check 'object: then it has a line of its own' '1 ["commit", "identity", "key", "kit", "object"] ["commit", "identity", "key", "kit", "record"]' \
+    "$(python3 -c 'import json, sys; it = json.load(open(sys.argv[1])); print(int("cdc_app.object" in it), *(json.dumps(sorted(it.get(name, {}))) for name in ("cdc_app.object", "cdc_app")))' "$room/top/proved/index.json")"
 
 ended

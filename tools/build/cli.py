@@ -4,8 +4,9 @@ import signal
 import sys
 
 from . import Stop, answers, install, say, unproved
-from .jobs import LIBRARY, OPTIMISING, PROOF, QUICK, RECORD
+from .jobs import OPTIMISING, PROOF, QUICK
 from .program import Program
+from .proved import OBJECT, RECORD
 
 FLAGS = {"--from-records": RECORD, "--prove": PROOF}
 
@@ -33,7 +34,7 @@ def flags_of(arguments):
         arguments = arguments[1:]
     if is_unproved and (way or compiler == OPTIMISING or to):
         raise Stop("--unproved builds nothing: it goes with no other flag before the command", answers.USAGE)
-    return way or LIBRARY, compiler, is_unproved, to, arguments
+    return way or OBJECT, compiler, is_unproved, to, arguments
 
 
 def run(top, arguments):

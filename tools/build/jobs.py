@@ -14,7 +14,7 @@ import time
 from . import Stop, say
 from .crates import Snapshot
 from .parts import Library, Parts
-from .proved import Proved, Stale, as_built, put_together, unpack_library, unpack_object, unpacked
+from .proved import LIBRARY, OBJECT, RECORD, Proved, Stale, put_together, unpack_library, unpack_object, unpacked
 
 # The memory that a job needs, in bytes, and the most jobs that a crate has if others are made at the same time.
 EACH, MOST = 3_000_000_000, 2
@@ -22,10 +22,12 @@ EACH, MOST = 3_000_000_000, 2
 ANYWAY = 500_000
 # How much is printed of the line why a crate isn't proved.
 MOST_OF_A_REASON = 300
-# How a crate may be made, by what has to be trusted besides the toolchain: nothing, the author of its record, or the author of
-# its library or, for the program, its object code.
-PROOF, RECORD, LIBRARY = "proof", "record", "library"
-WAYS = (LIBRARY, RECORD, PROOF)
+# How a crate may be made, by what has to be trusted besides the toolchain: the author of the program's object code, of the crate's
+# library, of its record, or nobody. All but a proof are named after what proved/ has.
+PROOF = "proof"
+WAYS = (OBJECT, LIBRARY, RECORD, PROOF)
+# What has to be there for each: a library is put together from its record too.
+NEEDS = {OBJECT: (OBJECT,), LIBRARY: (LIBRARY, RECORD), RECORD: (RECORD,)}
 # The compilers: Rattle's own is the quicker one, LLVM makes the quicker program.
 QUICK, OPTIMISING = "rattle", "llvm"
 
@@ -43,16 +45,17 @@ class Build:
     """A build of the program in a folder of its own, `at`, which gets the library of each crate, and a note of what it was made from.
     Nothing is made in a way that asks for more trust than `way`."""
 
-    def __init__(self, top, crates, toolchain, at, way=LIBRARY, compiler=QUICK):
+    def __init__(self, top, crates, toolchain, at, way=OBJECT, compiler=QUICK):
         self.top, self.crates, self.toolchain, self.at, self.way, self.compiler = top, crates, toolchain, at, way, compiler
         self.proved = Proved(top)
         self.parts = Parts(toolchain, self.proved.folder, sorted({it for crate in crates for it in crate.of_toolchain}))
         self.sources = Snapshot(crates, f"{at}/sources")
         self.program = crates[-1]
-        # By crate: how it was made, and the way among it and those below that asks for the most trust; by crate and what it has in
-        # proved/, why that wasn't used; by crate, how much work depends on it.
+        # By crate: how it was made, and the way among it and those below that asks for the most trust; by crate and way, why it wasn't
+        # made in that way; by crate, how much work depends on it.
         self.made_by, self.how, self.refused, self.behind = {}, {}, {}, {}
         self.children, self.alone = set(), threading.Lock()
+        self.measure()
 
     # -----------------------------------------------------------------------------------------------------------------
     # Where things are, and what is there already.
@@ -85,16 +88,22 @@ class Build:
         """Returns the way that asks for the most trust, of a crate made in this way and of all below it."""
         return min([how, *(self.how[it.name] for it in crate.below)], key=trust)
 
-    def is_made(self, crate):
-        """Returns whether the crate's library was made already, from these sources, in a way that is asked for."""
+    def made(self, crate):
+        """Returns what was noted when the crate's library was made, from these sources, in a way that is asked for; or None."""
         with contextlib.suppress(OSError, ValueError, KeyError):
             with open(self.note(crate), encoding="utf-8") as it:
                 note = json.load(it)
             is_whole = os.path.exists(self.library(crate)) and (not crate.is_program or note["compiler"] == self.compiler)
             if is_whole and note["key"] == self.key(crate) and trust(note["how"]) >= trust(self.way):
-                self.made_by[crate.name], self.how[crate.name] = note["made_by"], note["how"]
-                return True
-        return False
+                return note
+        return None
+
+    def is_made(self, crate):
+        """Returns whether the crate's library was made already; then it is taken."""
+        note = self.made(crate)
+        if note:
+            self.made_by[crate.name], self.how[crate.name] = note["made_by"], note["how"]
+        return bool(note)
 
     def note_made(self, crate, made_by):
         """Notes how a crate was made."""
@@ -154,18 +163,19 @@ class Build:
 
     def unpack_record(self, crate):
         record = self.record(crate)
-        unpacked(self.proved.archive(crate, "record"), record)
+        unpacked(self.proved.archive(crate, RECORD), record)
         put_together(record, self.parts, self.libraries_below(crate))
         return record
 
+    def from_object(self, program):
+        """Links the program from its object code."""
+        unpack_object(self.proved.archive(program, OBJECT), f"{self.at}/object", self.object(program))
+        if self.run(program, self.linking(program)):
+            raise Stale(f"it can't be linked: {reason_in(self.logged(program))}")
+
     def from_library(self, crate):
-        """Puts the library together as it was built, or links the program from its object code."""
-        text = self.proved.archive(crate, as_built(crate))
-        if crate.is_program:
-            unpack_object(text, f"{self.at}/object", self.object(crate))
-            if self.run(crate, self.linking(crate)):
-                raise Stale(f"it can't be linked: {reason_in(self.logged(crate))}")
-            return
+        """Puts the library together as it was built."""
+        text = self.proved.archive(crate, LIBRARY)
         unpack_library(text, self.unpack_record(crate), self.library(crate), {"toolchain": f"{self.toolchain.at}/rlibs", "crate": self.at})
 
     def from_record(self, crate):
@@ -183,22 +193,20 @@ class Build:
 
     def may_take(self, crate, how):
         """Returns whether the crate may be made in this way. A record may also be used over crates that were proved here."""
-        if trust(how) < trust(self.way) or not self.proved.serves(crate, "record", self.key(crate)):
-            return False
         # (the object code is by one of the compilers)
-        has_code = not crate.is_program or self.compiler == QUICK
-        return how == RECORD or (has_code and self.proved.serves(crate, as_built(crate), self.key(crate)))
+        if trust(how) < trust(self.way) or (how == OBJECT and self.compiler != QUICK):
+            return False
+        return all(self.proved.serves(crate, it, self.key(crate)) for it in NEEDS[how])
 
     def take(self, crate, how, make):
-        """Makes the crate from its library or its record; returns whether that was possible. What was refused isn't tried again."""
-        what = "object code" if how == LIBRARY and crate.is_program else how
-        if not self.may_take(crate, how) or (crate.name, what) in self.refused:
+        """Makes the crate from what proved/ has; returns whether that was possible. What was refused isn't tried again."""
+        if not self.may_take(crate, how) or (crate.name, how) in self.refused:
             return False
         try:
             make(crate)
             return True
         except Stale as why:
-            self.refused[crate.name, what] = str(why)
+            self.refused[crate.name, how] = str(why)
             return False
         finally:
             shutil.rmtree(self.record(crate), ignore_errors=True)
@@ -210,18 +218,29 @@ class Build:
                 os.remove(file)
 
     def link_program(self):
-        """Links the program from its object code, which needs no crate below it; returns whether that was possible."""
+        """Links the program from its object code, which needs no crate below it; returns whether that was possible. One that was made in
+        a better way already stays."""
         begun = time.monotonic()
-        if not self.may_take(self.program, LIBRARY) or self.is_made(self.program):
+        made = self.made(self.program)
+        if not self.may_take(self.program, OBJECT) or (made and made["how"] != OBJECT):
             return False
+        say("linking the program first from its object code in proved/, which takes seconds")
         self.forget(self.program)
-        if not self.take(self.program, LIBRARY, self.from_library):
+        if not self.take(self.program, OBJECT, self.from_object):
             return False
-        for it in self.program.below:
-            self.made_by[it.name] = self.how[it.name] = LIBRARY
-        self.note_made(self.program, LIBRARY)
-        say(f"{self.program.name} linked from its object code in proved/, {time.monotonic() - begun:.0f} s")
+        self.how.update((it.name, OBJECT) for it in self.program.below)
+        self.note_made(self.program, OBJECT)
+        say(f"{self.program.name} linked, {time.monotonic() - begun:.0f} s")
         return True
+
+    def plan(self):
+        """Returns what there is to do if the program isn't linked, and about how long it takes."""
+        left = [it for it in self.crates if not self.made(it)]
+        proofs = [it for it in left if not any(self.may_take(it, how) for how in (LIBRARY, RECORD))]
+        if proofs:
+            return f"{len(proofs)} of {len(self.crates)} crates have to be proved, which takes minutes to an hour"
+        which = "their libraries" if all(self.may_take(it, LIBRARY) for it in left if not it.is_program) else "their proof records"
+        return f"its crates come from {which} in proved/, which takes minutes" if left else "its crates are made already"
 
     def make(self, crate, jobs):
         """Makes a crate. Those below it are made already."""
@@ -247,6 +266,10 @@ class Build:
         file = self.sources.moved(crate)
         if file:
             raise Stop(f"{file} changed while the program was built: start it again")
+
+    def stop_if_any_moved(self):
+        for crate in self.crates:
+            self.stop_if_moved(crate)
 
     def unproved(self, crate):
         """Returns why a crate isn't proved, in one line, and then the file that has all that the checker printed."""
@@ -281,32 +304,43 @@ class Build:
         most = room if all(crate in it.below for it in left) and not running else MOST
         return max(1, min(most, idle // ready))
 
+    @contextlib.contextmanager
+    def ending(self):
+        """Ends what was started if anything fails."""
+        try:
+            yield
+        except BaseException:
+            self.end()
+            raise
+
+    def start(self):
+        """Makes the program, and prints what there is to wait for: links it, or makes all crates."""
+        with self.ending():
+            is_linked = self.link_program()
+        if is_linked:
+            self.stop_if_any_moved()
+        else:
+            say(f"building the program first: {self.plan()}")
+            self.all()
+
     def all(self):
-        """Makes the program: links it, or makes each crate as soon as those below it are made. Those on which the most work depends come
-        first."""
-        self.measure()
+        """Makes each crate as soon as those below it are made. Those on which the most work depends come first."""
         left, running, room = sorted(self.crates, key=lambda it: -self.behind[it.name]), {}, lanes()
-        with concurrent.futures.ThreadPoolExecutor(room) as pool:
-            try:
-                left = [] if self.link_program() else left
-                while left or running:
-                    ready = [it for it in left if all(low.name in self.how for low in it.below)]
-                    idle = room - sum(jobs for _, jobs in running.values())
-                    for at, crate in enumerate(ready):
-                        if idle <= 0:
-                            break
-                        left.remove(crate)
-                        jobs = self.jobs_for(crate, idle, len(ready) - at, left, running, room)
-                        idle -= jobs
-                        running[pool.submit(self.make, crate, jobs)] = crate, jobs
-                    for it in concurrent.futures.wait(running, return_when=concurrent.futures.FIRST_COMPLETED).done:
-                        del running[it]
-                        it.result()
-            except BaseException:
-                self.end()
-                raise
-        for crate in self.crates:
-            self.stop_if_moved(crate)
+        with concurrent.futures.ThreadPoolExecutor(room) as pool, self.ending():
+            while left or running:
+                ready = [it for it in left if all(low.name in self.how for low in it.below)]
+                idle = room - sum(jobs for _, jobs in running.values())
+                for at, crate in enumerate(ready):
+                    if idle <= 0:
+                        break
+                    left.remove(crate)
+                    jobs = self.jobs_for(crate, idle, len(ready) - at, left, running, room)
+                    idle -= jobs
+                    running[pool.submit(self.make, crate, jobs)] = crate, jobs
+                for it in concurrent.futures.wait(running, return_when=concurrent.futures.FIRST_COMPLETED).done:
+                    del running[it]
+                    it.result()
+        self.stop_if_any_moved()
 
 
 def reason_in(lines):

@@ -9,12 +9,17 @@ import time
 
 from . import Stop, say
 from .crates import APP, Sums, crates_of, sum_of
-from .jobs import LIBRARY, OPTIMISING, PROOF, QUICK, RECORD, Build, Interrupted, trust
-from .proved import Stale
+from .jobs import OPTIMISING, PROOF, QUICK, Build, Interrupted, trust
+from .proved import LIBRARY, OBJECT, RECORD, Stale
 from .toolchain import Toolchain
 
 # What a build prints of the way in which it was made.
-WAYS = {LIBRARY: "the libraries in proved/", RECORD: "the proof records in proved/", PROOF: "proofs made here"}
+WAYS = {
+    OBJECT: "the object code in proved/",
+    LIBRARY: "the libraries in proved/",
+    RECORD: "the proof records in proved/",
+    PROOF: "proofs made here",
+}
 COMPILERS = {QUICK: "Rattle's own compiler", OPTIMISING: "LLVM"}
 
 
@@ -37,7 +42,7 @@ class Program:
                 return note
         return {}
 
-    def is_current(self, way=LIBRARY, compiler=QUICK):
+    def is_current(self, way=OBJECT, compiler=QUICK):
         """Returns whether the program is the one that was built, from these sources and by this toolchain, in a way and by a compiler
         at least as good as those asked for. Without a toolchain the sources alone decide."""
         note = self.note()
@@ -52,7 +57,7 @@ class Program:
             return False
         return os.access(self.path, os.X_OK) and note["sources"] == Sums(crates_of(self.top)).whole()
 
-    def build(self, way=LIBRARY, compiler=QUICK):
+    def build(self, way=OBJECT, compiler=QUICK):
         """Builds the program. Only one process does so at a time."""
         at = f"{self.out}/start"
         os.makedirs(at, exist_ok=True)
@@ -75,9 +80,8 @@ class Program:
             build = Build(self.top, crates, toolchain, at, way, compiler)
         except Stale as why:
             raise Stop(str(why)) from None
-        say("building the program first; each crate without a current library or record in proved/ is proved, which takes minutes")
         try:
-            build.all()
+            build.start()
         except Interrupted:
             raise KeyboardInterrupt from None
         self.put(build)
@@ -120,23 +124,28 @@ def identity(otherwise):
     return Toolchain().identity if shutil.which("rt") else otherwise
 
 
+def taken(build):
+    """Returns the crates that were made from what proved/ has of them: of a program that was linked, itself alone."""
+    return [it for it in build.crates if build.made_by.get(it.name, PROOF) != PROOF]
+
+
 def commits_of(build):
-    """Returns the commits of the records and libraries that were used."""
-    return sorted({build.proved.commit(it) for it in build.crates if build.made_by[it.name] != PROOF})
+    """Returns the commits of what was taken from proved/."""
+    return sorted({build.proved.commit(it, build.made_by[it.name]) for it in taken(build)})
 
 
 def report(build):
-    """Prints how the crates were made, and why a library or a record wasn't used."""
-    taken = [it for it in build.crates if build.made_by[it.name] != PROOF]
-    if taken:
-        which = "all crates" if len(taken) == len(build.crates) else f"{len(taken)} of {len(build.crates)} crates"
-        what = WAYS[min((build.made_by[it.name] for it in taken), key=trust)]
-        say(f"{which} taken from {what}, of {', '.join(commits_of(build))}; ./relayplum --prove proves them here")
-    proved = [it for it in build.crates if build.made_by[it.name] == PROOF]
+    """Prints how the crates were made, and why something in proved/ wasn't used."""
+    ways = {build.made_by[it.name] for it in taken(build)}
+    if ways:
+        is_whole = OBJECT in ways or len(taken(build)) == len(build.crates)
+        which = "all crates" if is_whole else f"{len(taken(build))} of {len(build.crates)} crates"
+        say(f"{which} taken from {WAYS[min(ways, key=trust)]}, of {', '.join(commits_of(build))}; ./relayplum --prove proves them here")
+    proved = [it for it in build.crates if build.made_by.get(it.name) == PROOF]
     if proved:
         say(f"proved here: {' '.join(it.name for it in proved)}")
-    for (name, what), why in build.refused.items():
-        say(f"the {what} of {name} in proved/ was not taken: {why}")
+    for (name, how), why in build.refused.items():
+        say(f"the {'object code' if how == OBJECT else how} of {name} in proved/ was not taken: {why}")
     stale = [it.name for it in proved if build.proved.has(it, RECORD) and (it.name, RECORD) not in build.refused]
     if stale and build.way != PROOF:
         say(f"proved/ has the records of other sources, or of another toolchain, of: {' '.join(stale)}")

@@ -26,14 +26,24 @@ class Stale(Exception):
     """Why a record, a library or the program's object code doesn't serve here."""
 
 
+# What proved/ may have of a crate.
+OBJECT, LIBRARY, RECORD = "object", "library", "record"
+
+
 def as_built(crate):
     """Returns what proved/ has of a crate as it was built."""
-    return "object" if crate.is_program else "library"
+    return OBJECT if crate.is_program else LIBRARY
+
+
+def line_of(crate, what):
+    """Returns the name of the line that the list has for an archive. Records and libraries are written with a release, the object code
+    more often, so it has a line of its own."""
+    return f"{crate.name}.{what}" if what == OBJECT else crate.name
 
 
 class Proved:
-    """The folder proved/, and its list, index.json. It has, for each crate, the commit, the kit and its identity, the sum of all that
-    the crate was made from, and the sums of the two files."""
+    """The folder proved/, and its list, index.json. It has a line for each crate and one for the program's object code: the commit, the kit
+    and its identity, the sum of all that was read, and the sums of the files. Two lines may be of different sources."""
 
     def __init__(self, top):
         self.folder = f"{top}/proved"
@@ -48,13 +58,18 @@ class Proved:
     def file(self, crate, what):
         return f"{self.folder}/{crate.name}.{what}.tar.xz"
 
+    def line(self, crate, what):
+        """Returns the line of an archive. (Release 1.1.0 has the object code in the line of the program's record.)"""
+        line = self.index.get(line_of(crate, what), {})
+        return line if what in line else self.index.get(crate.name, {})
+
     def has(self, crate, what):
-        """Returns whether there is a record or a library of the crate, even of other sources."""
-        return what in self.index.get(crate.name, {}) and os.path.isfile(self.file(crate, what))
+        """Returns whether there is such an archive of the crate, even of other sources."""
+        return what in self.line(crate, what) and os.path.isfile(self.file(crate, what))
 
     def serves(self, crate, what, key):
         """Returns whether there is one that was made from the sources with this key."""
-        return self.has(crate, what) and self.index[crate.name]["key"] == key
+        return self.has(crate, what) and self.line(crate, what)["key"] == key
 
     def archive(self, crate, what):
         """Returns the archive's bytes. Raises Stale if they aren't those that were written."""
@@ -63,17 +78,19 @@ class Proved:
                 text = it.read()
         except OSError as error:
             raise Stale(f"it can't be read: {error.strerror}") from None
-        if hashlib.sha256(text).hexdigest() != self.index[crate.name][what]:
+        if hashlib.sha256(text).hexdigest() != self.line(crate, what)[what]:
             raise Stale("it isn't the file that proved/index.json names")
         return text
 
     def write(self, crate, what, text, key, **said):
         """Writes an archive, and its line of the list. What else is said stays as it was noted with the first archive of these sources."""
         os.makedirs(self.folder, exist_ok=True)
-        known = self.index.get(crate.name, {})
+        name = line_of(crate, what)
+        known = self.index.get(name, {})
         if known.get("key") != key:
             known = {"key": key, **said}
-        self.index[crate.name] = {**known, what: hashlib.sha256(text).hexdigest()}
+        self.index.get(crate.name, {}).pop(what, None)
+        self.index[name] = {**known, what: hashlib.sha256(text).hexdigest()}
         self.replace(f"{crate.name}.{what}.tar.xz", text)
         self.write_index()
 
@@ -87,8 +104,8 @@ class Proved:
 
     def others(self, crates):
         """Returns the files of the folder, and the names in the list, that are of none of these crates."""
-        own = {"index.json", "derived.xz"} | {f"{it.name}.{what}.tar.xz" for it in crates for what in ("record", as_built(it))}
-        names = {it.name for it in crates}
+        own = {"index.json", "derived.xz"} | {f"{it.name}.{what}.tar.xz" for it in crates for what in (RECORD, as_built(it))}
+        names = {line_of(it, what) for it in crates for what in (RECORD, as_built(it))}
         return [it for it in files_in(self.folder) if it not in own] + [it for it in sorted(self.index) if it not in names]
 
     def remove_others(self, crates):
@@ -100,11 +117,8 @@ class Proved:
                 os.remove(f"{self.folder}/{it}")
         self.write_index()
 
-    def commit(self, crate):
-        return self.index.get(crate.name, {}).get("commit", "?")
-
-    def kit(self, crate):
-        return self.index.get(crate.name, {}).get("kit", "?")
+    def commit(self, crate, what):
+        return self.line(crate, what).get("commit", "?")
 
 
 def listing(index):
