@@ -17,10 +17,7 @@ start books x
 check 'the second call builds nothing' '' "$calls"
 check 'the second call prints nothing else' '' "$err"
 check 'the second call runs the program' 'run with books x' "$out"
-until_noted
-start books x
-check 'where nothing changed, no Python is started' '' "$(cat "$CALLS.python" 2>/dev/null)"
-check 'and the program runs' 'run with books x' "$out"
+check 'the second call starts no Python' '' "$(cat "$CALLS.python" 2>/dev/null)"
 
 touch "$low"
 start books x
@@ -34,13 +31,67 @@ echo '// more' >>"$room/top/crates/aside/src/lib.rt"
 start books x
 check 'a source of a crate that the program does not stand on builds nothing' '' "$calls"
 
+start books x
+check 'what was compared is noted' '' "$(cat "$CALLS.python" 2>/dev/null)"
+
+# An edit right after a build, that leaves the size, the inode and the time of the last write as they were.
+start books x
+touch -r "$low" "$room/as-it-was"
+tr a-z A-Z <"$low" >"$room/kept"
+cat "$room/kept" >"$low"
+touch -r "$room/as-it-was" "$low"
+start books x
+check 'an edit right after a build builds' "$built" "$calls"
+
+# A `find` that does more: $DO/find has that, as shell code, and $found what it has found. Times are noted only if they are past,
+# and the sums are taken after that.
+real_find=$(command -v find)
+printf '#!/bin/sh\nfound=$(%s "$@")\nif [ -f "$DO/find" ]; then . "$DO/find"; fi\necho "$found"\n' "$real_find" >"$room/bin/find"
+chmod +x "$room/bin/find"
+later() { # later SECONDS: each time of a change is later than it is
+    echo "found=\$(echo \"\$found\" | awk '{ split(\$NF, time, \".\"); \$NF = time[1] + $1 \".\" time[2]; print }')" >"$DO/find"
+}
+rm "$program.stamps"
+echo "rm \"\$DO/find\"; tr A-Z a-z <'$room/kept' >'$low'" >"$DO/find"
+start books x
+check 'an edit after the times were read is in the sums' "$built" "$calls"
+later 1
+rm "$program.stamps"
+start books x
+last=$(cut -d' ' -f5 "$program.stamps" | LC_ALL=C sort -n | tail -n 1)
+noted=$("$real_find" "$program.stamps" -printf '%C@')
+check 'times are noted when they are past' "$noted" "$(printf '%s\n' "$last" "$noted" | LC_ALL=C sort -n | tail -n 1)"
+check 'and the program runs' 'run with books x' "$out"
+start books x
+check 'then no Python is started' '' "$(cat "$CALLS.python" 2>/dev/null)"
+later 3600
+start books x
+check 'times that are far ahead: the program runs' 'run with books x' "$out"
+check 'times that are far ahead: nothing is built' '' "$calls"
+rm "$program.stamps"
+start books x
+check 'times that are far ahead are not noted' '' "$(cat "$program.stamps" 2>/dev/null)"
+rm "$DO/find" "$room/bin/find"
+start books x
+
+# The version: what was noted is taken, and a change shows.
+start --version
+has '--version: it is built' '^built from proofs made here' "$out"
+echo '// forged' >>"$low"
+"$room/top/relayplum" --stamps >"$program.stamps"
+start --version
+has '--version takes what was noted' '^built from proofs made here' "$out"
+touch "$low"
+start --version
+has '--version: a change shows' '^not built: the first command builds it$' "$out"
+
 echo '// elder' >"$room/elder"
 touch -d '2 days ago' "$room/elder"
 cp -p "$room/elder" "$low"
 touch "$program"
 start books x
 check 'an older source is built, also under a program that was touched since' "$built" "$calls"
-until_noted
+start books x
 echo '// more' >>"$low"
 start books x
 check 'a changed source builds' "$built" "$calls"
@@ -49,7 +100,7 @@ check 'and builds once' '' "$calls"
 rm "$room/top/crates/low/specs/Low.antt"
 start books x
 check 'a removed file builds' "$built" "$calls"
-until_noted
+start books x
 printf '#!/bin/sh\necho another\n' >"$program"
 start books x
 check 'a program that is another than the one that was built is not run' 'run with books x' "$out"
@@ -65,7 +116,7 @@ check 'a kit of another name builds nothing' '' "$calls"
 echo 'kit-2 logic l2' >"$room/kit/KIT-ID"
 start books x
 check 'another logic builds' "$built" "$calls"
-until_noted
+start books x
 echo '# another compiler' >>"$room/kit/bin/rattle"
 start books x
 check 'another compiler builds' "$built" "$calls"

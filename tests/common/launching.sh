@@ -152,14 +152,6 @@ from_scratch() { rm -rf "$room/top/crates/cdc_app/out"; }
 # one job at a time, where nothing else is said
 export RT_JOBS=1
 
-until_noted() { # calls until the launcher has noted that nothing changed: a file has to be older than a second
-    for _ in $(seq 600); do
-        start books x
-        [ -s "$program.stamps" ] && return
-        sleep 0.1
-    done
-}
-
 ended() { # prints the count
     echo "$NAME: $passed passed, $failed failed"
     [ "$failed" = 0 ]

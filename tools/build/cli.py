@@ -49,8 +49,6 @@ def run(top, arguments):
         if status is not None:
             return status
         program.build(way, compiler)
-    else:
-        program.stamp()
     if to:
         install.install(program, to)
         return 0

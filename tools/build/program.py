@@ -5,6 +5,7 @@ import json
 import os
 import shutil
 import subprocess
+import sys
 import time
 
 from . import Stop, say
@@ -21,12 +22,14 @@ WAYS = {
     PROOF: "proofs made here",
 }
 COMPILERS = {QUICK: "Rattle's own compiler", OPTIMISING: "LLVM"}
+# A second in nanoseconds; in seconds, how long a tick is waited for at a time; and how often, at most.
+SECOND, TRY, MOST_TRIES = 1_000_000_000, 0.001, 5_000
 
 
 class Program:
     """The program, `path`, and two notes beside it. `built` has the sums of the sources and of the program, the toolchain's
     identity and the way. `stamps` has what `find` printed of all these files when the sums last agreed. The launcher
-    compares it, and asks for the sums only if it differs."""
+    compares it, and so does `is_current`: the sums are taken only if it differs."""
 
     def __init__(self, top):
         self.top = top
@@ -44,18 +47,38 @@ class Program:
 
     def is_current(self, way=OBJECT, compiler=QUICK):
         """Returns whether the program is the one that was built, from these sources and by this toolchain, in a way and by a compiler
-        at least as good as those asked for. Without a toolchain the sources alone decide."""
+        at least as good as those asked for."""
         note = self.note()
         try:
-            if note["program"] != sum_of(self.path) or trust(note["way"]) < trust(way):
+            if trust(note["way"]) < trust(way) or (compiler == OPTIMISING and note["compiler"] != OPTIMISING):
                 return False
-            if compiler == OPTIMISING and note["compiler"] != OPTIMISING:
+        except (KeyError, ValueError):
+            return False
+        return self.is_unchanged() or self.compare()
+
+    def agrees(self):
+        """Returns whether the program, the sources and the toolchain are those of the note, by their sums. Without a toolchain the sources
+        alone decide."""
+        note = self.note()
+        try:
+            if note["program"] != sum_of(self.path) or note["toolchain"] != identity(note["toolchain"]):
                 return False
-            if note["toolchain"] != identity(note["toolchain"]):
-                return False
-        except (OSError, KeyError, ValueError):
+        except (OSError, KeyError):
             return False
         return os.access(self.path, os.X_OK) and note["sources"] == Sums(crates_of(self.top)).whole()
+
+    def is_unchanged(self):
+        """Returns whether `find` prints what it printed when the sums last agreed."""
+        with contextlib.suppress(OSError):
+            with open(self.stamps, "rb") as it:
+                noted = it.read()
+            return bool(noted) and noted == self.printed()
+        return False
+
+    def printed(self):
+        """Returns what `find` prints of the files that decide."""
+        find = [f"{self.top}/relayplum", "--stamps"]
+        return subprocess.run(find, stdout=subprocess.PIPE, stderr=subprocess.DEVNULL, check=False).stdout
 
     def build(self, way=OBJECT, compiler=QUICK):
         """Builds the program. Only one process does so at a time."""
@@ -70,7 +93,7 @@ class Program:
                 if self.is_current(way, compiler):
                     return
             self.make(at, way, compiler)
-        self.stamp()
+        self.compare()
 
     def make(self, at, way, compiler):
         begun = time.monotonic()
@@ -102,16 +125,43 @@ class Program:
             json.dump(note, it)
         os.replace(f"{self.built}.new", self.built)
 
-    def stamp(self):
-        """Notes what `find` prints of the files that decide, unless one of them changed within the last second: it could change again
-        with the same time. If nothing is noted, the next start compares the sums again."""
-        printed = subprocess.run([f"{self.top}/relayplum", "--stamps"], stdout=subprocess.PIPE, stderr=subprocess.DEVNULL, check=False).stdout
-        changed = [float(line.rsplit(b" ", 1)[1]) for line in printed.splitlines() if line.count(b" ") > 3]
-        if has_toolchain(printed) and changed and max(changed) < time.time() - 1 and self.is_current():
+    def compare(self):
+        """Returns whether the sums agree; then the next start needs only what `find` prints, which is noted.
+
+        Each change of a file sets its time, but only to the tick of the clock: two changes within a tick look the same. So `find` comes
+        first, then the clock leaves the tick of the last change that it printed, then the sums are taken. A change before a file's sum is
+        taken is in the sum. A later one gives the file a later time than all that are noted, so `find` prints something else."""
+        printed = self.printed()
+        is_past = has_toolchain(printed) and self.outwait(last_change(printed))
+        if not self.agrees():
+            return False
+        if is_past:
             with contextlib.suppress(OSError):
                 with open(f"{self.stamps}.new", "wb") as out:
                     out.write(printed)
                 os.replace(f"{self.stamps}.new", self.stamps)
+        return True
+
+    def outwait(self, last):
+        """Waits until a file that is written here, beside the sources, gets a later time than `last`; returns whether it does. A time that is
+        further ahead than a second is of another clock, and isn't waited for."""
+        with contextlib.suppress(OSError):
+            for _ in range(MOST_TRIES):
+                with open(f"{self.stamps}.new", "wb") as it:
+                    it.write(b"now")
+                ahead = last - os.stat(f"{self.stamps}.new").st_ctime_ns
+                if ahead < 0 or ahead > SECOND:
+                    return ahead < 0
+                time.sleep(TRY)
+        return False
+
+
+def last_change(printed):
+    """Returns the time of the last change among the files that `find` printed, in nanoseconds; of none, one that never comes. A time without
+    a fraction counts to the end of its second, since some filesystems keep whole seconds."""
+    times = [line.rsplit(b" ", 1)[1].partition(b".") for line in printed.splitlines() if line.count(b" ") > 3]
+    exact = [int(seconds + fraction[:9].ljust(9, b"0")) for seconds, _, fraction in times]
+    return max((it if it % SECOND else it + SECOND - 1 for it in exact), default=sys.maxsize)
 
 
 def has_toolchain(printed):

@@ -10,15 +10,21 @@ from .crates import sum_of
 BUILD_ID = b"\x04\0\0\0\x14\0\0\0\x03\0\0\0GNU\0"
 
 
+@functools.lru_cache(maxsize=None)
+def folder():
+    """Returns the folder that `rt doc` names, which takes a while."""
+    try:
+        ran = subprocess.run(["rt", "doc"], stdin=subprocess.DEVNULL, stdout=subprocess.PIPE, check=True)
+    except (OSError, subprocess.CalledProcessError):
+        raise Stop("there is no `rt` on the path: Rattle's toolchain is needed") from None
+    return os.path.dirname(ran.stdout.decode().strip())
+
+
 class Toolchain:
-    """The folder that `rt doc` names, with the compiler and its libraries."""
+    """The toolchain's folder, with the compiler and its libraries. Which one it is, is read again each time."""
 
     def __init__(self):
-        try:
-            ran = subprocess.run(["rt", "doc"], stdin=subprocess.DEVNULL, stdout=subprocess.PIPE, check=True)
-        except (OSError, subprocess.CalledProcessError):
-            raise Stop("there is no `rt` on the path: Rattle's toolchain is needed") from None
-        self.at = os.path.dirname(ran.stdout.decode().strip())
+        self.at = folder()
         self.rattle, self.link = f"{self.at}/bin/rattle", f"{self.at}/bin/rattle-link"
         try:
             with open(f"{self.at}/KIT-ID", encoding="utf-8") as it:
