@@ -24,16 +24,18 @@ pub struct Replaced<'a> {
     pub new_path: &'a str,
     /// What a file at `new_path` has to hold to be the leftover of an interrupted replacement. Any other one isn't
     /// removed.
-    pub leftover: Leftover<'a>,
+    pub leftover: Leftover,
+    /// The bytes with which such a leftover is compared.
+    pub mark: &'a [u8],
 }
 
 /// What an interrupted replacement can leave.
 #[derive(Clone, Copy)]
-pub enum Leftover<'a> {
-    /// A file that begins with these bytes, as far as it goes.
-    Begins(&'a [u8]),
-    /// A file whose whole content is a prefix of these bytes.
-    PrefixOf(&'a [u8]),
+pub enum Leftover {
+    /// A file that begins with the mark, as far as it goes.
+    Begins,
+    /// A file whose whole content is a prefix of the mark.
+    PrefixOf,
 }
 
 /// Locks a file that isn't locked here, and returns whether another holder has it locked already. On a system without
@@ -144,7 +146,8 @@ fn write_whole(file: &mut File, mode: Option<Permissions>, text: &[u8]) -> io::R
 fn is_leftover<R: Files<File = File>>(
     rt: &R,
     path: &str,
-    leftover: Leftover<'_>,
+    leftover: Leftover,
+    mark: &[u8],
 ) -> io::Result<bool> {
     if !fs::symlink_metadata(rt, path)?.is_file() {
         return Ok(false);
@@ -154,8 +157,8 @@ fn is_leftover<R: Files<File = File>>(
         return Ok(false);
     }
     match leftover {
-        Leftover::Begins(mark) => begins(&mut file, mark),
-        Leftover::PrefixOf(whole) => Ok(rest_after(&mut file, whole)?.is_some()),
+        Leftover::Begins => begins(&mut file, mark),
+        Leftover::PrefixOf => Ok(rest_after(&mut file, mark)?.is_some()),
     }
 }
 
@@ -172,7 +175,7 @@ fn begins<F: Read>(reader: &mut F, mark: &[u8]) -> io::Result<bool> {
 fn make_new<R: Files<File = File>>(rt: &R, file: Replaced<'_>) -> io::Result<File> {
     let made = match File::create_new(rt, file.new_path) {
         Err(error) if error.kind() == ErrorKind::AlreadyExists => {
-            if !is_leftover(rt, file.new_path, file.leftover)? {
+            if !is_leftover(rt, file.new_path, file.leftover, file.mark)? {
                 return Err(error);
             }
             fs::remove_file(rt, file.new_path)?;

@@ -93,7 +93,8 @@ impl<'a, R: Files<File = File> + AllocGlobal> FileBook<'a, R> {
         let file = Replaced {
             path: self.path.as_str(),
             new_path: self.new_path.as_str(),
-            leftover: Leftover::Begins(self.mark),
+            leftover: Leftover::Begins,
+            mark: self.mark,
         };
         replace(self.rt, file, self.file.as_ref(), text)
     }

@@ -53,7 +53,8 @@ pub fn put_new(rt: &HostRuntime, path: &str) -> io::Result<File> {
     let file = Replaced {
         path,
         new_path: new_path.as_str(),
-        leftover: Leftover::PrefixOf(page.as_slice()),
+        leftover: Leftover::PrefixOf,
+        mark: page.as_slice(),
     };
     replace(rt, file, None, page.as_slice())
 }
