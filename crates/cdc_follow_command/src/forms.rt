@@ -125,5 +125,6 @@ fn push_after_end(text: &mut Vec<u8>, seen: u64, line: u64) -> Result<(), AllocE
 {
     push_named(text, "after_end: line ", line)?;
     push_named(text, ": ended after ", seen)?;
-    push(text, "\n")
+    push(text, "\n")?;
+    Ok(())
 }
