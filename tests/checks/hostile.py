@@ -78,7 +78,8 @@ def record(session, timestamp, start=0):
 
 def as_nobody(processes=None, megabytes=None, written=None):
     """Makes a process nobody's, who may have so many processes and threads, and it so much of an address space and so many bytes
-    in a file that it writes."""
+    in a file that it writes. The files that it makes have the modes that `plain` has."""
+    os.umask(0o022)
     if os.geteuid() == 0:
         os.setgroups([])
         os.setgid(NOBODY)
@@ -175,10 +176,21 @@ def contents(folder):
             if stat.S_ISLNK(mode):
                 held = os.readlink(path)
             elif stat.S_ISREG(mode):
-                with open(path, "rb") as file:
-                    held = file.read()
+                held = held_in(path, stat.S_IMODE(mode))
             found[os.path.relpath(path, folder)] = oct(mode), held
     return found
+
+
+def held_in(path, mode):
+    """Returns what a file holds. If its owner may not read it, its mode is another one meanwhile."""
+    is_readable = mode & stat.S_IRUSR
+    if not is_readable:
+        os.chmod(path, mode | stat.S_IRUSR)
+    with open(path, "rb") as file:
+        held = file.read()
+    if not is_readable:
+        os.chmod(path, mode)
+    return held
 
 
 def plain(text, mode=0o644):
