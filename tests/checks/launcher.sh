@@ -182,8 +182,7 @@ check 'four jobs: all for what everything left stands on' 'high: proved, jobs 4'
 
 # One that is refused ends the other that is being proved, which would never end by itself.
 for crate in low side; do echo '// wrong' >>"$room/top/crates/$crate/src/lib.rt"; done
-waits_for low side
-echo 'echo "no proof: a goal is open"; exit 1' >>"$DO/low"
+echo 'until [ -s "$DO/side.id" ]; do sleep 0.05; done; echo "no proof: a goal is open"; exit 1' >"$DO/low"
 echo 'echo $$ >"$DO/side.id"; exec sleep 100000' >"$DO/side"
 RT_JOBS=2 start books x
 check 'side by side: one that is refused ends the script' 1 "$status"
