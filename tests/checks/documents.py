@@ -44,7 +44,7 @@ BUDGETS = [
     (5_650, "docs/FORMATS.md"),
     (3_100, "docs/PROOFS.md"),
     (1_800, "docs/ARCHITECTURE.md"),
-    (2_550, "CONTRIBUTING.md"),
+    (2_600, "CONTRIBUTING.md"),
     (2_000, "docs/DECISIONS.md"),
     (730, "docs/MEASURED.md"),
     (900, "CHANGELOG.md", "ROADMAP.md"),

@@ -33,9 +33,9 @@ sys.path.insert(0, os.path.join(os.path.dirname(os.path.realpath(__file__)), "..
 import checked
 import ending
 import holding
+import nobody
 import scripts
 
-NOBODY = 65534
 SCRIPT = b"""subscriber all
 accounts 1000
 account id=1 ledger=700 code=10
@@ -81,9 +81,7 @@ def as_nobody(processes=None, megabytes=None, written=None):
     in a file that it writes. The files that it makes have the modes that `plain` has."""
     os.umask(0o022)
     if os.geteuid() == 0:
-        os.setgroups([])
-        os.setgid(NOBODY)
-        os.setuid(NOBODY)
+        nobody.become()
     if processes is not None:
         resource.setrlimit(resource.RLIMIT_NPROC, (processes, processes))
     if megabytes is not None:
@@ -118,7 +116,7 @@ class Hostile(checked.Checks):
 
     def give(self, path):
         if os.geteuid() == 0:
-            os.chown(path, NOBODY, NOBODY, follow_symlinks=False)
+            os.chown(path, nobody.NUMBER, nobody.NUMBER, follow_symlinks=False)
 
     def write(self, folder, name, text, mode=0o644):
         path = f"{folder}/{name}"
