@@ -4,6 +4,7 @@
 set -uo pipefail
 top=$(cd "$(dirname "${BASH_SOURCE[0]}")/../.." && pwd)
 . "$top/tests/common/help.sh"
+. "$top/tests/common/unprivileged.sh"
 program=$(realpath "${1:-$top/crates/cdc_app/out/cdc_app}")
 folder=$(mktemp -d)
 trap 'rm -rf "$folder"' EXIT
@@ -29,14 +30,22 @@ has() {
     case "$3" in *"$2"*) ;; *) wrong "$1" "..$2.." "$3" ;; esac
 }
 
-# Runs the program with these arguments; standard input is the file `input`.
+# Runs the program with these arguments, by the function $by if there is one; standard input is the file `input`.
 run() {
-    "$program" "$@" <input >output 2>errors
+    ${by-} "$program" "$@" <input >output 2>errors
     status=$?
     out=$(cat output; printf x)
     out=${out%x}
     err=$(cat errors; printf x)
     err=${err%x}
+}
+
+# Returns whether there is a disk that is full; if not, prints what isn't written to one.
+has_full_disk() {
+    [ -w /dev/full ] || {
+        echo "arguments: not tried: $1 to a full disk: there is no /dev/full"
+        false
+    }
 }
 
 # A run that ends well, with nothing on standard error.
@@ -551,12 +560,12 @@ bad_file no-such.script 'No such file'
 bad_file folder 'directory'
 bad_file one.script/inner 'ot a directory'
 bad_file no-folder/one.script 'No such file'
-if [ "$(id -u)" != 0 ]; then
+if modes_count arguments 'a file that is locked by its mode'; then
     cp one.script locked.script
     chmod 0 locked.script
-    bad_file locked.script 'Permission denied'
+    by=unprivileged bad_file locked.script 'Permission denied'
 fi
-if [ -w /dev/full ]; then
+if has_full_disk 'a text'; then
     for command in books messages --help; do
         arguments=("$command")
         [ "$command" == --help ] || arguments+=(one.script)
@@ -959,7 +968,7 @@ run books --json --explain results.script
 has 'objects, explained' 'results.script:24: batch 3 account 1 (id 20): 1 reserved_flag: ' "$err"
 run books --json results.script
 has 'objects, with items that are not accepted' 'relayplum: requests not accepted: 49, batches refused: 0; --explain prints why' "$err"
-if [ -w /dev/full ]; then
+if has_full_disk 'objects'; then
     "$program" books --json one.script >/dev/full 2>errors
     same 'objects to a full disk: status' 1 $?
     has 'objects to a full disk: why' 'standard output: write_fault: No space left' "$(cat errors)"
@@ -1186,8 +1195,10 @@ for arguments in "${refusing[@]}"; do
     wanted="$status $out"
     out=$("$program" $arguments 2>&-; printf ' %s' $?)
     same "arguments '$arguments' without standard error" "${wanted#* } ${wanted%% *}" "$out"
-    [ ! -w /dev/full ] || out=$("$program" $arguments 2>/dev/full; printf ' %s' $?)
-    same "arguments '$arguments', standard error full" "${wanted#* } ${wanted%% *}" "$out"
+    if has_full_disk "standard error of '$arguments'"; then
+        out=$("$program" $arguments 2>/dev/full; printf ' %s' $?)
+        same "arguments '$arguments', standard error full" "${wanted#* } ${wanted%% *}" "$out"
+    fi
 done
 
 # A large simulation: 10,000 transfers, each of which is published, confirmed and taken, in 60,014 steps.
@@ -1267,20 +1278,18 @@ ends_well 'a diagram without a reader'
 "$program" books one.script >&- 2>errors
 same 'a closed standard output: status' 1 $?
 has 'a closed standard output: why' 'standard output: write_fault: Bad file descriptor' "$(cat errors)"
-if [ -w /dev/full ]; then
+if has_full_disk 'a diagram'; then
     run simulate --diagram=/dev/full one.script three.steps
     same 'a diagram to a full disk: status' 0 "$status"
     has 'a diagram to a full disk: why' '/dev/full: write_fault: No space left' "$err"
 fi
 
 # Bodies are JSON texts to an outside reader too.
-if command -v python3 >/dev/null; then
-    for events in "one.script 1" "$top/examples/two-phase.script 7"; do
-        "$program" messages "${events% *}" | python3 "$top/tests/common/json_lines.py" "${events##* }" ||
-            wrong 'bodies as JSON' "$events events" 'see above'
-        checks=$((checks + 1))
-    done
-fi
+for events in "one.script 1" "$top/examples/two-phase.script 7"; do
+    "$program" messages "${events% *}" | python3 "$top/tests/common/json_lines.py" "${events##* }" ||
+        wrong 'bodies as JSON' "$events events" 'see above'
+    checks=$((checks + 1))
+done
 
 echo "arguments: $checks checks, $failed failed"
 [ "$failed" == 0 ]
