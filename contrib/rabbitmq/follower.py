@@ -7,6 +7,7 @@ import subprocess
 import threading
 
 from console import USAGE_ERROR, Stop
+from stream import started
 
 NOTHING = -1
 SAVED = re.compile(rb'saved (\d{1,20})\n')
@@ -23,7 +24,7 @@ class Follower:
         if not os.access(program, os.X_OK) or os.path.isdir(program):
             raise Stop(f'there is no program {program}: name it with --program', USAGE_ERROR)
         command = [program, 'follow', '--chained', '--skip-gaps', '--book', book, '--every', str(every)]
-        self.process = subprocess.Popen(command, stdin=subprocess.PIPE, stdout=subprocess.PIPE)
+        self.process = started(command, stdin=subprocess.PIPE)
         self.saved = NOTHING
         self.printed = []
         self.reader = threading.Thread(target=self.read, daemon=True)
@@ -55,7 +56,7 @@ class Follower:
         return any(map(ENDED.match, self.printed))
 
     def stopped_by(self, pattern):
-        """The match of the line that says why the command stopped early, or None."""
+        """The match of the line with why the command stopped early, or None."""
         return next(filter(None, map(pattern.match, self.printed)), None)
 
     def end(self):

@@ -31,7 +31,7 @@ from dataclasses import dataclass
 import client
 import console
 from bridge import END, PROGRAM
-from client import count_of, queue_of, seconds_of
+from client import count_of, number_of, queue_of, seconds_of
 from console import FAILED, USAGE_ERROR, Stop, say
 from follower import AFTER_END, BAD_LINE, NOTHING, Follower, bad_line_of, line_of
 from pika.exceptions import AMQPError, StreamLostError
@@ -39,8 +39,8 @@ from pika.exceptions import AMQPError, StreamLostError
 TICK_SECONDS = 0.05
 CLOSE_SECONDS = 2
 MOST_PREFETCH = 65535
-# How many digits a number of 64 bits has, and how much of a body is shown.
-MOST_DIGITS, SHOWN = 20, 60
+# How much of a body is shown.
+SHOWN = 60
 # If pika can't read the headers of a message, it drops the connection, and keeps only the text of the exception. A timestamp may also
 # be one that the C library has no year for.
 DROPPED = re.compile(r'Stream connection lost: ((\w+)[(].*)')
@@ -80,14 +80,6 @@ def why_unreadable(lost):
     kind = getattr(builtins, dropped[2], None) if dropped else None
     is_so = isinstance(kind, type) and (issubclass(kind, UNREADABLE) or dropped[1].startswith(NO_YEAR))
     return dropped[1] if is_so else None
-
-
-def number_of(it):
-    """A timestamp as `follow` reads it, from digits or a whole number; None of anything else."""
-    if isinstance(it, str) and it.isascii() and it.isdecimal():
-        digits = it.lstrip('0') or '0'
-        return int(digits) if len(digits) <= MOST_DIGITS else None
-    return it if type(it) is int and it >= 0 else None
 
 
 @dataclass(frozen=True)
@@ -307,7 +299,7 @@ class Consumer:
             return 0
         follower, self.follower, self.reason = self.follower, None, None
         was_over, status = follower.is_over, follower.end()
-        if status not in (0, FAILED, USAGE_ERROR) or (status == 0 and was_over):
+        if status not in (0, FAILED, USAGE_ERROR) or (status == 0 and was_over and self.base < self.last):
             raise Lost(f'`follow` ends early, with status {status}')
         if status == FAILED and follower.saved == NOTHING:
             # The book of a consumer that was just killed may still be locked.
