@@ -348,8 +348,11 @@ while True:
     try:
         read = json.loads(line)
         previous = int(read['previous'])
-        timestamp = None if 'end' in read else int(read['body']['timestamp'])
-    except (ValueError, KeyError, TypeError):
+        timestamp = None
+        if 'end' not in read:
+            [(_, timestamp)] = read['body'].items()
+            timestamp = int(timestamp)
+    except (AttributeError, KeyError, TypeError, ValueError):
         stop(2, f'fault: line {{number}}: not_json')
     is_new = previous != seen if timestamp is None else timestamp > seen
     if ended and is_new:
@@ -385,12 +388,13 @@ def delivered(message):
 
 
 class Channel:
-    """A channel to the queue: it delivers what isn't acknowledged, so many at a time, and then nothing."""
+    """A channel to the queue: it delivers what isn't acknowledged, so many at a time, and then nothing. What there is room for since
+    something was acknowledged comes late. In the end it cancels its consumer."""
 
     def __init__(self, queue):
         self.queue, self.prefetch = queue, 0
         self.waiting = [at for at in range(len(queue.messages)) if at not in queue.done]
-        self.tags, self.open = {}, {}
+        self.tags, self.open, self.is_late, self.times_idle = {}, {}, False, 0
 
     def basic_qos(self, prefetch_count):
         self.prefetch = prefetch_count
@@ -400,18 +404,25 @@ class Channel:
         return types.SimpleNamespace(method=types.SimpleNamespace(message_count=len(self.waiting)))
 
     def consume(self, _queue, inactivity_timeout):
-        while True:
-            if self.waiting and len(self.open) < self.prefetch:
+        while self.times_idle < MOST_IDLE:
+            if self.waiting and len(self.open) < self.prefetch and not self.is_late:
                 tag, at = len(self.tags) + 1, self.waiting.pop(0)
                 self.tags[tag] = self.open[tag] = at
                 yield types.SimpleNamespace(delivery_tag=tag), *delivered(self.queue.messages[at])
             else:
+                self.is_late, self.times_idle = False, self.times_idle + 1
                 time.sleep(inactivity_timeout)
                 yield None, None, None
 
     def basic_ack(self, tag, multiple=False):
         for it in [it for it in self.open if it == tag or (multiple and it < tag)]:
             self.queue.done.add(self.open.pop(it))
+            self.is_late = True
+
+
+# How often nothing comes before a channel ends, and what of the cases below has to wait for a gap.
+MOST_IDLE = 3000
+GAPS = ('events too early', 'a stale end', 'a foreign end', 'a gap', 'a foreign event without an end')
 
 
 def chain(first, last):
@@ -460,14 +471,15 @@ class Taking(Case):
             ('a foreign event', chain(1, 5) + [(97, 20)] + chain(6, 9) + end(9), [(97, 20)], 1, 'contradicts .* it is event 97 after 20; it stays there'),
             ('a foreign event without an end', chain(1, 5) + [(97, 20)], [(97, 20)], 1, 'the next message comes after 20. The book is past that'),
             ('no event', chain(1, 5) + [b'1e999'] + chain(6, 9), [b'1e999'] + chain(6, 9), 2, "delivery %d of queue name.1 is no event: not_json; it stays there, with the body b'1e999'"),
-            ('no event, up to what is saved', chain(1, 5) + [b'{"timestamp":10}]'] + end(5), [b'{"timestamp":10}]'] + end(5), 2, 'is no event: not_json'),
+            ('no event, up to what is saved', chain(1, 5) + [b'{"timestamp":10,"x":0}'] + end(5), [b'{"timestamp":10,"x":0}'] + end(5), 2, 'is no event: not_json'),
         ):
             for prefetch in (64, 4):
                 with self.subTest(name, prefetch=prefetch):
                     (self.room / 'book').unlink(missing_ok=True)
                     queue = Queue(messages)
                     for at in (len(messages) - len(left) + 1, 1):
-                        found, said, _ = self.take(queue, prefetch)
+                        # (only a gap has to wait)
+                        found, said, _ = self.take(queue, prefetch, gap_timeout=0.02 if name in GAPS else 3600)
                         self.assertEqual((found, queue.left()), (status, left), said)
                         self.assertRegex(said, reason % at if '%d' in reason else reason or '^')
 

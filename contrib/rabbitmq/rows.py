@@ -24,6 +24,8 @@ from client import pika
 from cluster import Cluster
 from harness import DROPS, EVENTS, HELD_AFTER, HERE, MIRRORED, MIRRORS, REFUSES, WATERMARK, Bench, Failed, children_of, same, script_of, wait_for
 
+# How the bridge declares a queue.
+QUORUM = {'x-queue-type': 'quorum', 'x-single-active-consumer': True}
 # A header of the type timestamp, for which there is no year.
 NO_TIME = b'T' + b'\xff' * 8
 
@@ -125,7 +127,10 @@ class Rows(Bench):
     def row_consumer_killed_before_its_save(self):
         """What wasn't saved isn't acknowledged: `follow` is stopped, so that messages wait for it, and then all is killed."""
         with contextlib.closing(self.stream('unsaved')) as stream:
+            with self.channel() as channel:
+                channel.queue_declare('unsaved.1', durable=True, arguments=QUORUM)
             consumer = stream.consumer(1)
+            wait_for('the consumer is there', lambda: self.consumers_of('unsaved.1') == 1)
             wait_for('`follow` runs', lambda: children_of(consumer.process.pid))
             os.kill(children_of(consumer.process.pid)[0], signal.SIGSTOP)
             stream.ends(stream.bridge('--end'), 0, '300 events confirmed')
@@ -142,7 +147,7 @@ class Rows(Bench):
         with self.held('deleted') as (stream, bridge, go_on):
             with self.channel() as channel:
                 channel.queue_delete('deleted.1')
-                channel.queue_declare('deleted.1', durable=True, arguments={'x-queue-type': 'quorum', 'x-single-active-consumer': True})
+                channel.queue_declare('deleted.1', durable=True, arguments=QUORUM)
             go_on()
             stream.ends(bridge, 0, '300 events confirmed')
             self.is_sent_again(stream, 1, 0)

@@ -179,6 +179,7 @@ class Consumer:
             return status
         self.unsaved, self.changed_at = {}, time.monotonic()
         self.last = self.base = self.known = 0
+        self.follow()
         try:
             return self.read_from(next(self.nodes))
         finally:
