@@ -12,11 +12,14 @@ of the book. A message is acknowledged only after `follow` has read it and saved
 
 Everything else stays in the queue:
 
-- an event that comes too early waits for what is missing. If that doesn't come, the queue is read again; if the gap stays, it is
-  reported, with status 1, and the bridge can send the queue again;
-- an end mark that names another event than the last one of the book is reported as such a gap;
-- an event after the end, or another end mark, contradicts the end: `follow` stops there, and the message is named, with status 1;
-- a message that is no event, in its body or its header `previous`: `follow` stops there, and the message is named, with status 2.
+- an event or an end mark that comes too early waits for what is missing. If that doesn't come, the queue is read again; if the gap
+  stays, it is reported, with status 1, and the bridge can send the queue again;
+- a later event, or an end mark, whose predecessor isn't the last event of the book but an earlier one is reported as a gap too;
+- a later event after the end, or another end mark, contradicts the end: `follow` stops there, and the message is named, with status 1;
+- a message that is no event, in its body or its header `previous`: `follow` stops there, and the message is named, with status 2. So
+  is a message whose headers pika can't read, once everything before it is taken.
+
+If the book has the end already, what the queue has since is read in the same way, until the queue is empty.
 """
 import argparse
 import builtins
@@ -46,7 +49,6 @@ SHOWN = 60
 DROPPED = re.compile(r'Stream connection lost: ((\w+)[(].*)')
 UNREADABLE = (ArithmeticError, LookupError, RecursionError, TypeError, ValueError)
 NO_YEAR = f'OSError({errno.EOVERFLOW}, '
-
 
 
 class Lost(Exception):
@@ -212,7 +214,7 @@ class Consumer:
 
     def move(self, channel):
         """Moves messages into `follow`, and acknowledges what the book has. At the end of the queue nothing may wait in it that would
-        contradict the end: it has to be empty twice, since a message may be on its way."""
+        contradict the end: it has to be empty twice, since a message may be on its way. What another consumer holds isn't waited for."""
         quiet_since = asked_at = time.monotonic()
         times_empty = 0
         for delivery, properties, body in channel.consume(self.queue, inactivity_timeout=TICK_SECONDS):
@@ -275,7 +277,7 @@ class Consumer:
         if self.follower is None or self.follower.saved in (NOTHING, self.saved):
             return
         self.saved, self.changed_at = self.follower.saved, now
-        self.known = next((tag for tag, it in self.unsaved.items() if tag > self.base and it.timestamp == self.saved), self.known)
+        self.known = max(self.known, next((tag for tag, it in self.unsaved.items() if tag > self.base and it.timestamp == self.saved), 0))
         self.acknowledge(channel)
 
     def acknowledge(self, channel):
