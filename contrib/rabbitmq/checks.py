@@ -369,6 +369,7 @@ class Queue:
     """A queue of a broker, and what of it is acknowledged: messages that are a pair of timestamp and predecessor, an end mark if the
     timestamp is None, or a body that is no event."""
     messages: list
+    comes_late: bool = True
     done: set = field(default_factory=set)
 
     def connect(self, _node):
@@ -389,7 +390,7 @@ def delivered(message):
 
 class Channel:
     """A channel to the queue: it delivers what isn't acknowledged, so many at a time, and then nothing. What there is room for since
-    something was acknowledged comes late. In the end it cancels its consumer."""
+    something was acknowledged may come late. In the end it cancels its consumer."""
 
     def __init__(self, queue):
         self.queue, self.prefetch = queue, 0
@@ -417,7 +418,7 @@ class Channel:
     def basic_ack(self, tag, multiple=False):
         for it in [it for it in self.open if it == tag or (multiple and it < tag)]:
             self.queue.done.add(self.open.pop(it))
-            self.is_late = True
+            self.is_late = self.queue.comes_late
 
 
 # How often nothing comes before a channel ends, and what of the cases below has to wait for a gap.
@@ -486,7 +487,7 @@ class Taking(Case):
     def test_random_queues(self):
         """What is acknowledged is in the book, or a duplicate of it; at status 0 that is all, and else something is left, and named."""
         seed = random.SystemRandom().randrange(10 ** 9)
-        for at in range(40):
+        for at in range(30):
             chance = random.Random(f'{seed} {at}')
             whole = chain(1, chance.randint(0, 30))
             messages = [*whole, *end(len(whole))][:chance.choice((len(whole), None))]
@@ -498,8 +499,10 @@ class Taking(Case):
                 messages[place:place + 9] = chance.sample(messages[place:place + 9], len(messages[place:place + 9]))
             with self.subTest(seed=seed, at=at, messages=messages):
                 (self.room / 'book').unlink(missing_ok=True)
-                queue = Queue(messages)
-                status, said, (applied, seen, ended) = self.take(queue, chance.choice((1, 2, 7, 64)), quiet=None if end(len(whole))[0] in messages else 0.02)
+                # (what comes late would come after any quiet time)
+                has_end = end(len(whole))[0] in messages
+                queue = Queue(messages, comes_late=has_end)
+                status, said, (applied, seen, ended) = self.take(queue, chance.choice((1, 2, 7, 64)), quiet=None if has_end else 0.02)
                 self.assertEqual(sorted(set(applied)), applied)
                 for place in queue.done:
                     self.assertNotIsInstance(messages[place], bytes)
