@@ -32,7 +32,7 @@ complete -c relayplum -n '__fish_seen_subcommand_from run' -l close -x -d 'Close
 complete -c relayplum -n '__fish_seen_subcommand_from run' -l start-after -x -d 'Leave out the events up to this timestamp, in nanoseconds'
 complete -c relayplum -n '__fish_seen_subcommand_from run' -l progress -r -d "Save the connector's progress in this file, and resume from it"
 complete -c relayplum -n '__fish_seen_subcommand_from follow' -l chained -d 'Apply an event only if it follows the last one of its queue'
-complete -c relayplum -n '__fish_seen_subcommand_from follow' -l skip-gaps -d 'Skip an event that comes too early, and go on'
+complete -c relayplum -n '__fish_seen_subcommand_from follow' -l skip-gaps -d 'Skip an event that does not follow the last one, and go on'
 complete -c relayplum -n '__fish_seen_subcommand_from follow' -l binding -x -d 'Apply only the events that match this binding'
 complete -c relayplum -n '__fish_seen_subcommand_from follow' -l book -r -d 'Save the book in this file, or sqlite:FILE, and resume from it'
 complete -c relayplum -n '__fish_seen_subcommand_from follow' -l every -x -d 'Save the book after N lines at the latest'

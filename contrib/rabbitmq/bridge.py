@@ -20,19 +20,19 @@ import time
 
 import client
 import console
-from client import count_of, pika, queue_of, seconds_of
+from client import count_of, pika, queue_of, seconds_of, short_of
 from console import USAGE_ERROR, Stop, say
 from progress import FileProgress, Record, record_of
 from publisher import Outgoing, Publisher
 from session import NOT_FOUND, RESOURCE_LOCKED, Lost, Refused, Session
-from stream import Program
+from stream import GREATEST, Program
 
 PROGRAM = pathlib.Path(__file__).resolve().parent.parent.parent / 'crates/cdc_app/out/cdc_app'
 APP_ID = 'tigerbeetle'
 CONTENT_TYPE = 'application/json'
 PERSISTENT = 2
 END = 'end'
-GREATEST, MOST_WINDOW = 2 ** 63 - 1, 1024
+MOST_WINDOW = 1024
 LOCK_SECONDS = 0.2
 # Of the answers that refuse a request, those that are about the connection's or the queue's state, and may change. RabbitMQ
 # has one code for a queue that isn't there and for one whose node is down.
@@ -249,8 +249,8 @@ def read_arguments():
     parser.add_argument('--start-after', type=timestamp_of, metavar='N', help='skips events up to this timestamp; only if there is no progress, or with --queue')
     parser.add_argument('--queue', type=count_of, metavar='I', help='sends only this queue, again, whatever the progress is')
     parser.add_argument('--end', action='store_true', help='sends each queue an end mark at the end')
-    parser.add_argument('--exchange', metavar='NAME', help='also publishes each event to this exchange, which exists')
-    parser.add_argument('--routing-key', default='', metavar='KEY', help='with which routing key')
+    parser.add_argument('--exchange', type=short_of, metavar='NAME', help='also publishes each event to this exchange, which exists')
+    parser.add_argument('--routing-key', type=short_of, default='', metavar='KEY', help='with which routing key')
     return parser.parse_args()
 
 

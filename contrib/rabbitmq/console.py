@@ -32,9 +32,12 @@ def run(main):
         status = why.status
     except KeyboardInterrupt:
         status = 130
-    except BrokenPipeError:
+    except OSError as error:
+        if not isinstance(error, BrokenPipeError):
+            say(f'{error.filename or "the output"}: {error.strerror}')
         # What is left unwritten is dropped, so that Python doesn't try again.
-        os.dup2(os.open(os.devnull, os.O_WRONLY), sys.stdout.fileno())
+        if sys.stdout is not None:
+            os.dup2(os.open(os.devnull, os.O_WRONLY), sys.stdout.fileno())
         status = FAILED
     sys.exit(status)
 

@@ -134,6 +134,12 @@ class Stream:
         """What the program prints of the script."""
         return subprocess.run([self.program, *arguments], capture_output=True, text=True, check=True).stdout
 
+    def event(self, place, number):
+        """Event number 1, 2, 3 .. of a queue, as body and properties."""
+        line = self.print('messages', self.script, '--queue', str(place)).splitlines()[number - 1]
+        body = line[line.index('"body":') + len('"body":'):-1]
+        return body.encode(), client.pika.BasicProperties(headers={'previous': json.loads(line)['previous']})
+
     def expected(self):
         """What `books` prints of each subscriber, as `follow` prints it: its subscriber is always number 1."""
         found = re.split(r'^subscriber \d+ ', self.print('books', self.script), flags=re.MULTILINE)[1:]
@@ -287,6 +293,19 @@ class Bench:
     def consumers_of(self, queue):
         """How many consumers a queue has, the ones that aren't active too."""
         return int(self.cluster.up().evaluate(CONSUMERS.format(queue=queue)))
+
+    def publish(self, queue, *messages):
+        """Publishes messages, each a body and properties, straight to a queue."""
+        with self.channel() as channel:
+            channel.confirm_delivery()
+            for body, properties in messages:
+                channel.basic_publish('', queue, body, properties)
+
+    def purge(self, queue):
+        """Removes what a queue has, once a consumer is gone, and what it left is back; how many messages that was."""
+        wait_for('the consumer is gone', lambda: self.consumers_of(queue) == 0)
+        with self.channel() as channel:
+            return channel.queue_purge(queue).method.message_count
 
     def ready_in(self, queue):
         """How many messages of a queue aren't delivered."""

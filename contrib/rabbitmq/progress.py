@@ -4,6 +4,7 @@ import os
 from dataclasses import asdict, dataclass
 
 from console import Stop
+from stream import GREATEST, UNLIKE
 
 VERSION = 2
 LONGEST_RECORD = 4096
@@ -28,11 +29,11 @@ def record_of(text, where):
     """The record with this text."""
     try:
         found = json.loads(text)
-        if found.pop('relayplum-bridge') == VERSION and isinstance(found['timestamp'], int):
+        if found.pop('relayplum-bridge') == VERSION and type(found['timestamp']) is int and 0 <= found['timestamp'] <= GREATEST:
             record = Record(**found)
             if record.text() == text:
                 return record
-    except (ValueError, KeyError, TypeError, AttributeError):
+    except UNLIKE:
         pass
     raise Stop(f'{where} holds something else than a bridge\'s progress')
 

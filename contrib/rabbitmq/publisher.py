@@ -5,6 +5,7 @@ from dataclasses import dataclass
 
 import client
 from console import Stop, say
+from pika.exceptions import AMQPError
 from session import Lost
 
 
@@ -57,6 +58,8 @@ class Publisher:
                 return act()
             except Lost as why:
                 self.fail(why)
+            except AMQPError as error:
+                self.fail(Lost(client.shown(error)))
 
     def publish_kept(self, most):
         """Publishes what is kept, and waits until at most so many messages have no confirm."""

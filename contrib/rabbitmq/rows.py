@@ -8,17 +8,53 @@ the place; then the bridge sends what is missing again. In the end each book has
 """
 import argparse
 import contextlib
+import datetime
+import decimal
 import json
 import os
 import pathlib
 import signal
 import tempfile
 import time
+from unittest import mock
 
 import console
 from bridge import PROGRAM
+from client import pika
 from cluster import Cluster
 from harness import DROPS, EVENTS, HELD_AFTER, HERE, MIRRORED, MIRRORS, REFUSES, WATERMARK, Bench, Failed, children_of, same, script_of, wait_for
+
+# How the bridge declares a queue.
+QUORUM = {'x-queue-type': 'quorum', 'x-single-active-consumer': True}
+# A header of the type timestamp, for which there is no year.
+NO_TIME = b'T' + b'\xff' * 8
+
+
+def end_mark(previous):
+    """An end mark, as body and properties; its predecessor is of any type."""
+    return b'', pika.BasicProperties(type='end', headers={'previous': previous})
+
+
+def odd_messages(stream):
+    """Messages that are no event: what is wrong with each, its body and its properties."""
+    body, properties = stream.event(1, 20)
+    after = {'previous': '2019'}
+    stamp = b'"timestamp":"2019",'
+    yield from ((name, it, pika.BasicProperties(headers=after)) for name, it in (
+        ('not_json', b''), ('not_json', b'1e999'), ('not_json', b'[' * 30_000), ('not_json', b'\xff'), ('not_json', b'no\nevent\n'), ('not_json', body + b'\n' + body),
+        ('not_json', body + b',"previous":"2018"'), ('not_json', b'0},"end":true,"x":{"y":0'), ('not_json', body.replace(b'"type":"', b'"type":"\n')),
+        ('not_an_object', b'[]'), ('not_an_object', b'7'), ('missing', b'{}'), ('missing', b'{"timestamp":"2000"}'), ('too_long', b' ' * 70_000 + body),
+        *(('wrong_type', body.replace(stamp, b'"timestamp":%b,' % it)) for it in (b'1.5', b'-1', b'true', b'[1]', b'"-1"', b'"1_0"')),
+        *(('out_of_range', body.replace(stamp, b'"timestamp":"%b",' % it)) for it in (b'9' * 20, b'9' * 5000)),
+        ('not_json', body.replace(stamp, b'"timestamp":1e999,')),
+    ))
+    for previous in ([], {}, True, b'\xff', decimal.Decimal('1.5'), datetime.datetime(2020, 1, 1), '', '-1'):
+        yield 'wrong_type', body, pika.BasicProperties(headers={'previous': previous})
+        yield 'wrong_type', *end_mark(previous)
+    yield 'out_of_range', *end_mark('9' * 5000)
+    yield 'missing', *end_mark(None)
+    yield 'missing', body, pika.BasicProperties()
+    yield 'not_json', b'', pika.BasicProperties(type=b'\xff', headers=after)
 
 
 class Rows(Bench):
@@ -91,7 +127,10 @@ class Rows(Bench):
     def row_consumer_killed_before_its_save(self):
         """What wasn't saved isn't acknowledged: `follow` is stopped, so that messages wait for it, and then all is killed."""
         with contextlib.closing(self.stream('unsaved')) as stream:
+            with self.channel() as channel:
+                channel.queue_declare('unsaved.1', durable=True, arguments=QUORUM)
             consumer = stream.consumer(1)
+            wait_for('the consumer is there', lambda: self.consumers_of('unsaved.1') == 1)
             wait_for('`follow` runs', lambda: children_of(consumer.process.pid))
             os.kill(children_of(consumer.process.pid)[0], signal.SIGSTOP)
             stream.ends(stream.bridge('--end'), 0, '300 events confirmed')
@@ -108,7 +147,7 @@ class Rows(Bench):
         with self.held('deleted') as (stream, bridge, go_on):
             with self.channel() as channel:
                 channel.queue_delete('deleted.1')
-                channel.queue_declare('deleted.1', durable=True, arguments={'x-queue-type': 'quorum', 'x-single-active-consumer': True})
+                channel.queue_declare('deleted.1', durable=True, arguments=QUORUM)
             go_on()
             stream.ends(bridge, 0, '300 events confirmed')
             self.is_sent_again(stream, 1, 0)
@@ -238,7 +277,7 @@ class Rows(Bench):
                 stream.takes_all(place)
 
     def row_refused(self):
-        """A login, a virtual host and a name that the broker refuses, and a message that `follow` refuses."""
+        """A login, a virtual host and a name that the broker refuses."""
         with contextlib.closing(self.stream('refused')) as stream:
             url = self.cluster.nodes[0].url
             for place, (script, first) in enumerate((('bridge.py', stream.script), ('take.py', 1))):
@@ -246,12 +285,83 @@ class Rows(Bench):
                 stream.ends(stream.start(f'login-{place}', script, first, *more, '--url', url.replace('guest@', 'wrong@')), 1, 'the broker refuses guest to / at .*ACCESS_REFUSED')
                 stream.ends(stream.start(f'host-{place}', script, first, *more, '--url', url.replace('%2F', 'elsewhere')), 1, 'the broker refuses guest to elsewhere at .*NOT_ALLOWED')
             stream.ends(stream.bridge('--name', 'amq.match'), 1, '^bridge: the broker refuses queue amq.match.lock: 403 ')
-            stream.ends(stream.bridge(), 0, '')
-            with self.channel() as channel:
-                channel.basic_publish('', 'refused.2', b'no event')
-            printed = stream.ends(stream.consumer(2), 2, '')
-            events = int(stream.books[2].split()[3])
-            same('the last line', f'fault: line {events + 1}: not_json', printed.splitlines()[-1])
+
+    def row_no_event(self):
+        """Whatever a message has, the consumer names it and ends with status 2, and the message stays in the queue; what came before it is in
+        the book, and once it is gone the consumer goes on."""
+        with contextlib.closing(self.stream('odd', script_of(20))) as stream:
+            stream.ends(stream.bridge(log='first'), 0, '20 events confirmed')
+            for at, (name, body, properties) in enumerate(odd_messages(stream)):
+                self.publish('odd.1', (body, properties), stream.event(1, 20))
+                printed = stream.ends(stream.consumer(1, log=f'odd-{at}'), 2, f'delivery {1 if at else 21} of queue odd.1 is no event: {name}; it stays there')
+                same('the book', stream.books[1].replace('ended yes', 'ended no'), printed.partition('fault:')[0])
+                same('left', 2, self.purge('odd.1'))
+            stream.ends(stream.bridge('--end', log='end'), 0, '')
+            stream.takes_all(1)
+
+    def row_headers_that_cannot_be_read(self):
+        """A message that pika can't read is named too, once everything before it is in the book."""
+        with contextlib.closing(self.stream('headers', script_of(20))) as stream:
+            stream.ends(stream.bridge(log='first'), 0, '20 events confirmed')
+            with mock.patch('pika.data.encode_value', lambda pieces, _: (pieces.append(NO_TIME), len(NO_TIME))[1]):
+                self.publish('headers.1', stream.event(1, 20))
+            for again in range(2):
+                stream.ends(stream.consumer(1, '--prefetch', 64, log=f'take-{again}'), 2, "of queue headers.1 is no event: its headers can't be read, OverflowError.*; it stays there")
+                same('events in the book', 20, stream.applied(1))
+            same('left', 1, self.purge('headers.1'))
+            stream.ends(stream.bridge('--end', log='end'), 0, '')
+            stream.takes_all(1)
+
+    def row_events_after_the_end(self):
+        """What contradicts the end stays in the queue, and what comes after it; no start of the consumer ends well."""
+        with contextlib.closing(self.stream('after', script_of(20))) as stream:
+            stream.ends(stream.bridge('--end'), 0, '20 events confirmed')
+            stream.script.write_text('\n'.join(script_of(40)) + '\n')
+            stream.ends(stream.bridge('--queue', 1, '--start-after', 2019, '--end'), 0, '20 events confirmed')
+            for place in (22, 1):
+                reason = f'delivery {place} of queue after.1 contradicts the end of the queue after event 2019: it is event 2020 after 2019; it stays there'
+                printed = stream.ends(stream.consumer(1, log=f'take-{place}'), 1, reason)
+                same('the book', stream.books[1], printed.partition('after_end:')[0])
+            same('left', 21, self.purge('after.1'))
+
+    def row_other_end_marks(self):
+        """An end mark that doesn't name the last event isn't the end, and stays in the queue, even if the end comes after it."""
+        with contextlib.closing(self.stream('marks', script_of(40))) as stream:
+            stream.ends(stream.bridge(log='first'), 0, '40 events confirmed')
+            for last, reason in (
+                (2009, 'after event 2039: the end of the queue comes after 2009. The book is past that'),
+                (2050, 'after event 2039: the end of the queue comes after 2050. `bridge.py FILE --queue 1 --start-after 2039` sends again'),
+            ):
+                self.publish('marks.1', end_mark(str(last)))
+                stream.ends(stream.consumer(1, '--gap-timeout', 1, log=f'take-{last}'), 1, f'a gap in queue marks.1 {reason}')
+                same('left', 1, self.purge('marks.1'))
+            self.publish('marks.1', end_mark('2009'))
+            stream.ends(stream.bridge('--end', log='end'), 0, '')
+            reason = 'delivery 1 of queue marks.1 contradicts the end of the queue after event 2039: it is an end mark after 2009; it stays there'
+            printed = stream.ends(stream.consumer(1, '--gap-timeout', 1), 1, reason)
+            same('the book', stream.books[1], printed.partition('after_end:')[0])
+            same('left', 1, self.purge('marks.1'))
+
+    def row_duplicates(self):
+        """Duplicates alone, more than may wait at a time, are acknowledged, and so are more end marks of the same end."""
+        with contextlib.closing(self.stream('duplicates', script_of(40))) as stream:
+            stream.ends(stream.bridge(log='first'), 0, '40 events confirmed')
+            for again in range(3):
+                for _ in range(2):
+                    stream.ends(stream.bridge('--queue', 1, '--end', log='bridge'), 0, '40 events confirmed')
+                stream.takes_all(1, '--prefetch', 16, log=f'take-{again}')
+                same('left', 0, self.purge('duplicates.1'))
+
+    def row_book_in_sqlite(self):
+        """A consumer whose book is in SQLite goes on with it, and after the end has nothing to wait for."""
+        with self.held('sqlite') as (stream, bridge, go_on):
+            book = f'sqlite:{stream.book(1)}'
+            stream.ends(stream.consumer(1, '--quiet', 1, book=book), 0, '')
+            go_on()
+            stream.ends(bridge, 0, '300 events confirmed')
+            stream.ends(stream.bridge('--end'), 0, '')
+            for again in range(2):
+                stream.takes_all(1, book=book, log=f'take-{again}')
 
     def run(self, name):
         """Runs a row; whether it failed."""

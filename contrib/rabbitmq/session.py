@@ -38,14 +38,19 @@ class Session:
         # The deadline of each confirm that hasn't come, in the order of the tags.
         self.unconfirmed = collections.OrderedDict()
         self.next_tag = 1
-        self.connection = pika.SelectConnection(
-            parameters,
-            on_open_callback=self.on_open,
-            on_open_error_callback=lambda _, error: self.fail(client.refusal(parameters, error) or Lost(client.shown(error))),
-            on_close_callback=lambda _, error: self.fail(Lost(client.shown(error))),
-        )
-        self.loop = self.connection.ioloop
-        self.wait('a connection', lambda: self.connection.is_open)
+        try:
+            self.connection = pika.SelectConnection(
+                parameters,
+                on_open_callback=self.on_open,
+                on_open_error_callback=lambda _, error: self.fail(client.refusal(parameters, error) or Lost(client.shown(error))),
+                on_close_callback=lambda _, error: self.fail(Lost(client.shown(error))),
+            )
+            self.loop = self.connection.ioloop
+            self.wait('a connection', lambda: self.connection.is_open)
+        except OSError as error:
+            raise Lost(client.shown(error)) from error
+        except client.UNUSABLE as error:
+            raise client.unusable(error) from None
         self.channel = self.open_channel()
         self.channel.add_on_close_callback(lambda _, error: self.fail(Lost(client.shown(error))))
         self.channel.add_on_return_callback(self.on_return)

@@ -4,9 +4,13 @@ import os
 import subprocess
 from dataclasses import dataclass
 
+import client
 from console import USAGE_ERROR, Stop
 
 BODY = b',"body":'
+GREATEST = 2 ** 63 - 1
+# What reading a line raises that the program doesn't print.
+UNLIKE = (AttributeError, KeyError, RecursionError, TypeError, ValueError)
 
 
 @dataclass(frozen=True)
@@ -31,7 +35,7 @@ class Program:
 
     def lines(self, command):
         """The lines that a command prints over the script. If it fails, its own standard error has the reason."""
-        with subprocess.Popen([self.path, command, '--json', self.script], stdin=subprocess.DEVNULL, stdout=subprocess.PIPE) as process:
+        with started([self.path, command, '--json', self.script], stdin=subprocess.DEVNULL) as process:
             for line in process.stdout:
                 if not line.startswith((b'{"kind":"fault"', b'{"kind":"file_fault"')):
                     yield line
@@ -49,10 +53,30 @@ class Program:
     def ends(self):
         """The timestamp of the last event in each queue; 0 if there is none."""
         found = {}
-        for line in map(json.loads, self.lines('books')):
-            if line['kind'] == 'subscriber':
-                found[line['subscriber']] = int(line['last'])
+        for line in self.lines('books'):
+            try:
+                read = json.loads(line)
+                if read['kind'] == 'subscriber':
+                    found[whole(read['subscriber'])] = whole(read['last'])
+            except UNLIKE as error:
+                raise Stop(f'`books --json` prints something else than batches and books: {line[:100]!r}') from error
         return found
+
+
+def started(command, **how):
+    """The program, started, and what it prints, or a usage error."""
+    try:
+        return subprocess.Popen(command, stdout=subprocess.PIPE, **how)
+    except OSError as error:
+        raise Stop(f'{command[0]} can\'t be run: {error.strerror}', USAGE_ERROR) from None
+
+
+def whole(it):
+    """A number as the program prints it."""
+    number = client.number_of(it)
+    if number is None or number > GREATEST:
+        raise ValueError(it)
+    return number
 
 
 def message_of(line, previous):
@@ -60,7 +84,8 @@ def message_of(line, previous):
     try:
         read = json.loads(line)
         body = line[line.index(BODY) + len(BODY):].rstrip()[:-1]
-        queues = {it['queue']: int(it['previous']) for it in read['queues']}
-        return Message(read['headers'], read['timestamp'], int(read['body']['timestamp']), previous, queues, body)
-    except (ValueError, KeyError, TypeError):
+        headers = {str(key): it if isinstance(it, str) else whole(it) for key, it in read['headers'].items()}
+        queues = {whole(it['queue']): whole(it['previous']) for it in read['queues']}
+        return Message(headers, whole(read['timestamp']), whole(read['body']['timestamp']), previous, queues, body)
+    except UNLIKE:
         raise Stop(f'`messages --json` prints something else than messages: {line[:100]!r}') from None

@@ -4,6 +4,7 @@
 set -uo pipefail
 top=$(cd "$(dirname "${BASH_SOURCE[0]}")/../.." && pwd)
 . "$top/tests/common/help.sh"
+. "$top/tests/common/unprivileged.sh"
 program=$(realpath "${1:-$top/crates/cdc_app/out/cdc_app}")
 folder=$(mktemp -d)
 trap 'rm -rf "$folder"' EXIT
@@ -29,14 +30,22 @@ has() {
     case "$3" in *"$2"*) ;; *) wrong "$1" "..$2.." "$3" ;; esac
 }
 
-# Runs the program with these arguments; standard input is the file `input`.
+# Runs the program with these arguments, by the function $by if there is one; standard input is the file `input`.
 run() {
-    "$program" "$@" <input >output 2>errors
+    ${by-} "$program" "$@" <input >output 2>errors
     status=$?
     out=$(cat output; printf x)
     out=${out%x}
     err=$(cat errors; printf x)
     err=${err%x}
+}
+
+# Returns whether there is a disk that is full; if not, prints what isn't written to one.
+has_full_disk() {
+    [ -w /dev/full ] || {
+        echo "arguments: not tried: $1 to a full disk: there is no /dev/full"
+        false
+    }
 }
 
 # A run that ends well, with nothing on standard error.
@@ -159,7 +168,6 @@ usage_error "'--to-end" simulate one.script three.steps --to-end
 usage_error "'--to-end" simulate one.script --random 1 --to-end --to-end
 usage_error "'--to-end" books one.script --to-end
 usage_error "relayplum simulate one.script --random 1" simulate one.script
-usage_error "can't both be standard input" simulate - -
 for seed in x 18446744073709551616 ''; do
     usage_error "--random $seed: a seed, a number from 0 to 18446744073709551615" simulate one.script "--random=$seed"
 done
@@ -201,7 +209,7 @@ for option in --lose-confirm --lose-publish --restart-after; do
 done
 for option in --repeat --close; do
     usage_error "'$option" run one.script "$option"
-    for pair in 0:1 9:1 1:0 1 1: :1 : 1:1:1 1-1 x:1 1:x 18446744073709551616:1 1:18446744073709551616 ''; do
+    for pair in 0:1 1:0 1 1: :1 : 1:1:1 1-1 x:1 1:x 18446744073709551616:1 1:18446744073709551616 ''; do
         usage_error "$option $pair: a " run one.script "$option=1:1" "$option=$pair"
     done
 done
@@ -552,12 +560,12 @@ bad_file no-such.script 'No such file'
 bad_file folder 'directory'
 bad_file one.script/inner 'ot a directory'
 bad_file no-folder/one.script 'No such file'
-if [ "$(id -u)" != 0 ]; then
+if modes_count arguments 'a file that is locked by its mode'; then
     cp one.script locked.script
     chmod 0 locked.script
-    bad_file locked.script 'Permission denied'
+    by=unprivileged bad_file locked.script 'Permission denied'
 fi
-if [ -w /dev/full ]; then
+if has_full_disk 'a text'; then
     for command in books messages --help; do
         arguments=("$command")
         [ "$command" == --help ] || arguments+=(one.script)
@@ -583,12 +591,26 @@ for arguments in 'one.script three.steps' '- three.steps' 'one.script three.step
     ends_well "arguments 'simulate $arguments'"
 done
 cp three.steps input
-run simulate one.script -
+run simulate one.script /dev/stdin
 same 'steps on standard input' "$its_world" "$out"
 ends_well 'steps on standard input'
+# A dash names a file of that name: STEPS is a file.
+for arguments in 'one.script -' '- -' 'one.script - --check'; do
+    cp one.script input
+    run simulate $arguments
+    same "no file '-' in 'simulate $arguments': status" 1 "$status"
+    same "no file '-' in 'simulate $arguments': standard output" 'fault: read_fault
+' "$out"
+    same "no file '-' in 'simulate $arguments': standard error" '-: read_fault: No such file or directory
+' "$err"
+done
 cp three.steps ./-
-run simulate one.script ./-
-same 'a step file whose name is a dash' "$its_world" "$out"
+for arguments in 'one.script ./-' 'one.script -' '- -'; do
+    run simulate $arguments
+    same "a step file whose name is a dash in 'simulate $arguments'" "$its_world" "$out"
+    ends_well "a step file whose name is a dash in 'simulate $arguments'"
+done
+rm ./-
 printf 'start\nstart\n' >twice.steps
 run simulate one.script twice.steps
 same 'a refused step: status' 1 "$status"
@@ -600,8 +622,8 @@ subscriber 1 applied 0 last 0 ended no closed no
 same 'a refused step: standard error' 'twice.steps:2: start: not enabled: session 1 runs already
 ' "$err"
 cp twice.steps input
-run simulate one.script -
-has 'a refused step of standard input' ':2: start: not enabled: session 1 runs already' "$err"
+run simulate one.script /dev/stdin
+has 'a refused step of standard input' '/dev/stdin:2: start: not enabled: session 1 runs already' "$err"
 run simulate "$top/examples/two-phase.script" "$top/examples/two-phase.steps"
 shown=$(sed -n '/^steps 22 of 22$/,/^```$/p' "$top/docs/REFERENCE.md")
 same 'the example of steps' "batch 1: 0 0 0 0
@@ -946,7 +968,7 @@ run books --json --explain results.script
 has 'objects, explained' 'results.script:24: batch 3 account 1 (id 20): 1 reserved_flag: ' "$err"
 run books --json results.script
 has 'objects, with items that are not accepted' 'relayplum: requests not accepted: 49, batches refused: 0; --explain prints why' "$err"
-if [ -w /dev/full ]; then
+if has_full_disk 'objects'; then
     "$program" books --json one.script >/dev/full 2>errors
     same 'objects to a full disk: status' 1 $?
     has 'objects to a full disk: why' 'standard output: write_fault: No space left' "$(cat errors)"
@@ -1015,7 +1037,7 @@ for seed in {1..20}; do
     run simulate "$top/examples/two-phase.script" random.steps --deliveries 1
     same "deliveries of the seed $seed, played again" "$made" "$out"
     cp random.steps input
-    run simulate "$top/examples/two-phase.script" - --deliveries 1 --json
+    run simulate "$top/examples/two-phase.script" /dev/stdin --deliveries 1 --json
     same "deliveries of the seed $seed, from standard input" "$made" "$out"
 done
 # Those of a run come in one order if no queue rewinds: an event that is published twice has two positions.
@@ -1173,8 +1195,10 @@ for arguments in "${refusing[@]}"; do
     wanted="$status $out"
     out=$("$program" $arguments 2>&-; printf ' %s' $?)
     same "arguments '$arguments' without standard error" "${wanted#* } ${wanted%% *}" "$out"
-    [ ! -w /dev/full ] || out=$("$program" $arguments 2>/dev/full; printf ' %s' $?)
-    same "arguments '$arguments', standard error full" "${wanted#* } ${wanted%% *}" "$out"
+    if has_full_disk "standard error of '$arguments'"; then
+        out=$("$program" $arguments 2>/dev/full; printf ' %s' $?)
+        same "arguments '$arguments', standard error full" "${wanted#* } ${wanted%% *}" "$out"
+    fi
 done
 
 # A large simulation: 10,000 transfers, each of which is published, confirmed and taken, in 60,014 steps.
@@ -1254,20 +1278,18 @@ ends_well 'a diagram without a reader'
 "$program" books one.script >&- 2>errors
 same 'a closed standard output: status' 1 $?
 has 'a closed standard output: why' 'standard output: write_fault: Bad file descriptor' "$(cat errors)"
-if [ -w /dev/full ]; then
+if has_full_disk 'a diagram'; then
     run simulate --diagram=/dev/full one.script three.steps
     same 'a diagram to a full disk: status' 0 "$status"
     has 'a diagram to a full disk: why' '/dev/full: write_fault: No space left' "$err"
 fi
 
 # Bodies are JSON texts to an outside reader too.
-if command -v python3 >/dev/null; then
-    for events in "one.script 1" "$top/examples/two-phase.script 7"; do
-        "$program" messages "${events% *}" | python3 "$top/tests/common/json_lines.py" "${events##* }" ||
-            wrong 'bodies as JSON' "$events events" 'see above'
-        checks=$((checks + 1))
-    done
-fi
+for events in "one.script 1" "$top/examples/two-phase.script 7"; do
+    "$program" messages "${events% *}" | python3 "$top/tests/common/json_lines.py" "${events##* }" ||
+        wrong 'bodies as JSON' "$events events" 'see above'
+    checks=$((checks + 1))
+done
 
 echo "arguments: $checks checks, $failed failed"
 [ "$failed" == 0 ]

@@ -35,20 +35,20 @@ import terms
 MOST = 300
 # How many words a document may have. Documents of one line share their words.
 BUDGETS = [
-    (450, "README.md"),
-    (1_600, "docs/GUIDE.md"),
-    (600, "docs/TESTING-A-CONSUMER.md"),
-    (1_000, "docs/EXACTLY-ONCE.md"),
-    (520, "docs/AUDIT.md"),
-    (2_500, "docs/REFERENCE.md"),
-    (5_650, "docs/FORMATS.md"),
-    (3_100, "docs/PROOFS.md"),
-    (1_800, "docs/ARCHITECTURE.md"),
-    (2_630, "CONTRIBUTING.md"),
-    (2_050, "docs/DECISIONS.md"),
-    (730, "docs/MEASURED.md"),
-    (900, "CHANGELOG.md", "ROADMAP.md"),
-    (600, "contrib/rabbitmq/README.md"),
+    (540, "README.md"),
+    (1_920, "docs/GUIDE.md"),
+    (720, "docs/TESTING-A-CONSUMER.md"),
+    (1_200, "docs/EXACTLY-ONCE.md"),
+    (620, "docs/AUDIT.md"),
+    (3_000, "docs/REFERENCE.md"),
+    (6_780, "docs/FORMATS.md"),
+    (3_720, "docs/PROOFS.md"),
+    (2_160, "docs/ARCHITECTURE.md"),
+    (3_060, "CONTRIBUTING.md"),
+    (2_400, "docs/DECISIONS.md"),
+    (880, "docs/MEASURED.md"),
+    (1_300, "CHANGELOG.md", "ROADMAP.md"),
+    (720, "contrib/rabbitmq/README.md"),
 ]
 FIRST = "README.md"
 # The documents whose names may be of another day.

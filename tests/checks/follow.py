@@ -3,19 +3,22 @@
 
   tests/checks/follow.py [PROGRAM] [--streams N]    PROGRAM: crates/cdc_app/out/cdc_app; N random streams, 300 by default
 
-By hand: each kind of line, each fault, each status, where a line ends, and what standard error reports. Random streams of a
-queue are lost, repeated, shuffled and merged from two publishers; what is printed, and what standard error reports of gaps,
-has to be that of a small model, which reads JSON by Python's own parser. Killed: the program ends at each read, write, sync
+By hand: each kind of line, each fault, each status, where a line ends, and what standard error reports; how often a file is saved;
+books that something else replaces meanwhile; standard descriptors that are closed. Random streams of a queue are lost, repeated,
+shuffled and merged from two publishers; what is printed, and what standard error reports of gaps, has to be that of a small model,
+which reads JSON by Python's own parser. Killed: the program ends at each read, write, sync
 and rename of a stream with a book, and is started again with the lines from an earlier `saved` on; it has to come to the book
 of a run without a stop. Refused: each allocation, read, write, open, sync and rename is refused in turn; the book has to be
 the old one or a later one, and whole.
 
-Killed and Refused need a C compiler, `cc`. The last line is `follow: N passed, M failed`; the status is 1 where one failed.
+Replaced, Killed and Refused need a C compiler, `cc`. The last line is `follow: N passed, M failed`; the status is 1 where one failed.
 """
 import concurrent.futures
+import contextlib
 import json
 import os
 import random
+import sqlite3
 import subprocess
 import sys
 
@@ -23,6 +26,7 @@ sys.dont_write_bytecode = True
 sys.path += [os.path.join(os.path.dirname(os.path.realpath(__file__)), "..", it) for it in ("common", "faults")]
 import commands
 import ending
+import holding
 import interrupted
 from commands import check, run
 
@@ -106,19 +110,24 @@ class Model:
         self.book = {}
 
     def take(self, number, line):
-        """Takes a line; returns the line that is printed where there is a gap."""
+        """Takes a line; returns the line that is printed where following stops at it: at a gap, unless gaps are skipped, or at what
+        contradicts the end."""
         value = json.loads(line)
-        previous = int(value["previous"]) if self.is_chained else 0
+        previous = int(value["previous"]) if self.is_chained else self.seen
         body = value.get("body", value)
         timestamp = None if value.get("end") else int(body["timestamp"])
-        if self.ended or timestamp is not None and timestamp <= self.seen:
+        is_taken = timestamp is None or self.ledger in (None, body["ledger"])
+        if timestamp is not None and timestamp <= self.seen:
             return None
-        if previous > self.seen:
+        if self.ended:
+            is_other = previous != self.seen if timestamp is None else self.is_chained or is_taken
+            return f"after_end: line {number}: ended after {self.seen}\n" if is_other else None
+        if previous != self.seen:
             self.gaps += 1
             return f"gap: line {number}: after {previous}, expected after {self.seen}\n"
         if timestamp is None:
             self.ended = True
-        elif self.ledger in (None, body["ledger"]):
+        elif is_taken:
             self.seen = self.last = timestamp
             self.applied += 1
             for side in ("debit_account", "credit_account"):
@@ -142,6 +151,7 @@ class Model:
 NOTHING = "subscriber 1 applied 0 last 0 ended no closed no\n"
 ONE = "subscriber 1 applied 1 last 10 ended no closed no\naccount 1 0 5 0 0\naccount 2 0 0 0 5\n"
 TWO = "subscriber 1 applied 2 last 20 ended no closed no\naccount 1 0 9 0 0\naccount 2 0 0 0 9\n"
+GREATEST = 2**63 - 1  # the greatest timestamp of a ledger
 UNREAD = "standard input: lines have previous, which is ignored without --chained\n"
 FIRST, SECOND = event(10), event(20, balances=((0, 9, 0, 0), (0, 0, 0, 9)))
 
@@ -192,7 +202,19 @@ def rows():
     yield "further members", [], lines(json.dumps({**FIRST, "more": [1, {"a": None}]})), ONE, 0, ""
     yield "an envelope", [], lines(json.dumps({"x": 1, "body": FIRST})), ONE, 0, ""
     yield "the end", [], lines(first, end()), ONE.replace("ended no", "ended yes"), 0, ""
-    yield "the end twice, and an event between", [], lines(first, end(), second, end()), ONE.replace("ended no", "ended yes"), 0, ""
+    ended = ONE.replace("ended no", "ended yes")
+    yield "the end twice, and a duplicate between", [], lines(first, end(), first, end()), ended, 0, ""
+    yield "an event after the end", [], lines(first, end(), second, end()), (
+        ended + "after_end: line 3: ended after 10\n"
+    ), 1, ":3: after_end: the event has the timestamp 20, and the stream ended after 10"
+    yield "an event after the end that the binding doesn't take", ["--binding", "all ledger=700"], lines(
+        first, end(), own({**SECOND, "ledger": 701})
+    ), ended, 0, ""
+    yield "the greatest timestamp", [], lines(own(event(GREATEST))), ONE.replace("last 10", f"last {GREATEST}"), 0, ""
+    for timestamp in (GREATEST + 1, 2**64 - 1):
+        yield f"the timestamp {timestamp}", [], lines(first, own(event(timestamp)), second), (
+            ONE + "fault: line 2: out_of_range\n"
+        ), 2, ":2: out_of_range: the timestamp is above 9223372036854775807"
     yield "no end, since its member is false", [], lines('{"end":false}'), NOTHING + "fault: line 1: missing\n", 2, "missing"
     yield "blank lines and headers", [], lines("", " \t", "event_type=x", first), ONE, 0, ""
     yield "carriage returns", [], (first + "\r\n\r\n").encode(), ONE, 0, ""
@@ -240,9 +262,30 @@ def rows():
         chained(0, FIRST), chained(15, SECOND), chained(15, SECOND)
     ), ONE, 0, skipped(2)
     yield "duplicates are no gaps", [*chain, "--skip-gaps"], lines(chained(0, FIRST), chained(7, FIRST), chained(90, FIRST)), ONE, 0, ""
-    yield "nothing is a gap after the end", [*chain, "--skip-gaps"], lines(chained(0, FIRST), end(10), chained(90, SECOND)), (
-        ONE.replace("ended no", "ended yes")
-    ), 0, ""
+    yield "an event of another queue", chain, lines(chained(0, FIRST), chained(0, SECOND), chained(10, event(30))), (
+        ONE + "gap: line 2: after 0, expected after 10\n"
+    ), 1, ":2: gap: the message before this one in its queue has the timestamp 0, and the last one that came has 10: this message is of"
+    yield "an event of another queue that is skipped", [*chain, "--skip-gaps"], lines(
+        chained(0, FIRST), chained(0, event(15)), chained(10, SECOND)
+    ), TWO, 0, skipped(1)
+    yield "the end of another queue", chain, lines(chained(0, FIRST), end(0)), (
+        ONE + "gap: line 2: after 0, expected after 10\n"
+    ), 1, ":2: gap: "
+    yield "a redelivery after the end", chain, lines(chained(0, FIRST), end(10), chained(0, FIRST), end(10)), ended, 0, ""
+    for name, options in (("an event after the end of a chain", chain), ("with gaps that are skipped", [*chain, "--skip-gaps"])):
+        yield name, options, lines(chained(0, FIRST), end(10), chained(10, SECOND)), (
+            ended + "after_end: line 3: ended after 10\n"
+        ), 1, ":3: after_end: the event has the timestamp 20"
+    yield "an event after the end, of which the binding takes none", [*chain, "--binding", "all ledger=701"], lines(
+        chained(0, FIRST), end(10), chained(10, SECOND)
+    ), NOTHING.replace("ended no", "ended yes") + "after_end: line 3: ended after 10\n", 1, "after_end"
+    for previous in (0, 20):
+        yield f"another end, after {previous}", chain, lines(chained(0, FIRST), end(10), end(previous)), (
+            ended + "after_end: line 3: ended after 10\n"
+        ), 1, f":3: after_end: this end comes after {previous}, and the stream ended after 10"
+    yield "a chain's timestamp out of range", chain, lines(chained(0, FIRST), chained(10, event(GREATEST + 1))), (
+        ONE + "fault: line 2: out_of_range\n"
+    ), 2, "out_of_range"
     yield "a gap that is skipped before a bad line", [*chain, "--skip-gaps"], lines(chained(10, SECOND), "x"), (
         NOTHING + "fault: line 2: not_json\n"
     ), 2, skipped(1)
@@ -273,6 +316,14 @@ JSON_ROWS = [
         '{"kind":"account","subscriber":1,"id":"1","debits_pending":"0","debits_posted":"5","credits_pending":"0","credits_posted":"0"}\n'
         '{"kind":"account","subscriber":1,"id":"2","debits_pending":"0","debits_posted":"0","credits_pending":"0","credits_posted":"5"}\n'
         '{"kind":"gap","line":2,"after":"30","expected_after":"10"}\n',
+        1,
+    ),
+    (
+        "what contradicts the end, as JSON",
+        ["--json", "--chained"],
+        f"{end(0)}\n{chained(0, FIRST)}\n",
+        '{"kind":"subscriber","subscriber":1,"applied":0,"last":"0","ended":true,"closed":false}\n'
+        '{"kind":"after_end","line":2,"ended_after":"0"}\n',
         1,
     ),
     (
@@ -377,9 +428,9 @@ def random_stream(seed):
     is_chained, skips, ledger = rng.random() < 0.7, rng.random() < 0.5, rng.choice([None, 700])
     model, printed, status = Model(is_chained, ledger), "", 0
     for number, line in enumerate(lines, 1):
-        gap = model.take(number, line)
-        if gap and not skips:
-            printed, status = gap, 1
+        stop = model.take(number, line)
+        if stop and not (skips and stop.startswith("gap: ")):
+            printed, status = stop, 1
             break
     arguments = ["--chained"] * is_chained + ["--skip-gaps"] * (is_chained and skips)
     arguments += ["--binding", f"all ledger={ledger}"] if ledger else []
@@ -461,11 +512,137 @@ def books(folder):
     check("a book behind a link", found[0] == 0 and os.path.islink(link) and found[1].endswith(whole), found)
     os.remove(link)
     os.chmod(book, 0o444)
-    if os.geteuid():
-        found = run(["--chained", "--book", book], text(lines))
-        check("a book that nobody may write", found[:2] == (1, "fault: store\n"), found)
+    found = run(["--chained", "--book", book], text(lines))
+    check("a book that nobody may write", found[:2] == (1, "fault: store\n"), found)
     os.chmod(book, 0o600)
     os.remove(book)
+
+
+def saves(folder):
+    """A regular file is saved after every N lines and at the end, however large it is; so is one at standard input."""
+    lines = stream_of(1000)
+    text = "".join(f"{it}\n" for it in lines).encode()
+    file = os.path.join(folder, "stream")
+    with open(file, "wb") as it:
+        it.write(text)
+    for every, count in (("7", 144), ("300", 4), ("1001", 2), ("1002", 1), ("1000000", 1)):
+        for name, given, stream in (("a file", [file], b""), ("standard input", [], text)):
+            book = os.path.join(folder, f"{every}.book")
+            found = run([*given, "--chained", "--book", book, "--every", every], stream)
+            times = len(interrupted.SAVED.findall(found[1]))
+            check(f"the saves of {name} after every {every} lines", found[0] == 0 and times == count, (times, found[2]))
+            os.remove(book)
+
+
+def started(folder, library, call, arguments, stream):
+    """A run in a folder that is held in a call, and the end of the pipe that holds it."""
+    os.mkfifo(os.path.join(folder, "hold"))
+    with open(os.path.join(folder, "stream"), "wb") as it:
+        it.write(stream)
+    child = subprocess.Popen(
+        [commands.program, "follow", "stream", *arguments], cwd=folder, env=holding.environment(library, call=call),
+        stdin=subprocess.DEVNULL, stdout=subprocess.PIPE, stderr=subprocess.PIPE,
+    )
+    return child, holding.wait_until_held(child, os.path.join(folder, "hold"))
+
+
+def released(child, pipe):
+    """The status and the standard output of a run that was held."""
+    os.close(pipe)
+    out, _ = child.communicate(timeout=commands.SECONDS)
+    return child.returncode, out.decode()
+
+
+def replaced(folder):
+    """A follower that has opened a book, which another one replaces before it is locked, goes on with the new one. A book that
+    something else puts in place during a save stays."""
+    library = holding.library_in(folder, "follow", "books that are replaced")
+    if library is None:
+        return
+    lines = stream_of(30)
+    text = lambda given: "".join(f"{it}\n" for it in given).encode()
+    whole = run(["--chained"], text(lines))[1]
+    room = os.path.join(folder, "locked")
+    os.mkdir(room)
+    book = os.path.join(room, "a.book")
+    run(["--chained", "--book", book], text(lines[:5]))
+    child, pipe = started(room, library, "lock", ["--chained", "--book", "a.book"], text(lines[15:]))
+    first = run(["--chained", "--book", book], text(lines[:15]))
+    check("the first follower", first[0] == 0, first)
+    found = released(child, pipe)
+    check("the second follower goes on from the first one's book", found[0] == 0 and found[1].endswith(whole), found)
+    room = os.path.join(folder, "saved")
+    os.mkdir(room)
+    book = os.path.join(room, "a.book")
+    run(["--chained", "--book", book], text(lines[:5]))
+    child, pipe = started(room, library, "sync", ["--chained", "--book", "a.book"], text(lines))
+    before = open(book, "rb").read()
+    with open(book + ".copy", "wb") as it:
+        it.write(before)
+    os.replace(book + ".copy", book)
+    number = os.stat(book).st_ino
+    found = released(child, pipe)
+    check("a save into a book that was put in place", found == (1, "fault: store\n"), found)
+    check("that book stays", os.stat(book).st_ino == number and open(book, "rb").read() == before, "")
+    check("nothing is left beside it", "a.book.new" not in os.listdir(room), os.listdir(room))
+
+
+def closed(folder):
+    """With standard descriptors closed, a book, a state and a record hold what they hold otherwise: no message gets into them."""
+    lines = stream_of(20)
+    script = os.path.join(folder, "script")
+    with open(script, "wb") as it:
+        it.write(SCRIPT)
+    stream, bodies = os.path.join(folder, "stream"), os.path.join(folder, "bodies")
+    with open(stream, "w", encoding="ascii") as it:
+        # (standard error reports the first line and the last one)
+        it.write("".join(f"{line}\n" for line in [*lines, chained(5, event(10**6))]))
+    messages = subprocess.run([commands.program, "messages", script], capture_output=True, check=True).stdout
+    with open(bodies, "wb") as it:
+        it.write(messages + b"x\n")
+    for name, arguments in (
+        ("book", ["follow", stream, "--book", "FILE", "--every", "3"]),
+        ("book in SQLite", ["follow", stream, "--book", "sqlite:FILE", "--every", "3"]),
+        ("state", ["audit", bodies, "--state", "FILE", "--every", "1"]),
+        ("record", ["run", script, "--progress", "FILE", "--close", "9:1"]),
+    ):
+        open_one = ended_with(folder, arguments, ())
+        for numbers_closed in ((0,), (1,), (2,), (0, 1), (0, 2), (1, 2), (0, 1, 2)):
+            found = ended_with(folder, arguments, numbers_closed)
+            check(f"a {name} with {numbers_closed} closed", found == open_one, (found, open_one))
+
+
+SCRIPT = b"""subscriber all
+accounts 1000
+account id=1 ledger=700 code=10
+account id=2 ledger=700 code=10
+transfers 2000
+transfer id=1 debit_account_id=1 credit_account_id=2 amount=100 ledger=700 code=1
+transfer id=2 debit_account_id=1 credit_account_id=2 amount=5 ledger=700 code=1
+"""
+
+
+def ended_with(folder, arguments, numbers_closed):
+    """The status of a run with these descriptors closed, and what its file holds then. Of a file of SQLite that is what SQL finds."""
+    path = os.path.join(folder, "kept")
+
+    def close():
+        for it in numbers_closed:
+            os.close(it)
+
+    given = [it.replace("FILE", path) for it in arguments]
+    status = subprocess.run(
+        [commands.program, *given], stdin=subprocess.DEVNULL, stdout=subprocess.DEVNULL, stderr=subprocess.DEVNULL,
+        preexec_fn=close, timeout=commands.SECONDS, check=False,
+    ).returncode
+    with open(path, "rb") as it:
+        held = it.read()
+    if held.startswith(b"SQLite"):
+        with contextlib.suppress(sqlite3.DatabaseError), contextlib.closing(sqlite3.connect(path)) as connection:
+            held = list(connection.iterdump())
+    names = sorted(os.listdir(folder))
+    os.remove(path)
+    return status, held, names
 
 
 class InterruptedFollow(interrupted.Interrupted):
@@ -511,7 +688,7 @@ def memory(folder):
 
 
 def main(arguments):
-    return commands.main(arguments, __doc__, "follow", [by_hand, books, killed, memory], random_streams, STREAMS)
+    return commands.main(arguments, __doc__, "follow", [by_hand, books, saves, replaced, closed, killed, memory], random_streams, STREAMS)
 
 
 if __name__ == "__main__":

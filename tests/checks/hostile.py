@@ -33,9 +33,9 @@ sys.path.insert(0, os.path.join(os.path.dirname(os.path.realpath(__file__)), "..
 import checked
 import ending
 import holding
+import nobody
 import scripts
 
-NOBODY = 65534
 SCRIPT = b"""subscriber all
 accounts 1000
 account id=1 ledger=700 code=10
@@ -78,11 +78,10 @@ def record(session, timestamp, start=0):
 
 def as_nobody(processes=None, megabytes=None, written=None):
     """Makes a process nobody's, who may have so many processes and threads, and it so much of an address space and so many bytes
-    in a file that it writes."""
+    in a file that it writes. The files that it makes have the modes that `plain` has."""
+    os.umask(0o022)
     if os.geteuid() == 0:
-        os.setgroups([])
-        os.setgid(NOBODY)
-        os.setuid(NOBODY)
+        nobody.become()
     if processes is not None:
         resource.setrlimit(resource.RLIMIT_NPROC, (processes, processes))
     if megabytes is not None:
@@ -117,7 +116,7 @@ class Hostile(checked.Checks):
 
     def give(self, path):
         if os.geteuid() == 0:
-            os.chown(path, NOBODY, NOBODY, follow_symlinks=False)
+            os.chown(path, nobody.NUMBER, nobody.NUMBER, follow_symlinks=False)
 
     def write(self, folder, name, text, mode=0o644):
         path = f"{folder}/{name}"
@@ -175,10 +174,21 @@ def contents(folder):
             if stat.S_ISLNK(mode):
                 held = os.readlink(path)
             elif stat.S_ISREG(mode):
-                with open(path, "rb") as file:
-                    held = file.read()
+                held = held_in(path, stat.S_IMODE(mode))
             found[os.path.relpath(path, folder)] = oct(mode), held
     return found
+
+
+def held_in(path, mode):
+    """Returns what a file holds. If its owner may not read it, its mode is another one meanwhile."""
+    is_readable = mode & stat.S_IRUSR
+    if not is_readable:
+        os.chmod(path, mode | stat.S_IRUSR)
+    with open(path, "rb") as file:
+        held = file.read()
+    if not is_readable:
+        os.chmod(path, mode)
+    return held
 
 
 def plain(text, mode=0o644):

@@ -3,6 +3,7 @@
 # on. Nothing is proved here (common/launching.sh).
 NAME=launcher
 . "$(dirname "${BASH_SOURCE[0]}")/../common/launching.sh"
+. "$here/tests/common/unprivileged.sh"
 
 start books x
 check 'the first call builds each crate below the program in its order' "$built" "$calls"
@@ -233,8 +234,8 @@ check 'four jobs: all for what everything left stands on' 'high: proved, jobs 4'
 
 # One that is refused ends the other that is being proved, which would never end by itself.
 for crate in low side; do echo '// wrong' >>"$room/top/crates/$crate/src/lib.rt"; done
-echo 'until [ -e "$DO/side.id" ]; do sleep 0.05; done; echo "no proof: a goal is open"; exit 1' >"$DO/low"
-echo 'echo $$ >"$DO/side.id.new"; mv "$DO/side.id.new" "$DO/side.id"; exec sleep 100000' >"$DO/side"
+echo 'until [ -s "$DO/side.id" ]; do sleep 0.05; done; echo "no proof: a goal is open"; exit 1' >"$DO/low"
+echo 'echo $$ >"$DO/side.id"; exec sleep 100000' >"$DO/side"
 RT_JOBS=2 start books x
 check 'side by side: one that is refused ends the script' 1 "$status"
 has 'side by side: it names the crate' '^relayplum: low isn.t proved: ' "$err"
@@ -389,17 +390,17 @@ KIT=$room/elsewhere call ./link books x
 sentence 'a toolchain without its id' 1 "relayplum: \`rt doc\` names the folder $room/elsewhere, which has no KIT-ID: it is no toolchain's folder"
 PATH=$PATH_WITHOUT call ./link books x
 sentence 'no toolchain' 1 'relayplum: there is no `rt` on the path: Rattle'"'"'s toolchain is needed'
-if [ "$(id -u)" = 0 ] && command -v setpriv >/dev/null && [ -x /usr/bin/python3 ]; then
-    chmod -R a+rX "$room"
-    chmod a+rwx "$room"
-    as_nobody() { PATH=$room/kit/bin:/usr/bin:/bin setpriv --reuid=65534 --regid=65534 --clear-groups "$@"; }
-    call as_nobody ./link books x
+if modes_count launcher 'a folder that is read-only'; then
+    chmod -R a-w "$room/top"
+    call unprivileged ./link books x
     has 'a folder that is read-only, unbuilt' "^relayplum: $room/top/crates/cdc_app/out[^ ]*: Permission denied$" "$err"
     lacks 'a folder that is read-only: no traceback' Traceback "$err"
+    chmod -R u+w "$room/top"
     call ./link books x
-    chmod -R a+rX "$room"
-    call as_nobody ./link books x
+    chmod -R a-w "$room/top"
+    call unprivileged ./link books x
     check 'a folder that is read-only, built: the program runs' '0 run with books x' "$status $out"
+    chmod -R u+w "$room/top"
 fi
 call ./link books x
 call sh -c './link books x >&-'

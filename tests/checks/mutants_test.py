@@ -17,6 +17,7 @@ TESTS = os.path.realpath(f"{os.path.dirname(os.path.realpath(__file__))}/..")
 sys.path[:0] = [TESTS, f"{TESTS}/common"]
 import ending
 import mutants_baseline as baseline
+import needs
 
 # In the place of the toolchain: three crates, of which high stands on low, and no check at all.
 RT = r'''#!/usr/bin/env python3
@@ -435,11 +436,13 @@ def test_commit(tree):
     """The groups are chosen by what was given, else by the repository's commit, else by the day."""
     assert baseline.commit_of(tree.folder, "abc") == "abc"
     assert re.fullmatch(r"\d{4}-\d\d-\d\d", baseline.commit_of(tree.folder))
-    if shutil.which("git"):
-        arguments = ["git", "-C", tree.folder, "-c", "user.name=a", "-c", "user.email=a@b"]
-        for more in (["init", "-q"], ["commit", "-q", "--allow-empty", "-m", "a"]):
-            subprocess.run([*arguments, *more], check=True, stdout=subprocess.DEVNULL)
-        assert re.fullmatch("[0-9a-f]{40,64}", baseline.commit_of(tree.folder))
+    if shutil.which("git") is None:
+        print(f"mutants: not tried: the commit of a repository: {needs.no_command('git')}")
+        return
+    arguments = ["git", "-C", tree.folder, "-c", "user.name=a", "-c", "user.email=a@b"]
+    for more in (["init", "-q"], ["commit", "-q", "--allow-empty", "-m", "a"]):
+        subprocess.run([*arguments, *more], check=True, stdout=subprocess.DEVNULL)
+    assert re.fullmatch("[0-9a-f]{40,64}", baseline.commit_of(tree.folder))
 
 
 def main(arguments):

@@ -102,13 +102,16 @@ def without(folder, *commands):
 def parts_left_out():
     """A check whose part needs a missing command names that part, the command and its package."""
     with tempfile.TemporaryDirectory(prefix="scripts-path-") as folder:
-        env = without(folder, "jq", "cc")
+        env = without(folder, "jq", "cc", "setpriv")
         printed = call([f"{TOP}/tests/checks/guide.sh", "/bin/true"], env)[1]
         same("guide, without jq", True, " blocks: there is no jq (Debian package jq)\nguide: " in printed)
         same("jq is named as elsewhere", "there is no jq (Debian package jq)", needs.no_command("jq"))
         arguments = f"import sys; sys.path.insert(0, '{TOP}/tests/common'); import holding; holding.library_in('.', 'stress', 'a part')"
         ended = call([sys.executable, "-c", arguments], env)
         same("stress and hostile, without cc", (0, f"stress: not tried: a part: {needs.no_command('cc')}\n", ""), ended)
+        as_root = f". {TOP}/tests/common/unprivileged.sh; id() {{ echo 0; }}; modes_count launcher 'a part' || echo left out"
+        wanted = f"launcher: not tried: a part: {needs.no_command('setpriv')}\nleft out\n"
+        same("launcher and arguments, as root, without setpriv", (0, wanted, ""), call(["bash", "-c", as_root], env))
         same("cc is named with its package", "there is no cc (Debian package gcc)", needs.no_command("cc"))
 
 

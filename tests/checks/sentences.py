@@ -95,12 +95,12 @@ BINDING = "all or any, and up to ten pairs of a header and its value"
 def rows():
     """Each row: the arguments, the status, and standard error."""
     yield ["books", b"\xff"], 2, "error: an argument is not UTF-8 text\n"
-    yield ["simulate", "-", "-"], 2, f"error: the script and the steps can't both be standard input\n{MORE}"
+    yield ["simulate", "one.script", "-"], 1, "-: read_fault: No such file or directory\n"
     yield ["follow", "gap.stream", "--skip-gaps"], 2, f"error: --skip-gaps needs --chained\n{MORE}"
     for option, command, wrong, wanted in [
         ("--queue", ["messages", "one.script"], "9", "the number of a subscriber, from 1 to 8"),
-        ("--repeat", ["run", "one.script"], "9:1", "a queue from 1 to 8, a colon and a position from 1, such as 1:2"),
-        ("--close", ["run", "one.script"], "1", "a subscriber from 1 to 8, a colon and a number of events from 1, such as 1:2"),
+        ("--repeat", ["run", "one.script"], "0:1", "a queue from 1, a colon and a position from 1, such as 1:2"),
+        ("--close", ["run", "one.script"], "1", "a subscriber from 1, a colon and a number of events from 1, such as 1:2"),
         ("--binding", ["follow", "gap.stream"], "some", f"{BINDING}, such as 'all ledger=700'"),
         ("--start-after", ["run", "one.script"], "x", "a timestamp in nanoseconds, from 0 to 9223372036854775807"),
         ("--lose-confirm", ["run", "one.script"], "0", "a number from 1 to 18446744073709551615"),
@@ -120,6 +120,8 @@ def rows():
     yield ["run", "none.script", "--lose-publish", "1", "--lose-confirm", "2"], 0, f"relayplum: --lose-confirm 2: {LATE} 1 publish\n"
     yield ["run", "one.script", "--close", "1:2"], 0, "relayplum: --close 1:2: subscriber 1 applied only 1 event\n"
     yield ["run", "one.script", "--close", "2:1"], 0, "relayplum: --close 2:1: there is no subscriber 2\n"
+    yield ["run", "one.script", "--close", "9:1"], 0, "relayplum: --close 9:1: there is no subscriber 9\n"
+    yield ["run", "one.script", "--repeat", "9:1"], 0, "relayplum: --repeat 9:1: there is no queue 9\n"
     # The closed subscriber receives one more event and the end mark.
     other = "the other 2 are end marks, or came after a close"
     line = f"subscriber 1: 3 deliveries, 1 applied, each once; 0 redelivered, applied no second time; {other}\n"

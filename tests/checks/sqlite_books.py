@@ -115,6 +115,7 @@ def others(folder):
     for name, make in [
         ("a text", lambda path: open(path, "w", encoding="ascii").write("book 1 chained yes seen 0\n")),
         ("a longer text", lambda path: open(path, "w", encoding="ascii").write("SQLite format 2\n" * 1000)),
+        ("nothing", lambda path: open(path, "wb").close()),
         ("a byte", lambda path: open(path, "wb").write(b"S")),
         ("no page", lambda path: open(path, "wb").write(b"SQLite format 3\0")),
         ("no header", lambda path: open(path, "wb").write(b"SQLite format 3\0" + bytes(8176))),
@@ -135,9 +136,8 @@ def others(folder):
         shutil.rmtree(room)
     os.mkdir(room)
     path = os.path.join(room, "a.db")
-    open(path, "wb").close()
     found = run(["--chained", "--book", f"sqlite:{path}"], text_of(lines))
-    check("an empty file", found[0] == 0 and rows_of(path)[0] == expected(model_of(lines)), found)
+    check("a file that isn't there", found[0] == 0 and rows_of(path)[0] == expected(model_of(lines)), found)
     before = folder_of(room)
     with open(path, "rb") as held:
         fcntl.flock(held, fcntl.LOCK_EX)
@@ -152,6 +152,78 @@ def others(folder):
     check("a folder", found[:2] == REFUSED and "regular file" in found[2], found)
     found = run(["--chained", "--book", f"sqlite:{os.path.join(folder, 'no', 'where')}"], b"")
     check("a book in no folder", found[:2] == REFUSED, found)
+
+
+def leftovers(folder):
+    """Beside a book that isn't there yet, only what its own making leaves is removed: a prefix of a new file."""
+    lines = follow.stream_of(6)
+    made_path = os.path.join(folder, "made.db")
+    run(["--chained", "--book", f"sqlite:{made_path}"], b"")
+    with contextlib.closing(sqlite3.connect(made_path)) as connection:
+        connection.execute("DROP TABLE accounts")
+        connection.execute("DROP TABLE book")
+    path = os.path.join(folder, "a.db")
+    new = new_file(folder)
+    for name, content, is_ours in [
+        ("an empty file", b"", True),
+        ("the mark", new[:16], True),
+        ("half a page", new[:2048], True),
+        ("a whole page", new, True),
+        ("a longer file", new + b"\0", False),
+        ("another page", new[:100] + b"\x05" + new[101:], False),
+        ("another's database", open(made_path, "rb").read(), False),
+    ]:
+        with open(path + ".new", "wb") as it:
+            it.write(content)
+        found = run(["--chained", "--book", f"sqlite:{path}"], text_of(lines))
+        if is_ours:
+            check(f"a leftover: {name}", found[0] == 0 and sorted(os.listdir(folder)) == ["a.db", "made.db"], found)
+            os.remove(path)
+        else:
+            check(f"another's file beside a book: {name}", found[:2] == REFUSED and not os.path.exists(path), found)
+            check(f"it stays: {name}", open(path + ".new", "rb").read() == content, name)
+            os.remove(path + ".new")
+
+
+def new_file(folder):
+    """The bytes of a new book's file, by hand: the header of a database of one page of 4,096 bytes without a table."""
+    page = bytearray(4096)
+    page[:24] = b"SQLite format 3\0\x10\0\x01\x01\0@  "
+    page[31], page[47], page[59], page[100], page[105] = 1, 4, 1, 13, 16
+    path = os.path.join(folder, "page")
+    with open(path, "wb") as it:
+        it.write(page)
+    with contextlib.closing(sqlite3.connect(path)) as connection:
+        check("the page is SQLite's", connection.execute("PRAGMA integrity_check").fetchall() == [("ok",)], "")
+    os.remove(path)
+    return bytes(page)
+
+
+def moved(folder):
+    """A book that is moved away gets no save, no other file is made at its name, and it is whole when it is back."""
+    lines = [it for it in follow.stream_of(12) if "end" not in json.loads(it)]
+    path, away = os.path.join(folder, "a.db"), os.path.join(folder, "away.db")
+    child = followed(path)
+    child.stdin.write(text_of(lines[:1]))
+    check("a save", child.stdout.readline().startswith(b"saved "), "")
+    os.rename(path, away)
+    child.stdin.write(text_of(lines[1:2]))
+    child.stdin.close()
+    out = child.stdout.read()
+    check("a save of a book that is moved away", (child.wait(commands.SECONDS), out) == (1, b"fault: store\n"), out)
+    check("no other file is made", os.listdir(folder) == ["away.db"], os.listdir(folder))
+    os.rename(away, path)
+    check("the book is whole", rows_of(path)[0] == expected(model_of(lines[:1])), "")
+    child = followed(path)
+    child.stdin.write(text_of(lines[1:2]))
+    check("a save of the book that is back", child.stdout.readline().startswith(b"saved "), "")
+    os.rename(path, away)
+    os.rename(away, path)
+    child.stdin.write(text_of(lines[2:3]))
+    check("a book that was away between two saves", child.stdout.readline().startswith(b"saved "), "")
+    child.stdin.close()
+    check("it is followed to its end", child.wait(commands.SECONDS) == 0, child.stderr.read())
+    check("and it has all events", rows_of(path)[0] == expected(model_of(lines[:3])), "")
 
 
 # ---------------------------------------------------------------------------------------------------------------------
@@ -253,7 +325,7 @@ def main(arguments):
     options = rooms.options_of(rooms.parser_of_first(__doc__), arguments)
     commands.begin(options.program, "follow")
     with rooms.room("sqlite-books-") as folder:
-        for part in (tables, others, readers, killed):
+        for part in (tables, others, leftovers, moved, readers, killed):
             room = os.path.join(folder, part.__name__)
             os.mkdir(room)
             part(room)

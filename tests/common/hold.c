@@ -1,8 +1,8 @@
 // Holds a thread of a program in one call until the pipe `hold` in its folder has been opened for writing and closed again.
 // holding.py builds it as a library and preloads it.
 //
-//   HOLD     the call: `sync` (before an fsync), `rename` (after a rename), `look` (after a query of a file's state that
-//            found no file) or `thread` (a thread, before it does anything)
+//   HOLD     the call: `sync` (before an fsync), `lock` (before a lock of a file), `rename` (after a rename), `look` (after
+//            a query of a file's state that found no file) or `thread` (a thread, before it does anything)
 //   HOLD_AT  which of these calls, or which thread in the order in which they are started, from 1
 #define _GNU_SOURCE
 #include <dlfcn.h>
@@ -38,6 +38,12 @@ int fsync(int file) {
     static int calls;
     count("sync", &calls);
     return syscall(SYS_fsync, file);
+}
+
+int flock(int file, int operation) {
+    static int calls;
+    count("lock", &calls);
+    return syscall(SYS_flock, file, operation);
 }
 
 int rename(const char *from, const char *to) {

@@ -10,6 +10,7 @@ SOURCES = {
     "jq": "Debian package jq",
     "python3": "Debian package python3",
     "rt": "part of the Rattle toolchain",
+    "setpriv": "Debian package util-linux",
     "valgrind": "Debian package valgrind",
 }
 

@@ -35,9 +35,9 @@ pub fn advise_on_script(rt: &HostRuntime, script: Seen<'_>, ending: Ending) {
                 Some(bytes) => script_fault_sentence(rt.alloc(), bytes, fault),
                 None => Err(AllocError),
             };
-            advice_on_file(rt, shown_name(script.name), fault, sentence)
+            advice_on_file(rt, script.name, fault, sentence)
         }
-        _ => advice(rt, shown_name(script.name), ending),
+        _ => advice(rt, script.name, ending),
     };
 }
 
@@ -49,10 +49,10 @@ pub fn advise_on_steps(rt: &HostRuntime, script: Seen<'_>, steps: Seen<'_>, endi
                 Some(bytes) => steps_fault_sentence(rt.alloc(), bytes, fault),
                 None => Err(AllocError),
             };
-            let _ = advice_on_file(rt, shown_name(steps.name), fault, sentence);
+            let _ = advice_on_file(rt, steps.name, fault, sentence);
         }
         Ending::Failed(ProgramFault::ReadFault(_)) if steps.failed && !script.failed => {
-            let _ = advice(rt, shown_name(steps.name), ending);
+            let _ = advice(rt, steps.name, ending);
         }
         _ => advise_on_script(rt, script, ending),
     }
@@ -99,7 +99,7 @@ fn advice_on_place(
         (ProgramFault::PeerGone, Met::Fault(RunFault::PeerGone)) => {
             eprintln!(rt; "relayplum: peer_gone: another actor was gone while {end} talked to it")
         }
-        _ => advice(rt, shown_name(script.name), Ending::Failed(fault)),
+        _ => advice(rt, script.name, Ending::Failed(fault)),
     }
 }
 

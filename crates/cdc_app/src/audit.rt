@@ -4,7 +4,7 @@ use crate::advice::{advise_on_failure, shown_name};
 use crate::audit_options::AuditPlan;
 use crate::follow_advice::{advise_on_line, unread};
 use crate::options::Form;
-use crate::sources::Source;
+use crate::sources::Stream;
 use cdc_audit::{AuditStop, Auditor};
 use cdc_audit_command::{AuditEnding, StateSaver, audit_command, begin_state, resume};
 use cdc_audit_state::STATE_MARK;
@@ -30,7 +30,7 @@ pub fn run_audit(rt: &HostRuntime, file: &str, plan: AuditPlan<'_>, form: Form) 
         Ok(opened) => opened,
         Err(error) => return refuse_state(rt, file, state, error, form),
     };
-    let source = Source::of_script(rt, file);
+    let source = Stream::of(rt, file);
     let Ok(mut reader) = BufReader::with_capacity(rt.alloc(), BUFFER_BYTES, source) else {
         return refuse_state(rt, file, state, StoreError::OutOfMemory, form);
     };

@@ -5,7 +5,7 @@ use crate::follow_advice::{advise_on_book, advise_on_gaps, advise_on_stream};
 use crate::follow_options::FollowPlan;
 use crate::kept_book::KeptBook;
 use crate::options::Form;
-use crate::sources::Source;
+use crate::sources::Stream;
 use crate::watched::Watched;
 use cdc_commands::{ProgramFault, Text, print_fault};
 use cdc_follow::Follower;
@@ -32,12 +32,7 @@ pub fn run_follow(rt: &HostRuntime, file: &str, plan: FollowPlan<'_>, form: Form
         Ok(opened) => opened,
         Err(error) => return refuse_book(rt, file, book, error, form),
     };
-    let source = Watched::new(
-        rt,
-        Source::of_script(rt, file),
-        shown_name(file),
-        rules.chained,
-    );
+    let source = Watched::new(rt, Stream::of(rt, file), shown_name(file), rules.chained);
     let Ok(mut reader) = BufReader::with_capacity(rt.alloc(), BUFFER_BYTES, source) else {
         return refuse_book(rt, file, book, StoreError::OutOfMemory, form);
     };

@@ -3,7 +3,7 @@
 use crate::advice::{advise_on_failure, shown_name};
 use crate::kept_book::{is_in_sqlite, path_of_book};
 use cdc_commands::ProgramFault;
-use cdc_follow::{Entry, Follower, LineError, Stop};
+use cdc_follow::{Content, Entry, Follower, LineError, Stop};
 use cdc_follow_command::FollowEnding;
 use cdc_message::{DecodeError, Field, Part};
 use cdc_progress::StoreError;
@@ -22,6 +22,9 @@ pub fn advise_on_stream(
         FollowEnding::Stopped(Stop::AtEnd) => Ok(()),
         FollowEnding::Stopped(Stop::Gap(line, entry)) => {
             advise_on_gap(rt, place, line, entry, follower.seen())
+        }
+        FollowEnding::Stopped(Stop::AfterEnd(line, entry)) => {
+            advise_on_contradiction(rt, place, line, entry, follower.seen())
         }
         FollowEnding::Stopped(Stop::BadLine(line, error)) => advise_on_line(rt, place, line, error),
         FollowEnding::Failed(fault) => {
@@ -61,10 +64,42 @@ fn advise_on_gap(
     seen: u64,
 ) -> io::Result<()> {
     let previous = entry.previous.unwrap_or(0);
+    if previous > seen {
+        return eprintln!(rt;
+            "{place}:{line}: gap: the message before this one in its queue has the timestamp {previous}, and the last \
+             one that came has {seen}: messages between them are missing"
+        );
+    }
     eprintln!(rt;
         "{place}:{line}: gap: the message before this one in its queue has the timestamp {previous}, and the last one \
-         that came has {seen}: messages between them are missing"
+         that came has {seen}: this message is of another queue"
     )
+}
+
+/// Reports the entry of the line of this number, which contradicts the end that came after the event of this timestamp.
+fn advise_on_contradiction(
+    rt: &HostRuntime,
+    place: &str,
+    line: u64,
+    entry: Entry,
+    seen: u64,
+) -> io::Result<()> {
+    match entry.content {
+        Content::Event(event) => {
+            let timestamp = event.timestamp;
+            eprintln!(rt;
+                "{place}:{line}: after_end: the event has the timestamp {timestamp}, and the stream ended after {seen}: \
+                 the end came too early, or the event is of another stream"
+            )
+        }
+        Content::End => {
+            let previous = entry.previous.unwrap_or(0);
+            eprintln!(rt;
+                "{place}:{line}: after_end: this end comes after {previous}, and the stream ended after {seen}: one of \
+                 them is of another stream"
+            )
+        }
+    }
 }
 
 /// Reports why the line of this number is no entry of a stream.

@@ -59,7 +59,7 @@ fn gaps_flag<'a>(alloc: Global) -> Arg<'a> {
     Arg::new(alloc, "skip-gaps")
         .long("skip-gaps")
         .action(ArgAction::SetTrue)
-        .help("Skip an event that comes too early, and go on; needs --chained")
+        .help("Skip an event that does not follow the last one, and go on; needs --chained")
 }
 
 fn binding_option<'a>(alloc: Global) -> Arg<'a> {

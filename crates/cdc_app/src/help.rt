@@ -43,10 +43,10 @@ Exit status:
   2  the arguments or the script are bad: standard error reports what was expected, and where";
 
 pub const SIMULATE: &str = "\
-FILE is a script, and - is standard input; STEPS may be - instead. STEPS is a file with one step of a simulation in
-each line: batch, close_ledger, start, start at N, crash, poll, publish, arrive K, answer K, save, send I, rewind I,
-break I, take I, ack I K or close I. I is a subscriber and its queue, K counts the packets, the confirms or a
-subscriber's acknowledgements ever sent, from 1, and N is a timestamp in nanoseconds.
+FILE is a script, and - is standard input. STEPS is a file with one step of a simulation in each line: batch,
+close_ledger, start, start at N, crash, poll, publish, arrive K, answer K, save, send I, rewind I, break I, take I,
+ack I K or close I. I is a subscriber and its queue, K counts the packets, the confirms or a subscriber's
+acknowledgements ever sent, from 1, and N is a timestamp in nanoseconds. /dev/stdin reads the steps from standard input.
 
 The steps are taken in order, up to the first that is refused. Random steps are printed as a step file. The output is
 the results of the batches that were taken, how many steps were done, what the session has saved, and for each
@@ -82,15 +82,18 @@ FILE is a stream of messages, one JSON object in each line, and - is standard in
 as the command messages prints it; or an object with a member body, which is such a body; or the end of the stream, an
 object with the member end, which is true. Empty lines and lines that begin with event_type= are ignored.
 
-Each event that is later than the last one is applied to the book, and any other one is a duplicate. With --chained,
-each line has a member previous, the timestamp of the message before it in its queue (0 before the first), and an event
-is applied only if nothing of the queue can lie between it and the last one. If something can, there is a gap, and
-following stops. So no event is lost or applied twice, whatever the broker does.
+Each event that is later than the last one is applied to the book, and any other one is a duplicate. So the stream has
+to keep its order: an event that a later one overtakes is lost. With --chained the order doesn't matter. Each line then
+has a member previous, the timestamp of the message before it in its queue (0 before the first), and an event is applied
+only if that is the last event that was received. If it isn't, there is a gap, and following stops. So if each line is
+one of the queue, no event is lost or applied twice, whatever was lost, repeated or reordered on the way.
 
-With --book, the book is saved after every N lines, each time that no whole line is waiting, and at the end. After each
-save a line with saved and the timestamp of the last event is printed: events up to there may be acknowledged, and none
-later. If following is stopped at any time and started again with that book, it goes on where the book was saved, and
-what was applied before is a duplicate.
+An event that is later than the end of the stream contradicts it, and following stops there.
+
+With --book, the book is saved after every N lines, each time that no whole line of a pipe or a terminal is waiting, and
+at the end. After each save a line with saved and the timestamp of the last event is printed: events up to there may be
+acknowledged, and none later. If following is stopped at any time and started again with that book, it goes on where the
+book was saved, and what was applied before is a duplicate.
 
 With --book sqlite:FILE, the book is kept in an SQLite file, which other programs may read between saves: the table
 accounts has the balances, and the table book the timestamp of the last event applied and the count of these events.
@@ -105,8 +108,8 @@ Examples:
 
 Exit status:
   0  the stream ended
-  1  there is a gap, or a read, a write, memory or the store of the book failed: the last line of standard output names
-     the fault, unless a write failed
+  1  there is a gap, or a line contradicts the end; or a read, a write, memory or the store of the book failed: the last
+     line of standard output names the fault, unless a write failed
   2  the arguments or a line of the stream are bad: standard error reports what was expected, and where";
 
 pub const AUDIT: &str = "\
@@ -122,8 +125,8 @@ docs/AUDIT.md lists what can't be.
 Another ledger of this kind may have more flags. With --foreign they are ignored, and a transfer that is stored with
 such a flag may have any timestamp.
 
-With --state, what was audited is saved after every N lines, each time that no whole line is waiting, and at the end.
-After each save a line with saved and the timestamp of the last accepted event is printed. If auditing is stopped at any
+With --state, what was audited is saved after every N lines, each time that no whole line of a pipe or a terminal is
+waiting, and at the end. After each save a line with saved and the timestamp of the last accepted event is printed. If auditing is stopped at any
 time and started again with that file, it goes on there: the stream has to begin with the event after that one.
 
 The output is these lines; then how many events are accepted and the last one's timestamp; with --book also the balances

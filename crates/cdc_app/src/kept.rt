@@ -18,7 +18,7 @@ pub struct Kept<T> {
 /// A file that a command has read.
 #[derive(Clone, Copy)]
 pub struct Seen<'a> {
-    /// Its name, as the command line gave it.
+    /// Its name, as diagnostics show it.
     pub name: &'a str,
     /// Its bytes. None if there was no memory for all of them.
     pub bytes: Option<&'a [u8]>,
@@ -37,7 +37,7 @@ impl<T> Kept<T> {
         }
     }
 
-    /// What was read, as the file of this name.
+    /// What was read, as the file that diagnostics show by this name.
     pub fn seen<'a>(&'a self, name: &'a str) -> Seen<'a> {
         Seen {
             name,

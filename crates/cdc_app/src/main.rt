@@ -8,6 +8,7 @@ mod audit;
 mod audit_options;
 mod command_line;
 mod delivery_options;
+mod descriptors;
 mod diagnostics;
 mod follow;
 mod follow_advice;
@@ -30,7 +31,7 @@ mod slips;
 mod sources;
 mod watched;
 
-use advice::{advise, advise_on_script, advise_on_steps};
+use advice::{advise, advise_on_script, advise_on_steps, shown_name};
 use audit::run_audit;
 use cdc_commands::books::{BooksEnded, books};
 use cdc_commands::check::{check, check_files};
@@ -40,6 +41,7 @@ use cdc_commands::{
     Ended, Ending, ParsedBatches, ProgramFault, Tally, Text, print_fault, print_text,
 };
 use cdc_json::Json;
+use descriptors::open_standard;
 use diagnostics::{EXPLAIN, explain_books, hint, note};
 use follow::run_follow;
 use kept::Kept;
@@ -56,6 +58,9 @@ use std::thread::Threads;
 use std::{env, io};
 
 fn main(rt: HostRuntime) -> ExitCode {
+    if let Err(error) = open_standard(&rt) {
+        return ExitCode::from(refuse_descriptors(&rt, error));
+    }
     let status = match command_line_of(&rt) {
         Ok(args) => run_arguments(&rt, &rt, args.as_slice()),
         Err(error) if error.kind() == io::ErrorKind::InvalidData => {
@@ -64,6 +69,13 @@ fn main(rt: HostRuntime) -> ExitCode {
         Err(_) => abort(&rt, ProgramFault::OutOfMemory, Form::Text).status(),
     };
     ExitCode::from(status)
+}
+
+/// Reports that a standard descriptor may be closed, in which case no file can be opened, and returns the exit status.
+fn refuse_descriptors(rt: &HostRuntime, error: io::Error) -> u8 {
+    let ending = abort(rt, ProgramFault::ReadFault(error), Form::Text);
+    let _ = eprintln!(rt; "relayplum: /dev/null can't be opened in place of a closed descriptor");
+    ending.status()
 }
 
 /// The arguments, without the program's own name.
@@ -195,7 +207,7 @@ fn run_books(rt: &HostRuntime, file: &str, explain: bool, form: Form) -> Ending 
         diagnose_books(rt, file, parsed, explain, tally);
         note(rt, file, notes, true);
     }
-    advise_on_script(rt, script.seen(file), ending);
+    advise_on_script(rt, script.seen(shown_name(file)), ending);
     ending
 }
 
@@ -231,7 +243,7 @@ fn run_messages(rt: &HostRuntime, file: &str, form: Form) -> Ending {
         Form::Text => messages(&Text, rt.alloc(), &mut script, &mut writer),
         Form::Json => messages(&Json, rt.alloc(), &mut script, &mut writer),
     };
-    let seen = script.seen(file);
+    let seen = script.seen(shown_name(file));
     if let Ending::Done = ending {
         note(rt, file, notes, true);
     }
@@ -248,7 +260,7 @@ fn run_queue(rt: &HostRuntime, file: &str, number: usize, form: Form) -> Ending 
         Form::Text => queue(&Text, rt.alloc(), &mut script, &mut writer, number),
         Form::Json => queue(&Json, rt.alloc(), &mut script, &mut writer, number),
     };
-    let seen = script.seen(file);
+    let seen = script.seen(shown_name(file));
     match ending {
         Ending::Done => note(rt, file, notes, true),
         Ending::BadWords => {
@@ -278,15 +290,20 @@ fn run_check(
             Form::Text => check(&Text, rt.alloc(), &mut script, &mut writer),
             Form::Json => check(&Json, rt.alloc(), &mut script, &mut writer),
         };
-        advise_on_script(rt, script.seen(file), ending);
+        advise_on_script(rt, script.seen(shown_name(file)), ending);
         return ending;
     };
-    let mut step_file = Kept::new(rt.alloc(), Source::of_script(rt, steps));
+    let mut step_file = Kept::new(rt.alloc(), Source::of_file(rt, steps));
     let ending = match form {
         Form::Text => check_files(&Text, rt.alloc(), &mut script, &mut step_file, &mut writer),
         Form::Json => check_files(&Json, rt.alloc(), &mut script, &mut step_file, &mut writer),
     };
-    advise_on_steps(rt, script.seen(file), step_file.seen(steps), ending);
+    advise_on_steps(
+        rt,
+        script.seen(shown_name(file)),
+        step_file.seen(steps),
+        ending,
+    );
     ending
 }
 

@@ -70,7 +70,7 @@ Examples:
 Exit status:
   0  all was done
   1  a read, a write, memory, a thread, a store or the run itself failed: the last line of standard output names the
-     fault, unless a write failed; or a step or an event was refused, or a stream has a gap
+     fault, unless a write failed; or a step or an event was refused, or a stream has a gap or contradicts its end
   2  the arguments, a file or a line of a stream are bad: standard error reports what was expected, and where";
 
 /// What the arguments ask for, without the program's own name. Without arguments it is `run -`.
@@ -102,7 +102,7 @@ fn read_arguments<'a>(alloc: Global, args: &'a [&'a str]) -> Result<ArgMatches<'
     let program = Command::new(alloc, "relayplum")
         .no_binary_name(true)
         .bin_name("relayplum")?
-        .version("1.1.0")
+        .version("1.1.1")
         .about(ABOUT)
         .after_help(MORE)
         .subcommand_required(true)
@@ -141,7 +141,7 @@ fn simulate_arguments<'a>(alloc: Global) -> Result<Command<'a>, AllocError> {
     let steps = Arg::new(alloc, "STEPS")
         .required_unless_present("random")?
         .action(ArgAction::Set)
-        .help("The file of the steps; - is standard input");
+        .help("The file of the steps; /dev/stdin is standard input");
     Command::new(alloc, "simulate")
         .about(
             "Take a script's batches and a session's packets step by step, and print the state that the steps lead to",
@@ -316,12 +316,6 @@ fn simulation<'a>(
 ) -> Result<Options<'a>, OptionsFault>
     ensures { IfOk result IsWithinLimits }
 {
-    if file == STANDARD_INPUT && steps == STANDARD_INPUT {
-        return Err(usage_error(
-            alloc,
-            "error: the script and the steps can't both be standard input\n\nFor more information, try '--help'.\n",
-        )?);
-    }
     let window = asked_window(alloc, arguments)?;
     if arguments.get_flag("check") {
         return Ok(Options::Check {

@@ -37,7 +37,7 @@ pub fn run_random(
     }
     let mut source = Kept::new(rt.alloc(), Source::of_script(rt, file));
     let read = read_text(rt.alloc(), &mut source);
-    let seen = source.seen(file);
+    let seen = source.seen(shown_name(file));
     let script = match read {
         Ok(script) => script,
         Err(error) => return abort(rt, seen, error.into(), form),

@@ -3,7 +3,7 @@
 ghost use Rattle.cdc_run_command.specs.Plans.{IsPlan};
 
 use crate::abort;
-use crate::advice::advise_on_run;
+use crate::advice::{advise_on_run, shown_name};
 use crate::diagnostics::{EXPLAIN, explain_run, hint, note};
 use crate::kept::Kept;
 use crate::options::{Form, RunDiagnostics};
@@ -116,7 +116,7 @@ pub fn run_on_threads<T: Threads + Wait + Sync>(
         Ending::BadWords => report_no_subscriber(rt, deliveries),
         _ => {}
     }
-    advise_on_run(rt, script.seen(file), progress, stop, ending);
+    advise_on_run(rt, script.seen(shown_name(file)), progress, stop, ending);
     ending
 }
 

@@ -24,10 +24,10 @@ const DEFAULT_PREFETCH: u64 = 8;
 const COUNTS: &str = "a number from 1 to 18446744073709551615";
 
 /// What is expected of a queue and one of its positions.
-const POSITIONS: &str = "a queue from 1 to 8, a colon and a position from 1, such as 1:2";
+const POSITIONS: &str = "a queue from 1, a colon and a position from 1, such as 1:2";
 
 /// What is expected of a subscriber and how many events it applies.
-const CLOSES: &str = "a subscriber from 1 to 8, a colon and a number of events from 1, such as 1:2";
+const CLOSES: &str = "a subscriber from 1, a colon and a number of events from 1, such as 1:2";
 
 pub fn run_arguments<'a>(alloc: Global) -> Result<Command<'a>, AllocError> {
     Command::new(alloc, "run")
@@ -240,7 +240,7 @@ fn asked_counts(
     Ok(counts)
 }
 
-/// The pairs of numbers of an option, in the order in which it is given; the first one is of a subscriber.
+/// The pairs of numbers of an option, in the order in which it is given.
 fn asked_pairs(
     alloc: Global,
     arguments: &ArgMatches<'_>,
@@ -276,14 +276,11 @@ fn count_in(word: &str, greatest: u64) -> Option<u64>
     }
 }
 
-/// The two numbers of an argument, separated at its first colon. None if the first one is no subscriber's that a script
-/// can have, or the second one isn't a number from 1.
+/// The two numbers of an argument, separated at its first colon. None unless both are numbers from 1. A subscriber or a
+/// queue that the script doesn't have is no error: its fault never comes.
 fn pair_in(word: &str) -> Option<(u64, u64)>
     ensures { IfSome result (λ p. (1 ≤ p.0) × (1 ≤ p.1)) }
 {
     let (first, second) = word.split_once(':')?;
-    Some((
-        count_in(first, Limits::SUBSCRIBERS as u64)?,
-        count_in(second, u64::MAX)?,
-    ))
+    Some((count_in(first, u64::MAX)?, count_in(second, u64::MAX)?))
 }

@@ -40,7 +40,7 @@ pub fn run_simulation(
         return Ending::BadWords;
     }
     let mut script = Kept::new(rt.alloc(), Source::of_script(rt, file));
-    let mut step_file = Kept::new(rt.alloc(), Source::of_script(rt, steps));
+    let mut step_file = Kept::new(rt.alloc(), Source::of_file(rt, steps));
     let mut observers = Both {
         first: Recorder::new(rt.alloc()),
         second: Observation::new(rt.alloc(), shown_name(file), asked(diagnostics)),
@@ -57,10 +57,10 @@ pub fn run_simulation(
     let mut reported = false;
     if is_reported(ending, diagnostics) {
         if let Some(observed) = observation.finish(rt.alloc()) {
-            reported = report_simulation(rt, shown_name(steps), &observed, diagnostics);
+            reported = report_simulation(rt, steps, &observed, diagnostics);
         }
     }
-    let seen = script.seen(file);
+    let seen = script.seen(shown_name(file));
     if !reported {
         advise_on_steps(rt, seen, step_file.seen(steps), ending);
     }

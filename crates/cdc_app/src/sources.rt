@@ -1,11 +1,15 @@
 //! What commands read from.
 
+use cdc_follow_command::Origin;
 use std::fs::File;
-use std::io;
 use std::io::{Read, StdinLock};
+use std::{fs, io};
 
-/// As the file of a script, this is standard input.
+/// As the file of a script or a stream, this is standard input.
 pub const STANDARD_INPUT: &str = "-";
+
+/// The path of standard input.
+const STANDARD_INPUT_PATH: &str = "/dev/stdin";
 
 /// Standard input or a file. A file that can't be opened fails only when it is read.
 #[derive(Drop)]
@@ -17,7 +21,7 @@ pub enum Source {
 }
 
 impl Source {
-    /// The script or the step file of this name; `-` is standard input.
+    /// The script or the stream of this name; `-` is standard input.
     pub fn of_script(rt: &HostRuntime, name: &str) -> Source {
         if name == STANDARD_INPUT {
             Source::Standard(rt.reader())
@@ -42,5 +46,39 @@ impl Read for Source {
             Source::Open(file) => file.read(buf),
             Source::Missed(error) => Err(*error),
         }
+    }
+}
+
+/// A stream, of which it is known whether it is a regular file.
+#[derive(Drop)]
+pub struct Stream {
+    source: Source,
+    is_regular: bool,
+}
+
+impl Stream {
+    /// The stream of this name; `-` is standard input.
+    pub fn of(rt: &HostRuntime, name: &str) -> Stream {
+        let path = if name == STANDARD_INPUT {
+            STANDARD_INPUT_PATH
+        } else {
+            name
+        };
+        Stream {
+            source: Source::of_script(rt, name),
+            is_regular: fs::metadata(rt, path).is_ok_and(|data| data.is_file()),
+        }
+    }
+}
+
+impl Read for Stream {
+    fn read(&mut self, buf: &mut [u8]) -> io::Result<usize> {
+        self.source.read(buf)
+    }
+}
+
+impl Origin for Stream {
+    fn may_wait(&self) -> bool {
+        !self.is_regular
     }
 }

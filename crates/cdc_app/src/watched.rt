@@ -1,5 +1,6 @@
 //! A stream that is watched while it is read.
 
+use cdc_follow_command::Origin;
 use std::io;
 use std::io::{IsTerminal, Read};
 use std::time::Instant;
@@ -87,5 +88,11 @@ impl<'a, T: Read> Read for Watched<'a, T> {
         self.look(&buf[..count]);
         self.count(&buf[..count]);
         Ok(count)
+    }
+}
+
+impl<'a, T: Origin> Origin for Watched<'a, T> {
+    fn may_wait(&self) -> bool {
+        self.inner.may_wait()
     }
 }

@@ -3,4 +3,6 @@
 
 mod replacing;
 
-pub use replacing::{Replaced, holds, open_locked, path_of_new, replace, target_of};
+pub use replacing::{
+    Leftover, Replaced, holds, names, open_locked, path_of_new, replace, target_of,
+};

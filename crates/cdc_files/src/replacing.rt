@@ -6,10 +6,14 @@ ghost use Rattle.std.specs.Io.KnownBytes.{Appends};
 use std::alloc::{AllocError, Global};
 use std::fs::{File, Files, OpenFile, Permissions, TryLockError};
 use std::io::{ErrorKind, Read, Write};
+use std::os::unix::fs::MetadataExt;
 use std::{fs, io};
 
 /// The bytes that are read at a time.
 const PIECE_BYTES: usize = 4096;
+
+/// How often a file is opened that something else replaces before it is locked.
+const OPENINGS: u32 = 100;
 
 /// A file that is replaced: where it is, and where its next content is written first.
 #[derive(Clone, Copy)]
@@ -18,9 +22,20 @@ pub struct Replaced<'a> {
     pub path: &'a str,
     /// The path of the file that is written first.
     pub new_path: &'a str,
-    /// The first bytes of each content. A file at `new_path` that begins otherwise is not the leftover of an
-    /// interrupted replacement, and isn't removed.
+    /// What a file at `new_path` has to hold to be the leftover of an interrupted replacement. Any other one isn't
+    /// removed.
+    pub leftover: Leftover,
+    /// The bytes with which such a leftover is compared.
     pub mark: &'a [u8],
+}
+
+/// What an interrupted replacement can leave.
+#[derive(Clone, Copy)]
+pub enum Leftover {
+    /// A file that begins with the mark, as far as it goes.
+    Begins,
+    /// A file whose whole content is a prefix of the mark.
+    PrefixOf,
 }
 
 /// Locks a file that isn't locked here, and returns whether another holder has it locked already. On a system without
@@ -32,9 +47,31 @@ fn is_taken(file: &File) -> bool {
     }
 }
 
+/// Whether a path names this open file.
+pub fn names<R: Files<File = File>>(rt: &R, path: &str, file: &File) -> io::Result<bool> {
+    let named = match fs::metadata(rt, path) {
+        Err(error) if error.kind() == ErrorKind::NotFound => return Ok(false),
+        named => named?,
+    };
+    let open = file.metadata()?;
+    Ok(named.dev() == open.dev() && named.ino() == open.ino())
+}
+
 /// Opens a file and locks it until it is dropped; `None` if there is no file. Anything but a plain file, such as a
-/// folder or a pipe, isn't opened, since that might block. A file that is locked already is the error `WouldBlock`.
+/// folder or a pipe, isn't opened, since that might block. The path names the file when it is locked: if something else
+/// has replaced it meanwhile, the new one is opened. A file that is locked already is the error `WouldBlock`.
 pub fn open_locked<R: Files<File = File>>(rt: &R, path: &str) -> io::Result<Option<File>> {
+    for _ in 0..OPENINGS {
+        match lock_once(rt, path)? {
+            Some(file) if !names(rt, path, &file)? => {}
+            found => return Ok(found),
+        }
+    }
+    Err(io::Error::from(ErrorKind::WouldBlock))
+}
+
+/// Opens the file that a path names now, and locks it; `None` if there is no file.
+fn lock_once<R: Files<File = File>>(rt: &R, path: &str) -> io::Result<Option<File>> {
     match fs::metadata(rt, path) {
         Ok(metadata) if metadata.is_file() => {}
         Ok(_) => return Err(io::Error::from(ErrorKind::InvalidInput)),
@@ -75,19 +112,24 @@ pub fn path_of_new(alloc: Global, path: &str) -> Result<String, AllocError>
 
 /// Whether a reader has exactly these bytes left.
 pub fn holds<F: Read>(reader: &mut F, bytes: &[u8]) -> io::Result<bool> {
+    Ok(rest_after(reader, bytes)? == Some(0))
+}
+
+/// How many of these bytes are left after those that a reader has; `None` if it has others.
+fn rest_after<F: Read>(reader: &mut F, bytes: &[u8]) -> io::Result<Option<usize>> {
     let mut piece = [0u8; PIECE_BYTES];
     let mut rest = bytes;
     for _ in 0..u64::MAX {
         let count = reader.read(&mut piece)?;
         if count == 0 {
-            return Ok(rest.is_empty());
+            return Ok(Some(rest.len()));
         }
         if !rest.starts_with(&piece[..count]) {
-            return Ok(false);
+            return Ok(None);
         }
         rest = &rest[count..];
     }
-    Ok(false)
+    Ok(None)
 }
 
 /// Writes a whole text, sets this mode, if one is given, and syncs the file to the disk.
@@ -100,8 +142,13 @@ fn write_whole(file: &mut File, mode: Option<Permissions>, text: &[u8]) -> io::R
 }
 
 /// Whether the file at this path can be the leftover of an interrupted replacement: a plain file that nobody has
-/// locked, and that begins with the mark, as far as it goes.
-fn is_leftover<R: Files<File = File>>(rt: &R, path: &str, mark: &[u8]) -> io::Result<bool> {
+/// locked, with such a content.
+fn is_leftover<R: Files<File = File>>(
+    rt: &R,
+    path: &str,
+    leftover: Leftover,
+    mark: &[u8],
+) -> io::Result<bool> {
     if !fs::symlink_metadata(rt, path)?.is_file() {
         return Ok(false);
     }
@@ -109,8 +156,16 @@ fn is_leftover<R: Files<File = File>>(rt: &R, path: &str, mark: &[u8]) -> io::Re
     if is_taken(&file) {
         return Ok(false);
     }
+    match leftover {
+        Leftover::Begins => begins(&mut file, mark),
+        Leftover::PrefixOf => Ok(rest_after(&mut file, mark)?.is_some()),
+    }
+}
+
+/// Whether the bytes of a reader begin with a mark, as far as they go.
+fn begins<F: Read>(reader: &mut F, mark: &[u8]) -> io::Result<bool> {
     let mut piece = [0u8; PIECE_BYTES];
-    let count = file.read(&mut piece)?;
+    let count = reader.read(&mut piece)?;
     let start = &piece[..count];
     Ok(start.starts_with(mark) || mark.starts_with(start))
 }
@@ -120,7 +175,7 @@ fn is_leftover<R: Files<File = File>>(rt: &R, path: &str, mark: &[u8]) -> io::Re
 fn make_new<R: Files<File = File>>(rt: &R, file: Replaced<'_>) -> io::Result<File> {
     let made = match File::create_new(rt, file.new_path) {
         Err(error) if error.kind() == ErrorKind::AlreadyExists => {
-            if !is_leftover(rt, file.new_path, file.mark)? {
+            if !is_leftover(rt, file.new_path, file.leftover, file.mark)? {
                 return Err(error);
             }
             fs::remove_file(rt, file.new_path)?;
@@ -142,21 +197,43 @@ fn is_readonly(mode: &Option<Permissions>) -> bool {
     }
 }
 
-/// Replaces the content of a file, and returns the file with this content, locked. An interrupted replacement leaves
-/// the old content. The mode is kept if one is given; a mode in which nobody may write is the error
+/// Puts the file that was written in place of the current one, which its path has to name still; without a current
+/// one, where nothing is.
+fn put_in_place<R: Files<File = File>>(
+    rt: &R,
+    file: Replaced<'_>,
+    current: Option<&File>,
+) -> io::Result<()> {
+    let is_free = match current {
+        Some(current) => names(rt, file.path, current)?,
+        None => fs::symlink_metadata(rt, file.path).is_err(),
+    };
+    if !is_free {
+        return Err(io::Error::from(ErrorKind::AlreadyExists));
+    }
+    fs::rename(rt, file.new_path, file.path)
+}
+
+/// Replaces the content of a file, and returns the file with this content, locked. `current`: the file that is
+/// replaced, locked; `None` makes a new one. An interrupted replacement leaves the old content, and so does one whose
+/// path no longer names the current file. The mode is kept; one in which nobody may write is the error
 /// `PermissionDenied`.
 pub fn replace<R: Files<File = File>>(
     rt: &R,
     file: Replaced<'_>,
-    mode: Option<Permissions>,
+    current: Option<&File>,
     text: &[u8],
 ) -> io::Result<File> {
+    let mode = match current {
+        Some(current) => Some(current.metadata()?.permissions()),
+        None => None,
+    };
     if is_readonly(&mode) {
         return Err(io::Error::from(ErrorKind::PermissionDenied));
     }
     let mut made = make_new(rt, file)?;
     let written = match write_whole(&mut made, mode, text) {
-        Ok(()) => fs::rename(rt, file.new_path, file.path),
+        Ok(()) => put_in_place(rt, file, current),
         Err(error) => Err(error),
     };
     if let Err(error) = written {

@@ -15,6 +15,7 @@ use Rattle.cdc_follow.specs.declared.entries.Content.TheVariants as content
 use Rattle.cdc_follow.specs.declared.entries.Entry.{Entry}
 use Rattle.cdc_follow.specs.declared.errors.LineError.TheVariants.{Decode, PreviousMissing}
 use Rattle.cdc_follow.specs.declared.follower.Following.TheVariants.{Applied, PassedBy, Duplicate, Gap, Ended}
+use Rattle.cdc_follow.specs.declared.follower.Following.TheVariants.{AfterEnd, OutOfRange}
 use Rattle.cdc_follow.specs.Entries.{line_entry}
 use Rattle.cdc_follow.specs.Following.{FollowState, follow, follow_all, outcome_of}
 use Rattle.cdc_follow.specs.Lines.{lines_of}
@@ -94,6 +95,10 @@ entry previous ledger timestamp =
 abbrev lone : ℕ → ℕ → Entry
 lone ledger timestamp = record { content = content.Event (event ledger timestamp); previous = None }
 
+-- the end of such a stream
+abbrev plain_end : Entry
+plain_end = record { content = content.End; previous = None }
+
 -- the end behind the event of that timestamp
 abbrev end : ℕ → Entry
 end previous = record { content = content.End; previous = Some previous }
@@ -111,14 +116,27 @@ abbrev after_two : FollowState
 after_two = follow_all of_700 begins (entry 0 700 2000 ∷ entry 2000 800 2001 ∷ [])
 
 -- what becomes of entries then: the next event is applied, or passed by; an event again is a duplicate, also the one
--- that was passed by; behind a missing event there is a gap; and the end is complete only behind the last event seen
+-- that was passed by; behind a missing event there is a gap, and also before an event that follows an earlier one, which
+-- is of another queue; and the end is complete only behind the last event seen
 becomes : (outcome_of of_700 after_two (entry 2001 700 2002) ≡ Applied)
     × (outcome_of of_700 after_two (entry 2001 800 2002) ≡ PassedBy)
     × (outcome_of of_700 after_two (entry 2000 800 2001) ≡ Duplicate)
     × (outcome_of of_700 after_two (entry 2002 700 2003) ≡ Gap)
+    × (outcome_of of_700 after_two (entry 2000 700 2002) ≡ Gap)
     × (outcome_of of_700 after_two (end 2002) ≡ Gap)
+    × (outcome_of of_700 after_two (end 2000) ≡ Gap)
     × (outcome_of of_700 after_two (end 2001) ≡ Ended)
-becomes = (refl, refl, refl, refl, refl, refl)
+becomes = (refl, refl, refl, refl, refl, refl, refl, refl)
+
+-- of 10, a foreign 20 that follows nothing, and 30 that follows 10, the first and the last are applied
+foreign : (follow_all of_700 begins (entry 0 700 10 ∷ entry 0 700 20 ∷ entry 10 700 30 ∷ [])).kept.applied ≡ 2
+foreign = refl
+
+-- the greatest timestamp of a ledger is applied, a greater one isn't
+out_of_range : (outcome_of of_700 after_two (entry 2001 700 9223372036854775807) ≡ Applied)
+    × (outcome_of of_700 after_two (entry 2001 700 9223372036854775808) ≡ OutOfRange)
+    × (outcome_of of_700 begins (lone 700 9223372036854775808) ≡ OutOfRange)
+out_of_range = (refl, refl, refl)
 
 -- what was applied last, and what was seen last
 keeps_both : (after_two.kept.last ≡ 2000) × (after_two.seen ≡ 2001) × (after_two.kept.applied ≡ 1)
@@ -128,16 +146,38 @@ keeps_both = (refl, refl, refl)
 passes_by : outcome_of of_700 (follow_all of_700 begins (lone 800 2001 ∷ [])) (lone 700 2000) ≡ Applied
 passes_by = refl
 
--- after the end everything is a duplicate
-after_end : outcome_of of_700 (follow_all of_700 after_two (end 2001 ∷ [])) (entry 2001 700 2002) ≡ Duplicate
-after_end = refl
+-- after both events and the end
+abbrev ended : FollowState
+ended = follow_all of_700 after_two (end 2001 ∷ [])
+
+-- after the end, events and the end again are duplicates; a later event contradicts it, whether the binding takes it or
+-- not, and so does the end of another place
+after_end : (outcome_of of_700 ended (entry 2000 800 2001) ≡ Duplicate)
+    × (outcome_of of_700 ended (end 2001) ≡ Duplicate)
+    × (outcome_of of_700 ended (entry 2001 700 2002) ≡ AfterEnd)
+    × (outcome_of of_700 ended (entry 2001 800 2002) ≡ AfterEnd)
+    × (outcome_of of_700 ended (end 2002) ≡ AfterEnd)
+    × (outcome_of of_700 ended (end 2000) ≡ AfterEnd)
+after_end = (refl, refl, refl, refl, refl, refl)
+
+-- without predecessors only an event that the binding takes does, since another one may be a redelivery
+after_plain_end : (outcome_of of_700 (follow_all of_700 begins (lone 700 2000 ∷ plain_end ∷ [])) (lone 700 2001)
+    ≡ AfterEnd)
+    × (outcome_of of_700 (follow_all of_700 begins (lone 700 2000 ∷ plain_end ∷ [])) (lone 800 2001) ≡ PassedBy)
+after_plain_end = (refl, refl)
 
 -- an entry and its line
 abbrev at : ℕ → Entry → NumberedEntry
 at line entry = record { line = line; entry = entry }
 
+-- what contradicts the end isn't skipped
+stops_after_end : (follow of_700 true begins (at 1 (end 0) ∷ at 2 (entry 0 700 2000) ∷ [])).at
+    ≡ Some (at 2 (entry 0 700 2000))
+unfolding follow
+stops_after_end = refl
+
 -- a follower stops at a gap, or skips it and goes on
-stops_at_gap : ((follow of_700 false begins (at 1 (entry 0 700 2000) ∷ at 3 (entry 2001 700 2002) ∷ [])).gap
+stops_at_gap : ((follow of_700 false begins (at 1 (entry 0 700 2000) ∷ at 3 (entry 2001 700 2002) ∷ [])).at
     ≡ Some (at 3 (entry 2001 700 2002)))
     × ((follow of_700 true begins (at 3 (entry 2001 700 2002) ∷ at 4 (entry 0 700 2000) ∷ [])).state.seen ≡ 2000)
 unfolding follow

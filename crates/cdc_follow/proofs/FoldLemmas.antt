@@ -1,4 +1,4 @@
--- Going through entries is a fold of those before a gap.
+-- Going through entries is a fold of those before the one at which following stops.
 use Rattle.std.proofs.Common.{List, [], ◌∷◌, ◌++◌, Bool, true, false, cond, Some, refl, sym, ap, subst}
 use Rattle.std.specs.List.{AllByRecursion}
 use Rattle.cdc_types.specs.declared.events.Event.{Event}
@@ -13,7 +13,7 @@ use Rattle.cdc_follow.proofs.StopLemmas.{follow-first, follow-none}
 -- one entry in front of others
 folds-first : (binding : Arguments) (state : FollowState) (numbered : NumberedEntry) (rest : List NumberedEntry)
     (others : Followed) (stops : Bool) → FoldsTo binding (next_follow binding state numbered.entry) rest others
-    → FoldsTo binding state (numbered ∷ rest) (cond stops (record { state = state; gap = Some numbered }) others)
+    → FoldsTo binding state (numbered ∷ rest) (cond stops (record { state = state; at = Some numbered }) others)
 folds-first binding state numbered rest others true folds =
     record { before = []; after = numbered ∷ rest; whole = refl; folds = refl; left = (rest, refl) }
 folds-first binding state numbered rest others false folds = record {

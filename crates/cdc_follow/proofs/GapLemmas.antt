@@ -1,7 +1,7 @@
 -- The gaps of a line that are skipped.
 use Rattle.std.proofs.Common.{◌≡◌, ◌≢◌, ℕ, ◌+◌, List, [], ◌∷◌, Bool, true, false, Some, None, Option}
-use Rattle.std.proofs.Common.{Result, Ok, Err, refl, sym, ap, ◌∙◌, subst, zero-add, arith}
-use Rattle.std.specs.Prelude.{◌&&◌, not, if◌then◌else◌, IfOk, IfSome}
+use Rattle.std.proofs.Common.{Result, Ok, Err, cond, refl, sym, ap, ◌∙◌, subst, zero-add}
+use Rattle.std.specs.Prelude.{IfOk, IfSome}
 use Rattle.cdc_match.specs.Arguments.{Arguments}
 use Rattle.cdc_follow.specs.declared.entries.Entry.{Entry}
 use Rattle.cdc_follow.specs.declared.errors.LineError.{LineError}
@@ -14,7 +14,7 @@ use Rattle.cdc_follow.specs.declared.streams.Stop.TheVariants as stop
 use Rattle.cdc_follow.specs.declared.streams.Turn.{Turn}
 use Rattle.cdc_follow.specs.declared.streams.Turn.TheVariants.{GoesOn, Stops}
 use Rattle.cdc_follow.specs.Entries.{line_entry}
-use Rattle.cdc_follow.specs.Following.{FollowState, is_gap, next_follow, outcome_of}
+use Rattle.cdc_follow.specs.Following.{FollowState, is_gap, next_follow, outcome_of, stops_at}
 use Rattle.cdc_follow.specs.Gaps.{LineSkips, StepSkips, gap_count, gaps_among, gaps_skipped}
 use Rattle.cdc_follow.specs.LineErrors.{GivesUnlessMemory}
 use Rattle.cdc_follow.specs.Lines.{FirstLineIsLong, TakesLine, lines_of}
@@ -22,44 +22,24 @@ use Rattle.cdc_follow.specs.Streams.{NumberedEntry, Stream, stream_of_lines, str
 use Rattle.cdc_follow.proofs.LineLemmas.{lines_of-none}
 use Rattle.cdc_follow.proofs.StopLemmas.{gives_err, gives_ok, long_entry, stream_first}
 
-gaps-none : (binding : Arguments) (state : FollowState) → gaps_among binding state [] ≡ 0
+gaps-none : (binding : Arguments) (skips : Bool) (state : FollowState) → gaps_among binding skips state [] ≡ 0
 unfolding gaps_among
-gaps-none binding state = refl
+gaps-none binding skips state = refl
 
-gaps-first : (binding : Arguments) (state : FollowState) (numbered : NumberedEntry) (rest : List NumberedEntry)
-    → gaps_among binding state (numbered ∷ rest) ≡ gap_count (is_gap (outcome_of binding state numbered.entry))
-    + gaps_among binding (next_follow binding state numbered.entry) rest
+-- the first entry counts, or following stops at it
+gaps-first : (binding : Arguments) (skips : Bool) (state : FollowState) (numbered : NumberedEntry)
+    (rest : List NumberedEntry) (stops : Bool) → stops_at skips (outcome_of binding state numbered.entry) ≡ stops
+    → gaps_among binding skips state (numbered ∷ rest)
+    ≡ cond stops 0 (gap_count (is_gap (outcome_of binding state numbered.entry))
+    + gaps_among binding skips (next_follow binding state numbered.entry) rest)
 unfolding gaps_among
-gaps-first binding state numbered rest = refl
-
--- nothing is counted
-count_none : (skips : Bool) (all : ℕ) → all ≡ 0 → (if skips then all else 0) ≡ 0
-count_none true all is = is
-count_none false all is = refl
+gaps-first binding skips state numbered rest stops is = rw is refl
 
 -- no lines have no gap
 skipped-none : (binding : Arguments) (rules : Rules) (state : FollowState) (number : ℕ)
     → gaps_skipped binding rules state number [] ≡ 0
 unfolding gaps_among stream_of_lines
-skipped-none binding rules state number =
-    count_none rules.skips_gaps (gaps_among binding state (stream_of_lines rules.chained number []).entries) refl
-
--- what is counted of a line and of the lines after it, whether gaps are skipped or not
-count_on : (skips : Bool) (here all rest : ℕ) → all ≡ here + rest → (skips ≡ false → here ≡ 0)
-    → (if skips then all else 0) ≡ here + (if skips then rest else 0)
-count_on true here all rest is none = is
-count_on false here all rest is none = let no : here ≡ 0 = none refl in omega arith
-
--- no gap is counted where following stops at a gap
-no_gap_counts : (gap skips : Bool) → (gap && not skips) ≡ false → skips ≡ false → gap_count gap ≡ 0
-no_gap_counts true true goes is = cc
-no_gap_counts true false goes is = cc
-no_gap_counts false skips goes is = refl
-
-stops_unless_skips : (gap skips : Bool) → (gap && not skips) ≡ true → skips ≡ false
-stops_unless_skips true true stops = cc
-stops_unless_skips true false stops = refl
-stops_unless_skips false skips stops = cc
+skipped-none binding rules state number = refl
 
 module _ (binding : Arguments) (rules : Rules) (number : ℕ) (line : List ℕ) (old : FollowState) where
   -- the entries of the line and of those after it, by what reading the line gives
@@ -80,46 +60,49 @@ module _ (binding : Arguments) (rules : Rules) (number : ℕ) (line : List ℕ) 
       gives_ok read (line_entry rules.chained line) gives
       ∙ ap (λ (read : Option Entry). let answer : Result (Option Entry) LineError = Ok read in answer) is in
       let later = (stream_of_lines rules.chained (number + 1) rest).entries in
-      count_on rules.skips_gaps 0 (gaps_among binding old (stream_of_lines rules.chained number (line ∷ rest)).entries)
-      (gaps_among binding old later)
-      (ap (gaps_among binding old) (entries_first rest (Ok None) none) ∙ sym (zero-add (gaps_among binding old later)))
-      (λ no. refl)
+      ap (gaps_among binding rules.skips_gaps old) (entries_first rest (Ok None) none)
+      ∙ sym (zero-add (gaps_among binding rules.skips_gaps old later))
 
   -- a line with an entry, after which following goes on
   pub skips_when_on : (read : Option Entry) (entry : Entry) (made : Following) (new : FollowState) (skipped : Bool)
       → GivesUnlessMemory (Ok read) (line_entry rules.chained line) → read ≡ Some entry
       → made ≡ outcome_of binding old entry → new ≡ next_follow binding old entry
-      → false ≡ (is_gap made && not rules.skips_gaps) → skipped ≡ is_gap made
+      → false ≡ stops_at rules.skips_gaps made → skipped ≡ is_gap made
       → LineSkips binding rules number line old (GoesOn skipped) new
   skips_when_on read entry made new skipped gives is becomes next goes counts rest =
       let some : line_entry rules.chained line ≡ Ok (Some entry) =
       gives_ok read (line_entry rules.chained line) gives
       ∙ ap (λ (read : Option Entry). let answer : Result (Option Entry) LineError = Ok read in answer) is in
+      let skips = rules.skips_gaps in
       let later = (stream_of_lines rules.chained (number + 1) rest).entries in
-      let all = (stream_of_lines rules.chained number (line ∷ rest)).entries in
+      let on : stops_at skips (outcome_of binding old entry) ≡ false = sym (goes ∙ ap (stops_at skips) becomes) in
       let gap : is_gap (outcome_of binding old entry) ≡ skipped = sym (counts ∙ ap is_gap becomes) in
-      count_on rules.skips_gaps (gap_count skipped) (gaps_among binding old all) (gaps_among binding new later)
-      (ap (gaps_among binding old) (entries_first rest (Ok (Some entry)) some)
-      ∙ gaps-first binding old (record { line = number; entry = entry }) later
-      ∙ ap (λ (gap : Bool). gap_count gap + gaps_among binding (next_follow binding old entry) later) gap
-      ∙ ap (λ state. gap_count skipped + gaps_among binding state later) (sym next))
-      (no_gap_counts skipped rules.skips_gaps (ap (λ gap. gap && not rules.skips_gaps) counts ∙ sym goes))
+      ap (gaps_among binding skips old) (entries_first rest (Ok (Some entry)) some)
+      ∙ gaps-first binding skips old (record { line = number; entry = entry }) later false on
+      ∙ ap (λ (gap : Bool). gap_count gap + gaps_among binding skips (next_follow binding old entry) later) gap
+      ∙ ap (λ state. gap_count skipped + gaps_among binding skips state later) (sym next)
 
   -- a line with an entry, at which following stops
-  pub skips_when_gap : (made : Following) (stop : Stop) (new : FollowState)
-      → true ≡ (is_gap made && not rules.skips_gaps) → LineSkips binding rules number line old (Stops stop) new
-  skips_when_gap made stop new stops rest =
-      ap (λ (skips : Bool). if skips
-      then gaps_among binding old (stream_of_lines rules.chained number (line ∷ rest)).entries else 0)
-      (stops_unless_skips (is_gap made) rules.skips_gaps (sym stops))
+  pub skips_when_stop : (read : Option Entry) (entry : Entry) (made : Following) (stop : Stop) (new : FollowState)
+      → GivesUnlessMemory (Ok read) (line_entry rules.chained line) → read ≡ Some entry
+      → made ≡ outcome_of binding old entry → true ≡ stops_at rules.skips_gaps made
+      → LineSkips binding rules number line old (Stops stop) new
+  skips_when_stop read entry made stop new gives is becomes stops rest =
+      let some : line_entry rules.chained line ≡ Ok (Some entry) =
+      gives_ok read (line_entry rules.chained line) gives
+      ∙ ap (λ (read : Option Entry). let answer : Result (Option Entry) LineError = Ok read in answer) is in
+      let skips = rules.skips_gaps in
+      let later = (stream_of_lines rules.chained (number + 1) rest).entries in
+      let at : stops_at skips (outcome_of binding old entry) ≡ true = sym (stops ∙ ap (stops_at skips) becomes) in
+      ap (gaps_among binding skips old) (entries_first rest (Ok (Some entry)) some)
+      ∙ gaps-first binding skips old (record { line = number; entry = entry }) later true at
 
   -- a line that is no entry
   none_when_bad : (error : LineError) → line_entry rules.chained line ≡ Err error → (rest : List (List ℕ))
       → gaps_skipped binding rules old number (line ∷ rest) ≡ 0
   none_when_bad error is rest =
-      count_none rules.skips_gaps
-      (gaps_among binding old (stream_of_lines rules.chained number (line ∷ rest)).entries)
-      (ap (gaps_among binding old) (entries_first rest (Err error) is) ∙ gaps-none binding old)
+      ap (gaps_among binding rules.skips_gaps old) (entries_first rest (Err error) is)
+      ∙ gaps-none binding rules.skips_gaps old
 
   pub skips_when_bad : (error : LineError) → GivesUnlessMemory (Err error) (line_entry rules.chained line)
       → (answer : Result Turn FollowError)

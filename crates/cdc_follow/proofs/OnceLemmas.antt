@@ -2,9 +2,10 @@
 use Rattle.std.proofs.Common.{◌≡◌, ℕ, zero, suc, ◌<◌, ◌≤◌, List, [], ◌∷◌, length, Bool, true, false, cond, Some, None}
 use Rattle.std.proofs.Common.{Option, refl, sym, ap, ◌∙◌, arith, subst, le-leb, leb-false}
 use Rattle.std.proofs.lemmas.Bool.{false≢true}
-use Rattle.std.specs.Prelude.{◌&&◌, ◌||◌, not, nat_le, is_none, Contains, slice_index_or}
+use Rattle.std.specs.Prelude.{◌&&◌, ◌||◌, not, nat_le, nat_lt, is_none, Contains, slice_index_or}
 use Rattle.std.specs.List.{AllByRecursion}
 use Rattle.std.proofs.lemmas.List.Sums.{fold-append}
+use Rattle.cdc_types.specs.declared.bounds.TheConstants.Limits.{TIMESTAMP}
 use Rattle.cdc_types.specs.declared.events.Event.{Event}
 use Rattle.cdc_message.specs.declared.items.Item.TheVariants as item
 use Rattle.cdc_message.specs.Headers.{headers_of_event}
@@ -17,16 +18,17 @@ use Rattle.cdc_subscriber.specs.SubscriberState.{SubscriberState}
 use Rattle.cdc_follow.specs.declared.entries.Content.{Content}
 use Rattle.cdc_follow.specs.declared.entries.Content.TheVariants as content
 use Rattle.cdc_follow.specs.declared.entries.Entry.{Entry}
-use Rattle.cdc_follow.specs.Following.{FollowState, comes_early, content_outcome, follow_all, is_gap, next_follow}
+use Rattle.cdc_follow.specs.Following.{FollowState, content_outcome, follow_all, follows, is_gap, next_follow}
 use Rattle.cdc_follow.specs.Following.{outcome_of, state_by}
 use Rattle.cdc_follow.specs.Laws.{GoingOnIsOnce, HasNoGap}
 use Rattle.cdc_follow.proofs.StepLemmas.{le_longer, next-closed, next-open, outcome-open}
 
--- an event changes nothing of an open follower: it isn't later than the last one seen, or it names no predecessor and
--- the binding doesn't take it
+-- an event changes nothing of an open follower: it isn't later than the last one seen, no ledger has it, or it names
+-- no predecessor and the binding doesn't take it
 abbrev is_past : Arguments → ℕ → Option ℕ → Content → Bool
 is_past binding seen previous (content.Event e) =
-    nat_le e.timestamp seen || (is_none previous && not (matches binding (headers_of_event e)))
+    nat_le e.timestamp seen
+    || (nat_lt TIMESTAMP e.timestamp || (is_none previous && not (matches binding (headers_of_event e))))
 is_past binding seen previous content.End = false
 
 -- an entry changes nothing
@@ -49,19 +51,28 @@ past_keeps : (binding : Arguments) (state : FollowState) (previous : Option ℕ)
 past_keeps binding state previous (content.Event e) past = late (nat_le e.timestamp state.seen) refl
   where
     let_pass : (taken : Bool) (previous : Option ℕ) → matches binding (headers_of_event e) ≡ taken
-        → nat_le e.timestamp state.seen ≡ false → (is_none previous && not taken) ≡ true
+        → nat_le e.timestamp state.seen ≡ false → nat_lt TIMESTAMP e.timestamp ≡ false
+        → (is_none previous && not taken) ≡ true
         → state_by (content_outcome binding state.seen previous (content.Event e)) state previous (content.Event e)
         ≡ state
-    let_pass true None takes later is = cc
-    let_pass true (Some p) takes later is = cc
-    let_pass false None takes later is = rw (later, takes) refl
-    let_pass false (Some p) takes later is = cc
+    let_pass true None takes later within is = cc
+    let_pass true (Some p) takes later within is = cc
+    let_pass false None takes later within is = rw (later, within, takes) refl
+    let_pass false (Some p) takes later within is = cc
+
+    high : (t : Bool) → nat_lt TIMESTAMP e.timestamp ≡ t → nat_le e.timestamp state.seen ≡ false
+        → (nat_lt TIMESTAMP e.timestamp || (is_none previous && not (matches binding (headers_of_event e)))) ≡ true
+        → state_by (content_outcome binding state.seen previous (content.Event e)) state previous (content.Event e)
+        ≡ state
+    high true is later either = rw (later, is) refl
+    high false is later either =
+        let_pass (matches binding (headers_of_event e)) previous refl later is (rw is at either)
 
     late : (t : Bool) → nat_le e.timestamp state.seen ≡ t
         → state_by (content_outcome binding state.seen previous (content.Event e)) state previous (content.Event e)
         ≡ state
     late true is = rw is refl
-    late false is = let_pass (matches binding (headers_of_event e)) previous refl is (rw is at past)
+    late false is = high (nat_lt TIMESTAMP e.timestamp) refl is (rw is at past)
 past_keeps binding state previous content.End past = cc
 
 settled_keeps : (binding : Arguments) (state : FollowState) (entry : Entry) → is_settled binding state entry ≡ true
@@ -75,25 +86,27 @@ settled_keeps binding state entry settled = case_of (listens state.kept) refl
 
 -- ---- an entry that is settled stays so
 
-rises-event : (binding : Arguments) (state : FollowState) (previous : Option ℕ) (e : Event) (late early takes : Bool)
-    → nat_le e.timestamp state.seen ≡ late → comes_early state.seen previous ≡ early
-    → matches binding (headers_of_event e) ≡ takes
+rises-event : (binding : Arguments) (state : FollowState) (previous : Option ℕ) (e : Event)
+    (late high next takes : Bool) → nat_le e.timestamp state.seen ≡ late → nat_lt TIMESTAMP e.timestamp ≡ high
+    → follows state.seen previous ≡ next → matches binding (headers_of_event e) ≡ takes
     → state.seen ≤ (state_by (content_outcome binding state.seen previous (content.Event e)) state previous
     (content.Event e)).seen
-rises-event binding state previous e true early takes l a t = rw l (omega arith)
-rises-event binding state previous e false true takes l a t = rw (l, a) (omega arith)
-rises-event binding state previous e false false true l a t =
-    let later = leb-false e.timestamp state.seen l in rw (l, a, t) (omega (arith, later))
-rises-event binding state None e false false false l a t = rw (l, t) (omega arith)
-rises-event binding state (Some p) e false false false l a t =
-    let later = leb-false e.timestamp state.seen l in rw (l, a, t) (omega (arith, later))
+rises-event binding state previous e true high next takes l h n t = rw l (omega arith)
+rises-event binding state previous e false true next takes l h n t = rw (l, h) (omega arith)
+rises-event binding state previous e false false false takes l h n t = rw (l, h, n) (omega arith)
+rises-event binding state previous e false false true true l h n t =
+    let later = leb-false e.timestamp state.seen l in rw (l, h, n, t) (omega (arith, later))
+rises-event binding state None e false false true false l h n t = rw (l, h, t) (omega arith)
+rises-event binding state (Some p) e false false true false l h n t =
+    let later = leb-false e.timestamp state.seen l in rw (l, h, n, t) (omega (arith, later))
 
 rises-content : (binding : Arguments) (state : FollowState) (previous : Option ℕ) (content : Content)
     → state.seen ≤ (state_by (content_outcome binding state.seen previous content) state previous content).seen
-rises-content binding state previous (content.Event e) = rises-event binding state previous e _ _ _ refl refl refl
-rises-content binding state previous content.End = case_of (comes_early state.seen previous) refl
+rises-content binding state previous (content.Event e) =
+    rises-event binding state previous e _ _ _ _ refl refl refl refl
+rises-content binding state previous content.End = case_of (follows state.seen previous) refl
   where
-    case_of : (early : Bool) → comes_early state.seen previous ≡ early
+    case_of : (next : Bool) → follows state.seen previous ≡ next
         → state.seen
         ≤ (state_by (content_outcome binding state.seen previous content.End) state previous content.End).seen
     case_of true is = rw is (omega arith)
@@ -145,20 +158,24 @@ end_settles kept listening =
     case_of true = refl
     case_of false = refl
 
-settles-event : (binding : Arguments) (state : FollowState) (previous : Option ℕ) (e : Event) (late early takes : Bool)
-    → listens state.kept ≡ true → nat_le e.timestamp state.seen ≡ late → comes_early state.seen previous ≡ early
+settles-event : (binding : Arguments) (state : FollowState) (previous : Option ℕ) (e : Event)
+    (late high next takes : Bool) → listens state.kept ≡ true → nat_le e.timestamp state.seen ≡ late
+    → nat_lt TIMESTAMP e.timestamp ≡ high → follows state.seen previous ≡ next
     → matches binding (headers_of_event e) ≡ takes
     → is_gap (content_outcome binding state.seen previous (content.Event e)) ≡ false
     → is_past binding (state_by (content_outcome binding state.seen previous (content.Event e)) state previous
     (content.Event e)).seen previous (content.Event e) ≡ true
-settles-event binding state previous e true early takes listening l a t none = rw l (or_left _ _ l)
-settles-event binding state previous e false true takes listening l a t none =
-    absurd (false≢true (sym (rw (l, a) at none)))
-settles-event binding state previous e false false true listening l a t none =
-    rw (l, a, t) (or_left _ _ (le-leb e.timestamp e.timestamp (omega arith)))
-settles-event binding state None e false false false listening l a t none = rw (l, t) (or_right _ _ refl)
-settles-event binding state (Some p) e false false false listening l a t none =
-    rw (l, a, t) (or_left _ _ (le-leb e.timestamp e.timestamp (omega arith)))
+settles-event binding state previous e true high next takes listening l h n t none = rw l (or_left _ _ l)
+settles-event binding state previous e false true next takes listening l h n t none =
+    rw (l, h) (or_right _ true refl)
+settles-event binding state previous e false false false takes listening l h n t none =
+    absurd (false≢true (sym (rw (l, h, n) at none)))
+settles-event binding state previous e false false true true listening l h n t none =
+    rw (l, h, n, t) (or_left _ _ (le-leb e.timestamp e.timestamp (omega arith)))
+settles-event binding state None e false false true false listening l h n t none =
+    rw (l, h, t) (or_right _ _ refl)
+settles-event binding state (Some p) e false false true false listening l h n t none =
+    rw (l, h, n, t) (or_left _ _ (le-leb e.timestamp e.timestamp (omega arith)))
 
 settles-content : (binding : Arguments) (state : FollowState) (entry : Entry) (content : Content)
     → entry.content ≡ content → listens state.kept ≡ true
@@ -169,14 +186,14 @@ settles-content : (binding : Arguments) (state : FollowState) (entry : Entry) (c
     content).seen
     entry.previous content) ≡ true
 settles-content binding state entry (content.Event e) is listening none =
-    or_right _ _ (settles-event binding state entry.previous e _ _ _ listening refl refl refl none)
-settles-content binding state entry content.End is listening none = case_of (comes_early state.seen entry.previous) refl
+    or_right _ _ (settles-event binding state entry.previous e _ _ _ _ listening refl refl refl refl none)
+settles-content binding state entry content.End is listening none = case_of (follows state.seen entry.previous) refl
   where
-    case_of : (early : Bool) → comes_early state.seen entry.previous ≡ early
+    case_of : (next : Bool) → follows state.seen entry.previous ≡ next
         → (not (listens (state_by (content_outcome binding state.seen entry.previous content.End) state entry.previous
         content.End).kept) || is_past binding state.seen entry.previous content.End) ≡ true
-    case_of true is = absurd (false≢true (sym (rw is at none)))
-    case_of false is = rw is (or_left (not (listens (next_state state.kept item.EndMark))) _
+    case_of false is = absurd (false≢true (sym (rw is at none)))
+    case_of true is = rw is (or_left (not (listens (next_state state.kept item.EndMark))) _
         (ap not (end_settles state.kept listening)))
 
 taken_settles : (binding : Arguments) (state : FollowState) (entry : Entry)

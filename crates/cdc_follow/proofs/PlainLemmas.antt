@@ -1,6 +1,7 @@
 -- A follower of entries without predecessors is a subscriber of what its binding takes.
 use Rattle.std.proofs.Common.{◌≡◌, List, [], ◌∷◌, Bool, true, false, cond, None, refl, sym, ap, ◌∙◌, subst}
-use Rattle.std.specs.Prelude.{nat_le, filter, fold, map}
+use Rattle.std.specs.Prelude.{◌&&◌, not, nat_le, nat_lt, filter, fold, map}
+use Rattle.cdc_types.specs.declared.bounds.TheConstants.Limits.{TIMESTAMP}
 use Rattle.cdc_types.specs.declared.events.Event.{Event}
 use Rattle.cdc_message.specs.declared.items.Item.TheVariants as item
 use Rattle.cdc_message.specs.Headers.{headers_of_event}
@@ -22,11 +23,12 @@ record GoesTo (kept : SubscriberState) (state : FollowState) : Type 0 where
   pub last : state.seen ≡ state.kept.last
 
 -- an event, by whether it is late and whether the binding takes it
-plain-event : (binding : Arguments) (state : FollowState) (e : Event) (late takes : Bool) → state.seen ≡ state.kept.last
-    → listens state.kept ≡ true → nat_le e.timestamp state.seen ≡ late → matches binding (headers_of_event e) ≡ takes
-    → GoesTo (cond takes (next_state state.kept (item.Event e)) state.kept)
+plain-event : (binding : Arguments) (state : FollowState) (e : Event) (late high takes : Bool)
+    → state.seen ≡ state.kept.last → listens state.kept ≡ true → nat_le e.timestamp state.seen ≡ late
+    → nat_lt TIMESTAMP e.timestamp ≡ high → matches binding (headers_of_event e) ≡ takes
+    → GoesTo (cond (not high && takes) (next_state state.kept (item.Event e)) state.kept)
     (state_by (content_outcome binding state.seen None (content.Event e)) state None (content.Event e))
-plain-event binding state e true true last listening l t =
+plain-event binding state e true false true last listening l h t =
     let old : nat_le e.timestamp state.kept.last ≡ true = ap (nat_le e.timestamp) (sym last) ∙ l in
     rw l (record {
       is = sym (ap (λ b. cond b (cond (nat_le e.timestamp state.kept.last) state.kept (with_event state.kept e))
@@ -34,21 +36,25 @@ plain-event binding state e true true last listening l t =
           listening ∙ ap (λ b. cond b state.kept (with_event state.kept e)) old);
       last = last;
     })
-plain-event binding state e true false last listening l t = rw l (record { is = refl; last = last })
-plain-event binding state e false true last listening l t =
+plain-event binding state e true false false last listening l h t = rw l (record { is = refl; last = last })
+plain-event binding state e true true takes last listening l h t = rw l (record { is = refl; last = last })
+plain-event binding state e false true takes last listening l h t = rw (l, h) (record { is = refl; last = last })
+plain-event binding state e false false true last listening l h t =
     let old : nat_le e.timestamp state.kept.last ≡ false = ap (nat_le e.timestamp) (sym last) ∙ l in
-    rw (l, t) (record {
+    rw (l, h, t) (record {
       is = refl;
       last = sym (ap (λ b. (cond b (cond (nat_le e.timestamp state.kept.last) state.kept (with_event state.kept e))
           state.kept).last) listening ∙ ap (λ b. (cond b state.kept (with_event state.kept e)).last) old);
     })
-plain-event binding state e false false last listening l t = rw (l, t) (record { is = refl; last = last })
+plain-event binding state e false false false last listening l h t =
+    rw (l, h, t) (record { is = refl; last = last })
 
 plain-content : (binding : Arguments) (state : FollowState) (content : Content) → state.seen ≡ state.kept.last
     → listens state.kept ≡ true
     → GoesTo (cond (is_taken binding content) (next_state state.kept (item_of content)) state.kept)
     (state_by (content_outcome binding state.seen None content) state None content)
-plain-content binding state (content.Event e) last listening = plain-event binding state e _ _ last listening refl refl
+plain-content binding state (content.Event e) last listening =
+    plain-event binding state e _ _ _ last listening refl refl refl
 plain-content binding state content.End last listening =
     record {
       is = refl;

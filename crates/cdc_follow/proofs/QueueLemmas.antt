@@ -1,11 +1,12 @@
 -- A follower of a chained queue keeps a prefix of it.
 use Rattle.std.proofs.Common.{◌≡◌, ◌⊎◌, inl, inr, ℕ, ◌+◌, ◌<◌, ◌≤◌, length, length-append, min, List, [], ◌∷◌, ◌++◌}
 use Rattle.std.proofs.Common.{Bool, true, false, cond, Some, Option, refl, sym, ap, ◌∙◌, arith, subst, append-nil}
-use Rattle.std.proofs.Common.{append_assoc, leb-false, ltb-false}
-use Rattle.std.specs.Prelude.{nat_le, nat_lt, filter}
+use Rattle.std.proofs.Common.{append_assoc, leb-false, eqb-true}
+use Rattle.std.specs.Prelude.{nat_eq, nat_le, nat_lt, filter}
 use Rattle.std.specs.List.{AllByRecursion}
 use Rattle.std.proofs.lemmas.List.Elements.{filter-append}
 use Rattle.std.proofs.lemmas.Bool.{false≢true, lt-leb}
+use Rattle.cdc_types.specs.declared.bounds.TheConstants.Limits.{TIMESTAMP}
 use Rattle.cdc_types.specs.declared.events.Event.{Event}
 use Rattle.cdc_types.specs.Timestamps.{RiseFrom, last_timestamp, last_timestamp_from}
 use Rattle.cdc_types.specs.Widths.{max_64}
@@ -243,13 +244,13 @@ module _ (binding : Arguments) (queue : List Event) (rising : RiseFrom 0 queue) 
       passed : state.kept ≡ kept_after (taken_by binding (before ++ e ∷ [])) false
       passed = kept ∙ ap (λ es. kept_after es false) (sym (taken_by-push binding before e false is))
 
-  -- an event of the queue that is later than the last one seen, and before which there is no gap, is the next one
+  -- an event of the queue that is later than the last one seen, and follows it, is the next one
   keeps-new : (state : FollowState) (keeps : KeepsPrefix binding queue state) (e : Event) (first last : List Event)
       → queue ≡ first ++ e ∷ last → listens state.kept ≡ true → nat_le e.timestamp state.seen ≡ false
-      → nat_lt state.seen (last_timestamp first) ≡ false
+      → nat_eq (last_timestamp first) state.seen ≡ true
       → KeepsPrefix binding queue (state_by (next_outcome binding e) state
       (Some (last_timestamp first)) (content.Event e))
-  keeps-new state keeps e first last whole listening late early =
+  keeps-new state keeps e first last whole listening late next =
       case_of (place_of keeps.before keeps.after first last e (sym keeps.whole ∙ whole))
     where
       ended : state.kept.ended ≡ false
@@ -266,9 +267,9 @@ module _ (binding : Arguments) (queue : List Event) (rising : RiseFrom 0 queue) 
           let bound = last-within 0 first rest e (subst (RiseFrom 0) is rises) in
           let seen : state.seen ≡ last_timestamp (first ++ e ∷ rest) = keeps.seen ∙ ap last_timestamp is in
           absurd (omega (arith, leb-false e.timestamp state.seen late, bound, seen))
-      case_of (inr (inl next)) =
+      case_of (inr (inl is)) =
           keeps-next state keeps.before last e (last_timestamp first) _
-          (keeps.whole ∙ ap (λ es. keeps.before ++ es) next.1)
+          (keeps.whole ∙ ap (λ es. keeps.before ++ es) is.1)
           (keeps.kept ∙ ap (kept_after (taken_by binding keeps.before)) ended) refl
       case_of (inr (inr place)) =
           let x = place.0 in
@@ -277,27 +278,29 @@ module _ (binding : Arguments) (queue : List Event) (rising : RiseFrom 0 queue) 
           let rises : RiseFrom 0 first = rise_before 0 first (e ∷ last) (subst (RiseFrom 0) whole rising) in
           let beyond = last-beyond 0 keeps.before rest x (subst (RiseFrom 0) is rises) in
           let front : last_timestamp first ≡ last_timestamp (keeps.before ++ x ∷ rest) = ap last_timestamp is in
-          absurd (omega (arith, ltb-false state.seen (last_timestamp first) early, beyond, front, keeps.seen))
+          absurd (omega (arith, eqb-true (last_timestamp first) state.seen next, beyond, front, keeps.seen))
 
   keeps-event : (state : FollowState) → KeepsPrefix binding queue state → (e : Event) (first last : List Event)
-      (late early : Bool) → queue ≡ first ++ e ∷ last → listens state.kept ≡ true
-      → nat_le e.timestamp state.seen ≡ late → nat_lt state.seen (last_timestamp first) ≡ early
+      (late high next : Bool) → queue ≡ first ++ e ∷ last → listens state.kept ≡ true
+      → nat_le e.timestamp state.seen ≡ late → nat_lt TIMESTAMP e.timestamp ≡ high
+      → nat_eq (last_timestamp first) state.seen ≡ next
       → KeepsPrefix binding queue (state_by (content_outcome binding state.seen (Some (last_timestamp first))
       (content.Event e)) state (Some (last_timestamp first)) (content.Event e))
-  keeps-event state keeps e first last true early whole listening l a = rw l keeps
-  keeps-event state keeps e first last false true whole listening l a = rw (l, a) keeps
-  keeps-event state keeps e first last false false whole listening l a =
-      rw (l, a) (keeps-new state keeps e first last whole listening l a)
+  keeps-event state keeps e first last true high next whole listening l h n = rw l keeps
+  keeps-event state keeps e first last false true next whole listening l h n = rw (l, h) keeps
+  keeps-event state keeps e first last false false false whole listening l h n = rw (l, h, n) keeps
+  keeps-event state keeps e first last false false true whole listening l h n =
+      rw (l, h, n) (keeps-new state keeps e first last whole listening l n)
 
   -- the end is received behind the last event of the queue alone
-  keeps-end : (state : FollowState) → KeepsPrefix binding queue state → (early : Bool) → listens state.kept ≡ true
-      → nat_lt state.seen (last_timestamp queue) ≡ early
+  keeps-end : (state : FollowState) → KeepsPrefix binding queue state → (next : Bool) → listens state.kept ≡ true
+      → nat_eq (last_timestamp queue) state.seen ≡ next
       → KeepsPrefix binding queue
       (state_by (content_outcome binding state.seen (Some (last_timestamp queue)) content.End)
       state (Some (last_timestamp queue)) content.End)
-  keeps-end state keeps true listening a = rw a keeps
-  keeps-end state keeps false listening a =
-      rw a (record {
+  keeps-end state keeps false listening n = rw n keeps
+  keeps-end state keeps true listening n =
+      rw n (record {
         before = keeps.before;
         after = keeps.after;
         whole = keeps.whole;
@@ -314,7 +317,7 @@ module _ (binding : Arguments) (queue : List Event) (rising : RiseFrom 0 queue) 
           let all : queue ≡ keeps.before ++ x ∷ rest = keeps.whole ∙ ap (λ es. keeps.before ++ es) is in
           let beyond = last-beyond 0 keeps.before rest x (subst (RiseFrom 0) all rising) in
           let last : last_timestamp queue ≡ last_timestamp (keeps.before ++ x ∷ rest) = ap last_timestamp all in
-          absurd (omega (arith, ltb-false state.seen (last_timestamp queue) a, beyond, last, keeps.seen))
+          absurd (omega (arith, eqb-true (last_timestamp queue) state.seen n, beyond, last, keeps.seen))
 
   keeps-content : (state : FollowState) → KeepsPrefix binding queue state → listens state.kept ≡ true
       → (previous : Option ℕ) (content : Content) → IsContentOf queue previous content
@@ -323,7 +326,7 @@ module _ (binding : Arguments) (queue : List Event) (rising : RiseFrom 0 queue) 
   keeps-content state keeps listening previous (content.Event e) among =
       subst (λ p. KeepsPrefix binding queue (state_by (content_outcome binding state.seen p (content.Event e)) state p
       (content.Event e))) (sym among.3)
-      (keeps-event state keeps e among.0 among.1 _ _ among.2 listening refl refl)
+      (keeps-event state keeps e among.0 among.1 _ _ _ among.2 listening refl refl refl)
   keeps-content state keeps listening previous content.End among =
       subst
       (λ p. KeepsPrefix binding queue (state_by (content_outcome binding state.seen p content.End) state p content.End))

@@ -20,6 +20,7 @@ use Rattle.cdc_follow.specs.declared.entries.Content.TheVariants as content
 use Rattle.cdc_follow.specs.declared.entries.Entry.{Entry}
 use Rattle.cdc_follow.specs.declared.follower.Following.{Following}
 use Rattle.cdc_follow.specs.declared.follower.Following.TheVariants.{Applied, PassedBy, Duplicate, Gap, Ended}
+use Rattle.cdc_follow.specs.declared.follower.Following.TheVariants.{AfterEnd, OutOfRange}
 use Rattle.cdc_follow.specs.Following.{FollowState, next_follow, outcome_of, state_by}
 use Rattle.cdc_follow.specs.Laws.{entries_in, item_of}
 use Rattle.cdc_follow.specs.Saved.{AreBook, CanBeSaved, EntryFits}
@@ -131,6 +132,8 @@ one_more text PassedBy state (Some previous) (content.Event e) saved fits =
 one_more text PassedBy state previous content.End saved fits = saved
 one_more text Duplicate state previous c saved fits = saved
 one_more text Gap state previous c saved fits = saved
+one_more text AfterEnd state previous c saved fits = saved
+one_more text OutOfRange state previous c saved fits = saved
 one_more text Ended state previous c saved fits =
     with_kept text state _ state.seen saved (next_keeps state.kept content.End (kept_in text state saved) tt) saved.seen
 

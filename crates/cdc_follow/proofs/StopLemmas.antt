@@ -2,7 +2,7 @@
 use Rattle.std.proofs.Common.{◌≡◌, ◌≢◌, inl, inr, ℕ, suc, ◌+◌, ◌<◌, List, [], ◌∷◌, ◌++◌, length, take, append-nil}
 use Rattle.std.proofs.Common.{append_assoc, Bool, true, false, Some, None, Option, Result, Ok, Err, refl, sym, ap}
 use Rattle.std.proofs.Common.{◌∙◌, cond, subst}
-use Rattle.std.specs.Prelude.{◌&&◌, not, IfOk, IfSome, OnErr}
+use Rattle.std.specs.Prelude.{IfOk, IfSome, OnErr}
 use Rattle.std.proofs.lemmas.Bool.{lt-ltb}
 use Rattle.cdc_match.specs.Arguments.{Arguments}
 use Rattle.cdc_follow.specs.declared.entries.Entry.{Entry}
@@ -19,11 +19,11 @@ use Rattle.cdc_follow.specs.declared.streams.Stop.TheVariants as stop
 use Rattle.cdc_follow.specs.declared.streams.Turn.{Turn}
 use Rattle.cdc_follow.specs.declared.streams.Turn.TheVariants as turn
 use Rattle.cdc_follow.specs.Entries.{line_entry}
-use Rattle.cdc_follow.specs.Following.{FollowState, Followed, follow, is_gap, next_follow, outcome_of, state_by}
+use Rattle.cdc_follow.specs.Following.{FollowState, Followed, follow, next_follow, outcome_of, state_by, stops_at}
 use Rattle.cdc_follow.specs.LineErrors.{GivesUnlessMemory}
 use Rattle.cdc_follow.specs.Lines.{FirstLineIsLong, TakesLine, lines_of}
 use Rattle.cdc_follow.specs.Stops.{KeepsFirst, LineLeadsTo, StepLeadsTo, Stopped, bytes_followed, followed}
-use Rattle.cdc_follow.specs.Stops.{lines_followed, stop_of, stopped}
+use Rattle.cdc_follow.specs.Stops.{lines_followed, stop_by, stop_of, stopped}
 use Rattle.cdc_follow.specs.Streams.{Stream, NumberedEntry, stream_of_lines, stream_with}
 use Rattle.cdc_follow.proofs.LineLemmas.{lines_of-none}
 
@@ -44,7 +44,7 @@ leads_past binding rules number line state is rest =
 
 -- nothing is followed of no entries
 pub follow-none : (binding : Arguments) (skips : Bool) (state : FollowState)
-    → follow binding skips state [] ≡ record { state = state; gap = None }
+    → follow binding skips state [] ≡ record { state = state; at = None }
 unfolding follow
 follow-none binding skips state = refl
 
@@ -66,8 +66,8 @@ leads_to_bad binding rules number line state error is rest =
 -- the first entry is followed, or following stops at it
 pub follow-first : (binding : Arguments) (skips : Bool) (state : FollowState) (numbered : NumberedEntry)
     (rest : List NumberedEntry) (stops : Bool)
-    → (is_gap (outcome_of binding state numbered.entry) && not skips) ≡ stops
-    → follow binding skips state (numbered ∷ rest) ≡ cond stops (record { state = state; gap = Some numbered })
+    → stops_at skips (outcome_of binding state numbered.entry) ≡ stops
+    → follow binding skips state (numbered ∷ rest) ≡ cond stops (record { state = state; at = Some numbered })
     (follow binding skips (next_follow binding state numbered.entry) rest)
 unfolding follow
 follow-first binding skips state numbered rest stops is = rw is refl
@@ -75,44 +75,47 @@ follow-first binding skips state numbered rest stops is = rw is refl
 -- a line that has an entry, at which following doesn't stop
 pub leads_on : (binding : Arguments) (rules : Rules) (number : ℕ) (line : List ℕ) (state : FollowState)
     (entry : Entry) → line_entry rules.chained line ≡ Ok (Some entry)
-    → (is_gap (outcome_of binding state entry) && not rules.skips_gaps) ≡ false
+    → stops_at rules.skips_gaps (outcome_of binding state entry) ≡ false
     → LineLeadsTo binding rules number line state None (next_follow binding state entry)
 leads_on binding rules number line state entry is goes rest =
     let later = stream_of_lines rules.chained (number + 1) rest in
     ap (followed binding rules.skips_gaps state)
     (stream_first rules.chained number line rest ∙ ap (λ entry. stream_with number entry later) is)
-    ∙ ap (λ done. stopped done later.bad)
+    ∙ ap (λ done. stopped binding done later.bad)
     (follow-first binding rules.skips_gaps state (record { line = number; entry = entry }) later.entries false goes)
 
+-- why following stops at the entry of a line
+abbrev stop_for : Arguments → FollowState → ℕ → Entry → Stop
+stop_for binding state number entry =
+    stop_by (outcome_of binding state entry) (record { line = number; entry = entry })
+
 -- a line that has an entry, at which following stops
-pub leads_to_gap : (binding : Arguments) (rules : Rules) (number : ℕ) (line : List ℕ) (state : FollowState)
+pub leads_to_stop : (binding : Arguments) (rules : Rules) (number : ℕ) (line : List ℕ) (state : FollowState)
     (entry : Entry) → line_entry rules.chained line ≡ Ok (Some entry)
-    → (is_gap (outcome_of binding state entry) && not rules.skips_gaps) ≡ true
-    → LineLeadsTo binding rules number line state (Some (stop.Gap number entry)) state
-leads_to_gap binding rules number line state entry is stops rest =
+    → stops_at rules.skips_gaps (outcome_of binding state entry) ≡ true
+    → LineLeadsTo binding rules number line state (Some (stop_for binding state number entry)) state
+leads_to_stop binding rules number line state entry is stops rest =
     let later = stream_of_lines rules.chained (number + 1) rest in
     ap (followed binding rules.skips_gaps state)
     (stream_first rules.chained number line rest ∙ ap (λ entry. stream_with number entry later) is)
-    ∙ ap (λ done. stopped done later.bad)
+    ∙ ap (λ done. stopped binding done later.bad)
     (follow-first binding rules.skips_gaps state (record { line = number; entry = entry }) later.entries true stops)
 
--- a gap changes nothing
-gap_keeps : (made : Following) (state : FollowState) (previous : Option ℕ) (content : Content)
-    → is_gap made ≡ true → state_by made state previous content ≡ state
-gap_keeps following.Applied state previous content is = cc
-gap_keeps following.PassedBy state previous content is = cc
-gap_keeps following.Duplicate state previous content is = refl
-gap_keeps following.Gap state previous content is = refl
-gap_keeps following.Ended state previous content is = cc
+-- an entry at which following stops changes nothing
+stop_keeps : (skips : Bool) (made : Following) (state : FollowState) (previous : Option ℕ) (content : Content)
+    → stops_at skips made ≡ true → state_by made state previous content ≡ state
+stop_keeps skips following.Applied state previous content is = cc
+stop_keeps skips following.PassedBy state previous content is = cc
+stop_keeps skips following.Duplicate state previous content is = refl
+stop_keeps skips following.Gap state previous content is = refl
+stop_keeps skips following.Ended state previous content is = cc
+stop_keeps skips following.AfterEnd state previous content is = refl
+stop_keeps skips following.OutOfRange state previous content is = refl
 
-and_first : (a b : Bool) → (a && b) ≡ true → a ≡ true
-and_first true b is = refl
-and_first false b is = is
-
-pub next-gap : (binding : Arguments) (state : FollowState) (entry : Entry) (b : Bool)
-    → (is_gap (outcome_of binding state entry) && b) ≡ true → next_follow binding state entry ≡ state
-next-gap binding state entry b is =
-    gap_keeps (outcome_of binding state entry) state entry.previous entry.content (and_first _ b is)
+pub next-stop : (binding : Arguments) (skips : Bool) (state : FollowState) (entry : Entry)
+    → stops_at skips (outcome_of binding state entry) ≡ true → next_follow binding state entry ≡ state
+next-stop binding skips state entry is =
+    stop_keeps skips (outcome_of binding state entry) state entry.previous entry.content is
 
 -- a line that was read, by what it leads to
 pub step_leads : (binding : Arguments) (rules : Rules) (number : ℕ) (old new : FollowState)
@@ -269,21 +272,21 @@ keeps_line binding rules start number line front rest (Ok None) is later =
           ∙ sym (ap (kept_first binding rules.skips_gaps start others.0)
           (entries_first rules.chained number line (front ++ rest) (Ok None) is)),
     )
-keeps_line binding rules start number line front rest (Ok (Some entry)) is later = by_gap _ refl
+keeps_line binding rules start number line front rest (Ok (Some entry)) is later = by_stop _ refl
   where
-    by_gap : (stops : Bool) → (is_gap (outcome_of binding start entry) && not rules.skips_gaps) ≡ stops
+    by_stop : (stops : Bool) → stops_at rules.skips_gaps (outcome_of binding start entry) ≡ stops
         → KeepsSome binding rules start number (line ∷ front) rest
-    by_gap true gap =
-        keeps_none binding rules start number (stop.Gap number entry) (line ∷ front) rest
-        (leads_to_gap binding rules number line start entry is gap front)
-    by_gap false gap =
+    by_stop true at =
+        keeps_none binding rules start number (stop_for binding start number entry) (line ∷ front) rest
+        (leads_to_stop binding rules number line start entry is at front)
+    by_stop false on =
         let numbered : NumberedEntry = record { line = number; entry = entry } in
         let others = later (next_follow binding start entry) in
         let entries = (stream_of_lines rules.chained (number + 1) (front ++ rest)).entries in (
           suc others.0,
-          ap (λ (s : Stopped). s.state) (leads_on binding rules number line start entry is gap front) ∙ others.1
+          ap (λ (s : Stopped). s.state) (leads_on binding rules number line start entry is on front) ∙ others.1
               ∙ sym (ap (λ (done : Followed). done.state)
-              (follow-first binding rules.skips_gaps start numbered (take others.0 entries) false gap))
+              (follow-first binding rules.skips_gaps start numbered (take others.0 entries) false on))
               ∙ sym (ap (kept_first binding rules.skips_gaps start (suc others.0))
               (entries_first rules.chained number line (front ++ rest) (Ok (Some entry)) is)),
         )
@@ -365,25 +368,28 @@ module _ (binding : Arguments) (rules : Rules) (number : ℕ) (line : List ℕ) 
       gives_ok read (line_entry rules.chained line) gives
       ∙ ap (λ (read : Option Entry). let answer : Result (Option Entry) LineError = Ok read in answer) is
 
-  pub leads_when_gap : (read : Option Entry) (entry : Entry) (made : Following) (new : FollowState)
+  pub leads_when_stop : (read : Option Entry) (entry : Entry) (made : Following) (new : FollowState) (why : Stop)
       → GivesUnlessMemory (Ok read) (line_entry rules.chained line) → read ≡ Some entry
       → made ≡ outcome_of binding old entry → new ≡ next_follow binding old entry
-      → true ≡ (is_gap made && not rules.skips_gaps)
-      → LineLeadsTo binding rules number line old (Some (stop.Gap number entry)) new
-  leads_when_gap read entry made new gives is becomes next stops =
-      let gap : (is_gap (outcome_of binding old entry) && not rules.skips_gaps) ≡ true =
-      sym (stops ∙ ap (λ made. is_gap made && not rules.skips_gaps) becomes) in
-      subst (λ state. LineLeadsTo binding rules number line old (Some (stop.Gap number entry)) state)
-      (sym (next ∙ next-gap binding old entry (not rules.skips_gaps) gap))
-      (leads_to_gap binding rules number line old entry (entry_read read entry gives is) gap)
+      → true ≡ stops_at rules.skips_gaps made → why ≡ stop_by made (record { line = number; entry = entry })
+      → LineLeadsTo binding rules number line old (Some why) new
+  leads_when_stop read entry made new why gives is becomes next stops reason =
+      let at : stops_at rules.skips_gaps (outcome_of binding old entry) ≡ true =
+      sym (stops ∙ ap (stops_at rules.skips_gaps) becomes) in
+      let same : why ≡ stop_for binding old number entry =
+      reason ∙ ap (λ made. stop_by made (record { line = number; entry = entry })) becomes in
+      subst (λ why. LineLeadsTo binding rules number line old (Some why) new) (sym same)
+      (subst (λ state. LineLeadsTo binding rules number line old (Some (stop_for binding old number entry)) state)
+      (sym (next ∙ next-stop binding rules.skips_gaps old entry at))
+      (leads_to_stop binding rules number line old entry (entry_read read entry gives is) at))
 
   pub leads_when_on : (read : Option Entry) (entry : Entry) (made : Following) (new : FollowState)
       → GivesUnlessMemory (Ok read) (line_entry rules.chained line) → read ≡ Some entry
       → made ≡ outcome_of binding old entry → new ≡ next_follow binding old entry
-      → false ≡ (is_gap made && not rules.skips_gaps)
+      → false ≡ stops_at rules.skips_gaps made
       → LineLeadsTo binding rules number line old None new
   leads_when_on read entry made new gives is becomes next stops =
-      let goes : (is_gap (outcome_of binding old entry) && not rules.skips_gaps) ≡ false =
-      sym (stops ∙ ap (λ made. is_gap made && not rules.skips_gaps) becomes) in
+      let goes : stops_at rules.skips_gaps (outcome_of binding old entry) ≡ false =
+      sym (stops ∙ ap (stops_at rules.skips_gaps) becomes) in
       subst (λ state. LineLeadsTo binding rules number line old None state) (sym next)
       (leads_on binding rules number line old entry (entry_read read entry gives is) goes)

@@ -4,26 +4,27 @@ use Rattle.cdc_match.specs.Arguments.{Arguments}
 use Rattle.cdc_follow.specs.declared.streams.Rules.{Rules}
 use Rattle.cdc_follow.specs.declared.streams.Turn.{Turn}
 use Rattle.cdc_follow.specs.declared.streams.Turn.TheVariants.{GoesOn, Stops}
-use Rattle.cdc_follow.specs.Following.{FollowState, is_gap, next_follow, outcome_of}
+use Rattle.cdc_follow.specs.Following.{FollowState, is_gap, next_follow, outcome_of, stops_at}
 use Rattle.cdc_follow.specs.Lines.{lines_of}
 use Rattle.cdc_follow.specs.Streams.{NumberedEntry, stream_of_lines}
 
--- one entry counts if it comes too early
+-- an entry counts if there is a gap before it
 abbrev pub gap_count : Bool → ℕ
 gap_count true = 1
 gap_count false = 0
 
--- how many of these entries come too early
-unfoldable pub gaps_among : Arguments → FollowState → List NumberedEntry → ℕ
-gaps_among binding state [] = 0
-gaps_among binding state (numbered ∷ rest) =
-    gap_count (is_gap (outcome_of binding state numbered.entry))
-    + gaps_among binding (next_follow binding state numbered.entry) rest
+-- before how many of these entries there is a gap, up to the one at which following stops
+unfoldable pub gaps_among : Arguments → Bool → FollowState → List NumberedEntry → ℕ
+gaps_among binding skips state [] = 0
+gaps_among binding skips state (numbered ∷ rest) =
+    if stops_at skips (outcome_of binding state numbered.entry) then 0
+    else gap_count (is_gap (outcome_of binding state numbered.entry))
+    + gaps_among binding skips (next_follow binding state numbered.entry) rest
 
 -- how many gaps are skipped in lines, numbered from this one on: none if following stops at the first gap
 abbrev pub gaps_skipped : Arguments → Rules → FollowState → ℕ → List (List ℕ) → ℕ
 gaps_skipped binding rules state number lines =
-    if rules.skips_gaps then gaps_among binding state (stream_of_lines rules.chained number lines).entries else 0
+    gaps_among binding rules.skips_gaps state (stream_of_lines rules.chained number lines).entries
 
 -- the same in bytes
 abbrev pub bytes_skipped : Arguments → Rules → FollowState → List ℕ → ℕ

@@ -1,7 +1,8 @@
 -- Laws of following: what a follower has applied of redelivered entries, and of the entries of a chained queue.
 use Rattle.std.specs.Prelude.{◌≡◌, ℕ, List, [], ◌∷◌, ◌++◌, Bool, true, false, if◌then◌else◌, Option, Some, None}
-use Rattle.std.specs.Prelude.{Contains, filter, fold, length, map, min}
+use Rattle.std.specs.Prelude.{Contains, filter, fold, length, map, min, not, ◌&&◌, nat_lt}
 use Rattle.std.specs.List.{AllByRecursion}
+use Rattle.cdc_types.specs.declared.bounds.TheConstants.Limits.{TIMESTAMP}
 use Rattle.cdc_types.specs.declared.events.Event.{Event}
 use Rattle.cdc_types.specs.Timestamps.{RiseFrom, last_timestamp}
 use Rattle.cdc_types.specs.Widths.{max_64}
@@ -30,19 +31,19 @@ HasNoGap binding state (entry ∷ entries) =
 abbrev pub entries_in : List NumberedEntry → List Entry
 entries_in numbered = map (λ n. n.entry) numbered
 
--- what is left after following: nothing, or the entries from the gap on at which it stops
+-- what is left after following: nothing, or the entries from the one on at which it stops
 abbrev pub IsLeft : Option NumberedEntry → List NumberedEntry → Type 0
 IsLeft None after = after ≡ []
-IsLeft (Some early) after = (later : List NumberedEntry) × (after ≡ early ∷ later)
+IsLeft (Some first) after = (later : List NumberedEntry) × (after ≡ first ∷ later)
 
--- following folds entries: those before the first gap at which it stops, or all
+-- following folds entries: those before the first one at which it stops, or all
 pub record FoldsTo (binding : Arguments) (state : FollowState) (numbered : List NumberedEntry) (done : Followed)
     : Type 0 where
   pub before : List NumberedEntry
   pub after : List NumberedEntry
   pub whole : numbered ≡ before ++ after
   pub folds : done.state ≡ follow_all binding state (entries_in before)
-  pub left : IsLeft done.gap after
+  pub left : IsLeft done.at after
 
 abbrev pub FollowingFolds : Type 0
 FollowingFolds = (binding : Arguments) (skips : Bool) (state : FollowState) (numbered : List NumberedEntry)
@@ -60,9 +61,9 @@ abbrev pub item_of : Content → Item
 item_of (content.Event e) = item.Event e
 item_of content.End = item.EndMark
 
--- what a binding takes: the events that match it, and the end
+-- what a binding takes: the events that match it, with timestamps that a ledger gives, and the end
 abbrev pub is_taken : Arguments → Content → Bool
-is_taken binding (content.Event e) = matches binding (headers_of_event e)
+is_taken binding (content.Event e) = not (nat_lt TIMESTAMP e.timestamp) && matches binding (headers_of_event e)
 is_taken binding content.End = true
 
 -- the items of entries that a binding takes

@@ -6,6 +6,7 @@ use Rattle.cdc_message.specs.declared.errors.DecodeError.TheVariants as read
 use Rattle.cdc_follow.specs.declared.errors.LineError.{LineError}
 use Rattle.cdc_follow.specs.declared.errors.LineError.TheVariants.{TooLong, Decode, PreviousMissing}
 use Rattle.cdc_follow.specs.declared.errors.LineError.TheVariants.{PreviousWrongType, PreviousOutOfRange, OutOfMemory}
+use Rattle.cdc_follow.specs.declared.errors.LineError.TheVariants.{TimestampOutOfRange}
 
 -- a line's error for an error of its body
 abbrev pub decoding_error : DecodeError → LineError
@@ -24,6 +25,7 @@ line_error_name (Decode why) = error_name why
 line_error_name PreviousMissing = codes "missing"
 line_error_name PreviousWrongType = codes "wrong_type"
 line_error_name PreviousOutOfRange = codes "out_of_range"
+line_error_name TimestampOutOfRange = codes "out_of_range"
 line_error_name OutOfMemory = codes "out_of_memory"
 
 -- the answer is this one, or memory ran out

@@ -1,12 +1,15 @@
 -- Following a stream: what is kept in the end, and why following stops.
 use Rattle.std.specs.Prelude.{◌≡◌, ℕ, ◌+◌, List, ◌∷◌, take, Bool, Option, Some, None}
 use Rattle.cdc_match.specs.Arguments.{Arguments}
+use Rattle.cdc_follow.specs.declared.errors.LineError.TheVariants.{TimestampOutOfRange}
+use Rattle.cdc_follow.specs.declared.follower.Following.{Following}
+use Rattle.cdc_follow.specs.declared.follower.Following.TheVariants as following
 use Rattle.cdc_follow.specs.declared.streams.Rules.{Rules}
 use Rattle.cdc_follow.specs.declared.streams.Stop.{Stop}
-use Rattle.cdc_follow.specs.declared.streams.Stop.TheVariants.{AtEnd, Gap, BadLine}
+use Rattle.cdc_follow.specs.declared.streams.Stop.TheVariants.{AtEnd, Gap, AfterEnd, BadLine}
 use Rattle.cdc_follow.specs.declared.streams.Turn.{Turn}
 use Rattle.cdc_follow.specs.declared.streams.Turn.TheVariants.{GoesOn, Stops}
-use Rattle.cdc_follow.specs.Following.{FollowState, Followed, follow}
+use Rattle.cdc_follow.specs.Following.{FollowState, Followed, follow, outcome_of}
 use Rattle.cdc_follow.specs.Lines.{lines_of}
 use Rattle.cdc_follow.specs.Streams as streams
 use Rattle.cdc_follow.specs.Streams.{Stream, NumberedEntry, stream_of, stream_of_lines}
@@ -16,18 +19,24 @@ pub record Stopped : Type 0 where
   pub state : FollowState
   pub stop : Stop
 
--- following stops at the first gap, else at the line that is no entry, else at the end
-abbrev pub stop_at : Option NumberedEntry → Option streams.BadLine → Stop
-stop_at (Some early) bad = Gap early.line early.entry
-stop_at None (Some bad) = BadLine bad.line bad.error
-stop_at None None = AtEnd
+-- why following stops at an entry of which this becomes
+abbrev pub stop_by : Following → NumberedEntry → Stop
+stop_by following.AfterEnd numbered = AfterEnd numbered.line numbered.entry
+stop_by following.OutOfRange numbered = BadLine numbered.line TimestampOutOfRange
+stop_by _ numbered = Gap numbered.line numbered.entry
 
-abbrev pub stopped : Followed → Option streams.BadLine → Stopped
-stopped done bad = record { state = done.state; stop = stop_at done.gap bad }
+-- following stops at an entry, else at the line that is none, else at the end
+abbrev pub stop_at : Arguments → FollowState → Option NumberedEntry → Option streams.BadLine → Stop
+stop_at binding state (Some numbered) bad = stop_by (outcome_of binding state numbered.entry) numbered
+stop_at binding state None (Some bad) = BadLine bad.line bad.error
+stop_at binding state None None = AtEnd
+
+abbrev pub stopped : Arguments → Followed → Option streams.BadLine → Stopped
+stopped binding done bad = record { state = done.state; stop = stop_at binding done.state done.at bad }
 
 -- what a follower makes of a stream
 abbrev pub followed : Arguments → Bool → FollowState → Stream → Stopped
-followed binding skips state stream = stopped (follow binding skips state stream.entries) stream.bad
+followed binding skips state stream = stopped binding (follow binding skips state stream.entries) stream.bad
 
 -- what a follower makes of lines, numbered from this one on
 abbrev pub lines_followed : Arguments → Rules → FollowState → ℕ → List (List ℕ) → Stopped

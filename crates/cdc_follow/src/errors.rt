@@ -24,6 +24,9 @@ pub enum LineError {
     /// The line's `previous` is above 2^64-1.
     #[error("previous is too large")]
     PreviousOutOfRange,
+    /// The event's timestamp is above 2^63-1, which no ledger exceeds.
+    #[error("the timestamp is above 9223372036854775807")]
+    TimestampOutOfRange,
     /// Memory ran out.
     #[error("out of memory")]
     OutOfMemory,
@@ -54,6 +57,7 @@ impl LineError {
             LineError::PreviousMissing => "missing",
             LineError::PreviousWrongType => "wrong_type",
             LineError::PreviousOutOfRange => "out_of_range",
+            LineError::TimestampOutOfRange => "out_of_range",
             LineError::OutOfMemory => "out_of_memory",
         }
     }

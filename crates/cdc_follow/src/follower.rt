@@ -2,14 +2,14 @@
 
 ghost use Rattle.cdc_subscriber.specs.Answers.{listens};
 ghost use Rattle.std.specs.Prelude.{◌≡◌, true, OnOk, OnErr, IfOk};
-ghost use Rattle.cdc_follow.specs.Following.{comes_early as early, content_outcome, end_outcome};
-ghost use Rattle.cdc_follow.specs.Following.{next_follow, outcome_of, state_by};
+ghost use Rattle.cdc_follow.specs.Following.{after_outcome, belongs as is_of_stream, content_outcome, end_outcome};
+ghost use Rattle.cdc_follow.specs.Following.{follows as is_next, next_follow, outcome_of, state_by};
 
 use crate::entries::{Content, Entry};
 use cdc_match::Binding;
 use cdc_message::headers_of;
 use cdc_subscriber::Subscriber;
-use cdc_types::Event;
+use cdc_types::{Event, Limits};
 use std::alloc::AllocError;
 use std::marker::Model;
 
@@ -20,12 +20,18 @@ pub enum Following {
     Applied,
     /// The event is new, but the binding doesn't take it.
     PassedBy,
-    /// Nothing changes: the event isn't later than the last one seen, or the end was received before.
+    /// Nothing changes: the event isn't later than the last one seen, or it is the end that was received before.
     Duplicate,
-    /// Nothing changes: the entry's predecessor is later than the last event seen, so events are missing before it.
+    /// Nothing changes: the entry's predecessor isn't the last event seen, so events are missing before it, or it isn't
+    /// of this queue.
     Gap,
     /// The end is received: no further event follows.
     Ended,
+    /// Nothing changes: the entry contradicts the end that was received before. It is a later event, or the end of
+    /// another place.
+    AfterEnd,
+    /// Nothing changes: the event's timestamp is above the greatest one of a ledger.
+    OutOfRange,
 }
 
 /// A follower: a subscriber, and the timestamp of the last event seen. In a chained stream this is the last one that
@@ -66,7 +72,10 @@ impl Follower {
         ensures state { OnOk result (self.new ≡ next_follow binding.now self.old entry.now) }
         ensures err { OnErr result (self.new ≡ self.old) }
     {
-        if self.subscriber.ended() || self.subscriber.closed() {
+        if self.subscriber.ended() {
+            return Ok(after_end(binding, self.seen, entry));
+        }
+        if self.subscriber.closed() {
             return Ok(Following::Duplicate);
         }
         match &entry.content {
@@ -107,7 +116,10 @@ impl Follower {
         if event.timestamp <= self.seen {
             return Ok(Following::Duplicate);
         }
-        if comes_early(self.seen, previous) {
+        if event.timestamp > Limits::TIMESTAMP {
+            return Ok(Following::OutOfRange);
+        }
+        if !follows(self.seen, previous) {
             return Ok(Following::Gap);
         }
         if !binding.matches(&headers_of(event)) {
@@ -129,7 +141,7 @@ impl Follower {
         ensures answer { result ≡ end_outcome self.old.seen previous }
         ensures state { self.new ≡ state_by (end_outcome self.old.seen previous) self.old previous Content.End }
     {
-        if comes_early(self.seen, previous) {
+        if !follows(self.seen, previous) {
             return Following::Gap;
         }
         let _taking = self.subscriber.take_end();
@@ -137,12 +149,48 @@ impl Follower {
     }
 }
 
-/// Whether an entry's predecessor, if it names one, is later than the last event seen.
-fn comes_early(seen: u64, previous: Option<u64>) -> bool
-    ensures { result ≡ early seen previous }
+/// Whether an entry follows the last event seen: its predecessor, if it names one, is that event.
+fn follows(seen: u64, previous: Option<u64>) -> bool
+    ensures { result ≡ is_next seen previous }
 {
     match previous {
-        Some(previous) => seen < previous,
-        None => false,
+        Some(previous) => previous == seen,
+        None => true,
+    }
+}
+
+/// Whether an event belongs to the stream: it names its predecessor, or the binding takes it.
+fn belongs(binding: &Binding, previous: Option<u64>, event: &Event) -> bool
+    ensures { result ≡ is_of_stream binding.now previous event.now }
+{
+    match previous {
+        Some(_) => true,
+        None => binding.matches(&headers_of(event)),
+    }
+}
+
+/// What becomes of an entry after the end.
+fn after_end(binding: &Binding, seen: u64, entry: &Entry) -> Following
+    ensures { result ≡ after_outcome binding.now seen entry.now.previous entry.now.content }
+{
+    match &entry.content {
+        Content::Event(event) => event_after_end(binding, seen, entry.previous, event),
+        Content::End if follows(seen, entry.previous) => Following::Duplicate,
+        Content::End => Following::AfterEnd,
+    }
+}
+
+/// What becomes of an event after the end.
+fn event_after_end(binding: &Binding, seen: u64, previous: Option<u64>, event: &Event) -> Following
+    ensures { result ≡ after_outcome binding.now seen previous (Content.Event event.now) }
+{
+    if event.timestamp <= seen {
+        Following::Duplicate
+    } else if event.timestamp > Limits::TIMESTAMP {
+        Following::OutOfRange
+    } else if belongs(binding, previous, event) {
+        Following::AfterEnd
+    } else {
+        Following::PassedBy
     }
 }

@@ -1,10 +1,10 @@
 //! Following a reader: its lines one after another, up to a gap, a line that is no entry, or the end.
 
-ghost use Rattle.std.specs.Prelude.{◌≡◌, ◌≢◌, ◌&&◌, not, IfOk, IfSome, OnErr};
-ghost use Rattle.cdc_follow.specs.Following.{is_gap as is_behind_gap};
+ghost use Rattle.std.specs.Prelude.{◌≡◌, ◌≢◌, IfOk, IfSome, OnErr};
+ghost use Rattle.cdc_follow.specs.Following.{is_gap as is_behind_gap, stops_at as stops_following};
 ghost use Rattle.cdc_follow.specs.Gaps.{LineSkips, StepSkips};
 ghost use Rattle.cdc_follow.specs.Stops.{KeepsFirst, LineLeadsTo, StepLeadsTo};
-ghost use Rattle.cdc_follow.specs.Stops.{bytes_followed, stop_of};
+ghost use Rattle.cdc_follow.specs.Stops.{bytes_followed, stop_by as why_it_stops, stop_of};
 
 use crate::entries::{Entry, read_entry};
 use crate::errors::LineError;
@@ -21,7 +21,7 @@ use thiserror::Error;
 pub struct Rules {
     /// Each entry has to name its predecessor.
     pub chained: bool,
-    /// An entry that comes too early is skipped; otherwise following stops at it.
+    /// An entry before which there is a gap is skipped; otherwise following stops at it.
     pub skips_gaps: bool,
 }
 
@@ -30,8 +30,11 @@ pub struct Rules {
 pub enum Stop {
     /// The reader has no more lines.
     AtEnd,
-    /// The line of this number has this entry, which comes too early: events are missing before it.
+    /// The line of this number has this entry, before which there is a gap: events are missing, or it isn't of this
+    /// queue.
     Gap(u64, Entry),
+    /// The line of this number has this entry, which contradicts the end that was received before.
+    AfterEnd(u64, Entry),
     /// The line of this number is no entry, for this reason.
     BadLine(u64, LineError),
 }
@@ -39,7 +42,7 @@ pub enum Stop {
 /// What comes of a line.
 #[derive(Clone, Copy, Debug, PartialEq, Eq)]
 pub enum Turn {
-    /// The lines after it are to be followed too. `skipped`: its entry came too early, and was skipped.
+    /// The lines after it are to be followed too. `skipped`: before its entry there was a gap, and it was skipped.
     GoesOn { skipped: bool },
     /// Following stops at it.
     Stops(Stop),
@@ -67,21 +70,41 @@ impl From<AllocError> for FollowError {
     }
 }
 
-// Whether an entry came too early.
+// Whether there is a gap before an entry.
 fn is_gap(following: Following) -> bool
     ensures { result ≡ is_behind_gap following }
 {
     match following {
         Following::Gap => true,
-        Following::Applied | Following::PassedBy | Following::Duplicate | Following::Ended => false,
+        Following::Applied
+        | Following::PassedBy
+        | Following::Duplicate
+        | Following::Ended
+        | Following::AfterEnd
+        | Following::OutOfRange => false,
     }
 }
 
 // Whether following stops at an entry of which this became.
 fn stops_at(following: Following, rules: Rules) -> bool
-    ensures { result ≡ (is_behind_gap following && not rules.skips_gaps) }
+    ensures { result ≡ stops_following rules.skips_gaps following }
 {
-    is_gap(following) && !rules.skips_gaps
+    match following {
+        Following::Gap => !rules.skips_gaps,
+        Following::AfterEnd | Following::OutOfRange => true,
+        Following::Applied | Following::PassedBy | Following::Duplicate | Following::Ended => false,
+    }
+}
+
+// Why following stops at the entry of the line of this number, of which this became.
+fn stop_by(following: Following, number: u64, entry: Entry) -> Stop
+    ensures { result ≡ why_it_stops following (record { line = number; entry = entry }) }
+{
+    match following {
+        Following::AfterEnd => Stop::AfterEnd(number, entry),
+        Following::OutOfRange => Stop::BadLine(number, LineError::TimestampOutOfRange),
+        _ => Stop::Gap(number, entry),
+    }
 }
 
 // Stops at the line of this number, which isn't read for this reason.
@@ -117,7 +140,7 @@ fn follow_bytes(
     };
     let following = follower.take(binding, &entry)?;
     if stops_at(following, rules) {
-        return Ok(Turn::Stops(Stop::Gap(number, entry)));
+        return Ok(Turn::Stops(stop_by(following, number, entry)));
     }
     let skipped = is_gap(following);
     Ok(Turn::GoesOn { skipped })

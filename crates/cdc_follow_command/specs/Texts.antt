@@ -4,11 +4,16 @@ use Rattle.cdc_subscriber.specs.Lines.{subscriber_text}
 use Rattle.cdc_follow.specs.Following.{FollowState}
 use Rattle.cdc_follow.specs.LineErrors.{line_error_name}
 use Rattle.cdc_follow.specs.declared.streams.Stop.{Stop}
-use Rattle.cdc_follow.specs.declared.streams.Stop.TheVariants.{AtEnd, Gap, BadLine}
+use Rattle.cdc_follow.specs.declared.streams.Stop.TheVariants.{AtEnd, Gap, AfterEnd, BadLine}
 
 -- the line of a save at which the last event seen has this timestamp
 abbrev pub saved_line : ℕ → List ℕ
 saved_line timestamp = (codes "saved " ++ decimal timestamp) ++ codes "\n"
+
+-- the line of an entry that contradicts the end, which came after the event of this timestamp
+abbrev pub after_end_line : ℕ → ℕ → List ℕ
+after_end_line seen line =
+    (codes "after_end: line " ++ decimal line) ++ ((codes ": ended after " ++ decimal seen) ++ codes "\n")
 
 -- the line of why following stopped, where the last event seen has this timestamp; none at the end
 abbrev pub stop_line : ℕ → Stop → List ℕ
@@ -16,6 +21,7 @@ stop_line seen AtEnd = []
 stop_line seen (Gap line entry) =
     (codes "gap: line " ++ decimal line) ++ ((codes ": after " ++ decimal (unwrap_or entry.previous 0))
     ++ ((codes ", expected after " ++ decimal seen) ++ codes "\n"))
+stop_line seen (AfterEnd line entry) = after_end_line seen line
 stop_line seen (BadLine line error) =
     (codes "fault: line " ++ decimal line) ++ (codes ": " ++ (line_error_name error ++ codes "\n"))
 

@@ -4,11 +4,11 @@ ghost use Rattle.std.specs.Prelude.{◌≡◌, IfOk};
 ghost use Rattle.std.specs.Option.{option_map};
 
 use crate::stores::BookStore;
-use cdc_files::{Replaced, holds, open_locked, path_of_new, replace, target_of};
+use cdc_files::{Leftover, Replaced, holds, open_locked, path_of_new, replace, target_of};
 use cdc_progress::StoreError;
-use std::fs::{File, Files, OpenFile, Permissions};
+use std::fs::{File, Files};
+use std::io;
 use std::io::{ErrorKind, Read};
-use std::{fs, io};
 
 /// A text in a file: a follower's book, or another text that begins with a mark of its own. A save writes the file
 /// `PATH.new`, syncs it to the disk and renames it to PATH, so an interrupted save leaves the old text. If PATH is a
@@ -16,8 +16,8 @@ use std::{fs, io};
 /// The file's mode is kept, its owner isn't.
 ///
 /// The file is locked from its opening or its first save on, and another process that uses it is refused. A save is
-/// refused if PATH no longer holds what this store has last loaded or saved, if nobody may write it, and if `PATH.new`
-/// exists and can't be the leftover of an interrupted save, by the text's mark.
+/// refused if PATH no longer names this file, or no longer holds what this store has last loaded or saved, if nobody may
+/// write it, and if `PATH.new` exists and can't be the leftover of an interrupted save, by the text's mark.
 ///
 /// No contract can state what a file holds. `held` is the text that this store has last loaded or saved. That the file
 /// returns it is an assumption of the store's user; nothing here proves it.
@@ -74,30 +74,29 @@ impl<'a, R: Files<File = File> + AllocGlobal> FileBook<'a, R> {
         }
     }
 
-    /// The mode that the file keeps, if there is one. An error if the file doesn't hold what it is known to hold.
-    fn mode_to_keep(&self) -> io::Result<Option<Permissions>> {
-        let (Some(file), Some(known)) = (&self.file, &self.known) else {
-            return match fs::symlink_metadata(self.rt, self.path.as_str()) {
-                Ok(_) => Err(io::Error::from(ErrorKind::AlreadyExists)),
-                Err(_) => Ok(None),
-            };
-        };
-        let mut present = File::open(self.rt, self.path.as_str())?;
-        if !holds(&mut present, known.as_slice())? {
-            return Err(io::Error::from(ErrorKind::InvalidData));
+    /// Whether the file holds what it is known to hold.
+    fn is_as_known(&self) -> io::Result<bool> {
+        match &self.known {
+            Some(known) => {
+                let mut present = File::open(self.rt, self.path.as_str())?;
+                holds(&mut present, known.as_slice())
+            }
+            None => Ok(true),
         }
-        Ok(Some(file.metadata()?.permissions()))
     }
 
     /// Replaces the content of the file, and returns the file with this content.
     fn put(&self, text: &[u8]) -> io::Result<File> {
-        let mode = self.mode_to_keep()?;
+        if !self.is_as_known()? {
+            return Err(io::Error::from(ErrorKind::InvalidData));
+        }
         let file = Replaced {
             path: self.path.as_str(),
             new_path: self.new_path.as_str(),
+            leftover: Leftover::Begins,
             mark: self.mark,
         };
-        replace(self.rt, file, mode, text)
+        replace(self.rt, file, self.file.as_ref(), text)
     }
 }
 

@@ -9,20 +9,23 @@ use cdc_follow::{FollowError, Stop};
 /// How the command ended.
 #[derive(Clone, Copy)]
 pub enum FollowEnding {
-    /// Following stopped at the end, at a gap or at a bad line. What was read before is applied, printed and saved.
+    /// Following stopped at the end, at a gap, at what contradicts the end, or at a bad line. What was read before is
+    /// applied, printed and saved.
     Stopped(Stop),
     /// The command failed.
     Failed(ProgramFault),
 }
 
 impl FollowEnding {
-    /// The exit status of the program: 0 at the end, 1 at a gap or after a failure, 2 at a bad line.
+    /// The exit status of the program: 0 at the end; 1 at a gap, at what contradicts the end, or after a failure; 2 at
+    /// a bad line.
     pub fn status(self) -> u8
         ensures { result ≡ status_of self }
     {
         match self {
             FollowEnding::Stopped(Stop::AtEnd) => 0,
             FollowEnding::Stopped(Stop::Gap(..)) | FollowEnding::Failed(_) => 1,
+            FollowEnding::Stopped(Stop::AfterEnd(..)) => 1,
             FollowEnding::Stopped(Stop::BadLine(..)) => 2,
         }
     }

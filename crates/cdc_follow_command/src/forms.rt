@@ -3,7 +3,7 @@
 ghost use Rattle.std.specs.Prelude.{◌≡◌, ◌++◌, ℕ, List, Option, IfOk, OnOk};
 ghost use Rattle.cdc_follow.specs.Following.{FollowState};
 ghost use Rattle.cdc_follow.specs.declared.streams.Stop.{Stop as Stops};
-ghost use Rattle.cdc_follow_command.specs.Texts.{end_text, saved_line, stop_line};
+ghost use Rattle.cdc_follow_command.specs.Texts.{after_end_line, end_text, saved_line, stop_line};
 ghost use Rattle.cdc_subscriber.specs.Lines.{subscriber_text};
 
 use cdc_commands::Text;
@@ -96,6 +96,7 @@ fn push_stop(text: &mut Vec<u8>, seen: u64, stop: Stop) -> Result<(), AllocError
     match stop {
         Stop::AtEnd => Ok(()),
         Stop::Gap(line, entry) => push_gap(text, seen, line, entry),
+        Stop::AfterEnd(line, _) => push_after_end(text, seen, line),
         Stop::BadLine(line, error) => {
             push_named(text, "fault: line ", line)?;
             push(text, ": ")?;
@@ -114,6 +115,16 @@ fn push_gap(text: &mut Vec<u8>, seen: u64, line: u64, entry: Entry) -> Result<()
     push_named(text, "gap: line ", line)?;
     push_named(text, ": after ", entry.previous.unwrap_or(0))?;
     push_named(text, ", expected after ", seen)?;
+    push(text, "\n")?;
+    Ok(())
+}
+
+/// Adds the line of an entry that contradicts the end, which came after the event of this timestamp.
+fn push_after_end(text: &mut Vec<u8>, seen: u64, line: u64) -> Result<(), AllocError>
+    ensures { OnOk result (text.new.items ≡ text.old.items ++ after_end_line seen line) }
+{
+    push_named(text, "after_end: line ", line)?;
+    push_named(text, ": ended after ", seen)?;
     push(text, "\n")?;
     Ok(())
 }

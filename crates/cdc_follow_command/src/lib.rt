@@ -14,6 +14,6 @@ pub use book_files::FileBook;
 pub use endings::FollowEnding;
 pub use follow::{follow_command, follow_stream};
 pub use forms::FollowForm;
-pub use readers::LineReader;
+pub use readers::{LineReader, Origin};
 pub use savers::{Saver, begin, begin_book, resume};
 pub use stores::BookStore;

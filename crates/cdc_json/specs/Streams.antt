@@ -7,7 +7,7 @@ use Rattle.cdc_follow.specs.LineErrors.{line_error_name}
 use Rattle.cdc_follow.specs.declared.entries.Entry.{Entry}
 use Rattle.cdc_follow.specs.declared.errors.LineError.{LineError}
 use Rattle.cdc_follow.specs.declared.streams.Stop.{Stop}
-use Rattle.cdc_follow.specs.declared.streams.Stop.TheVariants.{AtEnd, Gap, BadLine}
+use Rattle.cdc_follow.specs.declared.streams.Stop.TheVariants.{AtEnd, Gap, AfterEnd, BadLine}
 use Rattle.cdc_json.specs.Lines.{json_line, json_lines, line_of, subscriber_values}
 
 -- a save at which the last event seen has this timestamp
@@ -26,6 +26,14 @@ gap_value seen line entry =
     member (codes "expected_after") (wide seen)
     no_members)))
 
+-- an entry of this line that contradicts the end, which came after the event of this timestamp
+abbrev pub after_end_value : ℕ → ℕ → Data
+after_end_value seen line =
+    line_of (codes "after_end") (
+    member (codes "line") (narrow line) (
+    member (codes "ended_after") (wide seen)
+    no_members))
+
 -- a line that is no entry, for this reason
 abbrev pub bad_line_value : ℕ → LineError → Data
 bad_line_value line error =
@@ -38,6 +46,7 @@ bad_line_value line error =
 abbrev pub stop_lines : ℕ → Stop → List ℕ
 stop_lines seen AtEnd = []
 stop_lines seen (Gap line entry) = json_line (gap_value seen line entry)
+stop_lines seen (AfterEnd line entry) = json_line (after_end_value seen line)
 stop_lines seen (BadLine line error) = json_line (bad_line_value line error)
 
 -- how many gaps were skipped

@@ -2,7 +2,8 @@
 
 ghost use Rattle.std.specs.Prelude.{◌≡◌, ◌++◌, OnOk};
 ghost use Rattle.cdc_json.specs.Lines.{json_line};
-ghost use Rattle.cdc_json.specs.Streams.{bad_line_value, gap_value, saved_lines, skipped_lines, stop_lines};
+ghost use Rattle.cdc_json.specs.Streams.{after_end_value, bad_line_value, gap_value, saved_lines};
+ghost use Rattle.cdc_json.specs.Streams.{skipped_lines, stop_lines};
 
 use crate::lines::{Field, Lines, Member};
 use cdc_follow::{Entry, LineError, Stop};
@@ -30,6 +31,7 @@ pub fn push_stop(alloc: Global, lines: &mut Lines, seen: u64, stop: Stop) -> Res
     match stop {
         Stop::AtEnd => Ok(()),
         Stop::Gap(line, entry) => push_gap(alloc, lines, seen, line, entry),
+        Stop::AfterEnd(line, _) => push_after_end(alloc, lines, seen, line),
         Stop::BadLine(line, error) => push_bad_line(alloc, lines, line, error),
     }
 }
@@ -106,6 +108,27 @@ fn push_gap(
             },
             Member {
                 name: "expected_after",
+                value: Field::Wide(seen.into()),
+            },
+        ],
+    )
+}
+
+/// Adds the line of an entry that contradicts the end, which came after the event of this timestamp.
+fn push_after_end(alloc: Global, lines: &mut Lines, seen: u64, line: u64) -> Result<(), AllocError>
+    ensures { OnOk result (lines.new.text.items
+        ≡ lines.old.text.items ++ json_line (after_end_value seen line)) }
+{
+    lines.push(
+        alloc,
+        "after_end",
+        &[
+            Member {
+                name: "line",
+                value: Field::Number(line),
+            },
+            Member {
+                name: "ended_after",
                 value: Field::Wide(seen.into()),
             },
         ],

@@ -5,7 +5,7 @@ ghost use Rattle.std.specs.Option.{option_map};
 
 use crate::books::{NO_BOOK, read_text, replace, text_in};
 use crate::new_file::{MAGIC, put_new};
-use cdc_files::{open_locked, target_of};
+use cdc_files::{names, open_locked, target_of};
 use cdc_follow::read_book;
 use cdc_progress::StoreError;
 use cdc_subscriber::Subscriber;
@@ -167,7 +167,7 @@ fn leave(rt: &HostRuntime, conn: Opened, log_path: &str) {
     drop_empty_log(rt, conn.into_store().close(), log_path);
 }
 
-/// Whether a file that isn't empty can be one of SQLite's: it begins like one, or its log isn't empty.
+/// Whether a file can be one of SQLite's: it begins like one, or its log isn't empty.
 fn can_be_database(rt: &HostRuntime, file: &mut File, log_path: &str) -> io::Result<bool> {
     let mut start = [0u8; MAGIC.len()];
     file.read(&mut start)?;
@@ -180,15 +180,11 @@ fn can_be_database(rt: &HostRuntime, file: &mut File, log_path: &str) -> io::Res
     }
 }
 
-/// Locks the file at a path. If it is missing or empty, a new one is put in its place.
+/// Locks the file at a path. If it is missing, a new one is put in its place.
 fn lock_at(rt: &HostRuntime, path: &str) -> Result<File, StoreError> {
     let Some(mut file) = open_locked(rt, path).map_err(read_error)? else {
-        return put_new(rt, path, None).map_err(write_error);
+        return put_new(rt, path).map_err(write_error);
     };
-    let found = file.metadata().map_err(read_error)?;
-    if found.len() == 0 {
-        return put_new(rt, path, Some(found.permissions())).map_err(write_error);
-    }
     let log_path = path_of_log(rt.alloc(), path)?;
     if !can_be_database(rt, &mut file, log_path.as_str()).map_err(read_error)? {
         return Err(StoreError::BadRecord);
@@ -204,7 +200,8 @@ fn lock_at(rt: &HostRuntime, path: &str) -> Result<File, StoreError> {
 ///
 /// The file is locked against another `follow` from its opening on. A file that isn't SQLite's, or that has other
 /// tables, is refused and left as it was; a log that its own program left beside it may get some zeros at its end,
-/// which SQLite ignores. A save is refused if the file no longer has the text that this store has last loaded or saved.
+/// which SQLite ignores. A save is refused if the path no longer names the locked file, or if the file no longer has the
+/// text that this store has last loaded or saved. It never makes a file.
 ///
 /// No contract can state what a file holds. `known` is the text that this store has last loaded or saved; that the file
 /// returns it is an assumption of the store's user. Nor does one cover the two bytes of the header that are written
@@ -221,9 +218,9 @@ pub struct SqliteBook<'a> {
 }
 
 impl<'a> SqliteBook<'a> {
-    /// Opens the book at this path, and locks and reads it. If the file is missing or empty, a new one is written at
-    /// its name with `.new` appended and put in its place. `BadRecord`: the file holds no book; `ReadFault`: it can't
-    /// be opened, or another program holds it; `WriteFault`: it can't be made.
+    /// Opens the book at this path, and locks and reads it. If the file is missing, a new one is written at its name
+    /// with `.new` appended and put in its place. `BadRecord`: the file holds no book, or it is empty; `ReadFault`: it
+    /// can't be opened, or another program holds it; `WriteFault`: it can't be made.
     pub fn open(rt: &'a HostRuntime, path: &str) -> Result<SqliteBook<'a>, StoreError> {
         let named = target_of(rt, path).map_err(read_error)?;
         let lock = lock_at(rt, named.as_str())?;
@@ -262,9 +259,19 @@ impl<'a> SqliteBook<'a> {
         Ok(())
     }
 
+    /// An error unless the path names the locked file.
+    fn check_name(&self) -> Result<(), Error> {
+        match names(self.rt, self.path.as_str(), &self.lock) {
+            Ok(true) => Ok(()),
+            Ok(false) | Err(_) => Err(IO_FAULT),
+        }
+    }
+
     /// Replaces the book in the file.
     fn put(&self, text: &[u8], subscriber: &Subscriber) -> Result<(), Error> {
         let (path, log_path) = (self.path.as_str(), self.log_path.as_str());
+        // (a file that isn't there would be made by its opening)
+        self.check_name()?;
         let mut conn = open_waiting(self.rt, path, log_path)?;
         match replace(&mut conn, self.text(), text, subscriber) {
             Err(error) if error == NO_BOOK => {

@@ -3,8 +3,8 @@
 ghost use Rattle.std.specs.Prelude.{◌≡◌};
 ghost use Rattle.cdc_sqlite_book.specs.NewFile.{empty_file};
 
-use cdc_files::{Replaced, path_of_new, replace};
-use std::fs::{File, Permissions};
+use cdc_files::{Leftover, Replaced, path_of_new, replace};
+use std::fs::File;
 use std::io;
 
 /// The first bytes of an SQLite file.
@@ -45,14 +45,16 @@ fn empty_file() -> [u8; PAGE_BYTES]
     page
 }
 
-/// Puts a new file at a path, in place of an empty one if there is one, and locks it. Its mode is kept if one is given.
-/// An interruption leaves what was there.
-pub fn put_new(rt: &HostRuntime, path: &str, mode: Option<Permissions>) -> io::Result<File> {
+/// Puts a new file at a path where there is none, and locks it. What an interruption leaves beside it is a prefix of
+/// the new file, and only that is removed.
+pub fn put_new(rt: &HostRuntime, path: &str) -> io::Result<File> {
     let new_path = path_of_new(rt.alloc(), path)?;
+    let page = empty_file();
     let file = Replaced {
         path,
         new_path: new_path.as_str(),
-        mark: MAGIC,
+        leftover: Leftover::PrefixOf,
+        mark: page.as_slice(),
     };
-    replace(rt, file, mode, empty_file().as_slice())
+    replace(rt, file, None, page.as_slice())
 }

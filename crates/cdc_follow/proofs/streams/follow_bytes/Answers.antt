@@ -1,6 +1,5 @@
-use Rattle.cdc_follow.specs.declared.streams.Stop.TheVariants as stop
-use Rattle.cdc_follow.proofs.GapLemmas.{skips_when_bad, skips_when_gap, skips_when_none, skips_when_on}
-use Rattle.cdc_follow.proofs.StopLemmas.{leads_when_bad, leads_when_gap, leads_when_none, leads_when_on}
+use Rattle.cdc_follow.proofs.GapLemmas.{skips_when_bad, skips_when_none, skips_when_on, skips_when_stop}
+use Rattle.cdc_follow.proofs.StopLemmas.{leads_when_bad, leads_when_none, leads_when_on, leads_when_stop}
 use Rattle.cdc_follow.proofs.streams.follow_bytes.Goals as goal
 
 pub returns-in-Ok-None-clause-leads : goal.returns-in-Ok-None-clause-leads
@@ -15,9 +14,10 @@ returns-in-Err-clause-leads c =
 
 pub returns-then-stops_at-clause-leads : goal.returns-then-stops_at-clause-leads
 returns-then-stops_at-clause-leads c =
-    leads_when_gap c.args.binding.now c.args.rules c.args.number c.args.line.now c.args.follower.now
-    c.in-Ok-Some.field-0 c.in-Ok-Some.entry c.in_ok-following.following c.take.new.self c.in-Ok-Some.ensures
-    c.in-Ok-Some.field-0-is c.in_ok-following.ensures.answer c.in_ok-following.ensures.state c.if-stops_at.ensures
+    leads_when_stop c.args.binding.now c.args.rules c.args.number c.args.line.now c.args.follower.now
+    c.in-Ok-Some.field-0 c.in-Ok-Some.entry c.in_ok-following.following c.take.new.self c.stop_by.result
+    c.in-Ok-Some.ensures c.in-Ok-Some.field-0-is c.in_ok-following.ensures.answer c.in_ok-following.ensures.state
+    c.if-stops_at.ensures c.stop_by.ensures
 
 pub returns-clause-leads : goal.returns-clause-leads
 returns-clause-leads c =
@@ -37,8 +37,9 @@ returns-in-Err-clause-skips c =
 
 pub returns-then-stops_at-clause-skips : goal.returns-then-stops_at-clause-skips
 returns-then-stops_at-clause-skips c =
-    skips_when_gap c.args.binding.now c.args.rules c.args.number c.args.line.now c.args.follower.now
-    c.in_ok-following.following (stop.Gap c.args.number c.in-Ok-Some.entry) c.take.new.self c.if-stops_at.ensures
+    skips_when_stop c.args.binding.now c.args.rules c.args.number c.args.line.now c.args.follower.now
+    c.in-Ok-Some.field-0 c.in-Ok-Some.entry c.in_ok-following.following c.stop_by.result c.take.new.self
+    c.in-Ok-Some.ensures c.in-Ok-Some.field-0-is c.in_ok-following.ensures.answer c.if-stops_at.ensures
 
 pub returns-clause-skips : goal.returns-clause-skips
 returns-clause-skips c =
