@@ -95,7 +95,7 @@ BINDING = "all or any, and up to ten pairs of a header and its value"
 def rows():
     """Each row: the arguments, the status, and standard error."""
     yield ["books", b"\xff"], 2, "error: an argument is not UTF-8 text\n"
-    yield ["simulate", "one.script", "-"], 1, "-: read_fault: No such file or directory\n"
+    yield ["simulate", "one.script", "-"], 1, "-: read_fault: No such file or directory (os error 2)\n"
     yield ["follow", "gap.stream", "--skip-gaps"], 2, f"error: --skip-gaps needs --chained\n{MORE}"
     for option, command, wrong, wanted in [
         ("--queue", ["messages", "one.script"], "9", "the number of a subscriber, from 1 to 8"),
