@@ -28,6 +28,7 @@ import commands
 import ending
 import holding
 import interrupted
+import rooms
 from commands import check, run
 
 JOBS = 2  # runs at a time
@@ -590,9 +591,7 @@ def replaced(folder):
 def closed(folder):
     """With standard descriptors closed, a book, a state and a record hold what they hold otherwise: no message gets into them."""
     lines = stream_of(20)
-    script = os.path.join(folder, "script")
-    with open(script, "wb") as it:
-        it.write(SCRIPT)
+    script = os.path.join(rooms.TOP, "examples", "two-phase.script")
     stream, bodies = os.path.join(folder, "stream"), os.path.join(folder, "bodies")
     with open(stream, "w", encoding="ascii") as it:
         # (standard error reports the first line and the last one)
@@ -610,16 +609,6 @@ def closed(folder):
         for numbers_closed in ((0,), (1,), (2,), (0, 1), (0, 2), (1, 2), (0, 1, 2)):
             found = ended_with(folder, arguments, numbers_closed)
             check(f"a {name} with {numbers_closed} closed", found == open_one, (found, open_one))
-
-
-SCRIPT = b"""subscriber all
-accounts 1000
-account id=1 ledger=700 code=10
-account id=2 ledger=700 code=10
-transfers 2000
-transfer id=1 debit_account_id=1 credit_account_id=2 amount=100 ledger=700 code=1
-transfer id=2 debit_account_id=1 credit_account_id=2 amount=5 ledger=700 code=1
-"""
 
 
 def ended_with(folder, arguments, numbers_closed):

@@ -181,8 +181,10 @@ def leftovers(folder):
             os.remove(path)
         else:
             check(f"another's file beside a book: {name}", found[:2] == REFUSED and not os.path.exists(path), found)
-            check(f"it stays: {name}", open(path + ".new", "rb").read() == content, name)
-            os.remove(path + ".new")
+            check(f"it stays: {name}", folder_of(folder).get("a.db.new") == content, name)
+            for it in ("a.db", "a.db.new"):
+                with contextlib.suppress(FileNotFoundError):
+                    os.remove(os.path.join(folder, it))
 
 
 def new_file(folder):
