@@ -15,6 +15,8 @@ import sys
 import tempfile
 from collections import namedtuple
 
+import mutants_digests
+
 FILE = "tests/mutants.txt"
 HEAD = """\
 # How each mutant was answered, by the group in which it was tried. `tests/mutants.py --write` writes this file;
@@ -24,9 +26,7 @@ REFUSED = "refused"
 # One in so many groups is tried again for each commit: all of a crate at once, since what they call is then proved only once; of a
 # crate that takes more than so many seconds of CPU time, all of a part that takes less.
 SHARE, TOGETHER = 8, 1200
-PARTS, EDITS = ("src", "specs", "proofs"), "must-fail"
-
-# What a crate's answers rest on: its own files, what stands below it, and by what it was tried.
+# What a crate's answers rest on: its own files, what it sees of the crates below it, and by what it was tried.
 Digests = namedtuple("Digests", "own below by")
 # A crate's lines: its digests, what its trial took of CPU time and memory, and for each edit its answer and its group.
 Entry = namedtuple("Entry", "name digests seconds megabytes answers")
@@ -38,48 +38,31 @@ Plan = namedtuple("Plan", "crate entry digests report is_whole is_stale names")
 # Digests.
 
 
-def digest(parts):
-    """Returns a digest of texts, which differs also where their bytes put together are the same."""
-    found = hashlib.sha256()
-    for it in parts:
-        it = it if isinstance(it, bytes) else it.encode()
-        found.update(b"%d:" % len(it) + it)
-    return found.hexdigest()[:32]
-
-
-def files_in(folder, parts):
-    """Returns the names and the bytes of the files in these parts of a folder; of hidden ones and of out/ none are read."""
-    found = []
-    for part in parts:
-        for at, folders, names in os.walk(f"{folder}/{part}"):
-            folders[:] = sorted(it for it in folders if it != "out" and not it.startswith("."))
-            for name in sorted(it for it in names if not it.startswith(".")):
-                with open(f"{at}/{name}", "rb") as file:
-                    found += [os.path.relpath(f"{at}/{name}", folder), file.read()]
-    return found
-
-
 def rows_of(root):
-    """Returns the line of each crate in crates.txt."""
+    """Returns for each crate of crates.txt its settings, which stand before the colon, and what it stands on."""
     with open(f"{root}/crates.txt", encoding="utf-8") as file:
-        rows = [" ".join(it.partition("#")[0].split()) for it in file]
-    return {re.split(r"[\s:]", it)[0]: it for it in rows if it}
+        rows = [it.partition("#")[0].replace(",", " ").partition(":") for it in file]
+    return {head.split()[0]: (" ".join(head.split()[1:]), uses.split()) for head, _, uses in rows if head.split()}
 
 
 def digests_of(root, crate, by):
-    """Returns the digests of a crate as it stands."""
-    rows = rows_of(root)
-    below = [rows.get(crate.name, "")]
-    for it in sorted(crate.below(), key=lambda it: it.name):
-        below += [it.name, rows.get(it.name, ""), digest(files_in(it.folder, PARTS))]
-    return Digests(digest(files_in(crate.folder, (*PARTS, EDITS))), digest(below), by)
+    """Returns the digests of a crate as it stands. Which of the crates below it names itself is not in them, nor which of these
+    names a library of the toolchain."""
+    rows, views = rows_of(root), mutants_digests.views_below(crate)
+    names = [crate.name, *sorted(views)]
+    settings = {it: rows.get(it, ("", []))[0] for it in names}
+    libraries = {use for it in names for use in rows.get(it, ("", []))[1]} - {*rows}
+    below = [" ".join(sorted(libraries)), settings[crate.name]]
+    for it in names[1:]:
+        below += [it, settings[it], views[it]]
+    return Digests(mutants_digests.own_digest(crate), mutants_digests.digest(below), by)
 
 
 def by_of(script, toolchain):
     """Returns the digest of what tries the edits: the script, and the logic that the toolchain reports to prove by. The name of
     its kit is not in it: machines have kits of other names with the same logic."""
     with open(script, "rb") as file:
-        return digest([file.read(), toolchain.strip().rpartition(b" logic ")[2]])
+        return mutants_digests.digest([file.read(), toolchain.strip().rpartition(b" logic ")[2]])
 
 
 # ---------------------------------------------------------------------------------------------------------------------
@@ -164,7 +147,7 @@ def is_chosen(commit, entry, group):
 
 def stale_for(entry, digests, edits):
     """Returns what a crate's lines don't agree with, or nothing where they stand."""
-    names = "its own files", "what stands below it", "the script or the logic"
+    names = "its own files", "what it sees of the crates below it", "the script or the logic"
     why = [name for name, one, other in zip(names, entry.digests, digests) if one != other]
     if not why and ({*entry.answers} != {*edits} or any(answer != REFUSED for answer, _ in entry.answers.values())):
         why = ["the edits that it names"]

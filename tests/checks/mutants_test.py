@@ -19,7 +19,7 @@ import ending
 import mutants_baseline as baseline
 import needs
 
-# In the place of the toolchain: three crates, of which high stands on low, and no check at all.
+# In the place of the toolchain: the crates of crates.txt, and no check at all.
 RT = r'''#!/usr/bin/env python3
 import os, re, sys, types
 
@@ -28,12 +28,15 @@ if __name__ == "__main__":
 
 
 class Crate:
-    def __init__(self, name, deps):
-        self.name, self.deps, self.folder = name, deps, os.path.join(os.getcwd(), "crates", name)
+    def __init__(self, top, name, deps):
+        self.name, self.deps, self.folder = name, deps, os.path.join(top, "crates", name)
         self.rlib = self.folder
 
     def below(self):
-        return self.deps
+        found = []
+        for dep in self.deps:
+            found += [it for it in [*dep.below(), dep] if it not in found]
+        return found
 
     def is_built(self):
         return True
@@ -43,8 +46,13 @@ class Crate:
 
 
 def crates_below(top):
-    low = Crate("low", [])
-    return [low, Crate("high", [low]), Crate("other", [])]
+    made, top = {}, os.path.abspath(top)
+    for line in open(os.path.join(top, "crates.txt")):
+        head, _, uses = line.partition("#")[0].partition(":")
+        if head.split():
+            name = head.split()[0]
+            made[name] = Crate(top, name, [made[it] for it in uses.split() if it in made])
+    return [*made.values()]
 
 
 def edits_of(crate):
@@ -75,7 +83,7 @@ class Trial:
 
     def run(self, names=None):
         if self.crate.name == os.environ.get("MEANWHILE"):
-            open(f"{self.crate.folder}/src/lib.rt", "a").write("// later\n")
+            open(f"{self.crate.folder}/src/lib.rt", "a").write("fn later() {}\n")
         it.run_measured(["true"], stdout=subprocess.PIPE, stderr=subprocess.STDOUT)
         for at, path in enumerate(it.rt.edits_of(self.crate)[0]):
             name = os.path.basename(path)
@@ -90,22 +98,141 @@ sys.exit(it.main())
 '''
 CRATES = {"low": 5, "high": 3, "other": 1}
 ALL = sum(CRATES.values())
+# The crates of the tree: high stands on mid, which has no edits, and both on low.
+ROWS = "# The crates.\nlow: std\nmid: low\nhigh: low mid\nother:\n"
+# The files of low, with braces and quotes wherever they open and close nothing.
+LOW = """//! What low has: { and ' and ".
+ghost use Rattle.std.specs.Prelude.{◌≡◌, length};
+ghost use Rattle.low.specs.Grid.{area as size};
+
+/// How many rows a grid has: "{".
+pub const ROWS: [u8; 2] = [4, 5];
+const MAKE: fn(u8) -> Grid = { make };
+
+#[derive(Clone, Copy)]
+pub struct Grid {
+    rows: u8,
+    ghost past: { List q' },
+}
+
+impl Grid {
+    /// The area of a grid.
+    pub fn area(&self, by: [u8; 2]) -> [u8; 2]
+        requires { self.now.rows ≡ 1 }
+        ensures is { result.now ≡ area self.now (codes "a } b") }
+    {
+        let open = '{'; // a comment }
+        let text = b"} \\" {"; /* a comment } /* inside } */ " one */
+        let raw = r#"}" fn other() { '"#;
+        let quote = '\\'';
+        'all: loop
+            ensures { open ≡ 1 }
+        {
+            break 'all;
+        }
+        by
+    }
+}
+
+pub const fn twice(x: u8) -> u8 {
+    x + x
+}
+
+pub trait Rows {
+    fn rows(&self) -> u8 {
+        3
+    }
+}
+
+fn opaque() -> impl Rows {
+    7u8
+}
+
+fn declares() {
+    impl Rows for u8 {}
+}
+
+pub(crate) unsafe fn last() -> u8 {
+    9
+}
+"""
+GRID = """-- What grids are.
+use Rattle.std.specs.Prelude.{◌≡◌}
+
+-- the area
+abbrev pub area : ℕ → ℕ
+area x = x + x
+
+pub hidden : ℕ
+hidden = 11
+"""
+LEMMAS = """use Rattle.low.specs.Grid.{area}
+
+-- an area is twice its side
+pub twice : (x : ℕ)
+    → area x ≡ x + x
+twice x = by_symmetry
+  where
+    by_symmetry : ℕ
+    by_symmetry = 12
+unfolding_is_no_word : ℕ
+unfolding_is_no_word = 13
+
+module _ (x : ℕ)
+    (y : ℕ) where
+  -- how many
+  abbrev pub count : ℕ
+  count = 14
+
+  pub counted : count ≡ 15
+  unfolding count
+  counted = refl {16}
+
+unfoldable pub open-one : ℕ
+open-one = 17
+
+pub record Pair : Type 0 where
+  pub one : ℕ
+  pub two : Is 18
+"""
+ANSWERS = "use Rattle.low.proofs.lib.Grid.area.Goals as goal\n\npub returns : goal.returns\nreturns c = refl {19}\n"
+HIGH = "ghost use Rattle.low.specs.Grid.{area};\n\npub fn top() -> u8\n    ensures { area 1 ≡ 2 }\n{\n    20 // a remark\n}\n"
+FILES = {
+    "crates/low/src/lib.rt": LOW,
+    "crates/low/specs/Lib.antt": "pub mod Grid\n",
+    "crates/low/specs/Grid.antt": GRID,
+    "crates/low/proofs/Lib.antt": "pub mod Lemmas\n",
+    "crates/low/proofs/Lemmas.antt": LEMMAS,
+    "crates/low/proofs/lib/Grid/area/Answers.antt": ANSWERS,
+    "crates/mid/src/lib.rt": "pub struct Mid;\n",
+    "crates/mid/specs/Lib.antt": "pub mod Own\n",
+    "crates/mid/specs/Own.antt": "pub own : ℕ\nown = 21\n",
+    "crates/high/src/lib.rt": HIGH,
+    "crates/high/specs/Top.antt": "use Rattle.low.specs.Grid.{area}\n\npub top : ℕ\ntop = area 22\n",
+}
+
+
+# The stand-in as a module, for what is tried without the script.
+STAND_IN = {"__name__": "rt"}
+exec(RT, STAND_IN)
 
 
 class Tree:
-    """A tree of three crates in a folder of its own."""
+    """A tree of crates in a folder of its own."""
 
     def __init__(self, folder):
         self.folder = folder
         for name, count in CRATES.items():
-            self.put(f"crates/{name}/src/lib.rt", f"// {name}\n")
+            self.put(f"crates/{name}/src/lib.rt", f"fn {name}() {{}}\n")
             for at in range(count):
                 self.put(f"crates/{name}/must-fail/edit-{at}.edit", f"{name} {at}\n")
-        self.put("crates.txt", "# The crates.\nlow: std\nhigh: low\nother:\n")
+        for name, text in FILES.items():
+            self.put(name, text)
+        self.put("crates.txt", ROWS)
         self.put("bin/rt", RT)
         os.chmod(f"{folder}/bin/rt", 0o755)
         os.mkdir(f"{folder}/tests")
-        for it in ("mutants.py", "mutants_baseline.py"):
+        for it in ("mutants.py", "mutants_baseline.py", "mutants_digests.py"):
             shutil.copy(f"{TESTS}/{it}", f"{folder}/tests")
 
     def put(self, name, text, how="w"):
@@ -122,6 +249,27 @@ class Tree:
 
     def recorded(self):
         return baseline.read(self.folder)
+
+    def digests(self):
+        """Returns the digests of each crate, as the files stand."""
+        return {it.name: baseline.digests_of(self.folder, it, "") for it in STAND_IN["crates_below"](self.folder)}
+
+    def changed_by(self, files):
+        """Returns which digests another text of these files changes, and puts the old texts back."""
+        was, before = {}, self.digests()
+        for name, text in files.items():
+            path = f"{self.folder}/{name}"
+            was[name] = open(path).read() if os.path.exists(path) else None
+            self.put(name, text)
+        after = self.digests()
+        for name, text in was.items():
+            if text is None:
+                os.remove(f"{self.folder}/{name}")
+            else:
+                self.put(name, text)
+        assert self.digests() == before
+        pairs = [(name, part) for name in before if name in after for part in ("own", "below")]
+        return {f"{name} {part}" for name, part in pairs if getattr(before[name], part) != getattr(after[name], part)}
 
 
 def python(tree, arguments):
@@ -203,7 +351,179 @@ def stales(tree, change, tried, *texts, **environment):
 
 def test_source(tree):
     texts = [f"{it} mutants: the baseline is stale" for it in ("low: 5", "high: 3")]
-    stales(tree, lambda: tree.put("crates/low/src/lib.rt", "// mow\n"), 8, *texts)
+    stales(tree, lambda: tree.put("crates/low/src/lib.rt", LOW.replace("≡ 1 }", "≡ 2 }")), 8, *texts)
+
+
+def test_body_below(tree):
+    """Another body makes the crate's own answers stale, and those above it not."""
+    change = lambda: tree.put("crates/low/src/lib.rt", LOW.replace("break 'all", "continue 'all"))
+    stales(tree, change, 5, "low: 5 mutants: the baseline is stale (its own files)")
+
+
+# Of low's files: a text, what comes in its place, and whether a crate above sees that.
+SEEN = {
+    "crates/low/src/lib.rt": [
+        ("a character in a body", "'{'; // a", "'}'; // a", False),
+        ("a text in a body", 'b"} ', 'b"{ ', False),
+        ("a raw text in a body", '{ \'"#', '{ { "#', False),
+        ("a quote in a body", "'\\'';", "'\"';", False),
+        ("a label in a body", "break 'all", "continue 'all", False),
+        ("a clause in a body", "open ≡ 1", "open ≡ 2", False),
+        ("a body", "by\n    }\n}", "if by { by } else { by }\n    }\n}", False),
+        ("a body, up to the next function", "    9\n", "    8\n", False),
+        ("a requires", "rows ≡ 1", "rows ≡ 2", True),
+        ("an ensures", "area self.now", "area self.old", True),
+        ("a text in a clause", '"a } b"', '"a { b"', True),
+        ("a clause's name", "ensures is", "ensures same", True),
+        ("a parameter", "by: [u8; 2]", "by: [u8; 3]", True),
+        ("a result", "-> [u8; 2]", "-> [u8; 3]", True),
+        ("a field", "rows: u8,", "rows: u16,", True),
+        ("a ghost field", "List q'", "List q''", True),
+        ("a constant", "[4, 5]", "[4, 6]", True),
+        ("a constant with a block", "{ make }", "{ made }", True),
+        ("an attribute", "(Clone, Copy)", "(Clone)", True),
+        ("a mark for visibility", "pub(crate) unsafe", "pub unsafe", True),
+        ("an import", "{area as size}", "{area as sizes}", True),
+        ("a module imported", "specs.Grid.{area as", "specs.Grids.{area as", True),
+        ("the body of a const fn", "x + x", "x - x", True),
+        ("the body of a trait's function", "        3\n", "        4\n", True),
+        ("a body whose type is the function's", "7u8", "8u8", True),
+        ("a body with an impl", "for u8 {}", "for u16 {}", True),
+        ("a new function", "pub trait", "fn more() {}\npub trait", True),
+        ("a quote that isn't closed", "pub trait", "\" pub trait", True),
+        ("a brace that isn't closed", "    9\n", "    9 {\n", True),
+        ("a clause with a comment of antt's", "rows ≡ 1", "rows ≡ 1 -- }", True),
+    ],
+    "crates/low/specs/Grid.antt": [
+        ("a definition", "x + x", "x - x", True),
+        ("a definition that is opaque", "= 11", "= 12", True),
+        ("a signature", "ℕ → ℕ", "ℕ → ℕ → ℕ", True),
+        ("a comment over several lines", "-- the area\n", "{- the area\n-}\n", True),
+    ],
+    "crates/low/proofs/Lemmas.antt": [
+        ("a statement", "≡ x + x", "≡ x * x", True),
+        ("a statement that isn't public", "is_no_word : ℕ", "is_no_word : Bool", True),
+        ("a term", "twice x = by_symmetry", "twice x = refl", False),
+        ("a term's own definition", "= 12", "= 2", False),
+        ("the term of a lemma without a mark", "= 13", "= 3", False),
+        ("a definition that unfolds", "= 14", "= 4", True),
+        ("a module's parameter", "(y : ℕ)", "(y : Bool)", True),
+        ("a statement in a module", "≡ 15", "≡ 5", True),
+        ("a term in a module", "{16}", "{6}", False),
+        ("what a term unfolds", "unfolding count", "unfolding count open-one", False),
+        ("a definition that can be unfolded", "= 17", "= 7", True),
+        ("a record's field", "Is 18", "Is 8", True),
+        ("a line further left than the first", "use Rattle", "  use Rattle", True),
+    ],
+    "crates/low/proofs/lib/Grid/area/Answers.antt": [("an answer", "{19}", "{9}", False)],
+}
+# Of any file: comments.
+COMMENTS = {
+    "crates/low/src/lib.rt": [("{ and ' and", "} or '\n//! or"), ("a grid has: \"{", "\"grids\" have: \"{"), (" // a comment }", "")],
+    "crates/low/specs/Grid.antt": [("-- the area\n", "-- the area:\n-- twice\n\n"), ("-- What grids are.\n", "")],
+    "crates/low/proofs/Lemmas.antt": [("  -- how many\n", "\n")],
+}
+
+
+def replaced(name, old, new):
+    assert FILES[name].count(old) == 1, (name, old)
+    return {name: FILES[name].replace(old, new)}
+
+
+def test_what_a_crate_above_sees(tree):
+    """Another contract, type, constant, definition or statement below makes answers stale; another body or proof does not."""
+    for name, rows in SEEN.items():
+        for what, old, new, is_seen in rows:
+            wanted = {"low own", *(["mid below", "high below"] if is_seen else [])}
+            found = tree.changed_by(replaced(name, old, new))
+            assert found == wanted, (what, found)
+
+
+def test_comments(tree):
+    """A comment counts for no crate; but an edit that can't be applied any more does."""
+    for name, rows in COMMENTS.items():
+        for old, new in rows:
+            found = tree.changed_by(replaced(name, old, new))
+            assert not found, (old, found)
+    edit = {"crates/low/must-fail/edit-0.edit": "file: src/lib.rt\nold: break 'all;\nnew: loop {}\n"}
+    tree.put(*[*edit.items()][0])
+    assert tree.changed_by(replaced("crates/low/src/lib.rt", "// a comment }", "// break 'all; }")) == {"low own"}
+
+
+def test_spaces(tree):
+    """Other spaces between tokens count for no crate; tokens that they part or join do."""
+    for new, wanted in (("x  +\n\tx", set()), ("x && x", {"low own"}), ("x & &x", {"low own"})):
+        found = tree.changed_by(replaced("crates/low/src/lib.rt", "x + x", new))
+        assert found == wanted | {f"{it} below" for it in ("mid", "high") if wanted}, (new, found)
+    texts = [FILES["crates/low/src/lib.rt"].replace("break 'all", it) for it in ("let x = 1 && y", "let x = 1 & &y")]
+    tree.put("crates/low/src/lib.rt", texts[0])
+    assert tree.changed_by({"crates/low/src/lib.rt": texts[1]}) == {"low own"}
+
+
+def test_cited_answers(tree):
+    """A function's proof file that another file imports from counts as others do."""
+    name = "crates/low/proofs/lib/Grid/area/Answers.antt"
+    assert tree.changed_by({name: ANSWERS.replace("goal.returns\n", "goal.leaves\n")}) == {"low own"}
+    tree.put("crates/low/proofs/More.antt", "use Rattle.low.proofs.lib.Grid.area.Answers.{returns}\n")
+    assert tree.changed_by({name: ANSWERS.replace("goal.returns\n", "goal.leaves\n")}) == {"low own", "mid below", "high below"}
+
+
+def test_passed_on(tree):
+    """An import counts by the module that it leads to, whichever crate passes that on."""
+    passes = {"crates/mid/specs/Lib.antt": "pub mod Own\npub use Rattle.low.specs.Grid\n"}
+    assert not tree.changed_by(passes)
+    for name, text in passes.items():
+        tree.put(name, text)
+    files = {name: text.replace("use Rattle.low.specs", "use Rattle.mid.specs") for name, text in FILES.items() if "high" in name}
+    assert all("mid" in it for it in files.values())
+    assert not tree.changed_by(files)
+    further = {name: text.replace(".Grid.{", ".Grid.Below.{") for name, text in files.items()}
+    assert tree.changed_by(further) == {"high own"}
+    for name, text in further.items():
+        tree.put(name, text)
+    assert not tree.changed_by({name: text.replace("mid.specs", "low.specs") for name, text in further.items()})
+    renamed = {"crates/mid/specs/Lib.antt": "pub mod Own\npub use Rattle.low.specs.Grid as Mesh\n"}
+    assert tree.changed_by(renamed) == {"high own"}
+    assert not tree.changed_by({**renamed, **{name: text.replace("mid.specs.Grid", "mid.specs.Mesh") for name, text in further.items()}})
+    elsewhere = {"crates/mid/specs/Lib.antt": "pub mod Own\npub use Rattle.low.specs.Other as Grid\n"}
+    assert tree.changed_by(elsewhere) == {"high own"}
+    ring = {"crates/mid/specs/Lib.antt": "pub use Rattle.mid.specs.B as A\npub use Rattle.mid.specs.A as B\n"}
+    assert tree.changed_by({**ring, "crates/high/specs/Top.antt": "use Rattle.mid.specs.A\n"}) == {"high own"}
+
+
+def test_crates_below(tree):
+    """Which crates are below counts, and their settings; which of them names another does not, nor the order of the lines."""
+    rows = {
+        "high: low mid": ("high: mid", set()),
+        "mid: low": ("mid:", {"mid below"}),
+        "high: low mid # again": ("high: low", {"high below"}),
+        "low: std": ("low may_abort=1: std", {"low below", "mid below", "high below"}),
+        "high: low mid # of its own": ("high may_wait=2: low mid", {"high below"}),
+        "other:": ("other: low", {"other below"}),
+        "low: std # gone": ("low:", {"low below", "mid below", "high below"}),
+        "mid: low # a library named twice": ("mid: low std", set()),
+    }
+    for old, (new, wanted) in rows.items():
+        old = old.partition(" #")[0]
+        assert ROWS.count(f"\n{old}\n") == 1, old
+        found = tree.changed_by({"crates.txt": ROWS.replace(f"\n{old}\n", f"\n{new}\n")})
+        assert found == wanted, (old, new, found)
+
+
+def test_unread(tree):
+    """A file counts whole if it is of another kind, is no text, or has a comment that may go over several lines."""
+    for name in ("crates/low/src/table.bin", "crates/low/specs/notes.txt"):
+        tree.put(name, "one\n")
+        assert tree.changed_by({name: "two\n"}) == {"low own", "mid below", "high below"}
+    name = "crates/low/specs/Long.antt"
+    tree.put(name, "{- a comment\n-}\n-- one\n")
+    assert tree.changed_by({name: "{- a comment\n-}\n-- two\n"}) == {"low own", "mid below", "high below"}
+    with open(f"{tree.folder}/crates/low/specs/More.antt", "wb") as file:
+        file.write(b"-- \xff\n")
+    before = tree.digests()
+    with open(f"{tree.folder}/crates/low/specs/More.antt", "wb") as file:
+        file.write(b"-- \xfe\n")
+    assert all(before[it] != tree.digests()[it] for it in ("low", "mid", "high"))
 
 
 def test_edit(tree):
@@ -219,9 +539,10 @@ def test_proof(tree):
 
 
 def test_row(tree):
-    """A crate's line of crates.txt counts for it and for those above it; the line of another crate does not."""
-    change = lambda: tree.put("crates.txt", "low: std itoa\nhigh:   low # a remark\nother:\nmore:\n")
-    stales(tree, change, 8, *(f"{it} mutants: the baseline is stale (what stands below it)" for it in ("low: 5", "high: 3")))
+    """A library of the toolchain that a crate names in crates.txt counts for it and for those above it; another crate's line does
+    not."""
+    change = lambda: tree.put("crates.txt", ROWS.replace("low: std", "low: std itoa") + "more:\n")
+    stales(tree, change, 8, *(f"{it} mutants: the baseline is stale (what it sees of the crates below it)" for it in ("low: 5", "high: 3")))
 
 
 def test_script(tree):
