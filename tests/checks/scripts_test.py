@@ -47,7 +47,7 @@ def same(what, wanted, found):
 
 def scripts():
     """Returns the files below tests/ and contrib/ that begin with `#!` and may be executed, and others without an ending."""
-    found = ["tests/run", "tools/definitions", "tools/promises"]
+    found = ["tests/run", "tools/definitions", "tools/loop", "tools/promises"]
     for folder in ("tests", "contrib"):
         for at, _, names in os.walk(f"{TOP}/{folder}"):
             for path in (f"{at}/{it}" for it in names if it.endswith((".py", ".sh"))):
