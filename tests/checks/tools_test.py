@@ -1,6 +1,7 @@
 #!/usr/bin/env python3
-"""Tests of tools/loop, in a small repository with stand-ins for `rt`, tests/run and tests/mutants.py. Nothing is proved. Its table
-of steps is compared with tests/run and crates.txt. The last line is 'N passed, M failed'; the status is 1 if one failed.
+"""Tests of tools/loop, in a small repository with stand-ins for `rt`, tests/run and tests/mutants.py, and of how tools/costs reads a
+check. Nothing is proved. The table of steps in tools/loop is compared with tests/run and crates.txt. The last line is
+'N passed, M failed'; the status is 1 if one failed.
 
   tests/checks/tools_test.py
 """
@@ -221,12 +222,27 @@ def table(_):
          (sorted(reached["cdc_data_tests"][0]), reached["cdc_data_tests"][1]))
 
 
+def costs_of_a_check(_):
+    """Each function is charged for the time since the one before it; the first one, with what precedes it, has a column."""
+    costs = module_at(f"{TOP}/tools/costs")
+    printed = ["note: a", "checked low::a, 1 of 3", "fn low::a: proved", "checked low::B::b, 2 of 3", "checked low::a, 3 of 3", "logic=proved"]
+    times = iter((5.0, 7.5, 8.0))
+    cost, last = costs.read("low", [f"{it}\n" for it in printed], lambda: next(times))
+    same("a check", (costs.Cost("low", 8.0, 5.0, {"low::B::b": 2.5, "low::a": 0.5}), "logic=proved"), (cost, last))
+    same("a check of nothing", (costs.Cost("low", 0, 0, {}), ""), costs.read("low", [], lambda: 1))
+    other = costs.Cost("high", 20.4, 20.4, {})
+    wanted = ["| `high` | 20 | 20 | 0 |  |", "| `low` | 8 | 5 | 2 | 1.5 |", "| all | 28 | 25 | 2 | |", "", "| Function | CPU time, s |",
+              "|---|---|", "| `low::B::b` | 2.5 |"]
+    same("the tables", wanted, costs.tables([cost, other], 1)[2:])
+    same("a clock", True, 0 < costs.seconds_of(os.getpid()) < 1000)
+
+
 def main(given):
     argparse.ArgumentParser(description=__doc__, formatter_class=argparse.RawDescriptionHelpFormatter).parse_args(given)
     has_git = bool(shutil.which("git"))
     if not has_git:
         print(f"loop: not tried: what has changed since a commit: {needs.no_command('git')}")
-    for test in [usage, table, without_git, *([what_is_proved, mutants_of_it, what_it_runs] if has_git else [])]:
+    for test in [usage, table, costs_of_a_check, without_git, *([what_is_proved, mutants_of_it, what_it_runs] if has_git else [])]:
         with tempfile.TemporaryDirectory(prefix="loop-test-") as room:
             test(Place(room, has_git and test != without_git))
     for it in failures:
