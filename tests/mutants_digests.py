@@ -191,7 +191,7 @@ PATH = r"(?P<path>[^\s{};.]+(?:\.[^\s{};.]+)*)"
 # An import: a line of antt's, or a clause `ghost use`.
 IMPORT = re.compile(rf"(?P<before>\s*(?:unfoldable )?(?:pub )?use\s+|ghost\s+use\s+){PATH}(?P<rest>.*)", re.DOTALL)
 # A line that passes a module on, under its own name or another.
-PASSED_ON = re.compile(rf"\s*pub use {PATH}(?: as (?P<name>\S+))?\s*")
+PASSED_ON = re.compile(rf"\s*(?:unfoldable )?pub use {PATH}(?: as (?P<name>\S+))?\s*")
 MODULE_LINE = re.compile(r"(pub )?mod \S+\s*")
 MODULE_HEAD = re.compile(r"\s*(pub )?module\s")
 # A signature of antt's, with its marks; without a mark but `pub`, the definition can be unfolded in its own module alone.

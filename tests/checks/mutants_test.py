@@ -485,6 +485,8 @@ def test_passed_on(tree):
     renamed = {"crates/mid/specs/Lib.antt": "pub mod Own\npub use Rattle.low.specs.Grid as Mesh\n"}
     assert tree.changed_by(renamed) == {"high own"}
     assert not tree.changed_by({**renamed, **{name: text.replace("mid.specs.Grid", "mid.specs.Mesh") for name, text in further.items()}})
+    unfolds = {"crates/mid/specs/Lib.antt": "pub mod Own\nunfoldable pub use Rattle.low.specs.Grid\n"}
+    assert not tree.changed_by(unfolds)
     elsewhere = {"crates/mid/specs/Lib.antt": "pub mod Own\npub use Rattle.low.specs.Other as Grid\n"}
     assert tree.changed_by(elsewhere) == {"high own"}
     ring = {"crates/mid/specs/Lib.antt": "pub use Rattle.mid.specs.B as A\npub use Rattle.mid.specs.A as B\n"}
