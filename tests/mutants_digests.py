@@ -14,7 +14,7 @@ PARTS, EDITS = ("src", "specs", "proofs"), "must-fail"
 # The proof files of one function, in a folder of its path.
 OF_FUNCTION = ("Answers.antt", "Invariants.antt")
 
-# A token of a source file: a word, a mark, a literal, or a clause, which is the antt text behind `ghost`, `requires` or `ensures`.
+# A token of a source file: a word, a mark, a literal, or a clause: `ghost`, `requires` or `ensures` with the antt text after it.
 Token = namedtuple("Token", "kind text")
 WORD, MARK, LITERAL, CLAUSE = "word", "mark", "literal", "clause"
 # What counts of a file: its text with a gap for each path that it imports, those paths, and the modules that it passes on, as
@@ -49,8 +49,8 @@ LEXEME = re.compile(
     re.VERBOSE | re.DOTALL,
 )
 COMMENT_MARK = re.compile(r"/\*|\*/")
-# In a clause: a quoted text, a brace, a semicolon, or what may begin a comment of antt's.
-CLAUSE_MARK = re.compile(r'"(?:[^"\\\n]|\\.)*"|[{};"]|--|(?<=\{)-')
+# In a clause: a quoted text, a brace, a semicolon, or what may begin a comment, of antt's or before the first brace.
+CLAUSE_MARK = re.compile(r'"(?:[^"\\\n]|\\.)*"|[{};"]|--|(?<=\{)-|//|/\*')
 CLAUSE_WORDS = ("ghost", "requires", "ensures")
 CLOSED_BY = {"(": ")", "[": "]", "{": "}"}
 
@@ -66,12 +66,12 @@ def after_comment(text, place):
 
 
 def after_clause(text, place):
-    """Returns where the clause ends that begins here: behind the brace that closes its first one, or before a semicolon."""
+    """Returns where the clause ends that begins here: after the brace that closes its first one, or before a semicolon."""
     depth = 0
     for it in CLAUSE_MARK.finditer(text, place):
         if it[0] == ";" and depth == 0:
             return it.start()
-        if it[0] in ('"', "--", "-"):
+        if it[0] in ('"', "--", "-") or it[0] in ("//", "/*") and depth == 0:
             raise Unreadable("a clause has a comment, or a quoted text without an end")
         depth += {"{": 1, "}": -1}.get(it[0], 0)
         if it[0] == "}" and depth <= 0:
@@ -190,8 +190,8 @@ def hidden_bodies(tokens):
 PATH = r"(?P<path>[^\s{};.]+(?:\.[^\s{};.]+)*)"
 # An import: a line of antt's, or a clause `ghost use`.
 IMPORT = re.compile(rf"(?P<before>\s*(?:unfoldable )?(?:pub )?use\s+|ghost\s+use\s+){PATH}(?P<rest>.*)", re.DOTALL)
-# A line that passes a module on, under its own name or another.
-PASSED_ON = re.compile(rf"\s*(?:unfoldable )?pub use {PATH}(?: as (?P<name>\S+))?\s*")
+# A line that passes a module on, under its own name or another. A path that begins otherwise depends on other lines.
+PASSED_ON = re.compile(rf"\s*(?:unfoldable )?pub use (?=Rattle\.){PATH}(?<!\*)(?: as (?P<name>\S+))?\s*")
 MODULE_LINE = re.compile(r"(pub )?mod \S+\s*")
 MODULE_HEAD = re.compile(r"\s*(pub )?module\s")
 # A signature of antt's, with its marks; without a mark but `pub`, the definition can be unfolded in its own module alone.
@@ -260,7 +260,7 @@ def antt_content(text, name, is_seen_from_above):
     lines = [it.rstrip() for it in text.split("\n")]
     lines = [it for it in lines if it and not is_comment(it)]
     passed_on = [PASSED_ON.fullmatch(it) for it in lines]
-    passed_on = [(it["name"] or it["path"].rpartition(".")[2], it["path"]) for it in passed_on if it and it["path"].startswith("Rattle.")]
+    passed_on = [(it["name"] or it["path"].rpartition(".")[2], it["path"]) for it in passed_on if it]
     if os.path.basename(name) == "Lib.antt":
         lines = [it for it in lines if not MODULE_LINE.fullmatch(it) and not PASSED_ON.fullmatch(it)]
     if is_seen_from_above and name.startswith("proofs/"):
@@ -326,15 +326,15 @@ class Tree:
 
     def __init__(self, crate):
         self.files = {it.name: files_in(it.folder, PARTS) for it in [crate, *crate.below()]}
-        # (the modules that are passed on, by the paths under which they are; the paths of modules that are imported, with those
-        # above them, but for what the proof of a function imports from its own folder)
+        # (the modules that are passed on, by their paths there; the paths of all modules that are imported or passed on, with those
+        # above them, except what the proof of a function imports from its own folder)
         self.passed_on, self.cited = {}, set()
         for crate_name, files in self.files.items():
             for name, data in files.items():
                 content, module = content_of(name, data, False), module_of(crate_name, name)
                 self.passed_on.update((f"{module}.{it}", path) for it, path in content.passed_on)
                 own = folder_of_function(crate_name, name)
-                for it in content.imports:
+                for it in [*content.imports, *(path for _, path in content.passed_on)]:
                     while it and it not in self.cited and not f"{it}.".startswith(f"{own or None}."):
                         self.cited.add(it)
                         it = it.rpartition(".")[0]

@@ -464,8 +464,14 @@ def test_cited_answers(tree):
     """A function's proof file that another file imports from counts as others do."""
     name = "crates/low/proofs/lib/Grid/area/Answers.antt"
     assert tree.changed_by({name: ANSWERS.replace("goal.returns\n", "goal.leaves\n")}) == {"low own"}
-    tree.put("crates/low/proofs/More.antt", "use Rattle.low.proofs.lib.Grid.area.Answers.{returns}\n")
-    assert tree.changed_by({name: ANSWERS.replace("goal.returns\n", "goal.leaves\n")}) == {"low own", "mid below", "high below"}
+    for file, text in (
+        ("crates/low/proofs/More.antt", "use Rattle.low.proofs.lib.Grid.area.Answers.{returns}\n"),
+        ("crates/mid/proofs/Lib.antt", "pub use Rattle.low.proofs.lib.Grid.area.Answers\n"),
+    ):
+        tree.put(file, text)
+        found = tree.changed_by({name: ANSWERS.replace("goal.returns\n", "goal.leaves\n")})
+        assert found == {"low own", "mid below", "high below"}, (file, found)
+        os.remove(f"{tree.folder}/{file}")
 
 
 def test_passed_on(tree):
@@ -489,6 +495,9 @@ def test_passed_on(tree):
     assert not tree.changed_by(unfolds)
     elsewhere = {"crates/mid/specs/Lib.antt": "pub mod Own\npub use Rattle.low.specs.Other as Grid\n"}
     assert tree.changed_by(elsewhere) == {"high own"}
+    for line in ("pub use Own.Grid", "pub use Rattle.low.specs.*", "pub use Rattle.low.specs.Grid.{area}"):
+        own = {"crates/mid/specs/Lib.antt": f"pub mod Own\npub use Rattle.low.specs.Grid\n{line}\n"}
+        assert tree.changed_by(own) == {"mid own", "high below"}, line
     ring = {"crates/mid/specs/Lib.antt": "pub use Rattle.mid.specs.B as A\npub use Rattle.mid.specs.A as B\n"}
     assert tree.changed_by({**ring, "crates/high/specs/Top.antt": "use Rattle.mid.specs.A\n"}) == {"high own"}
 
@@ -517,6 +526,10 @@ def test_unread(tree):
     for name in ("crates/low/src/table.bin", "crates/low/specs/notes.txt"):
         tree.put(name, "one\n")
         assert tree.changed_by({name: "two\n"}) == {"low own", "mid below", "high below"}
+    name = "crates/low/src/lib.rt"
+    text = LOW.replace("requires {", "requires /* {} */ {")
+    tree.put(name, text)
+    assert tree.changed_by({name: text.replace("rows ≡ 1", "rows ≡ 2")}) == {"low own", "mid below", "high below"}
     name = "crates/low/specs/Long.antt"
     tree.put(name, "{- a comment\n-}\n-- one\n")
     assert tree.changed_by({name: "{- a comment\n-}\n-- two\n"}) == {"low own", "mid below", "high below"}
