@@ -21,6 +21,7 @@ import tempfile
 sys.dont_write_bytecode = True
 TOP = os.path.realpath(f"{os.path.dirname(os.path.realpath(__file__))}/../..")
 sys.path.insert(0, f"{TOP}/tests/common")
+import checked
 import ending
 import needs
 
@@ -34,15 +35,8 @@ OF_MODEL = {f"tests/{it}.py" for it in (
     "checks/soak", "checks/audit", "checks/deliveries", "checks/messages", "checks/stress", "checks/kill", "bench/speed",
     "common/model")}
 WITH_RT = {"tests/mutants.py"}
-passed, failures = 0, []
-
-
-def same(what, wanted, found):
-    global passed
-    if wanted == found:
-        passed += 1
-    else:
-        failures.append(f"failed: {what}\n  wanted: {repr(wanted)[:400]}\n  found:  {repr(found)[:400]}")
+checks = checked.Checks(program=None, room=None)
+same = checks.same
 
 
 def scripts():
@@ -137,10 +131,8 @@ def main(arguments):
     same("there are scripts in each folder", {"tests", "tools", "checks", "bench", "common", "faults", "rabbitmq"},
          {os.path.basename(os.path.dirname(it)) for it in names})
     parts_left_out()
-    for it in failures:
-        print(it)
-    print(f"scripts: {passed} passed, {len(failures)} failed")
-    return 1 if failures else 0
+    print(f"scripts: {checks.passed} passed, {checks.failed} failed")
+    return 1 if checks.failed else 0
 
 
 if __name__ == "__main__":

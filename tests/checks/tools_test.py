@@ -17,6 +17,7 @@ import tempfile
 sys.dont_write_bytecode = True
 TOP = os.path.realpath(f"{os.path.dirname(os.path.realpath(__file__))}/../..")
 sys.path[:0] = [f"{TOP}/tests", f"{TOP}/tests/common"]
+import checked
 import ending
 import mutants_baseline as baseline
 import needs
@@ -50,15 +51,8 @@ if __name__ == "__main__":
         file.write(call + "\n")
     sys.exit(bool(os.environ.get("FAILS")) and os.environ["FAILS"] in call)
 '''
-passed, failures = 0, []
-
-
-def same(what, wanted, found):
-    global passed
-    if wanted == found:
-        passed += 1
-    else:
-        failures.append(f"failed: {what}\n  wanted: {wanted!r}\n  found:  {found!r}")
+checks = checked.Checks(program=None, room=None)
+same = checks.same
 
 
 def module_at(path):
@@ -245,10 +239,8 @@ def main(given):
     for test in [usage, table, costs_of_a_check, without_git, *([what_is_proved, mutants_of_it, what_it_runs] if has_git else [])]:
         with tempfile.TemporaryDirectory(prefix="loop-test-") as room:
             test(Place(room, has_git and test != without_git))
-    for it in failures:
-        print(it)
-    print(f"{passed} passed, {len(failures)} failed")
-    return 1 if failures else 0
+    print(f"{checks.passed} passed, {checks.failed} failed")
+    return 1 if checks.failed else 0
 
 
 if __name__ == "__main__":
