@@ -59,7 +59,7 @@ check 'an edit after the times were read is in the sums' "$built" "$calls"
 later 1
 rm "$program.stamps"
 start books x
-last=$(cut -d' ' -f5 "$program.stamps" | LC_ALL=C sort -n | tail -n 1)
+last=$(tail -n +2 "$program.stamps" | cut -d' ' -f3 | LC_ALL=C sort -n | tail -n 1)
 noted=$("$real_find" "$program.stamps" -printf '%C@')
 check 'times are noted when they are past' "$noted" "$(printf '%s\n' "$last" "$noted" | LC_ALL=C sort -n | tail -n 1)"
 check 'and the program runs' 'run with books x' "$out"

@@ -27,14 +27,15 @@ SECOND, TRY, MOST_TRIES = 1_000_000_000, 0.001, 5_000
 
 
 class Program:
-    """The program, `path`, and two notes beside it. `built` has the sums of the sources and of the program, the toolchain's
-    identity and the way. `stamps` has what `find` printed of all these files when the sums last agreed. The launcher
-    compares it, and so does `is_current`: the sums are taken only if it differs."""
+    """The program, `path`, and three notes beside it. `built` has the sums of the sources and of the program, the toolchain's
+    identity and the way. `files` has the names of all these files, and `stamps` what `find` printed of them when the sums
+    last agreed. The launcher compares it, and so does `is_current`: the sums are taken only if it differs."""
 
     def __init__(self, top):
         self.top = top
         self.out = f"{top}/crates/{APP}/out"
-        self.path, self.built, self.stamps = f"{self.out}/{APP}", f"{self.out}/{APP}.built", f"{self.out}/{APP}.stamps"
+        self.path = f"{self.out}/{APP}"
+        self.built, self.files, self.stamps = f"{self.path}.built", f"{self.path}.files", f"{self.path}.stamps"
 
     def note(self):
         """Returns what the note has, or nothing if there is none."""
@@ -76,7 +77,7 @@ class Program:
         return False
 
     def printed(self):
-        """Returns what `find` prints of the files that decide."""
+        """Returns what the launcher prints of the files that decide."""
         find = [f"{self.top}/relayplum", "--stamps"]
         return subprocess.run(find, stdout=subprocess.PIPE, stderr=subprocess.DEVNULL, check=False).stdout
 
@@ -113,7 +114,7 @@ class Program:
 
     def put(self, build):
         """Moves the program to its place, with its note."""
-        for file in (self.built, self.stamps):
+        for file in (self.built, self.files, self.stamps):
             with contextlib.suppress(FileNotFoundError):
                 os.remove(file)
         shutil.copyfile(build.library(build.program), f"{self.path}.new")
@@ -125,12 +126,29 @@ class Program:
             json.dump(note, it)
         os.replace(f"{self.built}.new", self.built)
 
+    def list_files(self):
+        """Notes the names of the files that decide, this note first, each with a zero byte behind it."""
+        toolchain = Toolchain() if shutil.which("rt") else None
+        names = [self.files, self.path, self.built, "crates.txt"]
+        names += [f"crates/{crate.name}/{file}" for crate in crates_of(self.top) for file in crate.files()]
+        names += [f"{toolchain.at}/KIT-ID", toolchain.rattle] if toolchain else []
+        note = b"".join(os.fsencode(it) + b"\0" for it in names)
+        with contextlib.suppress(OSError):
+            with open(self.files, "rb") as it:
+                if it.read() == note:
+                    return
+        with contextlib.suppress(OSError):
+            with open(f"{self.files}.new", "wb") as out:
+                out.write(note)
+            os.replace(f"{self.files}.new", self.files)
+
     def compare(self):
         """Returns whether the sums agree; then the next start needs only what `find` prints, which is noted.
 
         Each change of a file sets its time, but only to the tick of the clock: two changes within a tick look the same. So `find` comes
         first, then the clock leaves the tick of the last change that it printed, then the sums are taken. A change before a file's sum is
         taken is in the sum. A later one gives the file a later time than all that are noted, so `find` prints something else."""
+        self.list_files()
         printed = self.printed()
         is_past = has_toolchain(printed) and self.outwait(last_change(printed))
         if not self.agrees():
@@ -159,14 +177,14 @@ class Program:
 def last_change(printed):
     """Returns the time of the last change among the files that `find` printed, in nanoseconds; of none, one that never comes. A time without
     a fraction counts to the end of its second, since some filesystems keep whole seconds."""
-    times = [line.rsplit(b" ", 1)[1].partition(b".") for line in printed.splitlines() if line.count(b" ") > 3]
+    times = [line.rsplit(b" ", 1)[1].partition(b".") for line in printed.splitlines()[1:]]
     exact = [int(seconds + fraction[:9].ljust(9, b"0")) for seconds, _, fraction in times]
     return max((it if it % SECOND else it + SECOND - 1 for it in exact), default=sys.maxsize)
 
 
 def has_toolchain(printed):
-    """Returns whether the toolchain of this machine, if it has one, is among the files that were printed."""
-    return not shutil.which("rt") or f"{Toolchain().at}/KIT-ID ".encode() in printed
+    """Returns whether the toolchain of this machine, if it has one, is the one that the launcher printed."""
+    return not shutil.which("rt") or printed.startswith(os.fsencode(f"{Toolchain().at}\n"))
 
 
 def identity(otherwise):
