@@ -98,6 +98,10 @@ start books x
 check 'a changed source builds' "$built" "$calls"
 start books x
 check 'and builds once' '' "$calls"
+echo '-- nothing names it' >"$room/top/crates/low/specs/Alone.antt"
+start books x
+check 'a file that was added alone is not looked for' '' "$(cat "$CALLS.python" 2>/dev/null)"
+rm "$room/top/crates/low/specs/Alone.antt"
 rm "$room/top/crates/low/specs/Low.antt"
 start books x
 check 'a removed file builds' "$built" "$calls"
