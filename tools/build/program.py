@@ -129,7 +129,7 @@ class Program:
     def list_files(self):
         """Notes the names of the files that decide, this note first, each with a zero byte behind it."""
         toolchain = Toolchain() if shutil.which("rt") else None
-        names = [self.files, self.path, self.built, "crates.txt"]
+        names = [os.path.relpath(it, self.top) for it in (self.files, self.path, self.built, f"{self.top}/crates.txt")]
         names += [f"crates/{crate.name}/{file}" for crate in crates_of(self.top) for file in crate.files()]
         names += [f"{toolchain.at}/KIT-ID", toolchain.rattle] if toolchain else []
         note = b"".join(os.fsencode(it) + b"\0" for it in names)
