@@ -14,16 +14,19 @@ the answers are taken, and one group in eight is tried again, chosen by the comm
 fails, except under --write, which writes its lines again, crate by crate, if each edit is refused. With --write a crate that
 is named is tried whatever the baseline has.
 
-`rt must-fail` checks a crate once for each edit. A caller sees contracts alone, so edits in different functions don't
-touch each other: here they are applied all at once to a copy of the crate, the functions that they change are checked
-once, with those that these call, and for each edit it is read whether its own function was refused. Then the same
-functions are proved unedited. CONTRIBUTING.md has the rules. The crates below are proved first where they aren't; --proved
-means that `rt ci` has just proved this tree, and takes the libraries that it left. What is checked of a crate is checked
-from scratch; with --kept over a copy of what its earlier checks kept in out/, which is quicker.
+`rt must-fail` checks a crate once for each edit. Callers see only contracts, so edits of different functions do not affect
+each other. Here each edit is made in a copy of its function. The copy follows the function under a name of its own, with a
+copy of its proof files. One check has up to 30 such copies and, of each of these functions, one copy without an edit. An edit
+is refused if its copy is refused and the copy without an edit is proved. All other edits are tried in place, in groups of
+one edit per function; these functions are then proved unedited. CONTRIBUTING.md has the rules. The crates below are proved
+first if they are not; --proved means that `rt ci` has just proved this tree, and takes the libraries that it left. A crate is
+checked from scratch, and the checks of one run share what they prove. With --kept they start from a copy of what earlier
+checks kept in out/, which is quicker.
 
 The last line is 'N passed, M failed'; the status is 0 where nothing failed, and 1 else. Needs Python 3.8 or later.
 """
 import argparse
+import copy
 import importlib.machinery
 import importlib.util
 import json
@@ -75,15 +78,16 @@ def load_rt():
 rt = load_rt()
 rtlib = rt.rtlib
 ONE_JOB = ["--jobs", "1"]
-# The most edits of a group, so that none takes a quarter of an hour of a processor while the others have nothing to do.
-AT_ONCE = 20
+# The most edits of a group. A check takes up to a minute of CPU time (cdc_run, 2026-11-30) before it proves anything, so few are
+# better. Of a crate that takes long one group in some is tried again, so it needs several.
+AT_ONCE = 30
 
 # ---------------------------------------------------------------------------------------------------------------------
 # The functions of a source file, and what an edit changes of it.
 
 # A function: its full path as a check prints it, the bytes of its body with the braces, the places in the list of
 # tokens where its text begins and where its body begins and ends (none for one that the script adds), the words that its
-# body has, and whether it is of an impl of a trait.
+# body has, and whether it is of a trait or of an impl of one.
 Function = namedtuple("Function", "path start end tokens names is_of_trait")
 Token = namedtuple("Token", "start end kind text")
 # An edit that changes one function's body and nothing else: the file, the function, and its other body.
@@ -211,7 +215,7 @@ def functions_of(crate_name, file, tokens, homes, aliases=frozenset()):
     # (clauses are antt's text; braces count in Rattle's own code alone)
     code = [(at, it) for at, it in enumerate(tokens) if it.kind == "Code"]
     scope, head, found, place = [(0, module_of(file), False)], [], [], 0
-    depth = 0
+    depth = brackets = 0
 
     def closing(place):
         """Returns where the brace that opens at this place is closed."""
@@ -225,7 +229,9 @@ def functions_of(crate_name, file, tokens, homes, aliases=frozenset()):
     while place < len(code):
         at, token = code[place]
         word = token.text
-        if word in (";", "{", "}"):
+        # (the semicolon of an array type, as of `[u8; 4]`, ends no head)
+        brackets += {"(": 1, "[": 1, ")": -1, "]": -1}.get(word, 0)
+        if word in (";", "{", "}") and not brackets:
             words = [it.text for _, it in head]
             kind = next((it for it in words if it in ("fn", "impl", "trait", "mod")), "")
             kind = "fn" if "fn" in words and kind != "impl" else kind
@@ -239,10 +245,10 @@ def functions_of(crate_name, file, tokens, homes, aliases=frozenset()):
                 place = end
             elif word == "{":
                 depth += 1
-                inner, is_of_trait = [*scope[-1][1]], kind == "impl" and "for" in words
+                inner, is_of_trait = [*scope[-1][1]], kind == "trait" or kind == "impl" and "for" in words
                 if kind in ("impl", "trait"):
                     owner = owner_of(words[words.index(kind) :])
-                    is_own = kind == "impl" and not is_of_trait
+                    is_own = not is_of_trait
                     if is_own and owner in aliases:
                         owner = alias_with_arguments(words[words.index(kind) :])
                     inner = [*(homes.get(owner, inner) if is_own else inner), owner]
@@ -289,6 +295,10 @@ class Sources:
         self.all = [it for file in self.files for it in self.functions[file]]
         self.file_of = {it: file for file in self.files for it in self.functions[file]}
         self.reached, self.count = {}, Counter(it.path for it in self.all)
+        # (what stands in the names of copies and in no file)
+        self.mark = "_tried_"
+        while any(self.mark.encode() in it for it in self.texts.values()):
+            self.mark += "_"
 
     def functions_in(self, file, tokens):
         """Returns the functions of a file with these tokens, without those of the tests."""
@@ -353,6 +363,41 @@ class Sources:
                 place = function.end
             texts[file] = (done + text[place:]).decode()
         return texts, lines
+
+    def can_be_copied(self, function):
+        """Returns whether a copy can stand beside a function: it belongs to no trait, whose functions are fixed, and calls
+        neither itself nor what calls it, since its proof is then that of a cycle."""
+        head = [it.text for it in self.tokens[self.file_of[function]][function.tokens[0] : function.tokens[1]]]
+        is_in_cycle = os.path.isdir(f"{self.crate.folder}/{proof_folders(function.path)[1]}") or "cycle" in head
+        is_fixed = function.is_of_trait or "extern" in head or function.path == f"{self.crate.name}::main"
+        return not is_in_cycle and not is_fixed
+
+    def unchanged(self, function):
+        """Returns the Change that leaves a function as it is."""
+        file = self.file_of[function]
+        start = self.tokens[file][function.tokens[0]].start
+        return Change(file, function, self.texts[file][start : function.end])
+
+    def beside(self, change, number):
+        """Returns the Change that leaves a function as it is and puts the other text after it, under a name of its own."""
+        function, more = change.function, f"{self.mark}{number}"
+        name = function.path.rpartition("::")[2].encode()
+        text = re.sub(rb"\bfn\s+%s\b" % name, b"fn %s%s" % (name, more.encode()), change.body, count=1)
+        copied = function._replace(path=function.path + more, start=function.end, tokens=None)
+        return Change(change.file, copied, b"\n\n" + text)
+
+    def proofs_of(self, function, copied):
+        """Returns the files of a function's proof as a copy of the function has them, with its name in place of the function's."""
+        folder, other = (proof_folders(it.path)[0] for it in (function, copied))
+        module = re.escape(".".join(function.path.split("::")[1:]))
+        named = re.compile(rf"(\bRattle\.{self.crate.name}\.(?:proofs|specs\.contracts)\.{module})(?![\w'+-])")
+        more, found = copied.path[len(function.path) :], {}
+        for at, _, names in os.walk(f"{self.crate.folder}/{folder}"):
+            for name in names:
+                with open(f"{at}/{name}", encoding="utf-8") as file:
+                    below = os.path.relpath(f"{at}/{name}", f"{self.crate.folder}/{folder}")
+                    found[f"{other}/{below}"] = named.sub(lambda it: it[1] + more, file.read())
+        return found
 
     def with_statement(self, function, statement):
         """Returns the Change that puts a statement first in a function's body."""
@@ -425,10 +470,9 @@ class Answer:
             notes = []
 
     def own(self, path):
-        """Returns the paths of a function and of the closures in it."""
-        above, _, name = path.rpartition("::")
-        inside = f"{above}::fn::{name}::"
-        return [it for it in self.said if it == path or it.startswith(inside)]
+        """Returns the paths of a function and of the closures in it, which have `fn` after the module in theirs."""
+        is_inside = lambda it: "::fn::" in it and it.replace("::fn::", "::", 1).startswith(f"{path}::")
+        return [it for it in self.said if it == path or is_inside(it)]
 
     def errors_in_proofs(self, path):
         """Returns the errors in a function's own folder of proofs, which a function inside another has none of."""
@@ -486,6 +530,20 @@ Edit = namedtuple("Edit", "name path texts change")
 Result = namedtuple("Result", "passed text")
 
 
+def crate_with(crate, files, room):
+    """Returns the crate as it stands in a copy, made in an empty folder, that has these files more."""
+    for part in rtlib.PARTS:
+        if os.path.isdir(f"{crate.folder}/{part}"):
+            shutil.copytree(f"{crate.folder}/{part}", f"{room}/{part}")
+    for path, text in files.items():
+        os.makedirs(os.path.dirname(f"{room}/{path}"), exist_ok=True)
+        with open(f"{room}/{path}", "w", encoding="utf-8") as file:
+            file.write(text)
+    other = copy.copy(crate)
+    other.folder = room
+    return other
+
+
 class Trial:
     """The edits of one crate, tried over work that is kept in a folder of this run."""
 
@@ -493,11 +551,16 @@ class Trial:
         self.crate, self.kept = crate, kept
         self.sources = Sources(crate)
         self.results = {}
+        # (functions that a check of this trial proved with the text that they have)
+        self.proved = set()
         # (the group in which each edit was answered, by number)
         self.groups, self.number = {}, 0
 
-    def check(self, texts, flags=()):
-        return Answer(rt.checked(self.crate, texts, [*ONE_JOB, *flags], self.kept))
+    def check(self, texts, flags=(), proofs=None):
+        """Checks the crate with these texts, and with these files of proofs more."""
+        with tempfile.TemporaryDirectory(prefix="mutants-") as room:
+            crate = crate_with(self.crate, proofs, room) if proofs else self.crate
+            return Answer(rt.checked(crate, texts, [*ONE_JOB, *flags], self.kept))
 
     def put(self, edit, passed, text):
         self.results[edit.name] = Result(passed, f"mutant {self.crate.name}/{edit.name}: {text}")
@@ -515,27 +578,48 @@ class Trial:
         why = "BAD EDIT: an edit stands right in must-fail/, and ends in .edit"
         results = [Result(False, f"{os.path.relpath(it, self.crate.folder)}: {why}") for it in bad]
         edits = [it for it in map(self.read, good) if it]
-        alone = [it for it in edits if not it.change]
-        grouped = [it for it in edits if it.change]
+        results += self.try_all_beside([it for it in edits if it.change])
+        # (what cannot be copied is tried in place, and so is what was not refused as a copy)
+        in_place = [it for it in edits if it.change and it.name not in self.results]
+        results += self.try_all_in_place(in_place)
+        refused = {it.change.function for it in in_place if self.results[it.name].passed}
+        refused |= {self.try_alone(it) for it in edits if not it.change}
+        why = self.unproved(refused - self.proved)
+        if why:
+            return self.failure(f"unedited it is not proved over the kept work, so no answer counts: {why}")
+        for it in map(os.path.basename, good):
+            self.results.setdefault(it, Result(False, f"mutant {self.crate.name}/{it}: it was not tried"))
+        return results + [self.results[it] for it in sorted(self.results)]
+
+    def unproved(self, refused):
+        """Checks functions unedited, and returns why they are not proved, or nothing."""
+        if not refused:
+            return ""
+        # (beside an edit of which no function can be named, the whole crate has to be proved)
+        last = self.check({}, [] if None in refused else self.only(refused))
+        return last.first_line() if last.is_stale or not last.is_proved else ""
+
+    def try_all_beside(self, edits):
+        """Tries the edits whose functions can be copied, on copies. The first check has the other functions, too, unedited."""
+        can_be = {it.change.function: self.sources.can_be_copied(it.change.function) for it in edits}
+        results, others = [], {function for function, is_so in can_be.items() if not is_so}
+        for part in self.parts([it for it in edits if can_be[it.change.function]]):
+            self.number += 1
+            results += self.try_beside(part, others)
+            others -= self.proved
+        return results
+
+    def try_all_in_place(self, edits):
+        """Tries edits in groups, each in the place of its function."""
         # (the prover doesn't search where a callee isn't proved, so what calls an edit of its group is left for the next)
-        left, was_answered = grouped, True
+        results, left, was_answered = [], edits, True
         while left:
             group = self.one_of_each(left) if was_answered else left[:1]
             self.number += 1
             results += self.try_group(group)
             count, left = len(left), [it for it in left if it.name not in self.results]
             was_answered = len(left) < count
-        refused = {it.change.function for it in grouped if self.results[it.name].passed}
-        refused |= {self.try_alone(it) for it in alone}
-        if refused:
-            # (beside an edit of which no function can be named, the whole crate has to be proved)
-            last = self.check({}, [] if None in refused else self.only(refused))
-            if last.is_stale or not last.is_proved:
-                why = f"unedited it is not proved over the kept work, so no answer counts: {last.first_line()}"
-                return self.failure(why)
-        for it in map(os.path.basename, good):
-            self.results.setdefault(it, Result(False, f"mutant {self.crate.name}/{it}: it was not tried"))
-        return results + [self.results[it] for it in sorted(self.results)]
+        return results
 
     def read(self, path):
         """Reads an edit file, and notes it if it can't be applied."""
@@ -563,6 +647,48 @@ class Trial:
         for it in edits:
             first.setdefault(it.change.function, it)
         return [*first.values()][:AT_ONCE]
+
+    def parts(self, edits):
+        """Returns the edits in lists of even lengths, as many as are checked at once, with those of a function in a row."""
+        order = [*dict.fromkeys(it.change.function for it in edits)]
+        edits = sorted(edits, key=lambda it: order.index(it.change.function))
+        count = -(-len(edits) // AT_ONCE)
+        length = -(-len(edits) // max(count, 1))
+        return [edits[at * length : (at + 1) * length] for at in range(count)]
+
+    def try_beside(self, edits, others):
+        """Checks the edits of a list once, each on a copy of its function beside the function, with a copy that is not edited
+        and has to be proved, and records which were refused. Other functions are checked as they stand, and noted if proved."""
+        sources = self.sources
+        unedited = {it: sources.beside(sources.unchanged(it), 0) for it in dict.fromkeys(it.change.function for it in edits)}
+        edited = {it.name: sources.beside(it.change, number) for number, it in enumerate(edits, 1)}
+        own = self.controls({*unedited, *others})
+        changes = [*unedited.values(), *edited.values(), *own]
+        proofs = {}
+        for function, copied in [*unedited.items(), *((it.change.function, edited[it.name]) for it in edits)]:
+            proofs.update(sources.proofs_of(function, copied.function))
+        texts, lines = sources.with_changes(changes)
+        answer = self.check(texts, self.only([*others, *(it.function for it in changes)]), proofs)
+        if not answer.is_refused or answer.unread(texts) or answer.is_stale:
+            return []
+        results = self.failed_controls(own, answer, lines)
+        self.proved |= {it for it in others if answer.of(it.path)[0] == PROVED}
+        for it in edits:
+            copied = edited[it.name].function
+            how = answer.of(copied.path, lines[copied])[0]
+            if answer.of(unedited[it.change.function].function.path)[0] == PROVED and how in (REFUSED, FORM_ONLY, NAMES_ONLY):
+                self.report(it, answer, copied.path, lines[copied], is_alone=False)
+        return results
+
+    def failed_controls(self, own, answer, lines):
+        """Returns what a check shows to be wrong of the script's own two changes."""
+        harmless, control = (it.function for it in own)
+        results = []
+        if answer.of(harmless.path)[0] != PROVED:
+            results += self.failure(f"a harmless edit of {harmless.path} was refused, so its group counts for nothing")
+        if answer.of(control.path, lines[control])[0] not in (REFUSED, FORM_ONLY):
+            results += self.failure(f"a false edit of {control.path} was let through, so its group counts for nothing")
+        return results
 
     def controls(self, taken):
         """Returns the harmless change and the false one, in two functions that call none of those taken; none of these calls
@@ -592,7 +718,6 @@ class Trial:
         """Checks the functions of a group's edits once, with all these and two of the script's own, one that does no harm and
         one that has to be refused, and reads how each came out."""
         own = self.controls({it.change.function for it in group})
-        harmless, control = (it.function for it in own)
         while True:
             changes = [it.change for it in group] + own
             texts, lines = self.sources.with_changes(changes)
@@ -608,14 +733,10 @@ class Trial:
                     self.put(it, False, f"NO ANSWER: the check of its group gave no answer: {why}")
                 return []
             group = [it for it in group if it.name not in bad]
-        results = []
-        if answer.of(harmless.path)[0] != PROVED:
-            results += self.failure(f"a harmless edit of {harmless.path} was refused, so its group counts for nothing")
-        if answer.of(control.path, lines[control])[0] not in (REFUSED, FORM_ONLY):
-            results += self.failure(f"a false edit of {control.path} was let through, so its group counts for nothing")
         for it in group:
-            self.report(it, answer, lines[it.change.function], is_alone=len(group) == 1)
-        return results
+            function = it.change.function
+            self.report(it, answer, function.path, lines[function], is_alone=len(group) == 1)
+        return self.failed_controls(own, answer, lines)
 
     def unknown(self, group, answer):
         """Finds the edits of a function of whose name a check knows nothing, notes it, and returns their names."""
@@ -642,9 +763,9 @@ class Trial:
                 self.put(it, False, f"BAD EDIT: {why}: {bad[it.name][:200]}")
         return {*bad}
 
-    def report(self, edit, answer, lines, is_alone):
-        """Records how an edit of a group came out; not of one of several of which nothing is refused but what it calls."""
-        path = edit.change.function.path
+    def report(self, edit, answer, path, lines, is_alone):
+        """Records how an edit of a group came out, by the function of this path; not of one of several of which nothing is
+        refused but what it calls."""
         how, why = answer.of(path, lines)
         if how == REFUSED:
             self.put(edit, True, f"refused: {why[:160]}")

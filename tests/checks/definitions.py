@@ -41,6 +41,7 @@ def definitions():
     check("definitions: status 0, nothing on standard error", (status, errors) == (0, ""))
     part = text.partition("## `cdc_laws`\n")[2].partition("\n## ")[0]
     check("definitions: IsFaithful of cdc_laws", re.search(r"### Faithful\.antt\n\n(.*\n)+?- \*\*IsFaithful\*\*: \S", part))
+    check("definitions: what a type gives for a member of a public trait", "\n- `cdc_deliveries` Taken.antt: " in text)
     one = printed("definitions", "cdc_laws")[1]
     check("definitions cdc_laws: no other crate", set(re.findall(r"`(cdc_\w+)`", one)) == {"cdc_laws"})
     check("definitions: an unknown crate", printed("definitions", "cdc_none")[0] == 2)

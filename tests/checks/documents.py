@@ -44,8 +44,8 @@ BUDGETS = [
     (6_780, "docs/FORMATS.md"),
     (3_720, "docs/PROOFS.md"),
     (2_160, "docs/ARCHITECTURE.md"),
-    (3_060, "CONTRIBUTING.md"),
-    (2_400, "docs/DECISIONS.md"),
+    (3_100, "CONTRIBUTING.md"),
+    (2_600, "docs/DECISIONS.md"),
     (880, "docs/MEASURED.md"),
     (1_300, "CHANGELOG.md", "ROADMAP.md"),
     (720, "contrib/rabbitmq/README.md"),
@@ -199,9 +199,10 @@ def checks_of_places(tree, proofs, definitions):
 
 
 def is_listed(definitions, path):
-    """Returns whether tools/definitions lists a file among those that single crates promise something by."""
+    """Returns whether tools/definitions lists a file, among those that the commands need or that single crates promise something by."""
     crate, _, file = path.partition("/specs/")
-    return bool(re.search(rf"(?m)^- `{crate}`: (?:.*\W)?{re.escape(file)}\W", definitions.replace("\n  ", " ")))
+    listed = rf"(?m)^- `{crate}`(?:: (?:.*\W)?{re.escape(file)}\W| {re.escape(file)}: )"
+    return bool(re.search(listed, definitions.replace("\n  ", " ")))
 
 
 def printed_of(definitions, path):

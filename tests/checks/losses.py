@@ -20,7 +20,7 @@ import ending
 import rooms
 import traces
 
-ROW = f"{rooms.TOP}/tests/rows/run-a-confirm-is-lost-and-the-connector-restarts"
+ROW = f"{rooms.TOP}/tests/rows/run/a-confirm-is-lost-and-the-connector-restarts"
 SECONDS, JOBS = 300, 2  # that a run may take, a last guard against one that hangs; runs at a time
 WINDOWS = (1, 2, 64)
 # Each thing that may go wrong, once, and several rewinds: flags with their values. The script has three events: the first queue

@@ -726,6 +726,231 @@ def test_what_a_check_reports(tree):
     assert text == wanted, text
 
 
+# A crate whose mutants are tried on copies, and lines of Python that have its functions (`sources`) and its trial (`trial`): a word
+# or a mark is a token.
+LOG = """mod keys;
+
+#[inline]
+pub fn get(by: [u8; 4]) -> u8 {
+    size(by) + 1
+}
+
+fn size(by: [u8; 4]) -> u8 {
+    4
+}
+
+fn sum(n: u8) -> u8 {
+    sum(n - 1)
+}
+
+#[cycle(parity)]
+fn even(n: u8) -> bool {
+    odd(n)
+}
+
+impl Log {
+    fn room(&self) -> u8 {
+        5
+    }
+}
+
+impl Rows for Log {
+    fn rows(&self) -> u8 {
+        6
+    }
+}
+
+trait Rows {
+    fn most(&self) -> u8 {
+        7
+    }
+}
+
+fn first() {
+    8
+}
+
+fn last() {
+    9
+}
+
+fn main() {
+    get([0; 4])
+}
+"""
+GETS = """use Rattle.log.proofs.lib.Log.room.Goals as goal
+use Rattle.log.proofs.get.Goals as goal
+use Rattle.log.specs.contracts.get
+use Rattle.log.proofs.get-all.{all}
+use Rattle.log.proofs.gets.Met
+use Rattle.logs.proofs.get.Met
+"""
+OF_LOG = """import os, re, sys, types
+sys.path.insert(0, "tests")
+import mutants as it
+def tokens_in(text):
+    found = re.finditer(rb"\\w+|[^\\w\\s]", text)
+    return [it.Token(one.start(), one.end(), "Code", one[0].decode()) for one in found]
+it.tokens_in, it.tokens_of = tokens_in, lambda files: [tokens_in(open(file, "rb").read()) for file in files]
+it.rtlib.PARTS = ("src", "specs", "proofs")
+it.rtlib.STALE = re.compile("stale")
+it.rtlib.files_of = lambda folder: [f"{folder}/src/lib.rt"]
+it.rt.unread = lambda line, changed: False
+trial = it.Trial(types.SimpleNamespace(name="log", folder="crates/log"), "")
+sources = trial.sources
+by_name = {one.path.partition("::")[2]: one for one in sources.all}
+def edit(name, old, new):
+    text = sources.texts["src/lib.rt"].decode().replace(old, new)
+    return it.Edit(name, "", {"src/lib.rt": text}, sources.change({"src/lib.rt": text}))
+"""
+
+
+def of_log(tree, arguments):
+    """Returns what lines of Python print, with the crate and its trial."""
+    tree.put("crates/log/src/lib.rt", LOG)
+    tree.put("crates/log/proofs/get/Answers.antt", GETS)
+    tree.put("crates/log/proofs/get/more/Lemmas.antt", "use Rattle.log.proofs.get\n")
+    tree.put("crates/log/proofs/+sum/Answers.antt", "\n")
+    return python(tree, OF_LOG + arguments)
+
+
+def test_functions(tree):
+    """A function's signature may have an array type, whose semicolon ends nothing."""
+    text = of_log(tree, "print(*by_name, sep='\\n')")
+    assert text.split() == "get size sum even Log::room LogRows::rows Rows::most first last main".split(), text
+
+
+def test_what_can_be_copied(tree):
+    """A copy can stand beside each function but those of traits and of their impls, those that call themselves, and main."""
+    text = of_log(tree, "print(*(name for name, one in by_name.items() if sources.can_be_copied(one)))")
+    assert text.split() == ["get", "size", "Log::room", "first", "last"], text
+
+
+def test_copy(tree):
+    """A copy follows its function, which stays, and has its attributes, a name of its own and the edited body; its proof files
+    name its modules in place of the function's, and nothing else of them changes."""
+    arguments = "one = sources.beside(edit('a.edit', '+ 1', '+ 2').change, 3)\n"
+    arguments += "texts, lines = sources.with_changes([one])\n"
+    arguments += "print(one.function.path, lines[one.function])\n"
+    arguments += "print(texts['src/lib.rt'])\n"
+    arguments += "for name, text in sorted(sources.proofs_of(by_name['get'], one.function).items()): print(name, text, sep='\\n')"
+    head, source, answers = of_log(tree, arguments).partition("mod keys;")
+    assert head == "log::get_tried_3 ('src/lib.rt', 6, 11)\n", head
+    source, _, proofs = answers.partition("proofs/get_tried_3/Answers.antt\n")
+    copied = "\n\n#[inline]\npub fn get_tried_3(by: [u8; 4]) -> u8 {\n    size(by) + 2\n}"
+    assert "mod keys;" + source == LOG.replace("+ 1\n}", "+ 1\n}" + copied) + "\n", source
+    wanted = GETS.replace("Rattle.log.proofs.get.G", "Rattle.log.proofs.get_tried_3.G").replace("contracts.get", "contracts.get_tried_3")
+    lemmas = "proofs/get_tried_3/more/Lemmas.antt\nuse Rattle.log.proofs.get_tried_3\n\n"
+    assert proofs == wanted + "\n" + lemmas, proofs
+
+
+def test_mark(tree):
+    """The name of a copy is in no file of the crate."""
+    more = "open('crates/log/src/lib.rt', 'a').write('fn a_tried_1() {}')\n"
+    marks = [of_log(tree, f"{it}print(it.Sources(trial.crate).mark)") for it in ("", more)]
+    assert marks == ["_tried_\n", "_tried__\n"], marks
+
+
+# What a check of copies prints: of the function `get` a copy that is not edited and two that are, and the script's two controls.
+TRIED = {
+    "get_tried_0": "proved",
+    "get_tried_1": "not proved: rattle did not prove 1 goal",
+    "get_tried_2": "proved",
+    "first": "proved",
+    "last": "not proved: rattle did not prove 1 goal",
+}
+TRY_BESIDE = """
+edits = [edit("a.edit", "+ 1", "+ 2"), edit("b.edit", "+ 1", "+ 3")]
+control = lambda name, text: sources.with_statement(by_name[name], text)
+trial.controls = lambda taken: [control("first", it.HARMLESS), control("last", it.CONTROL)]
+checked = []
+def check(texts, flags, proofs):
+    checked.append(([one for one in flags if one != "--only"], sorted(proofs)))
+    lines = [f"fn log::{name}: {said}" for name, said in printed.items()]
+    return it.Answer(types.SimpleNamespace(stdout="\\n".join([*lines, end]), returncode=status))
+trial.check, end, status = check, "only=5 proved=3", 1
+results = trial.try_beside(edits, {by_name["sum"]})
+print(len(checked), len(results), *sorted(trial.results), *(one.path for one in trial.proved))
+"""
+
+
+def tried_beside(tree, change, more=""):
+    """Returns what a trial on copies comes to if a check prints so: the number of checks, of failures, and what it notes."""
+    start, call, end = TRY_BESIDE.partition("results = ")
+    return of_log(tree, f"printed = {({**TRIED, **change})!r}\n{start}{more}{call}{end}").split()
+
+
+def test_beside(tree):
+    """An edit is refused on a copy if the copy is refused and the one that is not edited is proved; anything else is left to be
+    tried in place. The controls have to come out as they should, and a function that is proved unedited is noted."""
+    assert tried_beside(tree, {}) == ["1", "0", "a.edit"]
+    assert tried_beside(tree, {"sum": "proved"}) == ["1", "0", "a.edit", "log::sum"]
+    assert tried_beside(tree, {"sum": "no proof: it calls log::last"}) == ["1", "0", "a.edit"]
+    assert tried_beside(tree, {"get_tried_2": "not proved: rattle did not prove 1 goal"}) == ["1", "0", "a.edit", "b.edit"]
+    assert tried_beside(tree, {"get_tried_0": "not proved: rattle did not prove 1 goal"}) == ["1", "0"]
+    assert tried_beside(tree, {"get_tried_1": "no proof: it calls log::size"}) == ["1", "0"]
+    assert tried_beside(tree, {"get_tried_1": "proved, perhaps"}) == ["1", "0"]
+    assert tried_beside(tree, {"first": "not proved: rattle did not prove 1 goal"}) == ["1", "1", "a.edit"]
+    assert tried_beside(tree, {"last": "proved"}) == ["1", "1", "a.edit"]
+    assert tried_beside(tree, {}, "status = 2\n") == ["1", "0"]
+    assert tried_beside(tree, {}, "end = 'rattle: no verdict'\n") == ["1", "0"]
+    assert tried_beside(tree, {}, "end = 'stale'\n") == ["1", "0"]
+
+
+def test_what_is_checked_beside(tree):
+    """One check has each edit's copy with its proof files, one copy of each function unedited, and the controls."""
+    text = of_log(tree, f"printed = {TRIED!r}\n{TRY_BESIDE}print(checked)").partition("\n")[2]
+    copies = [f"get_tried_{it}" for it in range(3)]
+    proofs = [f"proofs/{it}/{name}" for it in copies for name in ("Answers.antt", "more/Lemmas.antt")]
+    assert text == f"[({['first', *copies, 'last', 'sum']!r}, {proofs!r})]\n", text
+
+
+def test_parts(tree):
+    """The edits are checked in even parts, never more at once than the limit, and those of a function in a row."""
+    arguments = "it.AT_ONCE = 4\n"
+    arguments += "made = lambda name, count: [types.SimpleNamespace(change=types.SimpleNamespace(function=name))] * count\n"
+    arguments += "for counts in ((3, 2, 2), (1, 3), (9,), ()):\n"
+    arguments += "    edits = [one for at, count in enumerate(counts) for one in made(at, count)]\n"
+    arguments += "    edits = edits[::2] + edits[1::2]\n"
+    arguments += "    print([''.join(str(one.change.function) for one in part) for part in trial.parts(edits)])\n"
+    text = of_log(tree, arguments)
+    assert text.split("\n")[:4] == ["['0001', '122']", "['0111']", "['000', '000', '000']", "[]"], text
+
+
+def test_run(tree):
+    """What is refused on a copy is not tried again; what cannot be copied, or is not refused so, is tried in place, and unedited
+    unless a check on copies has proved it."""
+    arguments = "edits = {'a': edit('a', '+ 1', '+ 2'), 'b': edit('b', '+ 1', '+ 3'), 'c': edit('c', 'n - 1', 'n - 2')}\n"
+    arguments += "it.rt.edits_of = lambda crate: ([*edits], [])\n"
+    arguments += "trial.read = edits.get\n"
+    arguments += "def try_beside(part, others):\n"
+    arguments += "    print('beside', *(one.name for one in part), *(one.path for one in others))\n"
+    arguments += "    trial.put(part[0], True, 'refused')\n"
+    arguments += "    trial.proved |= others\n"
+    arguments += "    return []\n"
+    arguments += "def try_group(group):\n"
+    arguments += "    print('in place', *(one.name for one in group))\n"
+    arguments += "    for one in group: trial.put(one, True, 'refused')\n"
+    arguments += "    return []\n"
+    arguments += "def check(texts, flags):\n"
+    arguments += "    print('unedited', *flags)\n"
+    arguments += "    return types.SimpleNamespace(is_stale=False, is_proved=True)\n"
+    arguments += "trial.try_beside, trial.try_group, trial.check = try_beside, try_group, check\n"
+    arguments += "print(all(one.passed for one in trial.run()))\n"
+    text = of_log(tree, arguments)
+    assert text == "beside a b log::sum\nin place b c\nunedited --only get\nTrue\n", text
+
+
+def test_closures(tree):
+    """The closures of a function and of a method are read with it, and no others."""
+    said = ["a::f", "a::fn::f::map", "a::fn::f::map+FnMut::call_mut", "a::fn::g::map", "a::f::g", "a::Log::get", "a::fn::Log::get::any"]
+    lines = "\n".join(f"fn {it}: proved" for it in said)
+    arguments = f"answer = it.Answer(types.SimpleNamespace(stdout={lines!r}, returncode=0))\n"
+    arguments += "print(answer.own('a::f'))\nprint(answer.own('a::Log::get'))\n"
+    text = of_log(tree, arguments)
+    assert text == f"{said[:3]!r}\n{said[5:]!r}\n", text
+
+
 def test_aliases(tree):
     """The functions of an impl of an alias bear its name, with each of its arguments behind a plus sign."""
     heads = {

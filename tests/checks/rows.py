@@ -3,11 +3,11 @@
 
   tests/checks/rows.py [PROGRAM] [WORD]    PROGRAM: crates/cdc_app/out/cdc_app; WORD: only rows with this in their names
 
-A row NAME is the files NAME.args, with one argument on each line, NAME.stdout and NAME.status, and as far
-as it needs them NAME.script, NAME.steps and NAME.progress. An argument FILE or STEPS stands for the path of the script or of
-the step file, and PROGRESS for that of a file that holds what NAME.progress does, or that isn't there where there is no
-such part. The argument `-`, and a row without arguments, have the script on standard input. Prints each row that fails, and
-what differs.
+A row COMMAND/NAME is the files NAME.args, with one argument on each line, NAME.stdout and NAME.status in the folder of its
+command, and as far as it needs them NAME.script, NAME.steps and NAME.progress. An argument FILE or STEPS stands for the path of
+the script or of the step file, and PROGRESS for that of a file that holds what NAME.progress does, or that isn't there where
+there is no such part. The argument `-`, and a row without arguments, have the script on standard input. Prints each row that
+fails, and what differs.
 """
 import os
 import shutil
@@ -33,11 +33,12 @@ def read(name, part):
 def rows():
     """Returns the rows by name, each with its parts; stops where a file belongs to none."""
     found = {}
-    for file in sorted(os.listdir(ROWS)):
-        name, _, part = file.rpartition(".")
-        if part not in PARTS:
-            sys.exit(f"rows: {file} is no part of a row")
-        found.setdefault(name, set()).add(part)
+    for folder in sorted(os.listdir(ROWS)):
+        for file in sorted(os.listdir(f"{ROWS}/{folder}")):
+            name, _, part = file.rpartition(".")
+            if part not in PARTS:
+                sys.exit(f"rows: {folder}/{file} is no part of a row")
+            found.setdefault(f"{folder}/{name}", set()).add(part)
     for name, parts in found.items():
         for part in {"args", "stdout", "status"} - parts:
             sys.exit(f"rows: {name} has no file .{part}")
@@ -55,7 +56,7 @@ def first_difference(wanted, found):
 
 def paths_of(name, parts, folder):
     """Returns the paths that arguments of a row stand for; what it holds of progress is copied to the folder."""
-    saved = f"{folder}/{name}.progress"
+    saved = f"{folder}/{os.path.basename(name)}.progress"
     if "progress" in parts:
         shutil.copyfile(f"{ROWS}/{name}.progress", saved)
     return {"FILE": f"{ROWS}/{name}.script", "STEPS": f"{ROWS}/{name}.steps", "PROGRESS": saved}

@@ -72,8 +72,8 @@ def example(name):
 
 
 EVERY = os.path.join(HERE, "every-request.script")
-BAD = os.path.join(rooms.TOP, "tests", "rows", "bad-script-an-unknown-key-whatever-its-value.script")
-BAD_STEPS = os.path.join(rooms.TOP, "tests", "rows", "bad-steps-a-word-of-no-step.steps")
+BAD = os.path.join(rooms.TOP, "tests", "rows", "books", "bad-script-an-unknown-key-whatever-its-value.script")
+BAD_STEPS = os.path.join(rooms.TOP, "tests", "rows", "simulate", "bad-steps-a-word-of-no-step.steps")
 # The arguments of each run, and the file that is its standard input, if there is one.
 CASES = [
     (["books", example("two-phase.script")], None),

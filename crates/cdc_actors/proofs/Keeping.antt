@@ -1,7 +1,7 @@
 -- An actor after a step of its work: either the work keeps its invariant, or the fault is kept.
 use Rattle.std.proofs.Common.{◌≡◌, Option, Some, None, Result, Ok, Err, sym, ◌∙◌, subst}
 use Rattle.std.specs.Prelude.{IfErr, IfOk, IfSome}
-use Rattle.cdc_actors.specs.declared.faults.RunFault.{RunFault}
+use Rattle.cdc_actor_work.specs.declared.faults.RunFault.{RunFault}
 
 pub come_so : {T W : Type 0} (Keeps : W → Type 0) (Fails : W → RunFault → Type 0) (outcome : Result T RunFault)
     (before after : W) (fault : Option RunFault) → after ≡ before

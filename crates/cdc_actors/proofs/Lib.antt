@@ -1,11 +1,1 @@
-mod BrokerLemmas
-mod ClientLemmas
-mod ClientReplies
-mod ConnectorLemmas
-mod FixedOrders
 mod Keeping
-mod LedgerLemmas
-mod PassedOn
-mod RestartExamples
-mod Seated
-mod SubscriberLemmas

@@ -1,6 +1,6 @@
 -- An actor, whatever it works with: what is seen of it from outside.
 use Rattle.std.specs.Prelude.{◌≡◌, ◌&&◌, ℕ, Bool, true, false, Option, None, is_none, if◌then◌else◌}
-use Rattle.cdc_actors.specs.declared.faults.RunFault.{RunFault}
+use Rattle.cdc_actor_work.specs.declared.faults.RunFault.{RunFault}
 use Rattle.cdc_actors.specs.declared.turns.Turn.{Turn}
 use Rattle.cdc_actors.specs.declared.turns.Turn.TheVariants.{More, Finished}
 

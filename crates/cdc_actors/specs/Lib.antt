@@ -1,10 +1,9 @@
-pub mod Broker
-pub mod Client
-pub mod Connector
 pub mod Ends
-pub mod Faults
-pub mod Ledger
-pub mod Orders
-pub mod Seats
+pub mod Replied
 pub mod Stops
-pub mod Subscriber
+pub use Rattle.cdc_actor_work.specs.declared.faults.RunFault
+pub use Rattle.cdc_connector_actor.specs.Connector
+pub use Rattle.cdc_connector_actor.specs.Connector.SoFar
+pub use Rattle.cdc_ledger_actors.specs.Client
+pub use Rattle.cdc_ledger_actors.specs.Ledger
+pub use Rattle.cdc_ledger_actors.specs.Seats

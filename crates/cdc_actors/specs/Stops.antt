@@ -1,10 +1,10 @@
 -- Why actors of a run stopped before they had finished.
 use Rattle.std.specs.Prelude.{ℕ}
-use Rattle.cdc_actors.specs.declared.faults.RunFault.{RunFault}
-use Rattle.cdc_actors.specs.declared.faults.RunFault.TheVariants.{OutOfMemory}
+use Rattle.cdc_actor_work.specs.declared.faults.RunFault.{RunFault}
+use Rattle.cdc_actor_work.specs.declared.faults.RunFault.TheVariants.{OutOfMemory}
 use Rattle.cdc_actors.specs.declared.met.Met.{Met}
 use Rattle.cdc_actors.specs.declared.met.Met.TheVariants.{Fault, Unstarted}
-use Rattle.cdc_actors.specs.declared.places.Place.{Place}
+use Rattle.cdc_actor_work.specs.declared.places.Place.{Place}
 
 -- the fault that a run answers for it
 abbrev pub fault_met : Met → RunFault

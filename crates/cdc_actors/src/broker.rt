@@ -2,22 +2,14 @@
 
 ghost use Rattle.std.specs.Prelude.{◌≡◌, ◌<◌, ◌≤◌, ◌+◌, [], All, IfOk, map, vec_len};
 ghost use Rattle.cdc_broker.specs.Broker.{empty_broker};
-ghost use Rattle.cdc_actors.specs.Broker.{ArrivedWasReceived, EachPacketIsAnswered, UnlostArrives};
-ghost use Rattle.cdc_actors.specs.Broker.Turns.{IsFreshLink, first_broker};
+ghost use Rattle.cdc_broker_actors.specs.Broker.Turns.{IsFreshLink, first_broker};
 ghost use Rattle.cdc_actors.specs.Ends.{new_end};
 
-mod consumers;
-mod cores;
-mod links;
-mod plans;
-
 use crate::ends::End;
+use cdc_broker_actors::{BrokerCore, BrokerPlan};
 use cdc_links::{LinkIn, LinkOut};
 use cdc_match::Binding;
 use cdc_traffic::{ToBroker, ToConnector, ToSubscriber};
-pub use consumers::Consumer;
-pub use cores::{BrokerCore, BrokerParts};
-pub use plans::BrokerPlan;
 use std::alloc::{AllocError, Global};
 
 /// The broker actor of a run. It answers each packet with one confirm, and delivers each queue to its subscriber
@@ -25,10 +17,11 @@ use std::alloc::{AllocError, Global};
 /// sent to the connector and to each subscriber, with how many copies that one has yet to acknowledge; the broker;
 /// the planned faults, and the counts that these go by; and whether it has finished.
 ///
-/// A turn receives the next message and those that are ready, up to 64 more, and processes each before it receives the
-/// one after. Then it delivers from each queue what it may, and once the connector is done and each copy is
-/// acknowledged, sends each subscriber its last message. `PeerGone`: a message was refused by its link, or an
-/// acknowledgement isn't due. `OutOfMemory`: a publish was not taken, or a delivery not sent.
+/// A turn receives the next message and processes it. Then it delivers from each queue what it may, and once the
+/// connector is done and each copy is acknowledged, sends each subscriber its last message. A turn that may receive
+/// further messages processes each before it receives the one after; it receives none if the plan repeats deliveries.
+/// `PeerGone`: a message was refused by its link, or an acknowledgement isn't due. `OutOfMemory`: a publish was not
+/// taken, or a delivery not sent.
 pub type BrokerEnd = End<BrokerCore>;
 
 impl BrokerEnd {
@@ -83,12 +76,3 @@ impl BrokerEnd {
         self.work.delivered(alloc)
     }
 }
-
-/// Does nothing: its postconditions hold for whatever packets a broker actor receives, by whatever plan. The packets
-/// that arrive at its broker are among these, and all of these if the plan loses no publish. Each packet is answered
-/// once.
-pub fn broker_actor_laws()
-    ensures arrived { ArrivedWasReceived }
-    ensures unlost { UnlostArrives }
-    ensures answered { EachPacketIsAnswered }
-{}

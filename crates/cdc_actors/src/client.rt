@@ -1,22 +1,20 @@
 //! A client actor: it sends requests, one at a time, and keeps a copy of each reply.
 
 ghost use Rattle.std.specs.Prelude.{◌≡◌, ◌<◌, Err, IfErr, IfOk, None, OnErr, Some, [], false};
-ghost use Rattle.cdc_actors.specs.Client.SoFar.{AsksSoFar};
-ghost use Rattle.cdc_actors.specs.Client.{IsClient, IsReplied, finished_client, first_client};
+ghost use Rattle.cdc_ledger_actors.specs.Client.SoFar.{AsksSoFar};
+ghost use Rattle.cdc_actors.specs.Replied.{IsReplied};
+ghost use Rattle.cdc_ledger_actors.specs.Client.{IsClient, finished_client, first_client};
 ghost use Rattle.cdc_actors.specs.Ends.{new_end};
-ghost use Rattle.cdc_actors.specs.Faults.{IsTurnFault};
-ghost use Rattle.cdc_actors.specs.Seats.{client_seat};
-ghost use Rattle.cdc_actors.specs.declared.faults.RunFault.{RunFault};
-
-mod cores;
-mod same;
+ghost use Rattle.cdc_actor_work.specs.Faults.{IsTurnFault};
+ghost use Rattle.cdc_ledger_actors.specs.Seats.{client_seat};
+ghost use Rattle.cdc_actor_work.specs.declared.faults.RunFault.{RunFault};
 
 use crate::ends::{End, come_to};
-use crate::faults::RunFault;
+use cdc_actor_work::RunFault;
+use cdc_ledger_actors::ClientCore;
 use cdc_links::{LinkIn, LinkOut};
 use cdc_traffic::{Reply, ToLedger};
 use cdc_types::Batch;
-pub use cores::{ClientCore, ClientParts};
 use std::alloc::Global;
 use std::sync::Wait;
 

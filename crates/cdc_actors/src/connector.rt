@@ -1,30 +1,26 @@
 //! A connector actor: it polls the ledger for events and publishes them to the broker, session after session.
 
 ghost use Rattle.std.specs.Prelude.{◌≡◌, []};
-ghost use Rattle.cdc_actors.specs.Connector.{FinishedConnectorsAreDone, first_connector};
+ghost use Rattle.cdc_connector_actor.specs.Connector.{first_connector};
 ghost use Rattle.cdc_actors.specs.Ends.{new_end};
 ghost use Rattle.cdc_types.specs.Windows.{IsWindow};
 
-mod cores;
-mod links;
-mod rules;
-
 use crate::ends::End;
+use cdc_connector_actor::ConnectorCore;
 use cdc_links::{LinkIn, LinkOut};
 use cdc_progress::ProgressStore;
 use cdc_traffic::{ToBroker, ToConnector, ToLedger};
 use cdc_types::EventTimestamp;
-pub use cores::{ConnectorCore, ConnectorParts};
 
 /// A connector actor of a run. Its work: what it has sent to the ledger and to the broker, what it has received from
 /// them, what its store holds, and what its session keeps.
 ///
-/// The first turn starts a session. Each later one receives the next message and those that are ready, so the connector
-/// takes all confirms that have come before it publishes more. Then all that follows is sent. `PeerGone`:
-/// a link refused to send or to receive, or a confirm came that answers no packet. `OutOfMemory`: there was no memory
-/// for a session or for a packet, or in the store. `Store`: the store refused to load or to save.
-/// `SessionsExhausted`: there is no further number for a session. `StartNotAllowed`: a start was given to the first
-/// session, and progress is already saved.
+/// The first turn starts a session. Each later one receives the next message. Then all that follows is sent. A turn that
+/// may receive further messages takes all confirms that have come before it publishes more. `PeerGone`: a link refused
+/// to send or to receive, or a confirm came that answers no packet. `OutOfMemory`: there was no memory for a session or
+/// for a packet, or in the store. `Store`: the store refused to load or to save. `SessionsExhausted`: there is no
+/// further number for a session. `StartNotAllowed`: a start was given to the first session, and progress is already
+/// saved.
 pub type ConnectorEnd<S> = End<ConnectorCore<S>>;
 
 impl<S: ProgressStore> ConnectorEnd<S> {
@@ -67,9 +63,3 @@ impl<S: ProgressStore> ConnectorEnd<S> {
         self.work.published()
     }
 }
-
-/// Does nothing: its postcondition holds for whatever a connector actor keeps. Once it has finished, its last session
-/// is done, and each of its packets has its confirm.
-pub fn connector_actor_laws()
-    ensures finished { FinishedConnectorsAreDone }
-{}

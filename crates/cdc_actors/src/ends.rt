@@ -1,107 +1,16 @@
 //! An actor of a run, whatever it works with.
 
-ghost use Rattle.std.specs.Prelude.{◌≡◌, Err, IfErr, IfOk, IfSome, None, Some, is_some, true};
+ghost use Rattle.std.specs.Prelude.{◌≡◌, ◌≤◌, ◌+◌, Err, IfErr, IfOk, IfSome, None, Some, is_some, true};
 ghost use Rattle.cdc_actors.specs.Ends.{HasTurned, has_finished, new_end};
-ghost use Rattle.cdc_actors.specs.declared.faults.RunFault.{RunFault};
+ghost use Rattle.cdc_actor_work.specs.declared.faults.RunFault.{RunFault};
 
-use crate::faults::RunFault;
 use crate::met::Met;
-use crate::places::Place;
 use crate::stops::Stop;
 use crate::turns::Turn;
+use cdc_actor_work::{Noted, Numbered, Place, RunFault, Turns, Work};
 use std::alloc::Global;
 use std::marker::Model;
 use std::sync::Wait;
-
-/// What an actor of a run works with.
-pub trait Work {
-    ghost use Rattle.std.specs.Prelude.{◌≡◌, Bool};
-    ghost use Rattle.cdc_actors.specs.declared.faults.RunFault.{RunFault};
-    ghost use Rattle.cdc_actors.specs.declared.places.Place.{Place};
-
-    /// What is left of it once it is over.
-    type Parts;
-
-    /// The actor's place in a run.
-    ghost place: { Self → Place };
-
-    /// The type of its seat: what no turn changes, such as its links.
-    ghost Seat: { Type 0 };
-
-    /// Its seat, which stays the same whatever it does.
-    ghost seat: { Self → Seat };
-
-    /// The invariant that it keeps until it meets a fault.
-    ghost keeps: { Self → Type 0 };
-
-    ghost is_over: { Self → Bool };
-
-    /// The faults that it may meet.
-    ghost fails_as: { Self → RunFault → Type 0 };
-
-    /// The relation between it and what is left of it.
-    ghost leaves: { Self → Self.Parts → Type 0 };
-
-    /// The actor's place in a run.
-    fn place(&self) -> Place
-        ensures { result ≡ place self.now };
-
-    fn is_over(&self) -> bool
-        ensures { result ≡ is_over self.now };
-
-    /// Aborts its outgoing links: their receivers learn that nothing more comes.
-    fn abort<R: Wait>(&mut self, rt: &R)
-        ensures { self.new ≡ self.old };
-
-    /// Takes it apart, once it is over.
-    fn into_parts(self) -> Self::Parts
-        ensures { leaves self result };
-}
-
-/// Work that is done turn by turn.
-pub trait Turns: Work {
-    ghost use Rattle.std.specs.Prelude.{◌≡◌, IfErr, IfOk, false};
-    ghost use Rattle.cdc_actors.specs.declared.faults.RunFault.{RunFault};
-
-    /// What a turn without a fault changes.
-    ghost turns: { Self → Self → Type 0 };
-
-    /// How far a turn comes that fails with a fault.
-    ghost fails: { Self → RunFault → Self → Type 0 };
-
-    /// Takes one turn of work that isn't over.
-    fn take_turn<R: Wait>(&mut self, rt: &R, alloc: Global) -> Result<(), RunFault>
-        requires kept { Self.keeps self.old }
-        requires goes_on { Self.is_over self.old ≡ false }
-        ensures turned { IfOk result (λ _. turns self.old self.new) }
-        ensures kept { IfOk result (λ _. Self.keeps self.new) }
-        ensures failed { IfErr result (λ fault. fails self.old fault self.new) }
-        ensures kind { IfErr result (Self.fails_as self.new) }
-        ensures seat { Self.seat self.new ≡ Self.seat self.old };
-}
-
-/// Work that has a number among those of its kind.
-pub trait Numbered: Work {
-    ghost use Rattle.std.specs.Prelude.{◌≡◌, ℕ};
-
-    /// Its number, from 1.
-    ghost number: { Self → ℕ };
-
-    /// Its number, from 1.
-    fn number(&self) -> u64
-        ensures { result ≡ number self.now };
-}
-
-/// Work that keeps notes for the trace of a run. The notes are in no view, and no other contract mentions them.
-pub trait Noted: Work {
-    ghost use Rattle.std.specs.Prelude.{◌≡◌};
-
-    type Notes;
-
-    /// Takes the notes so far. The work goes on with none.
-    fn take_notes(&mut self, alloc: Global) -> Self::Notes
-        ensures { self.new ≡ self.old };
-}
 
 /// An actor of a run. A contract sees the number of its system, what it works with, and its first fault, if any.
 pub struct End<W: Work> {
@@ -261,10 +170,36 @@ impl<W: Work + Drop> End<W> {
 }
 
 impl<W: Turns> End<W> {
-    /// Takes one turn of the actor's work. Once that is over, a turn changes nothing. The first fault stays: every
-    /// later call returns it.
+    /// Takes one turn of the actor's work: receives one message, and sends what follows from it. Only the connector's
+    /// first turn receives none. Once the work is over, a turn changes nothing. The first fault stays: every later call
+    /// returns it.
     pub fn turn<R: Wait>(&mut self, rt: &R, alloc: Global) -> Result<Turn, RunFault>
         ensures turned { IfOk result (λ turn. HasTurned W.is_over W.turns self.old turn self.new) }
+        ensures one { IfOk result (λ _. W.received self.new.work ≤ W.received self.old.work + 1) }
+        ensures kept { IfOk result (λ _. W.keeps self.new.work) }
+        ensures system { self.new.system ≡ self.old.system }
+        ensures seat { W.seat self.new.work ≡ W.seat self.old.work }
+        ensures failed { self.old.fault ≡ None → IfErr result (λ fault.
+            W.fails self.old.work fault self.new.work × W.keeps self.old.work) }
+        ensures fault { IfErr result (λ fault. self.new.fault ≡ Some fault) }
+        ensures kind { IfErr result (W.fails_as self.new.work) }
+        ensures again { (fault : RunFault) → self.old.fault ≡ Some fault
+            → (result ≡ Err fault) × (self.new ≡ self.old) }
+    {
+        self.turn_with(rt, alloc, 0)
+    }
+
+    /// Takes one turn, in which the broker and the connector may receive up to `more` further messages if they are
+    /// ready. Otherwise it is like `turn`.
+    pub fn turn_with<R: Wait>(
+        &mut self,
+        rt: &R,
+        alloc: Global,
+        more: usize,
+    ) -> Result<Turn, RunFault>
+        ensures turned { IfOk result (λ turn. HasTurned W.is_over W.turns self.old turn self.new) }
+        ensures few { IfOk result (λ _.
+            W.received self.new.work ≤ W.received self.old.work + 1 + more) }
         ensures kept { IfOk result (λ _. W.keeps self.new.work) }
         ensures system { self.new.system ≡ self.old.system }
         ensures seat { W.seat self.new.work ≡ W.seat self.old.work }
@@ -281,7 +216,7 @@ impl<W: Turns> End<W> {
         if self.work.is_over() {
             return Ok(Turn::Finished);
         }
-        let outcome = self.work.take_turn(rt, alloc);
+        let outcome = self.work.take_turn(rt, alloc, more);
         come_to(&mut self.work, &mut self.fault, rt, outcome)?;
         Ok(Turn::after(self.work.is_over()))
     }

@@ -2,15 +2,12 @@
 
 ghost use Rattle.std.specs.Prelude.{◌≡◌, ◌+◌, ◌<◌, All, [], length};
 ghost use Rattle.cdc_actors.specs.Ends.{new_end};
-ghost use Rattle.cdc_actors.specs.Ledger.{ClientsReceiveReplies, FinishedLedgersAreClosed, first_ledger};
-
-mod cores;
-mod reception;
+ghost use Rattle.cdc_ledger_actors.specs.Ledger.{first_ledger};
 
 use crate::ends::End;
+use cdc_ledger_actors::LedgerCore;
 use cdc_links::{LinkIn, LinkOut};
 use cdc_traffic::{Reply, ToConnector, ToLedger};
-pub use cores::{LedgerCore, LedgerParts};
 use std::alloc::Global;
 
 /// The ledger actor of a run. Its work is its core: what it has received and sent, the ledger, how many clients
@@ -45,11 +42,3 @@ impl LedgerEnd {
         End::of(system, LedgerCore::new(alloc, inbox, clients, connector))
     }
 }
-
-/// Does nothing: its postconditions hold for whatever the ledger actor keeps. Once it is finished, each client and
-/// the connector are done, and the ledger is closed and is what all batches received have made of it. Over the link
-/// at each place, its client was sent exactly its replies for these batches in their order.
-pub fn ledger_actor_laws()
-    ensures finished { FinishedLedgersAreClosed }
-    ensures emitted { ClientsReceiveReplies }
-{}

@@ -3,7 +3,7 @@
 ghost use Rattle.std.specs.Prelude.{◌≡◌};
 ghost use Rattle.cdc_actors.specs.Stops.{fault_met};
 
-use crate::faults::RunFault;
+use cdc_actor_work::RunFault;
 
 /// Why an actor of a run stopped before it had finished.
 #[derive(Clone, Copy, Debug, PartialEq, Eq)]

@@ -3,7 +3,7 @@
 ghost use Rattle.std.specs.Prelude.{◌≡◌};
 
 use crate::met::Met;
-use crate::places::Place;
+use cdc_actor_work::Place;
 use std::marker::Model;
 
 /// Proof that an actor stopped before it had finished, and why. Only the actor itself gives one, as it is dropped, so

@@ -2,18 +2,12 @@
 
 ghost use Rattle.std.specs.Prelude.{◌≡◌, ◌<◌, []};
 ghost use Rattle.cdc_actors.specs.Ends.{new_end};
-ghost use Rattle.cdc_actors.specs.Subscriber.{AskedClose, DeliveriesAreReceived, UnaskedStayOpen, first_subscriber};
-
-mod arrivals;
-mod cores;
-mod parts;
+ghost use Rattle.cdc_broker_actors.specs.Subscriber.{first_subscriber};
 
 use crate::ends::End;
-pub use arrivals::Arrival;
+use cdc_broker_actors::SubscriberCore;
 use cdc_links::{LinkIn, LinkOut};
 use cdc_traffic::{ToBroker, ToSubscriber};
-pub use cores::SubscriberCore;
-pub use parts::SubscriberParts;
 use std::alloc::Global;
 
 /// A subscriber actor of a run. Its work is the subscriber over its links: its number, what it has received and
@@ -50,12 +44,3 @@ impl SubscriberEnd {
         )
     }
 }
-
-/// Does nothing: its postconditions hold for whatever deliveries a subscriber takes. It receives them as they come
-/// until it closes or has received the end mark. It never closes unless asked to. One that is asked to close after a
-/// number of events is closed exactly when it has applied that many.
-pub fn subscriber_actor_laws()
-    ensures receives { DeliveriesAreReceived }
-    ensures unasked { UnaskedStayOpen }
-    ensures asked { AskedClose }
-{}

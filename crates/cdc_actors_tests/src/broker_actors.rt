@@ -101,6 +101,11 @@ fn is_answered<R: Wait>(rt: &R, confirmed: &mut LinkIn<ToConnector>, answer: Ans
     }
 }
 
+// Whether its next answer is this one, and the last one so far.
+fn is_answered_alone<R: Wait>(rt: &R, confirmed: &mut LinkIn<ToConnector>, answer: Answer) -> bool {
+    is_answered(rt, confirmed, answer) && matches!(confirmed.receive_ready(rt), Ok(None))
+}
+
 // Whether the subscriber is sent the end mark, and then the last message.
 fn is_ended<R: Wait>(rt: &R, deliveries: &mut LinkIn<ToSubscriber>) -> bool {
     let marked = match deliveries.receive(rt) {
@@ -129,11 +134,37 @@ fn a_broker_delivers_and_finishes(rt: HostRuntime) {
     );
     assert!(rt; publish_and_finish(&rt, &mut packets).is_ok());
     drop(packets);
+    // Three messages are ready, and each turn receives one.
+    turn_so(&rt, rt.alloc(), &mut end, &[Ok(Turn::More)]);
+    assert!(rt; is_answered_alone(&rt, &mut confirmed, Answer::Connected));
+    turn_so(&rt, rt.alloc(), &mut end, &[Ok(Turn::More)]);
+    assert!(rt; is_answered_alone(&rt, &mut confirmed, Answer::Confirmed(1)));
     turn_so(&rt, rt.alloc(), &mut end, &[Ok(Turn::More)]);
     assert!(rt; acknowledge(&rt, &mut acks).is_ok());
     drop(acks);
     turn_so(&rt, rt.alloc(), &mut end, &[Ok(Turn::Finished)]);
-    assert!(rt; is_answered(&rt, &mut confirmed, Answer::Connected));
-    assert!(rt; is_answered(&rt, &mut confirmed, Answer::Confirmed(1)));
     assert!(rt; is_ended(&rt, &mut deliveries));
+}
+
+#[test]
+fn a_broker_receives_what_is_ready_together(rt: HostRuntime) {
+    let bindings = all_events(&rt, rt.alloc());
+    let plan = no_plan(rt.alloc());
+    let (mut senders, inbox) = link::<ToBroker>(rt.alloc(), 8, 2).expect(&rt, "memory");
+    let (mut confirmers, mut confirmed) = link::<ToConnector>(rt.alloc(), 5, 2).expect(
+        &rt, "memory",
+    );
+    let (links, _deliveries) = link::<ToSubscriber>(rt.alloc(), 9, 1).expect(&rt, "memory");
+    let confirms = confirmers.pop().expect(&rt, "two senders");
+    let mut acks = senders.pop().expect(&rt, "two senders");
+    let mut packets = senders.pop().expect(&rt, "two senders");
+    let mut end = BrokerEnd::new(rt.alloc(), 1, inbox, confirms, links, bindings, 8, plan).expect(
+        &rt, "memory",
+    );
+    assert!(rt; publish_and_finish(&rt, &mut packets).is_ok());
+    assert_eq!(rt; end.turn_with(&rt, rt.alloc(), 1), Ok(Turn::More));
+    assert!(rt; is_answered(&rt, &mut confirmed, Answer::Connected));
+    assert!(rt; is_answered_alone(&rt, &mut confirmed, Answer::Confirmed(1)));
+    assert!(rt; acknowledge(&rt, &mut acks).is_ok());
+    assert_eq!(rt; end.turn_with(&rt, rt.alloc(), 64), Ok(Turn::Finished));
 }

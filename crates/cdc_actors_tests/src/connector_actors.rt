@@ -1,10 +1,13 @@
 //! An actor whose peer is gone reports so, and reports the same from then on. A connector begins, or refuses a start
 //! that isn't allowed.
 
+ghost use Rattle.std.specs.Prelude.{◌≡◌};
+
+use crate::names::Nothing;
 use crate::receiving::learns_of_a_loss;
 use cdc_actors::{ConnectorEnd, RunFault, Turn};
-use cdc_links::{LinkIn, link};
-use cdc_message::Packet;
+use cdc_links::{LinkIn, LinkOut, SendRefused, link};
+use cdc_message::{Answer, Confirm, Packet};
 use cdc_progress::{MemoryStore, Progress};
 use cdc_traffic::{ToBroker, ToConnector, ToLedger};
 use cdc_types::EventTimestamp;
@@ -103,4 +106,49 @@ fn a_connector_begins(rt: HostRuntime) {
     turn_so(&rt, rt.alloc(), &mut connector, &[Ok(Turn::More)]);
     assert!(rt; is_polled(&rt, &mut ledger));
     assert!(rt; is_connected(&rt, &mut broker));
+}
+
+// The broker answers the connection twice.
+fn answer_twice<R: Wait>(
+    rt: &R,
+    confirms: &mut LinkOut<ToConnector>,
+) -> Result<(), SendRefused<ToConnector>>
+    requires { confirms.old.number ≡ 1 }
+{
+    let confirm = Confirm {
+        session: 1,
+        answer: Answer::Connected,
+    };
+    confirms.send::<Nothing, R>(rt, ToConnector::Confirm(confirm))?;
+    confirms.send::<Nothing, R>(rt, ToConnector::Confirm(confirm))
+}
+
+// Two messages are ready, and each turn receives one. The second one answers no packet.
+#[test]
+fn a_connector_receives_one_message_in_a_turn(rt: HostRuntime) {
+    let plan = Vec::new(rt.alloc());
+    let (mut asking, _ledger) = link::<ToLedger>(rt.alloc(), 4, 1).expect(&rt, "memory");
+    let (mut sending, _broker) = link::<ToBroker>(rt.alloc(), 4, 1).expect(&rt, "memory");
+    let (mut answers, inbox) = link::<ToConnector>(rt.alloc(), 5, 2).expect(&rt, "memory");
+    let polls = asking.pop().expect(&rt, "one sender");
+    let packets = sending.pop().expect(&rt, "one sender");
+    let mut confirms = answers.pop().expect(&rt, "two senders");
+    let mut connector = ConnectorEnd::new(
+        1,
+        inbox,
+        polls,
+        packets,
+        MemoryStore::new(),
+        None,
+        1,
+        plan,
+    );
+    assert!(rt; answer_twice(&rt, &mut confirms).is_ok());
+    let gone = Err(RunFault::PeerGone);
+    turn_so(
+        &rt,
+        rt.alloc(),
+        &mut connector,
+        &[Ok(Turn::More), Ok(Turn::More), gone],
+    );
 }

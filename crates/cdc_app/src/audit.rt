@@ -1,22 +1,21 @@
 //! The command `audit`: a stream in, and whether a ledger can have published it.
 
 use crate::advice::{advise_on_failure, shown_name};
-use crate::audit_options::AuditPlan;
 use crate::follow_advice::{advise_on_line, unread};
-use crate::options::Form;
 use crate::sources::Stream;
+use cdc_arguments::{AuditPlan, Form};
 use cdc_audit::{AuditStop, Auditor};
-use cdc_audit_command::{AuditEnding, StateSaver, audit_command, begin_state, resume};
+use cdc_audit_command::{
+    AuditEnding, AuditSetup, StreamAuditor, audit_command, begin_state, resume,
+};
 use cdc_audit_state::STATE_MARK;
-use cdc_commands::{ProgramFault, Text, print_fault};
-use cdc_follow_command::FileBook;
-use cdc_json::Json;
+use cdc_commands::print_fault;
+use cdc_output::{Json, ProgramFault, Text};
 use cdc_progress::StoreError;
+use cdc_streams::{Saver, StreamEnding, TextFile};
+use cdc_types::Limits;
 use std::io;
 use std::io::BufReader;
-
-/// The bytes of a stream that are read at a time.
-const BUFFER_BYTES: usize = 65_536;
 
 /// Audits the stream in the file of this name, and reports on standard error why that stopped before the end.
 pub fn run_audit(rt: &HostRuntime, file: &str, plan: AuditPlan<'_>, form: Form) -> AuditEnding {
@@ -26,15 +25,17 @@ pub fn run_audit(rt: &HostRuntime, file: &str, plan: AuditPlan<'_>, form: Form) 
         state,
         every,
     } = plan;
-    let (store, mut auditor) = match open_state(rt, state, foreign) {
+    let (store, auditor) = match open_state(rt, state, foreign) {
         Ok(opened) => opened,
         Err(error) => return refuse_state(rt, file, state, error, form),
     };
     let source = Stream::of(rt, file);
-    let Ok(mut reader) = BufReader::with_capacity(rt.alloc(), BUFFER_BYTES, source) else {
+    let Ok(mut reader) = BufReader::with_capacity(rt.alloc(), Limits::BUFFER_BYTES, source) else {
         return refuse_state(rt, file, state, StoreError::OutOfMemory, form);
     };
-    let mut saver = StateSaver::new(store, every);
+    let mut saver = Saver::new(store, every);
+    let setup = AuditSetup { shows_book };
+    let mut audited = StreamAuditor { auditor };
     let mut writer = io::writer(rt);
     let ending = match form {
         Form::Text => audit_command(
@@ -43,8 +44,8 @@ pub fn run_audit(rt: &HostRuntime, file: &str, plan: AuditPlan<'_>, form: Form) 
             &mut reader,
             &mut writer,
             &mut saver,
-            shows_book,
-            &mut auditor,
+            &setup,
+            &mut audited,
         ),
         Form::Json => audit_command(
             &Json,
@@ -52,8 +53,8 @@ pub fn run_audit(rt: &HostRuntime, file: &str, plan: AuditPlan<'_>, form: Form) 
             &mut reader,
             &mut writer,
             &mut saver,
-            shows_book,
-            &mut auditor,
+            &setup,
+            &mut audited,
         ),
     };
     advise_on_audit(rt, file, state, ending);
@@ -66,11 +67,11 @@ fn open_state<'a>(
     rt: &'a HostRuntime,
     state: Option<&str>,
     foreign: bool,
-) -> Result<(Option<FileBook<'a, HostRuntime>>, Auditor), StoreError> {
+) -> Result<(Option<TextFile<'a, HostRuntime>>, Auditor), StoreError> {
     let Some(path) = state else {
         return Ok((None, Auditor::new(rt.alloc(), foreign)));
     };
-    let mut store = FileBook::open(rt, path, STATE_MARK)?;
+    let mut store = TextFile::open(rt, path, STATE_MARK)?;
     if let Some(text) = store.text() {
         let auditor = resume(rt.alloc(), text, foreign)?;
         return Ok((Some(store), auditor));
@@ -95,25 +96,25 @@ fn refuse_state(
         Form::Json => print_fault(&Json, &mut writer, fault),
     };
     advise_on_state(rt, shown_name(file), state, fault);
-    AuditEnding::Failed(fault)
+    StreamEnding::Failed(fault)
 }
 
 /// Reports why auditing stopped before the end of the stream in the file of this name, whose state is in that file.
 fn advise_on_audit(rt: &HostRuntime, file: &str, state: Option<&str>, ending: AuditEnding) {
     let place = shown_name(file);
     let _ = match ending {
-        AuditEnding::Stopped(AuditStop::AtEnd) => Ok(()),
-        AuditEnding::Stopped(AuditStop::Refused(line, why)) => {
+        StreamEnding::Stopped(AuditStop::AtEnd) => Ok(()),
+        StreamEnding::Stopped(AuditStop::Refused(line, why)) => {
             let rule = why.name();
             eprintln!(rt;
                 "{place}:{line}: {rule}: no ledger publishes this event after those before it: one of them was lost, \
                  duplicated, moved or changed, or this one was"
             )
         }
-        AuditEnding::Stopped(AuditStop::BadLine(line, error)) => {
+        StreamEnding::Stopped(AuditStop::BadLine(line, error)) => {
             advise_on_line(rt, place, line, error)
         }
-        AuditEnding::Failed(fault) => {
+        StreamEnding::Failed(fault) => {
             advise_on_state(rt, place, state, fault);
             Ok(())
         }

@@ -3,7 +3,7 @@
 //! is ignored, since the command has ended by then.
 
 use crate::advice::{is_reader_gone, shown_name};
-use crate::options::{Diagnostics, STANDARD_ERROR};
+use cdc_arguments::{Diagnostics, STANDARD_ERROR};
 use cdc_commands::{Ending, Notes, ParsedBatches, Tally};
 use cdc_diagnostics::{
     Asked, Observed, RefusedStep, RunExplanation, Submitted, books_lines, notes_text,
@@ -122,8 +122,11 @@ pub fn report_simulation(
     }
 }
 
+/// The length of `DIAGRAM`, in bytes.
+const DIAGRAM_BYTES: usize = 15;
+
 /// The first bytes of a diagram (Mermaid).
-const DIAGRAM: &[u8; 15] = b"sequenceDiagram";
+const DIAGRAM: &[u8; DIAGRAM_BYTES] = b"sequenceDiagram";
 
 /// Whether the diagram that is asked for can be drawn without the loss of anything else, such as a file that the
 /// command reads. Reports it if not.
@@ -150,7 +153,7 @@ fn may_draw(rt: &HostRuntime, name: &str) -> bool {
     let is_regular = file
         .metadata()
         .is_ok_and(|data| data.is_file() && data.len() > 0);
-    let mut head = [0; 15];
+    let mut head = [0; DIAGRAM_BYTES];
     !is_regular || file.read_exact(&mut head).is_ok() && head == *DIAGRAM
 }
 

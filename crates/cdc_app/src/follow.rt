@@ -2,21 +2,21 @@
 
 use crate::advice::shown_name;
 use crate::follow_advice::{advise_on_book, advise_on_gaps, advise_on_stream};
-use crate::follow_options::FollowPlan;
 use crate::kept_book::KeptBook;
-use crate::options::Form;
 use crate::sources::Stream;
 use crate::watched::Watched;
-use cdc_commands::{ProgramFault, Text, print_fault};
+use cdc_arguments::{FollowPlan, Form};
+use cdc_commands::print_fault;
 use cdc_follow::Follower;
-use cdc_follow_command::{FollowEnding, Saver, begin, begin_book, follow_command, resume};
-use cdc_json::Json;
+use cdc_follow_command::{
+    FollowEnding, FollowSetup, StreamFollower, begin, begin_book, follow_command, resume,
+};
+use cdc_output::{Json, ProgramFault, Text};
 use cdc_progress::StoreError;
+use cdc_streams::{Saver, StreamEnding};
+use cdc_types::Limits;
 use std::io;
 use std::io::BufReader;
-
-/// The bytes of a stream that are read at a time.
-const BUFFER_BYTES: usize = 65_536;
 
 /// Follows the stream in the file of this name, and reports on standard error why that stopped before the end.
 pub fn run_follow(rt: &HostRuntime, file: &str, plan: FollowPlan<'_>, form: Form) -> FollowEnding {
@@ -33,12 +33,16 @@ pub fn run_follow(rt: &HostRuntime, file: &str, plan: FollowPlan<'_>, form: Form
         Err(error) => return refuse_book(rt, file, book, error, form),
     };
     let source = Watched::new(rt, Stream::of(rt, file), shown_name(file), rules.chained);
-    let Ok(mut reader) = BufReader::with_capacity(rt.alloc(), BUFFER_BYTES, source) else {
+    let Ok(mut reader) = BufReader::with_capacity(rt.alloc(), Limits::BUFFER_BYTES, source) else {
         return refuse_book(rt, file, book, StoreError::OutOfMemory, form);
     };
-    let mut saver = Saver::new(store, rules.chained, binding_text, every);
-    let mut follower = follower;
-    let mut gaps = 0;
+    let mut saver = Saver::new(store, every);
+    let setup = FollowSetup {
+        binding,
+        rules,
+        binding_text,
+    };
+    let mut followed = StreamFollower::new(follower);
     let mut writer = io::writer(rt);
     let ending = match form {
         Form::Text => follow_command(
@@ -47,10 +51,8 @@ pub fn run_follow(rt: &HostRuntime, file: &str, plan: FollowPlan<'_>, form: Form
             &mut reader,
             &mut writer,
             &mut saver,
-            &binding,
-            rules,
-            &mut follower,
-            &mut gaps,
+            &setup,
+            &mut followed,
         ),
         Form::Json => follow_command(
             &Json,
@@ -58,14 +60,12 @@ pub fn run_follow(rt: &HostRuntime, file: &str, plan: FollowPlan<'_>, form: Form
             &mut reader,
             &mut writer,
             &mut saver,
-            &binding,
-            rules,
-            &mut follower,
-            &mut gaps,
+            &setup,
+            &mut followed,
         ),
     };
-    advise_on_gaps(rt, file, gaps);
-    advise_on_stream(rt, file, book, &follower, ending);
+    advise_on_gaps(rt, file, followed.gaps);
+    advise_on_stream(rt, file, book, &followed.follower, ending);
     ending
 }
 
@@ -105,5 +105,5 @@ fn refuse_book(
         Form::Json => print_fault(&Json, &mut writer, fault),
     };
     advise_on_book(rt, shown_name(file), book, fault);
-    FollowEnding::Failed(fault)
+    StreamEnding::Failed(fault)
 }

@@ -2,11 +2,12 @@
 
 use crate::advice::{advise_on_failure, shown_name};
 use crate::kept_book::{is_in_sqlite, path_of_book};
-use cdc_commands::ProgramFault;
 use cdc_follow::{Content, Entry, Follower, LineError, Stop};
 use cdc_follow_command::FollowEnding;
 use cdc_message::{DecodeError, Field, Part};
+use cdc_output::ProgramFault;
 use cdc_progress::StoreError;
+use cdc_streams::StreamEnding;
 use std::{fs, io};
 
 /// Reports why following stopped before the end of the stream in the file of this name, whose book is in that file.
@@ -19,15 +20,15 @@ pub fn advise_on_stream(
 ) {
     let place = shown_name(file);
     let _ = match ending {
-        FollowEnding::Stopped(Stop::AtEnd) => Ok(()),
-        FollowEnding::Stopped(Stop::Gap(line, entry)) => {
+        StreamEnding::Stopped(Stop::AtEnd) => Ok(()),
+        StreamEnding::Stopped(Stop::Gap(line, entry)) => {
             advise_on_gap(rt, place, line, entry, follower.seen())
         }
-        FollowEnding::Stopped(Stop::AfterEnd(line, entry)) => {
+        StreamEnding::Stopped(Stop::AfterEnd(line, entry)) => {
             advise_on_contradiction(rt, place, line, entry, follower.seen())
         }
-        FollowEnding::Stopped(Stop::BadLine(line, error)) => advise_on_line(rt, place, line, error),
-        FollowEnding::Failed(fault) => {
+        StreamEnding::Stopped(Stop::BadLine(line, error)) => advise_on_line(rt, place, line, error),
+        StreamEnding::Failed(fault) => {
             advise_on_book(rt, place, book, fault);
             Ok(())
         }
@@ -88,8 +89,8 @@ fn advise_on_contradiction(
         Content::Event(event) => {
             let timestamp = event.timestamp;
             eprintln!(rt;
-                "{place}:{line}: after_end: the event has the timestamp {timestamp}, and the stream ended after {seen}: \
-                 the end came too early, or the event is of another stream"
+                "{place}:{line}: after_end: the event has the timestamp {timestamp}, and the stream ended after \
+                 {seen}: the end came too early, or the event is of another stream"
             )
         }
         Content::End => {

@@ -5,9 +5,9 @@ ghost use Rattle.std.specs.Option.{option_map};
 ghost use Rattle.cdc_app.specs.KeptBooks.{kept_text};
 
 use cdc_follow::BOOK_MARK;
-use cdc_follow_command::{BookStore, FileBook};
 use cdc_progress::StoreError;
 use cdc_sqlite_book::SqliteBook;
+use cdc_streams::{TextFile, TextStore};
 
 /// What the name of a book in an SQLite file begins with.
 const SQLITE_PREFIX: &str = "sqlite:";
@@ -15,7 +15,7 @@ const SQLITE_PREFIX: &str = "sqlite:";
 /// A book that is kept in a text file, or in an SQLite file.
 #[derive(Drop)]
 pub enum KeptBook<'a> {
-    Text(FileBook<'a, HostRuntime>),
+    Text(TextFile<'a, HostRuntime>),
     Sqlite(SqliteBook<'a>),
 }
 
@@ -24,7 +24,7 @@ impl<'a> KeptBook<'a> {
     pub fn open(rt: &'a HostRuntime, name: &str) -> Result<KeptBook<'a>, StoreError> {
         match name.strip_prefix(SQLITE_PREFIX) {
             Some(path) => Ok(KeptBook::Sqlite(SqliteBook::open(rt, path)?)),
-            None => Ok(KeptBook::Text(FileBook::open(rt, name, BOOK_MARK)?)),
+            None => Ok(KeptBook::Text(TextFile::open(rt, name, BOOK_MARK)?)),
         }
     }
 
@@ -49,7 +49,7 @@ pub fn path_of_book(name: &str) -> &str {
     name.strip_prefix(SQLITE_PREFIX).unwrap_or(name)
 }
 
-impl<'a> BookStore for KeptBook<'a> {
+impl<'a> TextStore for KeptBook<'a> {
     ghost use Rattle.std.specs.Prelude.{◌≡◌};
     ghost use Rattle.cdc_app.specs.KeptBooks.{kept_text};
 

@@ -5,47 +5,43 @@ ghost use Rattle.cdc_types.specs.Windows.{IsWindow};
 
 mod advice;
 mod audit;
-mod audit_options;
-mod command_line;
-mod delivery_options;
 mod descriptors;
 mod diagnostics;
 mod follow;
 mod follow_advice;
-mod follow_options;
-mod help;
 mod kept;
 mod kept_book;
-mod options;
 mod progress_advice;
 mod random;
-mod random_options;
 mod run;
 mod run_faults;
-mod run_options;
 mod run_places;
 mod run_traces;
 mod run_turns;
 mod simulation;
-mod slips;
 mod sources;
 mod watched;
 
 use advice::{advise, advise_on_script, advise_on_steps, shown_name};
 use audit::run_audit;
-use cdc_commands::books::{BooksEnded, books};
+pub use cdc_arguments::options;
+use cdc_arguments::{Form, Options, OptionsFault};
+use cdc_audit_command::audit_status;
+use cdc_commands::books::BooksEnded;
+pub use cdc_commands::books::books;
 use cdc_commands::check::{check, check_files};
-use cdc_commands::messages::messages;
+pub use cdc_commands::messages::messages;
 use cdc_commands::queues::queue;
-use cdc_commands::{
-    Ended, Ending, ParsedBatches, ProgramFault, Tally, Text, print_fault, print_text,
-};
-use cdc_json::Json;
+pub use cdc_commands::simulate::simulate_command;
+use cdc_commands::{Ended, Ending, ParsedBatches, Tally, print_fault, print_text};
+use cdc_follow_command::follow_status;
+use cdc_output::{Json, ProgramFault, Text};
+pub use cdc_run_command::run_command;
+pub use cdc_script::{read_script, read_steps};
 use descriptors::open_standard;
 use diagnostics::{EXPLAIN, explain_books, hint, note};
 use follow::run_follow;
 use kept::Kept;
-use options::{Form, Options, OptionsFault, options};
 use random::run_random;
 use run::{WantedRun, run_on_threads};
 use simulation::{Wanted, run_simulation};
@@ -181,10 +177,12 @@ fn run_arguments<T: Threads + Wait + Sync>(rt: &HostRuntime, threads: &T, args: 
                 form,
             },
         ) => run_check(rt, file, steps, has_diagram, form),
-        Ok(Options::Follow { file, plan, form }) => return run_follow(
-            rt, file, plan, form,
-        ).status(),
-        Ok(Options::Audit { file, plan, form }) => return run_audit(rt, file, plan, form).status(),
+        Ok(Options::Follow { file, plan, form }) => {
+            return follow_status(run_follow(rt, file, plan, form));
+        }
+        Ok(Options::Audit { file, plan, form }) => {
+            return audit_status(run_audit(rt, file, plan, form));
+        }
         Ok(Options::Explain { text }) => explain(rt, text.as_str()),
         Err(OptionsFault::BadWords { message }) => refuse_arguments(rt, message.as_str()),
         Err(OptionsFault::OutOfMemory) => abort(rt, ProgramFault::OutOfMemory, Form::Text),

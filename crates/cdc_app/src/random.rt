@@ -6,16 +6,16 @@ ghost use Rattle.cdc_types.specs.Windows.{IsWindow};
 use crate::advice::{advise_on_script, shown_name};
 use crate::diagnostics::{asked, can_draw, draw, is_reported};
 use crate::kept::{Kept, Seen};
-use crate::options::{Diagnostics, Form, STANDARD_ERROR};
 use crate::simulation::{Wanted, report_counts, report_no_subscriber};
 use crate::sources::Source;
+use cdc_arguments::{Diagnostics, Form, STANDARD_ERROR};
 use cdc_commands::simulate::simulation_of_steps;
 use cdc_commands::{
-    Ended, Ending, Form as PrintForm, Output, ProgramFault, Tally, Text, print_fault, print_output,
+    Ended, Ending, Form as PrintForm, Output, Report, Tally, print_fault, print_output,
 };
-use cdc_deliveries::{Both, Recorder, deliveries_of_steps};
+use cdc_deliveries::{Both, Recorder};
 use cdc_diagnostics::{Observation, Observed, RefusedStep, notes_text};
-use cdc_json::Json;
+use cdc_output::{Json, ProgramFault, Text};
 use cdc_random_steps::{Chances, RandomSteps, random_steps};
 use cdc_script::{StepFile, read_text};
 use std::io;
@@ -133,8 +133,8 @@ fn simulated<F: PrintForm>(
     let alloc = rt.alloc();
     let window = wanted.window;
     match wanted.deliveries {
-        None => simulation_of_steps(form, alloc, script, steps, window, observers),
-        Some(asked) => deliveries_of_steps(form, alloc, script, steps, window, asked, observers),
+        None => simulation_of_steps(form, &Report, alloc, script, steps, window, observers),
+        Some(asked) => simulation_of_steps(form, &asked, alloc, script, steps, window, observers),
     }
 }
 

@@ -6,18 +6,17 @@ use crate::abort;
 use crate::advice::{advise_on_run, shown_name};
 use crate::diagnostics::{EXPLAIN, explain_run, hint, note};
 use crate::kept::Kept;
-use crate::options::{Form, RunDiagnostics};
 use crate::run_faults::{copy_faults, report_missed};
 use crate::run_traces::{report_counts, trace_run};
 use crate::run_turns::Turns;
 use crate::simulation::report_no_subscriber;
 use crate::sources::Source;
-use cdc_commands::{Ended, Ending, ProgramFault, Text};
+use cdc_arguments::{Form, RunDiagnostics};
+use cdc_commands::{Ended, Ending, Report};
 use cdc_deliveries::Asked;
-use cdc_json::Json;
+use cdc_output::{Json, ProgramFault, Text};
 use cdc_progress::{FileStore, MemoryStore, ProgressStore};
 use cdc_run_command::{Ran, RunEnded, RunForm, RunPlan, run_command};
-use cdc_run_deliveries::deliver_run;
 use std::io;
 use std::sync::Wait;
 use std::thread::Threads;
@@ -157,6 +156,7 @@ fn print_run<F: RunForm, T: Threads + Wait + Sync, S: ProgressStore + Send + Dro
     match deliveries {
         None => run_command(
             form,
+            &Report,
             threads,
             alloc,
             script,
@@ -166,14 +166,14 @@ fn print_run<F: RunForm, T: Threads + Wait + Sync, S: ProgressStore + Send + Dro
             &mut writer,
         ),
         Some(asked) => {
-            deliver_run(
+            run_command(
                 form,
+                &asked,
                 threads,
                 alloc,
                 script,
                 plan,
                 store,
-                asked,
                 turns,
                 &mut writer,
             )

@@ -3,6 +3,7 @@
 
 use cdc_actors::{Repeats, Story};
 use cdc_run::{Gate, Place};
+use cdc_types::Limits;
 use std::sync::OnceLock;
 use std::sync::atomic::{AtomicU64, Ordering};
 
@@ -10,11 +11,11 @@ use std::sync::atomic::{AtomicU64, Ordering};
 #[derive(Drop)]
 pub struct Turns {
     /// The turns of each subscriber.
-    subscribers: [AtomicU64; 8],
+    subscribers: [AtomicU64; Limits::SUBSCRIBERS],
     /// What the broker saw, once it has finished.
     story: OnceLock<Story>,
     /// The duplicates that came to each subscriber, once it has finished.
-    repeats: [OnceLock<Repeats>; 8],
+    repeats: [OnceLock<Repeats>; Limits::SUBSCRIBERS],
 }
 
 impl Turns {
@@ -74,6 +75,11 @@ impl Gate for Turns {
             }
             Place::Ledger | Place::Client(_) | Place::Connector | Place::Broker => {}
         }
+    }
+
+    // The turns of the broker and of the connector aren't counted.
+    fn is_open(&self) -> bool {
+        true
     }
 
     fn observe_broker(&self, story: Story) {

@@ -5,13 +5,13 @@ ghost use Rattle.cdc_types.specs.Windows.{IsWindow};
 use crate::advice::{advise_on_steps, shown_name};
 use crate::diagnostics::{EXPLAIN, asked, can_draw, hint, is_reported, note, report_simulation};
 use crate::kept::Kept;
-use crate::options::{Diagnostics, Form};
 use crate::sources::Source;
-use cdc_commands::simulate::simulate;
-use cdc_commands::{Ended, Ending, Text};
-use cdc_deliveries::{Asked, Both, Count, Recorder, count_of, deliver};
+use cdc_arguments::{Diagnostics, Form};
+use cdc_commands::simulate::simulate_command;
+use cdc_commands::{Ended, Ending, Form as PrintForm, Report};
+use cdc_deliveries::{Asked, Both, Count, Recorder, count_of};
 use cdc_diagnostics::Observation;
-use cdc_json::Json;
+use cdc_output::{Json, Text};
 use cdc_types::Limits;
 use std::io;
 
@@ -88,40 +88,51 @@ fn print_simulation(
 ) -> Ended
     requires { IsWindow wanted.window }
 {
+    match wanted.form {
+        Form::Text => print_in(rt, &Text, script, steps, wanted, observers),
+        Form::Json => print_in(rt, &Json, script, steps, wanted, observers),
+    }
+}
+
+/// Runs `simulate`, and prints in this form its report or the deliveries.
+fn print_in<F: PrintForm>(
+    rt: &HostRuntime,
+    form: &F,
+    script: &mut Kept<Source>,
+    steps: &mut Kept<Source>,
+    wanted: Wanted,
+    observers: &mut Both<Recorder, Observation<'_>>,
+) -> Ended
+    requires { IsWindow wanted.window }
+{
     let alloc = rt.alloc();
     let mut writer = io::writer(rt);
     let Wanted {
         window,
         deliveries,
-        form,
+        ..
     } = wanted;
-    match (form, deliveries) {
-        (Form::Text, None) => {
-            simulate(&Text, alloc, script, steps, window, &mut writer, observers)
-        }
-        (Form::Json, None) => {
-            simulate(&Json, alloc, script, steps, window, &mut writer, observers)
-        }
-        (Form::Text, Some(asked)) => {
-            deliver(
-                &Text,
+    match deliveries {
+        None => {
+            simulate_command(
+                form,
+                &Report,
                 alloc,
                 script,
                 steps,
                 window,
-                asked,
                 &mut writer,
                 observers,
             )
         }
-        (Form::Json, Some(asked)) => {
-            deliver(
-                &Json,
+        Some(asked) => {
+            simulate_command(
+                form,
+                &asked,
                 alloc,
                 script,
                 steps,
                 window,
-                asked,
                 &mut writer,
                 observers,
             )

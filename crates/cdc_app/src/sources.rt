@@ -1,12 +1,10 @@
 //! What commands read from.
 
-use cdc_follow_command::Origin;
+use cdc_arguments::STANDARD_INPUT;
+use cdc_streams::Origin;
 use std::fs::File;
 use std::io::{Read, StdinLock};
 use std::{fs, io};
-
-/// As the file of a script or a stream, this is standard input.
-pub const STANDARD_INPUT: &str = "-";
 
 /// The path of standard input.
 const STANDARD_INPUT_PATH: &str = "/dev/stdin";

@@ -1,6 +1,6 @@
 //! A stream that is watched while it is read.
 
-use cdc_follow_command::Origin;
+use cdc_streams::Origin;
 use std::io;
 use std::io::{IsTerminal, Read};
 use std::time::Instant;

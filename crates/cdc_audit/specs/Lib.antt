@@ -14,3 +14,5 @@ pub mod Stops
 pub mod Texts
 -- private, except what `IsKnownOf` of Standing cites: for the code's own contracts
 pub mod Checks
+pub use Rattle.cdc_ledger.specs.Kinds
+pub use Rattle.cdc_types.specs.Results

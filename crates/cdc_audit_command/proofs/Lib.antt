@@ -1,3 +1,1 @@
 pub mod KeptLemmas
-pub mod RunLemmas
-pub mod SavingLemmas

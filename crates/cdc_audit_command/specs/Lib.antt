@@ -1,4 +1,6 @@
+pub mod Auditing
 pub mod Endings
-pub mod Printed
-pub mod Saving
+pub mod JsonLines
+pub mod Private
+pub mod States
 pub mod Texts

@@ -1,8 +1,9 @@
 -- What `audit` prints as text.
 use Rattle.std.specs.Prelude.{ℕ, Bool, List, [], ◌++◌, codes, decimal, if◌then◌else◌}
-use Rattle.cdc_subscriber.specs.Lines.{named, subscriber_text}
+use Rattle.cdc_codec.specs.Texts.{named}
+use Rattle.cdc_subscriber.specs.Lines.{subscriber_text}
 use Rattle.cdc_subscriber.specs.SubscriberState.{SubscriberState}
-use Rattle.cdc_follow.specs.LineErrors.{line_error_name}
+use Rattle.cdc_streams.specs.Lines.{bad_line_text}
 use Rattle.cdc_audit.specs.Texts.{refusal_text}
 use Rattle.cdc_audit.specs.declared.streams.AuditStop.{AuditStop}
 use Rattle.cdc_audit.specs.declared.streams.AuditStop.TheVariants.{AtEnd, Refused, BadLine}
@@ -16,8 +17,7 @@ abbrev pub stop_line : AuditStop → List ℕ
 stop_line AtEnd = []
 stop_line (Refused line why) =
     (codes "refused: line " ++ decimal line) ++ (codes ": " ++ (refusal_text why ++ codes "\n"))
-stop_line (BadLine line error) =
-    (codes "fault: line " ++ decimal line) ++ (codes ": " ++ (line_error_name error ++ codes "\n"))
+stop_line (BadLine line error) = bad_line_text line error
 
 -- the lines of a subscriber of the accepted events, if they are asked for
 abbrev pub book_text : Bool → SubscriberState → List ℕ

@@ -6,13 +6,13 @@ ghost use Rattle.cdc_audit_command.specs.Texts.{accepted_line, audit_text, book_
 ghost use Rattle.cdc_subscriber.specs.SubscriberState.{SubscriberState};
 
 use cdc_audit::{AuditStop, Refusal, push_refusal};
-use cdc_commands::Text;
+use cdc_output::{Text, push, push_named};
+use cdc_streams::{StreamForm, push_bad_line};
 use cdc_subscriber::Subscriber;
-use itoa::{Buffer, Integer};
 use std::alloc::{AllocError, Global};
 
-/// A form in which `audit` prints what it finds: lines of text, or JSON objects.
-pub trait AuditForm {
+/// A form in which `audit` prints what it finds.
+pub trait AuditForm: StreamForm {
     /// What is printed of a subscriber of the accepted events, with or without its book, and of why auditing stopped.
     ghost prints_audit: { Bool → SubscriberState → Stops → List ℕ };
 
@@ -47,21 +47,6 @@ impl AuditForm for Text {
     }
 }
 
-/// Adds a part of a text.
-fn push(text: &mut Vec<u8>, part: &str) -> Result<(), AllocError>
-    ensures { OnOk result (text.new.items ≡ text.old.items ++ part.now) }
-{
-    text.extend_from_slice(part.as_bytes())
-}
-
-/// Adds a name and a number.
-fn push_named<I: Integer>(text: &mut Vec<u8>, name: &str, value: I) -> Result<(), AllocError>
-    ensures { OnOk result (text.new.items ≡ text.old.items ++ (name.now ++ I.text value)) }
-{
-    push(text, name)?;
-    push(text, Buffer::new().format(value))
-}
-
 /// Adds the line of how many events are accepted.
 fn push_accepted(text: &mut Vec<u8>, subscriber: &Subscriber) -> Result<(), AllocError>
     ensures { OnOk result (text.new.items ≡ text.old.items ++ accepted_line subscriber.now) }
@@ -89,13 +74,7 @@ fn push_stop(text: &mut Vec<u8>, stop: AuditStop) -> Result<(), AllocError>
     match stop {
         AuditStop::AtEnd => Ok(()),
         AuditStop::Refused(line, why) => push_refused(text, line, why),
-        AuditStop::BadLine(line, error) => {
-            push_named(text, "fault: line ", line)?;
-            push(text, ": ")?;
-            push(text, error.name())?;
-            push(text, "\n")?;
-            Ok(())
-        }
+        AuditStop::BadLine(line, error) => push_bad_line(text, line, error),
     }
 }
 

@@ -1,13 +1,14 @@
 //! The command `audit`: whether a stream can be what a ledger published.
 #![tactic(auto)]
 
-mod audit;
+mod auditors;
 mod endings;
 mod forms;
-mod json;
-mod savers;
+mod json_lines;
+mod refusals;
+mod states;
 
-pub use audit::{audit_command, audit_stream};
-pub use endings::AuditEnding;
+pub use auditors::{AuditSetup, StreamAuditor, audit_command};
+pub use endings::{AuditEnding, audit_status};
 pub use forms::AuditForm;
-pub use savers::{StateSaver, begin_state, resume};
+pub use states::{begin_state, resume};

@@ -1,21 +1,9 @@
 -- Accepted events show accounts that were opened alone: no event and no other account has the timestamp of one.
-use Rattle.std.proofs.Common.{◌≡◌, ◌≢◌, ◌⊎◌, inl, inr, ℕ, ◌<◌, Bool, true, false, List, [], ◌∷◌, ◌++◌, Option, Some, None, is_some, if◌then◌else◌, refl, sym, ap, ◌∙◌, subst, append_assoc, arith}
-use Rattle.std.specs.Prelude.{◌==◌, nat_eq, option_map, find}
-use Rattle.std.specs.List.{AllByRecursion}
-use Rattle.std.specs.Map.{lookup}
-use Rattle.std.specs.Option.{option_or}
-use Rattle.std.proofs.lemmas.Bool.{eq-eqb, eqb-false, eqb-true, or_parts}
-use Rattle.std.proofs.lemmas.List.{append-nil}
-use Rattle.cdc_types.specs.declared.events.Event.{Event}
-use Rattle.cdc_types.specs.declared.events.EventAccount.{EventAccount}
-use Rattle.cdc_types.specs.Timestamps.{last_timestamp}
-use Rattle.cdc_types.proofs.Rising.{last_timestamp_from-push}
-use Rattle.cdc_ledger.proofs.Elements.{AllByRecursion_push}
-use Rattle.cdc_audit.specs.declared.fields.FixedFields.{FixedFields}
-use Rattle.cdc_audit.specs.Apart.{account_at, accounts_before, has_time, times_before, times_known, times_lines, times_of}
-use Rattle.cdc_audit.specs.Audits.{follows_on}
-use Rattle.cdc_audit.specs.Fields.{fields_before, fixed_fields}
-use Rattle.cdc_audit.proofs.ApartLemmas.{accounts_before-fields}
+use Rattle.std.proofs.Common.{◌≡◌, ◌≢◌, ◌⊎◌, inl, inr, ℕ, ◌<◌, Bool, true, false, List, [], ◌∷◌, ◌++◌, Option, Some, None, is_some, if◌then◌else◌, refl, sym, ap, ◌∙◌, subst, append_assoc, arith, ◌==◌, nat_eq, option_map, find, append-nil}
+use Rattle.cdc_audit_laws.proofs.OfStd.{AllByRecursion, lookup, option_or, eqb-false, eqb-true, or_parts}
+use Rattle.cdc_audit_laws.proofs.OfTypes.{Event, EventAccount, last_timestamp, last_timestamp_from-push}
+use Rattle.cdc_audit_laws.proofs.OfLedger.{AllByRecursion_push}
+use Rattle.cdc_audit_laws.proofs.OfAudit.{FixedFields, account_at, accounts_before, has_time, times_before, times_known, times_lines, times_of, follows_on, fields_before, fixed_fields, accounts_before-fields}
 use Rattle.cdc_audit_laws.proofs.Following.{CanFollow, FixedParts, NoneApplies, fixed_parts}
 use Rattle.cdc_audit_laws.proofs.Known.{then_known}
 use Rattle.cdc_audit_laws.proofs.Openings.{AreCreated, are_created}
@@ -53,13 +41,7 @@ found_at j g (a ∷ fs) found none =
         → is_some (option_map (λ (x : ℕ × FixedFields). x.0)
         (if there then Some a else find (λ x. x.1.timestamp == g.timestamp) fs)) ≡ false
         → (lookup (nat_eq j) fs ≡ Some g → is_some (account_at fs g.timestamp) ≡ false → ⊥) → ⊥
-    by same true is found none rest = cc
-    by true false is found none rest =
-        let it : a.1 ≡ g = cc in
-        let time : (a.1.timestamp == g.timestamp) ≡ true =
-        eq-eqb a.1.timestamp g.timestamp (ap (λ (f : FixedFields). f.timestamp) it) in
-        cc
-    by false false is found none rest = rest found none
+    by same there is found none rest = grind arith
 
 -- ---- one more event
 module _ (past : List Event) (e : Event) (can : CanFollow past e) where
@@ -183,8 +165,7 @@ module _ (past : List Event) (e : Event) (can : CanFollow past e) where
     alone_then = record {
       before = λ i f is.
           subst (λ t. f.timestamp < t) (sym (last_timestamp_from-push 0 past e)) (before_then i f is);
-      no_event = λ i f is.
-          AllByRecursion_push (λ (x : Event). x.timestamp ≢ f.timestamp) past e (no_event_then i f is)
+      no_event = λ i f is. AllByRecursion_push _ past e (no_event_then i f is)
           (λ same. let earlier = before_then i f is in omega (arith, same, earlier));
       no_other = no_other_then;
     }

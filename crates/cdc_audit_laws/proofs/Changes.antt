@@ -1,70 +1,24 @@
 -- A balance that another one replaces, and a change that is left out.
-use Rattle.std.proofs.Common.{◌≡◌, ◌≢◌, ℕ, Bool, true, false, List, [], ◌∷◌, ◌++◌, Option, Some, None, is_none, refl, sym, ap, ap₂, ◌∙◌, subst, inl, inr, ⊎_elim, ◌⊎◌, arith, append_assoc, append-nil}
-use Rattle.std.specs.Prelude.{◌==◌, ◌&&◌, find, if◌then◌else◌, option_map, unwrap_or}
-use Rattle.std.specs.List.{AllByRecursion}
-use Rattle.std.specs.Option.{option_or}
-use Rattle.std.proofs.lemmas.Bool.{and_from, and_parts, eqb-true, false_from_ne_true, false≢true, or_left, or_right}
-use Rattle.std.proofs.lemmas.Bool.Decides.{eqb_tells}
-use Rattle.std.proofs.lemmas.List.Folds.{find-append, list_any-append}
-use Rattle.cdc_types.specs.declared.accounts.Balances.{Balances}
-use Rattle.cdc_types.specs.declared.events.Event.{Event}
-use Rattle.cdc_ledger.specs.Kinds.{holds, moves, settles, stores}
-use Rattle.cdc_ledger.proofs.BalanceLaws.{stores-holds}
-use Rattle.cdc_ledger.proofs.Elements.{AllByRecursion_push}
-use Rattle.cdc_audit.specs.Audits.{follows_on, is_accepted}
-use Rattle.cdc_audit.specs.Known.{balances_after, is_stored, pending_amount, settled_id, settled_id_by}
-use Rattle.cdc_audit.specs.Rules.{held, posted, released}
+use Rattle.std.proofs.Common.{◌≡◌, ◌≢◌, ℕ, Bool, true, false, List, [], ◌∷◌, ◌++◌, Option, Some, None, is_none, refl, sym, ap, ap₂, ◌∙◌, subst, inl, inr, ◌⊎◌, arith, append_assoc, append-nil, ◌==◌, ◌&&◌, find, if◌then◌else◌, option_map}
+use Rattle.cdc_audit_laws.proofs.OfStd.{unwrap_or, AllByRecursion, option_or, and_from, and_parts, eqb-true, false_from_ne_true, false≢true, or_left, or_right, eqb_tells, find-append, list_any-append}
+use Rattle.cdc_audit_laws.proofs.OfTypes.{Event}
+use Rattle.cdc_audit_laws.proofs.OfLedger.{holds, settles, stores, stores-holds, AllByRecursion_push}
+use Rattle.cdc_audit_laws.proofs.OfAudit.{follows_on, is_accepted, balances_after, is_stored, pending_amount, settled_id, released}
 use Rattle.cdc_audit_laws.specs.Laws.{AChangeShows, AreAlike, NoOtherBalances, Shows}
-use Rattle.cdc_audit_laws.proofs.Following.{CanFollow, IsCredited, IsDebited}
+use Rattle.cdc_audit_laws.proofs.Following.{CanFollow}
 use Rattle.cdc_audit_laws.proofs.Shown.{balances_after-credited, balances_after-debited, balances_after-other, balances_of}
 use Rattle.cdc_audit_laws.proofs.Streams.{first_follows, last_follows, parts_follow}
-
--- balances are equal if their four sums are
-same_balances : (x y z w x' y' z' w' : ℕ) → x ≡ x' → y ≡ y' → z ≡ z' → w ≡ w'
-    → ◌≡◌ {A = Balances} (record { debits_pending = x; debits_posted = y; credits_pending = z; credits_posted = w })
-    (record { debits_pending = x'; debits_posted = y'; credits_pending = z'; credits_posted = w' })
-same_balances x y z w x' y' z' w' a b c d = cc
 
 -- ---- two events that differ in balances alone
 
 module _ (front : List Event) (e f : Event) (alike : AreAlike e f) where
-  -- they add and release the same
-  same_held : held e ≡ held f
-  same_held = ap₂ (λ k x. if holds k then x.amount else 0) alike.kind alike.transfer
-
-  same_posted : posted e ≡ posted f
-  same_posted = ap₂ (λ k x. if moves k then x.amount else 0) alike.kind alike.transfer
-
-  same_released : released front e ≡ released front f
-  same_released =
-      ap₂ (λ k x. if settles k then unwrap_or (pending_amount front (settled_id_by k x)) 0 else 0) alike.kind
-      alike.transfer
-
   -- so if both follow, both show the same of the account that is debited
   same_debited : CanFollow front e → CanFollow front f → balances_of e.debit_account ≡ balances_of f.debit_account
-  same_debited can_e can_f =
-      let one = can_e.debited in
-      let other = subst (λ (n : ℕ). IsDebited front f (balances_after front n)) (sym alike.debit) can_f.debited in
-      let hold = same_held in
-      let post = same_posted in
-      let release = same_released in
-      same_balances _ _ _ _ _ _ _ _
-      (omega (arith, one.debits_pending, other.debits_pending)) (omega (arith, one.debits_posted, other.debits_posted))
-      (omega (arith, one.credits_pending, other.credits_pending))
-      (omega (arith, one.credits_posted, other.credits_posted))
+  same_debited can_e can_f = grind arith
 
   -- and of the one that is credited
   same_credited : CanFollow front e → CanFollow front f → balances_of e.credit_account ≡ balances_of f.credit_account
-  same_credited can_e can_f =
-      let one = can_e.credited in
-      let other = subst (λ (n : ℕ). IsCredited front f (balances_after front n)) (sym alike.credit) can_f.credited in
-      let hold = same_held in
-      let post = same_posted in
-      let release = same_released in
-      same_balances _ _ _ _ _ _ _ _
-      (omega (arith, one.debits_pending, other.debits_pending)) (omega (arith, one.debits_posted, other.debits_posted))
-      (omega (arith, one.credits_pending, other.credits_pending))
-      (omega (arith, one.credits_posted, other.credits_posted))
+  same_credited can_e can_f = grind arith
 
 -- so no balance of the last event can be another one
 pub no_other_balances : NoOtherBalances
@@ -113,9 +67,7 @@ stored_then : (past : List Event) (e : Event) (id : ℕ) → is_pending id e ≡
 stored_then past e id is =
     let parts = and_parts (holds e.kind) (e.transfer.id == id) is in
     list_any-append (λ x. stores x.kind && (x.transfer.id == id)) past (e ∷ [])
-    ∙ or_right (is_stored past id) _
-    (or_left (stores e.kind && (e.transfer.id == id)) false
-    (and_from (stores e.kind) (e.transfer.id == id) (stores-holds e.kind parts.0) parts.1))
+    ∙ or_right _ _ (or_left _ _ (and_from _ _ (stores-holds e.kind parts.0) parts.1))
 
 -- so no event that follows stores a pending transfer of that id
 none_again : (past rest : List Event) (id : ℕ) → is_stored past id ≡ true → follows_on past rest ≡ true
@@ -127,9 +79,7 @@ none_again past (e ∷ rest) id there all =
     false_from_ne_true (is_pending id e) (λ is.
     let parts = and_parts (holds e.kind) (e.transfer.id == id) is in
     let same : e.transfer.id ≡ id = eqb-true e.transfer.id id parts.1 in
-    false≢true (sym first.0.new
-    ∙ and_from (stores e.kind) (is_stored past e.transfer.id) (stores-holds e.kind parts.0)
-    (ap (is_stored past) same ∙ there))) in
+    false≢true (sym first.0.new ∙ and_from _ _ (stores-holds e.kind parts.0) (ap (is_stored past) same ∙ there))) in
     rw not (none_again (past ++ e ∷ []) rest id (stored_still past e id there) first.1)
 
 -- the amount of a pending transfer is the same without the lost event, if the transfer is still there
@@ -182,18 +132,7 @@ same_released_without front between lost next all can = by (settles next.kind) r
 -- of two lists of events that one event follows, which releases the same after both, both show the same of its accounts
 same_before : (one other : List Event) (next : Event) (id : ℕ) → CanFollow one next → CanFollow other next
     → released one next ≡ released other next → Shows id next → balances_after one id ≡ balances_after other id
-same_before one other next id can_one can_other release (inl is) =
-    let a = subst (λ (n : ℕ). IsDebited one next (balances_after one n)) is can_one.debited in
-    let b = subst (λ (n : ℕ). IsDebited other next (balances_after other n)) is can_other.debited in
-    same_balances _ _ _ _ _ _ _ _
-    (omega (arith, a.debits_pending, b.debits_pending)) (omega (arith, a.debits_posted, b.debits_posted))
-    (omega (arith, a.credits_pending, b.credits_pending)) (omega (arith, a.credits_posted, b.credits_posted))
-same_before one other next id can_one can_other release (inr is) =
-    let a = subst (λ (n : ℕ). IsCredited one next (balances_after one n)) is can_one.credited in
-    let b = subst (λ (n : ℕ). IsCredited other next (balances_after other n)) is can_other.credited in
-    same_balances _ _ _ _ _ _ _ _
-    (omega (arith, a.debits_pending, b.debits_pending)) (omega (arith, a.debits_posted, b.debits_posted))
-    (omega (arith, a.credits_pending, b.credits_pending)) (omega (arith, a.credits_posted, b.credits_posted))
+same_before one other next id can_one can_other release is = grind arith
 
 -- so if an event that changed an account is left out, the account's next event is refused, or one before it
 next_is_refused : (front between : List Event) (lost next : Event) (id : ℕ)
@@ -217,14 +156,7 @@ next_is_refused front between lost next id all none shows changed =
 
 -- an event has an account, or not
 shows_or_not : (id : ℕ) (e : Event) → Shows id e ⊎ (Shows id e → ⊥)
-shows_or_not id e =
-    elim (eqb_tells e.debit_account.id id) [
-      | inl debit ↦ inl (inl debit.1)
-      | inr debit ↦ elim (eqb_tells e.credit_account.id id) [
-        | inl credit ↦ inl (inr credit.1)
-        | inr credit ↦ inr (λ shows. ⊎_elim (λ is. debit.1 is) (λ is. credit.1 is) shows)
-      ]
-    ]
+shows_or_not id e = grind arith
 
 -- a stream with a prefix that is refused is refused
 refused_on : (front back : List Event) → is_accepted front ≡ false → is_accepted (front ++ back) ≡ false
@@ -256,7 +188,7 @@ later_is_refused front none (e ∷ between) lost later id all others shows chang
       | inr away ↦
           let refused : is_accepted (front ++ (none ++ e ∷ []) ++ (between ++ later ∷ [])) ≡ false =
           later_is_refused front (none ++ e ∷ []) between lost later id whole
-          (AllByRecursion_push (λ x. Shows id x → ⊥) none e others away) shows changed in
+          (AllByRecursion_push _ none e others away) shows changed in
           subst (λ (es : List Event). is_accepted es ≡ false)
           (append_assoc front (none ++ e ∷ []) (between ++ later ∷ []) ∙ ap (λ (es : List Event). front ++ es) split
           ∙ sym (append_assoc front none (e ∷ (between ++ later ∷ [])))) refused

@@ -1,32 +1,10 @@
 -- An event that comes after a ledger's events, and is accepted: what a request for it finds.
-use Rattle.std.proofs.Common.{◌≡◌, ℕ, ◌<◌, true, false, not, List, [], ◌∷◌, ◌++◌, Option, Some, None, if◌then◌else◌, refl, sym, ap, ◌∙◌, subst, arith}
-use Rattle.std.specs.Prelude.{◌==◌, ◌&&◌, nat_lt}
-use Rattle.std.proofs.lemmas.Bool.{eqb-true, not-false, true≢false}
-use Rattle.cdc_types.specs.declared.bounds.TheConstants.Limits.{TIMESTAMP}
-use Rattle.cdc_types.specs.declared.events.Event.{Event}
-use Rattle.cdc_types.specs.declared.events.EventAccount.{EventAccount}
+use Rattle.std.proofs.Common.{◌≡◌, ℕ, ◌<◌, true, false, not, List, [], ◌∷◌, ◌++◌, Option, Some, None, if◌then◌else◌, refl, sym, ap, ◌∙◌, subst, arith, ◌==◌, ◌&&◌, nat_lt}
+use Rattle.cdc_audit_laws.proofs.OfStd.{eqb-true, not-false, true≢false}
+use Rattle.cdc_audit_laws.proofs.OfTypes.{TIMESTAMP, Event, EventAccount, NewTransfer, first_line, transfer_number, account_refusal, transfer_refusal, transfer_shape_lines}
+use Rattle.cdc_audit_laws.proofs.OfLedger.{balances, events, History, Opened, opened, holds, stores, IsSound, stored, opened_by, known_transfer_lines, transfer_refused, balances_later, own_lines, first_line-append_none, test_fails}
+use Rattle.cdc_audit_laws.proofs.OfAudit.{Refusal, OtherKind, OtherTimestamp, TransferShape, account_lines, asked_account, asked_transfer, is_of_kind, refused_as, stored_lines, balances_after, is_stored, limit_lines, expires_at}
 use Rattle.cdc_types.specs.declared.results.TransferResult.TheVariants as transfer
-use Rattle.cdc_types.specs.declared.transfers.NewTransfer.{NewTransfer}
-use Rattle.cdc_types.specs.Lines.{first_line}
-use Rattle.cdc_types.specs.Results.{transfer_number}
-use Rattle.cdc_types.specs.Shapes.{account_refusal, transfer_refusal, transfer_shape_lines}
-use Rattle.cdc_ledger.specs.Balances.{balances}
-use Rattle.cdc_ledger.specs.Events.{events}
-use Rattle.cdc_ledger.specs.History.{History, Opened, opened}
-use Rattle.cdc_ledger.specs.Kinds.{holds, stores}
-use Rattle.cdc_ledger.specs.Sound.{IsSound}
-use Rattle.cdc_ledger.specs.Filling.{stored}
-use Rattle.cdc_ledger.specs.Submit.{opened_by}
-use Rattle.cdc_ledger.specs.Verdict.{known_transfer_lines, transfer_refused}
-use Rattle.cdc_ledger.proofs.BalanceLaws.{balances_later}
-use Rattle.cdc_ledger.proofs.AcceptedLaws.{own_lines}
-use Rattle.cdc_ledger.proofs.LineLaws.{first_line-append_none, test_fails}
-use Rattle.cdc_audit.specs.declared.refusals.Refusal.{Refusal}
-use Rattle.cdc_audit.specs.declared.refusals.Refusal.TheVariants.{OtherKind, OtherTimestamp, TransferShape}
-use Rattle.cdc_audit.specs.EventShapes.{account_lines, asked_account, asked_transfer, is_of_kind, refused_as, stored_lines}
-use Rattle.cdc_audit.specs.Known.{balances_after, is_stored}
-use Rattle.cdc_audit.specs.Limits.{limit_lines}
-use Rattle.cdc_audit.specs.Settling.{expires_at}
 use Rattle.cdc_audit_laws.proofs.Flags.{Asks, asks}
 use Rattle.cdc_audit_laws.proofs.Following.{CanFollow, IsCredited, IsDebited, NoneApplies, none_both}
 use Rattle.cdc_audit_laws.proofs.Traces.{stored_none}

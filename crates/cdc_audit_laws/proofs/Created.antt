@@ -1,26 +1,12 @@
 -- In every legal history the timestamp of an account is its own: no other account and no entry has it.
-use Rattle.std.proofs.Common.{◌≡◌, ◌≢◌, ◌⊎◌, ℕ, ◌<◌, ◌≤◌, Bool, true, false, List, [], ◌∷◌, ◌++◌, map, Option, Some, None, refl, sym, ap, ◌∙◌, subst, inl, inr, arith}
-use Rattle.std.specs.Prelude.{◌==◌, nat_eq, is_some, fold, IsSome, if◌then◌else◌, unwrap_or}
-use Rattle.std.specs.List.{AllByRecursion, flat_map}
-use Rattle.std.specs.Map.{lookup}
-use Rattle.std.specs.Option.{option_or}
-use Rattle.std.proofs.lemmas.Bool.{eq-eqb, eqb-true, ne_eqb}
-use Rattle.cdc_types.specs.declared.events.Entry.{Entry}
-use Rattle.cdc_types.specs.declared.events.EventAccount.{EventAccount}
-use Rattle.cdc_ledger.specs.Changes.{pushed, timed, with_account}
-use Rattle.cdc_ledger.specs.Events.{event_of, events, nobody}
-use Rattle.cdc_ledger.specs.History.{History, Opened, empty_history, opened}
-use Rattle.cdc_ledger.specs.Sound.{HasAccounts}
-use Rattle.cdc_ledger.proofs.Changes.{IsUpTo}
-use Rattle.cdc_ledger.proofs.Elements.{AllByRecursion-weaker, AllByRecursion_push}
-use Rattle.cdc_ledger.proofs.OpenedLaws.{opened-with_account, opened_id}
-use Rattle.cdc_audit.specs.declared.fields.FixedFields.{FixedFields}
-use Rattle.cdc_audit.specs.Apart.{account_at, accounts_before, has_time, times_known, times_lines, times_of, with_shown}
-use Rattle.cdc_audit.specs.Fields.{accounts_of, fields_before, fixed_fields}
+use Rattle.std.proofs.Common.{◌≡◌, ◌≢◌, ◌⊎◌, ℕ, ◌<◌, ◌≤◌, Bool, true, false, List, [], ◌∷◌, ◌++◌, map, Option, Some, None, refl, sym, ap, ◌∙◌, subst, inl, inr, arith, ◌==◌, nat_eq, is_some, fold, IsSome, if◌then◌else◌}
+use Rattle.cdc_audit_laws.proofs.OfStd.{AllByRecursion, flat_map, lookup, option_or, ne_eqb}
+use Rattle.cdc_audit_laws.proofs.OfTypes.{Entry, EventAccount}
+use Rattle.cdc_audit_laws.proofs.OfLedger.{pushed, timed, with_account, event_of, events, History, Opened, empty_history, opened, HasAccounts, IsUpTo, AllByRecursion-weaker, AllByRecursion_push, opened-with_account, opened_id}
+use Rattle.cdc_audit_laws.proofs.OfAudit.{FixedFields, account_at, accounts_before, has_time, times_known, times_lines, times_of, with_shown, accounts_of, fields_before, fixed_fields, accounts_before-fields}
 use Rattle.cdc_audit.specs.Standing.{fields_under}
-use Rattle.cdc_audit.proofs.ApartLemmas.{accounts_before-fields}
 use Rattle.cdc_audit_laws.proofs.Following.{NoneApplies}
-use Rattle.cdc_audit_laws.proofs.Requests.{account_of}
+use Rattle.cdc_audit_laws.proofs.Requests.{account_of, account_is}
 
 -- no other account of the history and none of its entries has the timestamp of an account
 pub record AreOwn (h : History) : Type 0 where
@@ -45,7 +31,7 @@ own-closed h closed own = record { apart = own.apart; alone = own.alone }
 pub own-pushed : (h : History) (e : Entry) → AreBy h → h.last < e.timestamp → AreOwn h → AreOwn (pushed h e)
 own-pushed h e by later own = record {
   apart = own.apart;
-  alone = λ i o is. AllByRecursion_push (λ (x : Entry). x.timestamp ≢ o.timestamp) h.entries e (own.alone i o is)
+  alone = λ i o is. AllByRecursion_push _ h.entries e (own.alone i o is)
       (λ same. let before = by i o is in omega arith);
 }
 
@@ -60,9 +46,7 @@ module _ (h : History) (n : Opened) (by_last : AreBy h) (past : IsUpTo h.last h)
     where
       by : (p : Option Opened) (b : Bool) → (n.request.id == i) ≡ b
           → option_or p (if b then Some n else None) ≡ Some o → (p ≡ Some o) ⊎ ((o ≡ n) × (n.request.id ≡ i))
-      by None true same found = inr (cc, eqb-true n.request.id i same)
-      by None false same found = cc
-      by (Some x) b same found = inl found
+      by p b same found = grind arith
 
   pub own-account : AreOwn (with_account h n)
   own-account = record {
@@ -82,8 +66,7 @@ module _ (h : History) (n : Opened) (by_last : AreBy h) (past : IsUpTo h.last h)
     ];
     alone = λ i o one. elim (either i o one) [
       | inl a ↦ own.alone i o a
-      | inr a ↦ AllByRecursion-weaker (λ (e : Entry). e.timestamp ≤ h.last) (λ (e : Entry). e.timestamp ≢ o.timestamp)
-          (λ e before same.
+      | inr a ↦ AllByRecursion-weaker _ _ (λ e before same.
           let new : o.timestamp ≡ n.timestamp = ap (λ (x : Opened). x.timestamp) a.0 in omega arith) h.entries past
     ];
   }
@@ -93,13 +76,7 @@ module _ (h : History) (n : Opened) (by_last : AreBy h) (past : IsUpTo h.last h)
 -- two accounts that are there have timestamps of their own
 apart_of : (h : History) → AreOwn h → (i j : ℕ) → IsSome (opened h i) → IsSome (opened h j) → i ≢ j
     → (account_of h i).timestamp ≢ (account_of h j).timestamp
-apart_of h own i j one other is = by (opened h i) (opened h j) refl refl one other
-  where
-    by : (p q : Option Opened) → opened h i ≡ p → opened h j ≡ q → IsSome p → IsSome q
-        → (unwrap_or p nobody).timestamp ≢ (unwrap_or q nobody).timestamp
-    by None q p_is q_is some there = cc
-    by (Some o) None p_is q_is some there = cc
-    by (Some o) (Some p) p_is q_is some there = own.apart i j o p p_is q_is is
+apart_of h own i j one other is = grind arith
 
 -- no event has the timestamp of an account
 no_event : (h : History) (t : ℕ) (es : List Entry) → AllByRecursion (λ (e : Entry). e.timestamp ≢ t) es
@@ -109,29 +86,19 @@ no_event h t (e ∷ es) other = rw (ne_eqb e.timestamp t other.0) (no_event h t 
 
 pub no_event_at : (h : History) → AreOwn h → (i : ℕ) → IsSome (opened h i)
     → has_time (times_of (events h)) (account_of h i).timestamp ≡ false
-no_event_at h own i there = by (opened h i) refl there
-  where
-    by : (p : Option Opened) → opened h i ≡ p → IsSome p
-        → has_time (times_of (events h)) (unwrap_or p nobody).timestamp ≡ false
-    by None is some = cc
-    by (Some o) is some = no_event h o.timestamp h.entries (own.alone i o is)
+no_event_at h own i there = no_event h _ h.entries (own.alone i _ (account_is h i there))
 
 -- an account that events show is one of the history, and has its timestamp
 abbrev IsShown : History → ℕ × FixedFields → Type 0
 IsShown h a = IsSome (opened h a.0) × (a.1.timestamp ≡ (account_of h a.0).timestamp)
 
 -- the id of an account that is there
-own_id : (h : History) (id : ℕ) → IsSome (opened h id) → (account_of h id).request.id ≡ id
-own_id h id there = by (opened h id) refl there
-  where
-    by : (o : Option Opened) → opened h id ≡ o → IsSome o → (unwrap_or o nobody).request.id ≡ id
-    by None is some = cc
-    by (Some o) is some = opened_id h o id is
+pub id_found : (h : History) (id : ℕ) → IsSome (opened h id) → (account_of h id).request.id ≡ id
+id_found h id there = opened_id h _ id (account_is h id there)
 
 shown_one : (h : History) (id : ℕ) (f : FixedFields) → IsSome (opened h id)
     → f.timestamp ≡ (account_of h id).timestamp → IsShown h ((account_of h id).request.id, f)
-shown_one h id f there is =
-    subst (λ n. IsShown h (n, f)) (sym (own_id h id there)) (there, is)
+shown_one h id f there is = subst (λ n. IsShown h (n, f)) (sym (id_found h id there)) (there, is)
 
 shown_all : (h : History) (es : List Entry) → AllByRecursion (HasAccounts h) es
     → AllByRecursion (IsShown h) (flat_map accounts_of (map (event_of h) es))
@@ -154,7 +121,7 @@ kept_all P fs (a ∷ those) all more = kept_all P (with_shown fs a) those (by (i
   where
     by : (b : Bool) → AllByRecursion P (if b then fs else (fs ++ a ∷ []))
     by true = all
-    by false = AllByRecursion_push P fs a all more.0
+    by false = AllByRecursion_push _ fs a all more.0
 
 -- no other account has the timestamp of an account that isn't among them
 none_at : (h : History) → AreOwn h → (i : ℕ) → IsSome (opened h i) → (fs : List (ℕ × FixedFields))
@@ -166,15 +133,7 @@ none_at h own i there (a ∷ fs) all none =
     by : (b : Bool) → nat_eq i a.0 ≡ b → (if b then Some a.1 else fields_under fs i) ≡ None
         → (fields_under fs i ≡ None → account_at fs (account_of h i).timestamp ≡ None)
         → account_at (a ∷ fs) (account_of h i).timestamp ≡ None
-    by true is found rest = cc
-    by false is found rest =
-        let other : i ≢ a.0 = λ same. absurd_eq (sym is ∙ eq-eqb i a.0 same) in
-        let differs : a.1.timestamp ≢ (account_of h i).timestamp =
-        λ same. apart_of h own i a.0 there all.0.0 other (sym same ∙ all.0.1) in
-        rw (ne_eqb a.1.timestamp (account_of h i).timestamp differs) (rest found)
-      where
-        absurd_eq : false ≡ true → ⊥
-        absurd_eq is = cc
+    by b is found rest = grind arith
 
 pub no_account_at : (h : History) → AreOwn h → AllByRecursion (HasAccounts h) h.entries → (i : ℕ)
     → IsSome (opened h i) → fields_before (events h) i ≡ None

@@ -1,18 +1,8 @@
 -- A request for an event that is accepted, and stores a transfer, makes this event.
 use Rattle.std.proofs.Common.{◌≡◌, ℕ, Bool, true, false, None, refl, sym, ap, ap₂, subst}
-use Rattle.cdc_types.specs.declared.events.Entry.{Entry}
-use Rattle.cdc_types.specs.declared.events.Event.{Event}
-use Rattle.cdc_types.specs.declared.events.EventTransfer.{EventTransfer}
-use Rattle.cdc_types.specs.declared.transfers.NewTransfer.{NewTransfer}
-use Rattle.cdc_types.specs.declared.transfers.Transfer.{Transfer}
-use Rattle.cdc_ledger.specs.Filling.{as_asked, filled}
-use Rattle.cdc_ledger.specs.Follows.{Follows}
-use Rattle.cdc_ledger.specs.History.{History}
-use Rattle.cdc_ledger.specs.Kinds.{settles, stores}
-use Rattle.cdc_ledger.specs.Submit.{entry_of}
-use Rattle.cdc_ledger.specs.Verdict.{transfer_refused}
-use Rattle.cdc_ledger.proofs.AcceptedLaws.{Follows-accepted}
-use Rattle.cdc_audit.specs.EventShapes.{asked_transfer}
+use Rattle.cdc_audit_laws.proofs.OfTypes.{Entry, Event, EventTransfer, NewTransfer, Transfer}
+use Rattle.cdc_audit_laws.proofs.OfLedger.{as_asked, filled, Follows, History, settles, stores, entry_of, transfer_refused, Follows-accepted}
+use Rattle.cdc_audit_laws.proofs.OfAudit.{asked_transfer}
 use Rattle.cdc_audit_laws.proofs.Coming.{Comes, asks_kind, not_refused, on_stored}
 use Rattle.cdc_audit_laws.proofs.Flags.{kind_is}
 use Rattle.cdc_audit_laws.proofs.Made.{IsShownBy, entry_with}

@@ -1,23 +1,9 @@
 -- What the events of entries show of transfers: those of the ledger.
-use Rattle.std.proofs.Common.{◌≡◌, ℕ, ◌≤◌, Bool, true, false, List, [], ◌∷◌, Some, None, map, refl, sym, ap, ◌∙◌, arith, le-leb}
-use Rattle.std.specs.Prelude.{◌==◌, ◌&&◌, nat_le, find, if◌then◌else◌}
-use Rattle.std.specs.List.{AllByRecursion, list_any}
-use Rattle.std.proofs.lemmas.Bool.{and_from, and_parts, or_from, or_parts}
-use Rattle.cdc_types.specs.declared.events.Entry.{Entry}
-use Rattle.cdc_types.specs.declared.events.Event.{Event}
-use Rattle.cdc_types.specs.declared.events.EventKind.{EventKind}
-use Rattle.cdc_types.specs.declared.events.EventKind.TheVariants.{SinglePhase, TwoPhasePending, TwoPhasePosted, TwoPhaseVoided, TwoPhaseExpired}
-use Rattle.cdc_types.specs.declared.transfers.Transfer.{Transfer}
-use Rattle.cdc_types.specs.Timestamps.{last_timestamp, last_timestamp_from}
-use Rattle.cdc_ledger.specs.Balances.{resolved, resolves}
-use Rattle.cdc_ledger.specs.Events.{event_of, events, shown_transfer}
-use Rattle.cdc_ledger.specs.Filling.{stored, stored_in}
-use Rattle.cdc_ledger.specs.History.{History}
-use Rattle.cdc_ledger.specs.Kinds.{holds, settled_id, settles, stores}
-use Rattle.cdc_ledger.proofs.BalanceLaws.{resolves_is, stores-holds}
-use Rattle.cdc_ledger.proofs.Changes.{IsUpTo}
-use Rattle.cdc_ledger.proofs.StoredLaws.{find_none, is_stored as stores_id}
-use Rattle.cdc_audit.specs.Known.{is_settled, is_stored, pending_amount, pending_event, settled_id_by}
+use Rattle.std.proofs.Common.{◌≡◌, ℕ, ◌≤◌, Bool, true, false, List, [], ◌∷◌, Some, None, map, refl, sym, ap, ◌∙◌, arith, le-leb, ◌==◌, ◌&&◌, nat_le, find, if◌then◌else◌}
+use Rattle.cdc_audit_laws.proofs.OfStd.{AllByRecursion, list_any, and_from, and_parts, or_from, or_parts}
+use Rattle.cdc_audit_laws.proofs.OfTypes.{Entry, Event, EventKind, Transfer, last_timestamp, last_timestamp_from}
+use Rattle.cdc_audit_laws.proofs.OfLedger.{resolved, resolves, event_of, events, shown_transfer, stored, stored_in, History, holds, settled_id, settles, stores, resolves_is, stores-holds, IsUpTo, find_none, is_stored as stores_id}
+use Rattle.cdc_audit_laws.proofs.OfAudit.{is_settled, is_stored, pending_amount, pending_event, settled_id_by}
 
 -- the events end no later than the entries
 last_timestamp-map : (h : History) (s t : ℕ) (es : List Entry) → s ≤ t → AllByRecursion (λ e. e.timestamp ≤ t) es
@@ -76,11 +62,7 @@ pending_amount-events h id x found holding = rw (first_pending h id x h.entries 
 
 -- an event names the same pending transfer as its entry
 pub settled_id-shown : (k : EventKind) (x : Transfer) → settled_id_by k (shown_transfer x) ≡ settled_id k x
-settled_id-shown SinglePhase x = refl
-settled_id-shown TwoPhasePending x = refl
-settled_id-shown TwoPhasePosted x = refl
-settled_id-shown TwoPhaseVoided x = refl
-settled_id-shown TwoPhaseExpired x = refl
+settled_id-shown k x = grind arith
 
 -- entries of which none resolves a transfer have events of which none settles it
 unsettled_from : (h : History) (p : Transfer) (t : ℕ) (es : List Entry) → AllByRecursion (λ e. e.timestamp ≤ t) es
@@ -89,8 +71,7 @@ unsettled_from : (h : History) (p : Transfer) (t : ℕ) (es : List Entry) → Al
     ≡ false
 unsettled_from h p t [] within none = refl
 unsettled_from h p t (e ∷ es) within none =
-    let parts = or_parts (nat_le e.timestamp t && resolves p e)
-    (list_any (λ x. nat_le x.timestamp t && resolves p x) es) none in
+    let parts = or_parts _ _ none in
     let first : (settles e.kind && (settled_id_by e.kind (shown_transfer e.transfer) == p.id)) ≡ false =
     ap (λ n. settles e.kind && (n == p.id)) (settled_id-shown e.kind e.transfer) ∙ sym (resolves_is e p)
     ∙ sym (ap (λ b. b && resolves p e) (le-leb e.timestamp t within.0)) ∙ parts.0 in
@@ -100,22 +81,3 @@ unsettled_from h p t (e ∷ es) within none =
 pub unsettled : (h : History) (p : Transfer) → IsUpTo h.last h → resolved h p h.last ≡ false
     → is_settled (events h) p.id ≡ false
 unsettled h p within none = unsettled_from h p h.last h.entries within none
-
--- and the other way round
-unresolved_from : (h : History) (p : Transfer) (t : ℕ) (es : List Entry) → AllByRecursion (λ e. e.timestamp ≤ t) es
-    → list_any (λ (e : Event). settles e.kind && (settled_id_by e.kind e.transfer == p.id)) (map (event_of h) es)
-    ≡ false
-    → list_any (λ e. nat_le e.timestamp t && resolves p e) es ≡ false
-unresolved_from h p t [] within none = refl
-unresolved_from h p t (e ∷ es) within none =
-    let parts = or_parts (settles e.kind && (settled_id_by e.kind (shown_transfer e.transfer) == p.id))
-    (list_any (λ (x : Event). settles x.kind && (settled_id_by x.kind x.transfer == p.id)) (map (event_of h) es))
-    none in
-    let first : (nat_le e.timestamp t && resolves p e) ≡ false =
-    ap (λ b. b && resolves p e) (le-leb e.timestamp t within.0) ∙ resolves_is e p
-    ∙ sym (ap (λ n. settles e.kind && (n == p.id)) (settled_id-shown e.kind e.transfer)) ∙ parts.0 in
-    or_from _ _ first (unresolved_from h p t es within.1 parts.1)
-
-pub unresolved : (h : History) (p : Transfer) → IsUpTo h.last h → is_settled (events h) p.id ≡ false
-    → resolved h p h.last ≡ false
-unresolved h p within none = unresolved_from h p h.last h.entries within none

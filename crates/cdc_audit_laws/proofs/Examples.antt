@@ -1,34 +1,15 @@
 -- The laws at work in short streams: what an audit finds, and what it can't find by nature.
-use Rattle.std.specs.Prelude.{ℕ, ◌+◌, ◌≡◌, ◌≢◌, true, false, List, [], ◌∷◌, ◌++◌, Some}
-use Rattle.std.proofs.Common.{refl, sym, ap, inl, arith}
-use Rattle.std.proofs.lemmas.Bool.{false≢true}
-use Rattle.cdc_types.specs.declared.accounts.Balances.{Balances}
-use Rattle.cdc_types.specs.declared.events.Event.{Event}
-use Rattle.cdc_types.specs.declared.events.EventAccount.{EventAccount}
-use Rattle.cdc_types.specs.declared.events.EventKind.{EventKind}
-use Rattle.cdc_types.specs.declared.events.EventKind.TheVariants.{SinglePhase, TwoPhasePending, TwoPhasePosted, TwoPhaseVoided, TwoPhaseExpired}
+use Rattle.std.proofs.Common.{ℕ, ◌+◌, ◌≡◌, ◌≢◌, true, false, List, [], ◌∷◌, ◌++◌, Some, refl, sym, ap, inl, arith}
+use Rattle.cdc_audit_laws.proofs.OfStd.{false≢true}
+use Rattle.cdc_audit_laws.proofs.OfTypes.{Balances, Event, EventAccount, EventKind, SinglePhase, TwoPhasePending, TwoPhasePosted, TwoPhaseVoided, TwoPhaseExpired}
+use Rattle.cdc_audit_laws.proofs.OfAudit.{Balance, NotPending, follows_on, is_accepted, balances_after, refusal}
 use Rattle.cdc_audit.specs.declared.refusals.BalanceField.TheVariants.{DebitsPosted}
-use Rattle.cdc_audit.specs.declared.refusals.Refusal.TheVariants.{Balance, NotPending}
-use Rattle.cdc_audit.specs.Audits.{follows_on, is_accepted}
-use Rattle.cdc_audit.specs.Known.{balances_after}
-use Rattle.cdc_audit.specs.Rules.{refusal}
 use Rattle.cdc_audit_laws.specs.Laws.{Shows, credits_posted_by, debits_posted_by}
+use Rattle.cdc_audit_laws.proofs.ExampleEvents.{account as account_at, event as event_with}
 
--- an account as an event shows it
+-- an account that was created a while before
 abbrev account : ℕ → ℕ → ℕ → ℕ → ℕ → EventAccount
-account id debits_pending debits_posted credits_pending credits_posted = record {
-  id = id;
-  debits_pending = debits_pending;
-  debits_posted = debits_posted;
-  credits_pending = credits_pending;
-  credits_posted = credits_posted;
-  user_data_128 = 0;
-  user_data_64 = 0;
-  user_data_32 = 0;
-  code = 10;
-  flags = 0;
-  timestamp = 1000 + id;
-}
+account id = account_at id (1000 + id)
 
 -- the flags of a transfer of this kind of event
 abbrev flags_of : EventKind → ℕ
@@ -40,25 +21,7 @@ flags_of TwoPhaseExpired = 2
 
 -- an event of this kind: its timestamp, the transfer's id and pending id, its amount, and the two accounts
 abbrev event : EventKind → ℕ → ℕ → ℕ → ℕ → EventAccount → EventAccount → Event
-event kind timestamp id pending_id amount debit credit = record {
-  timestamp = timestamp;
-  kind = kind;
-  ledger = 700;
-  transfer = record {
-    id = id;
-    amount = amount;
-    pending_id = pending_id;
-    user_data_128 = 0;
-    user_data_64 = 0;
-    user_data_32 = 0;
-    timeout = 0;
-    code = 1;
-    flags = flags_of kind;
-    timestamp = timestamp;
-  };
-  debit_account = debit;
-  credit_account = credit;
-}
+event kind timestamp id pending_id amount = event_with kind timestamp id pending_id amount 0 (flags_of kind) timestamp
 
 -- account 1 pays 10 to account 2
 abbrev paid : Event

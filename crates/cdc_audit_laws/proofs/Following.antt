@@ -1,22 +1,9 @@
 -- What an event that follows others has, in equations.
-use Rattle.std.proofs.Common.{◌≡◌, ◌≢◌, ℕ, ◌+◌, ◌<◌, Bool, true, false, not, List, [], ◌∷◌, ◌++◌, Some, None, is_none, if◌then◌else◌, refl}
-use Rattle.std.specs.Prelude.{◌==◌, ◌&&◌, nat_lt}
-use Rattle.std.proofs.lemmas.Bool.{eq-eqb, eqb-false, eqb-true, lt-ltb, ltb-true, ne_eqb, not-false, not_from_true}
-use Rattle.cdc_types.specs.declared.accounts.Balances.{Balances}
-use Rattle.cdc_types.specs.declared.bounds.TheConstants.Limits.{TIMESTAMP}
-use Rattle.cdc_types.specs.declared.events.Event.{Event}
-use Rattle.cdc_types.specs.Lines.{first_line}
-use Rattle.cdc_types.specs.Timestamps.{last_timestamp}
-use Rattle.cdc_ledger.specs.Kinds.{settles, stores}
-use Rattle.cdc_audit.specs.Known.{balances_after, ends_in_chain, is_settled, is_stored, last_expiry, pending_amount, settled_id}
-use Rattle.cdc_audit.specs.declared.refusals.Refusal.{Refusal}
-use Rattle.cdc_audit.specs.EventShapes.{shape_lines}
-use Rattle.cdc_audit.specs.Expiries.{expiry_lines, first_due}
-use Rattle.cdc_audit.specs.Apart.{apart_lines, times_before, times_lines, together_lines}
-use Rattle.cdc_audit.specs.Fields.{created_lines, fields_before, fields_lines}
-use Rattle.cdc_audit.specs.Limits.{limits_lines}
-use Rattle.cdc_audit.specs.Rules.{balances_lines, chain_lines, credit_lines, debit_lines, fixed_lines, held, order_lines, posted, refusal, released, settled_event, transfer_lines}
-use Rattle.cdc_audit.specs.Settling.{settling_lines}
+use Rattle.std.proofs.Common.{◌≡◌, ◌≢◌, ℕ, ◌+◌, ◌<◌, Bool, true, false, not, List, [], ◌∷◌, ◌++◌, Some, None, is_none, if◌then◌else◌, refl, ◌==◌, ◌&&◌, nat_lt, arith}
+use Rattle.cdc_audit_laws.proofs.OfStd.{eqb-false, lt-ltb, ltb-true, ne_eqb, not-false, not_from_true}
+use Rattle.cdc_audit_laws.proofs.OfTypes.{Balances, TIMESTAMP, Event, first_line, last_timestamp}
+use Rattle.cdc_audit_laws.proofs.OfLedger.{settles, stores}
+use Rattle.cdc_audit_laws.proofs.OfAudit.{balances_after, ends_in_chain, is_settled, is_stored, last_expiry, pending_amount, settled_id, Refusal, shape_lines, expiry_lines, first_due, times_before, times_lines, together_lines, created_lines, fields_before, fields_lines, limits_lines, balances_lines, chain_lines, fixed_lines, held, order_lines, posted, refusal, released, settled_event, transfer_lines, settling_lines}
 
 -- no line applies
 abbrev pub NoneApplies : {R : Type 0} → List (Bool × R) → Type 0
@@ -52,14 +39,10 @@ pub none_of_both : {R : Type 0} (first second : List (Bool × R)) → NoneApplie
 none_of_both [] second none others = others
 none_of_both (line ∷ first) second none others = (none.0, none_of_both first second none.1 others)
 
--- a balance that follows: what is shown and what is released are what was before and what is added
-not_balanced : (shown before added less : ℕ) → not (shown + less == before + added) ≡ false
-    → shown + less ≡ before + added
-not_balanced shown before added less line = eqb-true (shown + less) (before + added) (not-false _ line)
-
--- and the other way round
-balanced : (shown before added less : ℕ) → shown + less ≡ before + added → not (shown + less == before + added) ≡ false
-balanced shown before added less same = not_from_true _ (eq-eqb (shown + less) (before + added) same)
+-- the parts of the first line on a settled transfer, if it doesn't apply
+pub settled_parts : (a b c d e f g h : ℕ) (rest : Bool) → not (a == b && c == d && e == f && g == h && rest) ≡ false
+    → (a ≡ b) × (c ≡ d) × (e ≡ f) × (g ≡ h) × (rest ≡ true)
+settled_parts a b c d e f g h rest line = grind arith
 
 -- the account that an event debits has balances that follow from these, and its credits stay
 pub record IsDebited (past : List Event) (e : Event) (before : Balances) : Type 0 where
@@ -102,26 +85,7 @@ pub record FixedParts (past : List Event) (e : Event) : Type 0 where
   pub together : NoneApplies (together_lines e)
 
 pub fixed_parts : (past : List Event) (e : Event) → NoneApplies (fixed_lines past e) → FixedParts past e
-fixed_parts past e none =
-    let debit = fields_lines (fields_before past e.debit_account.id) e.ledger e.debit_account in
-    let credit = fields_lines (fields_before past e.credit_account.id) e.ledger e.credit_account in
-    let debit_times = times_before past e.debit_account in
-    let credit_times = times_before past e.credit_account in
-    let all = none_both (debit ++ credit ++ created_lines e) (apart_lines debit_times credit_times e) none in
-    let fields = none_both (debit ++ credit) (created_lines e) all.0 in
-    let both = none_both debit credit fields.0 in
-    let apart = none_both (times_lines debit_times e.debit_account ++ times_lines credit_times e.credit_account)
-    (together_lines e) all.1 in
-    let times = none_both (times_lines debit_times e.debit_account) (times_lines credit_times e.credit_account)
-    apart.0 in
-    record {
-      debit = both.0;
-      credit = both.1;
-      created = fields.1;
-      debit_times = times.0;
-      credit_times = times.1;
-      together = apart.1;
-    }
+fixed_parts past e none = grind arith
 
 -- no line of seven parts applies
 record NoneOfSeven (first second third fourth fifth sixth seventh : List (Bool × Refusal)) : Type 0 where
@@ -172,40 +136,12 @@ seven order shape fixed transfer settling limits balances none =
 balances_follow : (past : List Event) (e : Event) → NoneApplies (balances_lines past e)
     → IsDebited past e (balances_after past e.debit_account.id)
     × IsCredited past e (balances_after past e.credit_account.id)
-balances_follow past e none =
-    let debit = (none_both (debit_lines past e) (credit_lines past e) none).0 in
-    let credit = (none_both (debit_lines past e) (credit_lines past e) none).1 in (
-      record {
-        debits_pending = not_balanced _ _ _ _ debit.0;
-        debits_posted = not_balanced _ _ _ _ debit.1.0;
-        credits_pending = not_balanced _ _ _ _ debit.1.1.0;
-        credits_posted = not_balanced _ _ _ _ debit.1.1.1.0;
-      },
-      record {
-        debits_pending = not_balanced _ _ _ _ credit.0;
-        debits_posted = not_balanced _ _ _ _ credit.1.0;
-        credits_pending = not_balanced _ _ _ _ credit.1.1.0;
-        credits_posted = not_balanced _ _ _ _ credit.1.1.1.0;
-      },
-    )
+balances_follow past e none = grind arith
 
 -- and the other way round
 follow_balances : (past : List Event) (e : Event) → IsDebited past e (balances_after past e.debit_account.id)
     → IsCredited past e (balances_after past e.credit_account.id) → NoneApplies (balances_lines past e)
-follow_balances past e debited credited =
-    none_of_both (debit_lines past e) (credit_lines past e) (
-      balanced _ _ _ _ debited.debits_pending,
-      (
-        balanced _ _ _ _ debited.debits_posted,
-        (balanced _ _ _ _ debited.credits_pending, (balanced _ _ _ _ debited.credits_posted, tt)),
-      ),
-    ) (
-      balanced _ _ _ _ credited.debits_pending,
-      (
-        balanced _ _ _ _ credited.debits_posted,
-        (balanced _ _ _ _ credited.credits_pending, (balanced _ _ _ _ credited.credits_posted, tt)),
-      ),
-    )
+follow_balances past e debited credited = grind arith
 
 -- an event that isn't refused is one that can follow
 pub unrefused : (past : List Event) (e : Event) → refusal past e ≡ None → CanFollow past e

@@ -1,45 +1,11 @@
 -- What each request that is accepted and each expiry keeps holds of every legal history.
-use Rattle.std.proofs.Common.{ℕ, ◌+◌, ◌<◌, ◌≤◌, Bool, true, false, map, None, List, [], ◌∷◌, ◌++◌, ◌≡◌, ◌≢◌, Option, Some, ap, Result, Ok, Err, ◌||◌, refl, sym, ap₂, ◌∙◌, subst, arith, length}
-use Rattle.std.specs.Prelude.{◌==◌, ◌&&◌, ◌-◌, not, nat_le, filter, if◌then◌else◌, unwrap_or, IfSome}
-use Rattle.std.specs.List.{AllByRecursion}
-use Rattle.std.proofs.lemmas.Bool.{and_parts, false≢true, leb-true, ltb-false, ne_eqb, not-true}
-use Rattle.cdc_types.specs.declared.accounts.NewAccount.{NewAccount}
-use Rattle.cdc_types.specs.declared.batches.Batch.{Batch}
-use Rattle.cdc_types.specs.declared.batches.Batch.TheVariants as batch
-use Rattle.cdc_types.specs.declared.batches.BatchResults.{BatchResults}
-use Rattle.cdc_types.specs.declared.events.Entry.{Entry}
-use Rattle.cdc_types.specs.declared.events.EventKind.TheVariants.{SinglePhase, TwoPhasePending, TwoPhasePosted, TwoPhaseVoided}
-use Rattle.cdc_types.specs.declared.results.TransferResult.{TransferResult}
+use Rattle.std.proofs.Common.{ℕ, ◌+◌, ◌<◌, ◌≤◌, Bool, true, false, map, None, List, [], ◌∷◌, ◌++◌, ◌≡◌, ◌≢◌, Option, Some, ap, Result, Ok, Err, ◌||◌, refl, sym, ap₂, ◌∙◌, subst, arith, length, ◌==◌, ◌&&◌, ◌-◌, filter, if◌then◌else◌, IfSome}
+use Rattle.cdc_audit_laws.proofs.OfStd.{unwrap_or, AllByRecursion, false≢true, ltb-false, ne_eqb}
+use Rattle.cdc_audit_laws.proofs.OfTypes.{NewAccount, Batch, BatchResults, Entry, TransferResult, has_flag, is_linked_transfer, NewTransfer, Transfer, BATCH_ITEMS}
+use Rattle.cdc_audit_laws.proofs.OfLedger.{BatchError, expiry, pushed, timed, with_account, due, is_due, before_others, chains_from, chains_of, history_after, in_front, is_none_left, played, refused_in_chain, expires_at, filled, stores, History, empty_history, IsSound, IsLegal, account_rules, accounts_from, after_batches, base, entry_of, expiries_from, kind_of, history_or, is_past_the_end, opened_by, submit, taken, transfer_rules, transfers_from, closed_if, is_too_large, account_refused, max_timestamp, transfer_refused, Follows-accepted, accepted_account, resolved_then, items_from-keeps, All-in_order, AllByRecursion-both, AllByRecursion-weaker, after_last, submit_parts, within_end, Follows-open, HaveOwnIds, IsOpen, due_ids, due_open, IsSound-empty, IsSound-pushed, IsSound-timed, IsSound-with_account, stored-pushed_kept, AllByRecursion-every}
 use Rattle.cdc_types.specs.declared.transfers.TheConstants.TransferFlags.{LINKED}
-use Rattle.cdc_types.specs.Flags.{has_flag, is_linked_transfer, is_pending_request, is_plain_request, is_post_request, is_void_request}
-use Rattle.cdc_types.specs.declared.transfers.NewTransfer.{NewTransfer}
-use Rattle.cdc_types.specs.declared.transfers.Transfer.{Transfer}
-use Rattle.cdc_types.specs.declared.bounds.TheConstants.Limits.{BATCH_ITEMS}
-use Rattle.cdc_ledger.specs.declared.errors.BatchError.{BatchError}
-use Rattle.cdc_ledger.specs.declared.errors.BatchError.TheVariants.{LedgerClosed, BatchTooLarge, TimestampsExhausted}
-use Rattle.cdc_ledger.specs.BatchErrors.{batch_error_number}
-use Rattle.cdc_ledger.specs.Changes.{expiry, pushed, timed, with_account}
-use Rattle.cdc_ledger.specs.Due.{due, is_due}
-use Rattle.cdc_ledger.specs.Chains.{before_others, chains_from, chains_of, history_after, in_front, is_none_left, played, refused_in_chain}
-use Rattle.cdc_ledger.specs.Filling.{as_asked, expires_at, filled, filled_by, stored}
-use Rattle.cdc_ledger.specs.Kinds.{holds, stores}
-use Rattle.cdc_ledger.specs.Balances.{resolved}
-use Rattle.cdc_ledger.specs.History.{History, empty_history}
-use Rattle.cdc_ledger.specs.Sound.{IsSound}
-use Rattle.cdc_ledger.specs.Submit.{IsLegal, account_rules, accounts_from, after_batches, base, entry_of, expiries_from, kind_of, history_or, is_past_the_end, opened_by, submit, taken, transfer_rules, transfers_from, closed_if, is_too_large, items_of, refusal_of, time}
-use Rattle.cdc_ledger.specs.Verdict.{account_refused, max_timestamp, transfer_refused}
-use Rattle.cdc_ledger.proofs.AcceptedLaws.{Follows-accepted, accepted_account}
-use Rattle.cdc_ledger.proofs.BalanceLaws.{resolved_then}
-use Rattle.cdc_ledger.proofs.ChainLaws.{items_from-keeps}
-use Rattle.cdc_ledger.proofs.DueOrder.{All-in_order}
-use Rattle.cdc_ledger.proofs.Elements.{AllByRecursion-both, AllByRecursion-weaker}
-use Rattle.cdc_ledger.proofs.KeptLaws.{after_last, submit_parts, within_end}
-use Rattle.cdc_ledger.proofs.LegalLaws.{answered_ok}
-use Rattle.cdc_ledger.proofs.LineLaws.{test_fails}
-use Rattle.cdc_ledger.proofs.PulseLaws.{Follows-open, HaveOwnIds, IsOpen, due_ids, due_open}
-use Rattle.cdc_ledger.proofs.SoundLaws.{IsSound-empty, IsSound-pushed, IsSound-timed, IsSound-with_account}
-use Rattle.cdc_ledger.proofs.StoredLaws.{stored-pushed_kept}
-use Rattle.cdc_audit_laws.proofs.Pulses.{Clear, IsPulsing, clear-stored, clear_later, pulsing-due, pulsing-next}
+use Rattle.cdc_types.specs.declared.batches.Batch.TheVariants as batch
+use Rattle.cdc_audit_laws.proofs.Pulses.{Clear, IsPulsing, clear-stored, clear_later, pulsing-due, pulsing-next, passing_each}
 
 -- the expiry of one transfer leaves another one open
 open_after : (h : History) (p q : Transfer) (t : ℕ) → IsSound h → h.last < t → p.id ≢ q.id → IsOpen h q
@@ -58,37 +24,17 @@ pub record IsUp (p : Transfer) (t : ℕ) : Type 0 where
   pub timed : (p.timeout == 0) ≡ false
   pub ended : expires_at p ≤ t
 
--- the transfers of those of the entries that pass
-passing_all : (test : Entry → Bool) (P : Transfer → Type 0) → ((e : Entry) → test e ≡ true → P e.transfer)
-    → (es : List Entry) → AllByRecursion P (map (λ e. e.transfer) (filter test es))
-passing_all test P holds [] = tt
-passing_all test P holds (e ∷ es) = by (test e) refl (passing_all test P holds es)
-  where
-    by : (b : Bool) → test e ≡ b → AllByRecursion P (map (λ x. x.transfer) (filter test es))
-        → AllByRecursion P (map (λ x. x.transfer) (if b then e ∷ filter test es else filter test es))
-    by true passes more = (holds e passes, more)
-    by false passes more = more
-
 -- the time of each transfer that is due is up
 pub due_up : (h : History) (now : ℕ) → AllByRecursion (λ p. IsUp p now) (due h now)
 due_up h now =
     All-in_order (λ p. IsUp p now) (map (λ e. e.transfer) (filter (is_due h now) h.entries))
-    (passing_all (is_due h now) (λ p. IsUp p now) (λ e is.
-    let last = and_parts (holds e.kind && not (e.transfer.timeout == 0) && nat_le (expires_at e.transfer) now)
-    (not (resolved h e.transfer h.last)) is in
-    let ended = and_parts (holds e.kind && not (e.transfer.timeout == 0)) (nat_le (expires_at e.transfer) now) last.0 in
-    let timed = and_parts (holds e.kind) (not (e.transfer.timeout == 0)) ended.0 in
-    record {
-      timed = not-true (e.transfer.timeout == 0) timed.1;
-      ended = leb-true (expires_at e.transfer) now ended.1;
-    }) h.entries)
+    (passing_each (is_due h now) (λ p. IsUp p now) h.entries (AllByRecursion-every _ (λ e is. grind arith) h.entries))
 
 -- and stays so
 up_later : (s t : ℕ) (ps : List Transfer) → s ≤ t → AllByRecursion (λ p. IsUp p s) ps
     → AllByRecursion (λ p. IsUp p t) ps
 up_later s t ps later all =
-    AllByRecursion-weaker (λ p. IsUp p s) (λ p. IsUp p t)
-    (λ p is. record { timed = is.timed; ended = let before = is.ended in omega arith }) ps all
+    AllByRecursion-weaker _ _ (λ p is. record { timed = is.timed; ended = let before = is.ended in omega arith }) ps all
 
 -- an entry stored a transfer that is linked to the next one
 abbrev pub links : Entry → Bool
@@ -149,26 +95,10 @@ end_from-push t (x ∷ es) e = end_from-push x.timestamp es e
 
 -- a request has its flags once it is filled in, and is stored
 same_flags : (h : History) (r : NewTransfer) (t : ℕ) → (filled h r t).flags ≡ r.flags
-same_flags h r t = by (is_plain_request r) (stored h r.pending_id)
-  where
-    by : (plain : Bool) (named : Option Entry)
-        → (if plain then as_asked r t else filled_by named r t).flags ≡ r.flags
-    by true named = refl
-    by false None = refl
-    by false (Some x) = refl
+same_flags h r t = grind arith
 
 pub stores_asked : (r : NewTransfer) → stores (kind_of r) ≡ true
-stores_asked r = by (is_pending_request r) (is_post_request r) (is_void_request r)
-  where
-    by : (pending post void : Bool)
-        → stores
-        (if pending then TwoPhasePending else if post then TwoPhasePosted
-        else if void then TwoPhaseVoided else SinglePhase)
-        ≡ true
-    by true post void = refl
-    by false true void = refl
-    by false false true = refl
-    by false false false = refl
+stores_asked r = grind arith
 
 -- so it links if it is linked
 links_asked : (h : History) (r : NewTransfer) (t : ℕ) → links (entry_of h r t) ≡ is_linked_transfer r
@@ -176,13 +106,7 @@ links_asked h r t = ap₂ (λ b n. b && has_flag n LINKED) (stores_asked r) (sam
 
 -- a request that is filled in has this timestamp
 at_its_time : (h : History) (r : NewTransfer) (t : ℕ) → (filled h r t).timestamp ≡ t
-at_its_time h r t = by (is_plain_request r) (stored h r.pending_id)
-  where
-    by : (plain : Bool) (named : Option Entry)
-        → (if plain then as_asked r t else filled_by named r t).timestamp ≡ t
-    by true named = refl
-    by false None = refl
-    by false (Some x) = refl
+at_its_time h r t = grind arith
 
 -- how many items there are in these chains
 abbrev pub total : {A : Type 0} → List (List A) → ℕ
@@ -191,9 +115,7 @@ total (chain ∷ chains) = length chain + total chains
 
 total-in_front : {A : Type 0} (b : Bool) (a : A) (chains : List (List A))
     → total (in_front b a chains) ≡ 1 + total chains
-total-in_front false a chains = refl
-total-in_front true a [] = refl
-total-in_front true a (chain ∷ chains) = omega arith
+total-in_front b a chains = grind arith
 
 -- the chains of a batch have its items
 pub total-chains_of : {A : Type 0} (linked : A → Bool) (items : List A) → total (chains_of linked items) ≡ length items
@@ -206,11 +128,7 @@ total-chains_of linked (a ∷ rest) =
 -- a batch that is answered isn't too large
 pub not_large : (h : History) (b : Batch) (answer : BatchResults × History) → submit h b ≡ Ok answer
     → is_too_large b ≡ false
-not_large h b answer e =
-    test_fails batch_error_number BatchTooLarge
-    ((h.closed, LedgerClosed) ∷ (is_too_large b, BatchTooLarge)
-    ∷ (is_past_the_end h (time b) (items_of h b), TimestampsExhausted) ∷ [])
-    (answered_ok (refusal_of h b) (taken h b) answer e)
+not_large h b answer e = grind arith
 
 -- the property holds of a new ledger, and each of these keeps it: a transfer that is accepted, the expiry of an open
 -- one, an account that is accepted, a timestamp that is taken, and closing the ledger
@@ -379,10 +297,8 @@ module _ (P : History → Type 0) (on_empty : P empty_history)
       (on_expiry h now t p ps sound later all up.0 unchained pulsing next has)
       (links_from-push false h.entries (expiry p t))
       (pulsing-next h now t p ps sound later up.0.ended pulsing)
-      (AllByRecursion-weaker (λ q. (p.id ≢ q.id) × IsOpen h q) (IsOpen (pushed h (expiry p t)))
-      (λ q at. open_after h p q t sound later at.0 at.1) ps
-      (AllByRecursion-both (λ q. p.id ≢ q.id) (IsOpen h) ps own.0 all.1))
-      (up_later t (t + 1) ps (omega arith) up.1)
+      (AllByRecursion-weaker _ _ (λ q at. open_after h p q t sound later at.0 at.1) ps
+      (AllByRecursion-both _ _ ps own.0 all.1)) (up_later t (t + 1) ps (omega arith) up.1)
       own.1 (omega arith) (λ some. omega arith)
 
   -- a batch that is answered
@@ -398,16 +314,14 @@ module _ (P : History → Type 0) (on_empty : P empty_history)
       (taken h (batch.Transfers now items) ≡ answer) = submit_parts h (batch.Transfers now items) answer e in
       subst (λ (a : BatchResults × History). Keeps a.1) parts.1
       (keeps-transfers h (base h now) items keeps (after_last h now)
-      (ltb-false BATCH_ITEMS (length items) (not_large h (batch.Transfers now items) answer e))
-      (within_end h now (length items) parts.0))
+      (ltb-false _ _ (not_large h (batch.Transfers now items) answer e)) (within_end h now (length items) parts.0))
   keeps-submit h (batch.Pulse now) answer keeps e =
       let parts : (is_past_the_end h now (length (due h now)) ≡ false) × (taken h (batch.Pulse now) ≡ answer) =
       submit_parts h (batch.Pulse now) answer e in
       subst (λ (a : BatchResults × History). Keeps a.1) parts.1
       (keeps-expiries h now (base h now) (due h now) keeps.0 keeps.1 keeps.2
       (pulsing-due h now (base h now) keeps.3
-      (AllByRecursion-weaker (λ p. IsUp p now) (λ p. expires_at p ≤ now) (λ p up. up.ended) (due h now) (due_up h now)))
-      (due_open h now keeps.0)
+      (AllByRecursion-weaker _ _ (λ p up. up.ended) (due h now) (due_up h now))) (due_open h now keeps.0)
       (up_later now (base h now) (due h now) (omega arith) (due_up h now)) (due_ids h now keeps.0)
       (after_last h now) (within_end h now (length (due h now)) parts.0))
 

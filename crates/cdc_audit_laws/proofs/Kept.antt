@@ -1,33 +1,9 @@
 -- What holds of the accounts of every legal history, and of the ledger of its entries.
-use Rattle.std.proofs.Common.{◌≡◌, ◌≢◌, ℕ, ◌+◌, ◌<◌, ◌≤◌, Bool, true, false, List, Option, Some, None, refl, sym, ap, ◌∙◌, subst, inl, inr, arith}
-use Rattle.std.specs.Prelude.{◌==◌, if◌then◌else◌, unwrap_or, IsSome}
-use Rattle.std.specs.List.{AllByRecursion}
-use Rattle.std.proofs.lemmas.Bool.{ne_eqb}
-use Rattle.std.proofs.lemmas.Bool.Decides.{eqb_tells}
-use Rattle.cdc_types.specs.declared.accounts.Balances.{Balances}
-use Rattle.cdc_types.specs.declared.accounts.NewAccount.{NewAccount}
-use Rattle.cdc_types.specs.declared.accounts.TheConstants.AccountFlags.{CREDITS_MUST_NOT_EXCEED_DEBITS, DEBITS_MUST_NOT_EXCEED_CREDITS}
-use Rattle.cdc_types.specs.declared.events.Entry.{Entry}
-use Rattle.cdc_types.specs.declared.events.EventKind.{EventKind}
-use Rattle.cdc_types.specs.declared.events.EventKind.TheVariants.{SinglePhase, TwoPhasePending, TwoPhasePosted, TwoPhaseVoided, TwoPhaseExpired}
-use Rattle.cdc_types.specs.Flags.{has_flag}
-use Rattle.cdc_types.specs.Shapes.{account_refusal}
-use Rattle.cdc_ledger.specs.Balances.{balances}
-use Rattle.cdc_ledger.specs.Changes.{pushed, timed, with_account}
-use Rattle.cdc_ledger.specs.Effects.{amount_of, balances_after_entry, effect_of, part}
-use Rattle.cdc_ledger.specs.Events.{nobody}
-use Rattle.cdc_ledger.specs.Follows.{Follows, SettlesOpen}
-use Rattle.cdc_ledger.specs.History.{History, Opened, empty_history, opened}
-use Rattle.cdc_ledger.specs.Kinds.{holds, moves, settles}
-use Rattle.cdc_ledger.specs.Sound.{HasAccounts, IsSound}
-use Rattle.cdc_ledger.specs.Submit.{opened_by}
-use Rattle.cdc_ledger.specs.Verdict.{account_refused}
-use Rattle.cdc_ledger.proofs.AcceptedLaws.{accepted_account}
-use Rattle.cdc_ledger.proofs.BalanceLaws.{balances-pushed, balances_later, balances_none, released_credit, released_debit, settled_by_is}
-use Rattle.cdc_ledger.proofs.Elements.{AllByRecursion-both, AllByRecursion-weaker, AllByRecursion_push}
-use Rattle.cdc_ledger.proofs.OpenedLaws.{opened-with_account_same}
-use Rattle.cdc_ledger.proofs.StoredLaws.{find_all}
-use Rattle.cdc_audit_laws.proofs.Created.{AreBy, AreOwn, own-account, own-closed, own-empty, own-pushed, own-timed}
+use Rattle.std.proofs.Common.{◌≡◌, ◌≢◌, ℕ, ◌+◌, ◌<◌, ◌≤◌, Bool, true, false, List, Option, Some, None, refl, sym, ap, ◌∙◌, subst, inl, inr, arith, ◌==◌, IsSome}
+use Rattle.cdc_audit_laws.proofs.OfStd.{eq-eqb, unwrap_or, AllByRecursion, ne_eqb, eqb_tells}
+use Rattle.cdc_audit_laws.proofs.OfTypes.{Balances, NewAccount, CREDITS_MUST_NOT_EXCEED_DEBITS, DEBITS_MUST_NOT_EXCEED_CREDITS, Entry, has_flag, account_refusal}
+use Rattle.cdc_audit_laws.proofs.OfLedger.{balances, pushed, timed, with_account, balances_after_entry, effect_of, part, nobody, Follows, History, Opened, empty_history, opened, settles, HasAccounts, IsSound, opened_by, account_refused, accepted_account, balances-pushed, balances_later, balances_none, released_credit, released_debit, AllByRecursion-both, AllByRecursion-weaker, AllByRecursion_push, opened-with_account_same, find_all}
+use Rattle.cdc_audit_laws.proofs.Created.{AreBy, AreOwn, own-account, own-closed, own-pushed, own-timed}
 use Rattle.cdc_audit_laws.proofs.Requests.{Enters, HasLedger, account_of}
 
 -- balances keep the limits that an account's flags set
@@ -49,18 +25,13 @@ pub record IsKept (h : History) : Type 0 where
   pub own : AreOwn h
 
 pub kept-empty : IsKept empty_history
-kept-empty = record {
-  accounts = tt;
-  ledgers = tt;
-  limits = λ id. record { debits = λ is. omega arith; credits = λ is. omega arith };
-  own = own-empty;
-}
+kept-empty = grind arith
 
 -- accounts that were created by one time were created by a later one
 created_later : (s t : ℕ) (os : List Opened) → s ≤ t → AllByRecursion (IsCreated s) os
     → AllByRecursion (IsCreated t) os
 created_later s t os later all =
-    AllByRecursion-weaker (IsCreated s) (IsCreated t) (λ o is. (is.0, let before = is.1 in omega arith, is.2)) os all
+    AllByRecursion-weaker _ _ (λ o is. (is.0, let before = is.1 in omega arith, is.2)) os all
 
 -- each account was created by the last timestamp
 created_by : (h : History) → IsKept h → AreBy h
@@ -70,7 +41,7 @@ created_by h kept i o is =
 pub kept-timed : (h : History) (t : ℕ) → IsSound h → h.last ≤ t → IsKept h → IsKept (timed h t)
 kept-timed h t sound later kept = record {
   accounts = created_later h.last t h.accounts later kept.accounts;
-  ledgers = AllByRecursion-weaker (HasLedger h) (HasLedger (timed h t))
+  ledgers = AllByRecursion-weaker _ _
       (λ e has. record { debit = has.debit; credit = has.credit; code = has.code }) h.entries kept.ledgers;
   limits = λ id. subst (IsLimited (account_of h id).request.flags)
       (sym (balances_later h id h.last t sound.past later)) (kept.limits id);
@@ -80,7 +51,7 @@ kept-timed h t sound later kept = record {
 pub kept-closed : (h : History) (closed : Bool) → IsKept h → IsKept (record h { closed = closed })
 kept-closed h closed kept = record {
   accounts = kept.accounts;
-  ledgers = AllByRecursion-weaker (HasLedger h) (HasLedger (record h { closed = closed }))
+  ledgers = AllByRecursion-weaker _ _
       (λ e has. record { debit = has.debit; credit = has.credit; code = has.code }) h.entries kept.ledgers;
   limits = λ id. record { debits = (kept.limits id).debits; credits = (kept.limits id).credits };
   own = own-closed h closed kept.own;
@@ -121,11 +92,11 @@ module _ (h : History) (a : NewAccount) (t : ℕ) (sound : IsSound h) (later : h
 
   pub kept-account : IsKept after
   kept-account = record {
-    accounts = AllByRecursion_push (IsCreated t) h.accounts (opened_by a t)
+    accounts = AllByRecursion_push _ h.accounts (opened_by a t)
         (created_later h.last t h.accounts (omega arith) kept.accounts)
         ((accepted_account h a none).0, omega arith, omega arith);
-    ledgers = AllByRecursion-weaker (λ e. HasAccounts h e × HasLedger h e) (HasLedger after) ledger_still h.entries
-        (AllByRecursion-both (HasAccounts h) (HasLedger h) h.entries sound.known kept.ledgers);
+    ledgers = AllByRecursion-weaker _ _ ledger_still h.entries
+        (AllByRecursion-both _ _ h.entries sound.known kept.ledgers);
     limits = λ id. subst (IsLimited (account_of after id).request.flags)
         (sym (balances_later h id h.last t sound.past (omega arith))) (limited_still id);
     own = own-account h (opened_by a t) (created_by h kept) sound.past later kept.own;
@@ -134,32 +105,11 @@ module _ (h : History) (a : NewAccount) (t : ℕ) (sound : IsSound h) (later : h
 -- ---- one more entry
 
 -- an account's share of an amount, on its own side and on the other one
-part_own : (a n : ℕ) → part a a n ≡ n
-part_own a n = elim (eqb_tells a a) [
-  | inl same ↦ rw same.0 refl
-  | inr other ↦ absurd (other.1 refl)
-]
+pub part_own : (a n : ℕ) → part a a n ≡ n
+part_own a n = rw (eq-eqb a a refl) refl
 
-part_other : (side a n : ℕ) → side ≢ a → part side a n ≡ 0
+pub part_other : (side a n : ℕ) → side ≢ a → part side a n ≡ 0
 part_other side a n other = rw (ne_eqb side a other) refl
-
--- what a plain entry holds and moves is its amount
-moved_at_most : (k : EventKind) (n : ℕ) → settles k ≡ false
-    → (if holds k then n else 0) + (if moves k then n else 0) ≤ n
-moved_at_most SinglePhase n is = omega arith
-moved_at_most TwoPhasePending n is = omega arith
-moved_at_most TwoPhasePosted n is = cc
-moved_at_most TwoPhaseVoided n is = cc
-moved_at_most TwoPhaseExpired n is = cc
-
--- one that settles a pending transfer holds nothing, and moves at most what it releases
-settled_at_most : (k : EventKind) (n p : ℕ) → settles k ≡ true → n ≤ p
-    → (if holds k then n else 0) + (if moves k then n else 0) ≤ p
-settled_at_most SinglePhase n p is most = cc
-settled_at_most TwoPhasePending n p is most = cc
-settled_at_most TwoPhasePosted n p is most = omega arith
-settled_at_most TwoPhaseVoided n p is most = omega arith
-settled_at_most TwoPhaseExpired n p is most = omega arith
 
 module _ (h : History) (e : Entry) (sound : IsSound h) (follows : Follows h e) (after : h.last < e.timestamp)
     (enters : Enters h e) (kept : IsKept h) where
@@ -179,84 +129,46 @@ module _ (h : History) (e : Entry) (sound : IsSound h) (follows : Follows h e) (
   -- a sum stays within its limit: the entry settles, or it is within the limit itself
   within : (sum limit : ℕ) → sum ≤ limit
       → (settles e.kind ≡ false → sum + e.transfer.amount ≤ limit) → sum + held + moved ≤ limit + released
-  within sum limit before plain = by (settles e.kind) refl
-    where
-      by : (b : Bool) → settles e.kind ≡ b → sum + held + moved ≤ limit + released
-      by true is =
-          let of : SettlesOpen h e = follows.settling is in
-          let releases : released ≡ of.pending.transfer.amount =
-          ap amount_of (settled_by_is h e of.pending is of.settles) in
-          let most = settled_at_most e.kind e.transfer.amount of.pending.transfer.amount is of.settles.within in
-          omega arith
-      by false is =
-          let most = moved_at_most e.kind e.transfer.amount is in
-          let all = plain is in
-          omega arith
+  within sum limit before plain = grind arith
 
   -- the debited account
   limited_debit : IsLimited (account_of h e.transfer.debit_account_id).request.flags
       (balances (pushed h e) e.transfer.debit_account_id e.timestamp)
   limited_debit =
       let d = e.transfer.debit_account_id in
-      let c = e.transfer.credit_account_id in
-      let not : c ≢ d = λ same. follows.apart (sym same) in
+      let not : e.transfer.credit_account_id ≢ d = λ same. follows.apart (sym same) in
       let before = kept.limits d in
       let enough = released_debit h e sound follows after in
-      let held_is = part_own d held in
-      let released_is = part_own d released in
-      let moved_is = part_own d moved in
-      let no_held = part_other c d held not in
-      let no_released = part_other c d released not in
-      let no_moved = part_other c d moved not in
       subst (IsLimited (account_of h d).request.flags) (sym (now d)) (record {
         debits = λ flag.
-            let most = within ((balances h d h.last).debits_pending + (balances h d h.last).debits_posted)
-            (balances h d h.last).credits_posted (before.debits flag)
-            (λ is. (enters.limits is).debit flag) in
-            omega arith;
-        credits = λ flag. let most = before.credits flag in omega arith;
+            let most = within _ _ (before.debits flag) (λ is. (enters.limits is).debit flag) in
+            omega (arith, part_own, part_other);
+        credits = λ flag. let most = before.credits flag in omega (arith, part_own, part_other);
       })
 
   -- the credited account
   limited_credit : IsLimited (account_of h e.transfer.credit_account_id).request.flags
       (balances (pushed h e) e.transfer.credit_account_id e.timestamp)
   limited_credit =
-      let d = e.transfer.debit_account_id in
       let c = e.transfer.credit_account_id in
-      let not : d ≢ c = follows.apart in
+      let not : e.transfer.debit_account_id ≢ c = follows.apart in
       let before = kept.limits c in
       let enough = released_credit h e sound follows after in
-      let held_is = part_own c held in
-      let released_is = part_own c released in
-      let moved_is = part_own c moved in
-      let no_held = part_other d c held not in
-      let no_released = part_other d c released not in
-      let no_moved = part_other d c moved not in
       subst (IsLimited (account_of h c).request.flags) (sym (now c)) (record {
-        debits = λ flag. let most = before.debits flag in omega arith;
+        debits = λ flag. let most = before.debits flag in omega (arith, part_own, part_other);
         credits = λ flag.
-            let most = within ((balances h c h.last).credits_pending + (balances h c h.last).credits_posted)
-            (balances h c h.last).debits_posted (before.credits flag)
-            (λ is. (enters.limits is).credit flag) in
-            omega arith;
+            let most = within _ _ (before.credits flag) (λ is. (enters.limits is).credit flag) in
+            omega (arith, part_own, part_other);
       })
 
   -- any other account
   limited_other : (a : ℕ) → e.transfer.debit_account_id ≢ a → e.transfer.credit_account_id ≢ a
       → IsLimited (account_of h a).request.flags (balances (pushed h e) a e.timestamp)
   limited_other a not_debited not_credited =
-      let d = e.transfer.debit_account_id in
-      let c = e.transfer.credit_account_id in
       let before = kept.limits a in
-      let no_held = part_other d a held not_debited in
-      let no_released = part_other d a released not_debited in
-      let no_moved = part_other d a moved not_debited in
-      let none_held = part_other c a held not_credited in
-      let none_released = part_other c a released not_credited in
-      let none_moved = part_other c a moved not_credited in
       subst (IsLimited (account_of h a).request.flags) (sym (now a)) (record {
-        debits = λ flag. let most = before.debits flag in omega arith;
-        credits = λ flag. let most = before.credits flag in omega arith;
+        debits = λ flag. let most = before.debits flag in omega (arith, part_other);
+        credits = λ flag. let most = before.credits flag in omega (arith, part_other);
       })
 
   limited_each : (a : ℕ) → IsLimited (account_of h a).request.flags (balances (pushed h e) a e.timestamp)
@@ -276,8 +188,7 @@ module _ (h : History) (e : Entry) (sound : IsSound h) (follows : Follows h e) (
   pub kept-pushed : IsKept (pushed h e)
   kept-pushed = record {
     accounts = created_later h.last e.timestamp h.accounts (omega arith) kept.accounts;
-    ledgers = AllByRecursion_push (HasLedger (pushed h e)) h.entries e
-        (AllByRecursion-weaker (HasLedger h) (HasLedger (pushed h e))
+    ledgers = AllByRecursion_push _ h.entries e (AllByRecursion-weaker _ _
         (λ x has. record { debit = has.debit; credit = has.credit; code = has.code }) h.entries kept.ledgers)
         (record { debit = enters.ledger.debit; credit = enters.ledger.credit; code = enters.ledger.code });
     limits = limited_each;

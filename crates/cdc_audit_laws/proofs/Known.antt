@@ -1,52 +1,15 @@
 -- Each account has the same fields wherever accepted events show it.
-use Rattle.std.proofs.Common.{◌≡◌, ℕ, Bool, true, false, not, List, [], ◌∷◌, ◌++◌, Option, Some, None, if◌then◌else◌, refl, sym, ap, ap₂, ◌∙◌, subst, append_assoc}
-use Rattle.std.specs.Prelude.{◌==◌, nat_eq}
-use Rattle.std.specs.List.{AllByRecursion}
-use Rattle.std.specs.Map.{lookup}
-use Rattle.std.specs.Option.{option_or}
-use Rattle.std.proofs.lemmas.Bool.{eq-eqb, eqb-true, ne_eqb, not-false}
-use Rattle.std.proofs.lemmas.Grind.{flat_map-append}
-use Rattle.std.proofs.lemmas.List.{append-nil}
-use Rattle.cdc_types.specs.declared.events.Event.{Event}
-use Rattle.cdc_types.specs.declared.events.EventAccount.{EventAccount}
-use Rattle.cdc_ledger.proofs.Elements.{AllByRecursion-weaker}
-use Rattle.cdc_audit.specs.declared.fields.FixedFields.{FixedFields}
-use Rattle.cdc_audit.specs.Audits.{follows_on}
-use Rattle.cdc_audit.specs.Fields.{accounts_of, fields_before, fields_lines, fixed_fields, same_lines}
+use Rattle.std.proofs.Common.{◌≡◌, ℕ, Bool, true, false, List, [], ◌∷◌, ◌++◌, Option, Some, None, if◌then◌else◌, refl, sym, ap, ap₂, ◌∙◌, subst, append_assoc, ◌==◌, nat_eq, append-nil, arith}
+use Rattle.cdc_audit_laws.proofs.OfStd.{AllByRecursion, lookup, option_or, eq-eqb, ne_eqb, flat_map-append}
+use Rattle.cdc_audit_laws.proofs.OfTypes.{Event, EventAccount}
+use Rattle.cdc_audit_laws.proofs.OfLedger.{AllByRecursion-weaker}
+use Rattle.cdc_audit_laws.proofs.OfAudit.{FixedFields, follows_on, accounts_of, fields_before, fields_lines, fixed_fields, same_lines}
 use Rattle.cdc_audit_laws.specs.Soundness.{accounts_in}
 use Rattle.cdc_audit_laws.proofs.Following.{CanFollow, FixedParts, NoneApplies, fixed_parts}
 use Rattle.cdc_audit_laws.proofs.Streams.{first_follows}
 
--- fields of which none differs are the same
-seven_same : (a b c d e f g h i j k l m n : ℕ) → a ≡ h → b ≡ i → c ≡ j → d ≡ k → e ≡ l → f ≡ m → g ≡ n
-    → ◌≡◌ {A = FixedFields} (record {
-      user_data_128 = a;
-      user_data_64 = b;
-      user_data_32 = c;
-      ledger = d;
-      code = e;
-      flags = f;
-      timestamp = g;
-    }) (record {
-      user_data_128 = h;
-      user_data_64 = i;
-      user_data_32 = j;
-      ledger = k;
-      code = l;
-      flags = m;
-      timestamp = n;
-    })
-seven_same a b c d e f g h i j k l m n one two three four five six seven = cc
-
 none_differs : (id : ℕ) (one other : FixedFields) → NoneApplies (same_lines id one other) → one ≡ other
-none_differs id one other none =
-    seven_same _ _ _ _ _ _ _ _ _ _ _ _ _ _ (same one.user_data_128 other.user_data_128 none.0)
-    (same one.user_data_64 other.user_data_64 none.1.0) (same one.user_data_32 other.user_data_32 none.1.1.0)
-    (same one.ledger other.ledger none.1.1.1.0) (same one.code other.code none.1.1.1.1.0)
-    (same one.flags other.flags none.1.1.1.1.1.0) (same one.timestamp other.timestamp none.1.1.1.1.1.1.0)
-  where
-    same : (m n : ℕ) → not (m == n) ≡ false → m ≡ n
-    same m n line = eqb-true m n (not-false _ line)
+none_differs id one other none = grind arith
 
 -- the events show these fields of the account first
 abbrev pub IsKnown : List Event → ℕ × FixedFields → Type 0
@@ -107,8 +70,7 @@ module _ (past : List Event) (e : Event) (can : CanFollow past e) where
       ap₂ (λ a b. if a then Some d_fields else if b then Some c_fields else None)
       (ne_eqb c.id d.id (λ same. can.apart (sym same))) (eq-eqb c.id c.id refl) in
       subst (AllByRecursion (IsKnown (past ++ e ∷ []))) (sym (flat_map-append accounts_of past (e ∷ [])))
-      (all_parts (IsKnown (past ++ e ∷ [])) (accounts_in past) (accounts_of e)
-      (AllByRecursion-weaker (IsKnown past) (IsKnown (past ++ e ∷ [])) still_known (accounts_in past) known)
+      (all_parts _ _ _ (AllByRecursion-weaker _ _ still_known (accounts_in past) known)
       (now_known d lines.debit d_found, (now_known c lines.credit c_found, tt)))
 
 pub all_known : (past rest : List Event) → follows_on past rest ≡ true

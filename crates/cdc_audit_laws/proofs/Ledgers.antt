@@ -1,119 +1,42 @@
 -- The events of a ledger are accepted.
-use Rattle.std.proofs.Common.{◌≡◌, ◌≢◌, ℕ, ◌<◌, ◌≤◌, Bool, true, false, List, [], ◌∷◌, ◌++◌, Option, Some, None, is_none, map, ◌+◌, refl, sym, ap, ap₂, ◌∙◌, subst, inl, inr, arith}
-use Rattle.std.specs.List.{AllByRecursion, flat_map}
+use Rattle.std.proofs.Common.{◌≡◌, ◌≢◌, ℕ, ◌<◌, ◌≤◌, Bool, true, false, List, [], ◌∷◌, ◌++◌, Option, Some, None, is_none, map, ◌+◌, refl, sym, ap, ap₂, ◌∙◌, subst, inl, inr, arith, ◌==◌, ◌&&◌, nat_eq, nat_le, nat_lt, not, filter, IfSome, IsSome, if◌then◌else◌}
+use Rattle.cdc_audit_laws.proofs.OfStd.{AllByRecursion, flat_map, lookup, unwrap_or, and_from, and_parts, eq-eqb, eqb-true, le-ltb, leb-true, lt-ltb, not-true, not_from_true, eqb_tells}
+use Rattle.cdc_audit_laws.proofs.OfTypes.{Balances, TIMESTAMP, Entry, Event, EventKind, TwoPhaseExpired, EventAccount, NewTransfer, NewAccount, CREDITS_MUST_NOT_EXCEED_DEBITS, DEBITS_MUST_NOT_EXCEED_CREDITS, has_flag, account_number, account_refusal, account_shape_lines, transfer_refusal, last_timestamp, last_timestamp_from, max_128, Transfer}
+use Rattle.cdc_audit_laws.proofs.OfLedger.{balances, expiry, pushed, timed, with_account, amount_of, balances_after_entry, effect_of, event_of, events, shown_transfer, expires_at, stored, Follows, SettlesOpen, History, Opened, empty_history, opened, holds, settled_id, settles, stores, HasAccounts, IsSound, IsLegal, entry_of, opened_by, max_timestamp, Follows-accepted, balances-pushed, balances_later, released_credit, released_debit, same_balances, settled_by_is, settled_by_none, AllByRecursion-every, AllByRecursion-weaker, events-pushed, events-with_account, test_fails, Follows-open, find_all, is_stored as stores_id, stored_has}
+use Rattle.cdc_audit_laws.proofs.OfAudit.{is_accepted, balances_after, ends_in_chain, is_settled, is_stored, last_expiry as last_shown, last_expiry_from, linked_from, open_event, pending_amount, pending_event, settled_id_by, FixedFields, TransferShape, OtherKind, OtherTimestamp, account_lines as shape_account_lines, asked_account, asked_transfer, is_of_kind, refused_as, shape_lines, stored_lines, apart_lines, times_before, times_lines, together_lines, accounts_of, created_lines, fields_before, fields_lines, fixed_fields, same_lines, all_credits, all_debits, limit_lines, limits_lines, chain_lines, fixed_lines, released, settled_event, expires_at as expires_at_shown, has_data_of, is_same_transfer, settling_lines, can_expire, expiry_lines, first_due, is_sooner, first_of-all, passing}
 use Rattle.std.specs.Option.{option_map}
-use Rattle.std.specs.Map.{lookup}
-use Rattle.std.specs.Prelude.{◌==◌, ◌&&◌, nat_eq, nat_le, nat_lt, not, filter, IfSome, IsSome, if◌then◌else◌, unwrap_or}
-use Rattle.std.proofs.lemmas.Bool.{and_from, and_left, and_right, and_parts, eq-eqb, eqb-false, eqb-true, le-ltb, leb-true, lt-ltb, ne_eqb, not-true, not_from_false, not_from_true}
-use Rattle.std.proofs.lemmas.Bool.Decides.{eqb_tells}
-use Rattle.cdc_types.specs.declared.accounts.Balances.{Balances}
-use Rattle.cdc_types.specs.declared.bounds.TheConstants.Limits.{TIMESTAMP}
-use Rattle.cdc_types.specs.declared.events.Entry.{Entry}
-use Rattle.cdc_types.specs.declared.events.Event.{Event}
-use Rattle.cdc_types.specs.declared.events.EventKind.{EventKind}
-use Rattle.cdc_types.specs.declared.events.EventKind.TheVariants.{SinglePhase, TwoPhasePending, TwoPhasePosted, TwoPhaseVoided, TwoPhaseExpired}
-use Rattle.cdc_types.specs.declared.events.EventAccount.{EventAccount}
-use Rattle.cdc_types.specs.declared.events.EventTransfer.{EventTransfer}
 use Rattle.cdc_types.specs.declared.results.AccountResult.TheVariants as account
 use Rattle.cdc_types.specs.declared.results.TransferResult.TheVariants as transfer
-use Rattle.cdc_types.specs.declared.transfers.NewTransfer.{NewTransfer}
-use Rattle.cdc_types.specs.declared.accounts.NewAccount.{NewAccount}
-use Rattle.cdc_types.specs.declared.accounts.TheConstants.AccountFlags.{CREDITS_MUST_NOT_EXCEED_DEBITS, DEBITS_MUST_NOT_EXCEED_CREDITS}
-use Rattle.cdc_types.specs.Flags.{has_flag}
-use Rattle.cdc_types.specs.Results.{account_number}
-use Rattle.cdc_types.specs.Shapes.{account_refusal, account_shape_lines, transfer_refusal}
-use Rattle.cdc_types.specs.Timestamps.{last_timestamp, last_timestamp_from}
-use Rattle.cdc_types.specs.Widths.{max_128}
-use Rattle.cdc_types.specs.declared.transfers.Transfer.{Transfer}
-use Rattle.cdc_ledger.specs.Balances.{balances}
-use Rattle.cdc_ledger.specs.Changes.{expiry, pushed, timed, with_account}
-use Rattle.cdc_ledger.specs.Effects.{amount_of, balances_after_entry, effect_of, part}
-use Rattle.cdc_ledger.specs.Events.{event_of, events, nobody, shown_transfer}
-use Rattle.cdc_ledger.specs.Filling.{expires_at, stored}
-use Rattle.cdc_ledger.specs.Follows.{Follows, SettlesOpen}
-use Rattle.cdc_ledger.specs.History.{History, Opened, empty_history, opened}
-use Rattle.cdc_ledger.specs.Kinds.{holds, settled_id, settles, stores}
-use Rattle.cdc_ledger.specs.Sound.{HasAccounts, IsSound}
-use Rattle.cdc_ledger.specs.Submit.{IsLegal, entry_of, opened_by}
-use Rattle.cdc_ledger.specs.Verdict.{max_timestamp}
-use Rattle.cdc_ledger.proofs.AcceptedLaws.{Follows-accepted}
-use Rattle.cdc_ledger.proofs.BalanceLaws.{balances-pushed, balances_later, released_credit, released_debit, same_balances, settled_by_is, settled_by_none}
-use Rattle.cdc_ledger.proofs.Elements.{AllByRecursion-every, AllByRecursion-weaker}
-use Rattle.cdc_ledger.proofs.EventLaws.{events-pushed, events-with_account}
-use Rattle.cdc_ledger.proofs.LineLaws.{test_fails}
-use Rattle.cdc_ledger.proofs.OpenedLaws.{opened_id}
-use Rattle.cdc_ledger.proofs.PulseLaws.{Follows-open}
-use Rattle.cdc_ledger.proofs.StoredLaws.{find_all, is_stored as stores_id, stored_has}
-use Rattle.cdc_audit.specs.Audits.{is_accepted}
-use Rattle.cdc_audit.specs.Known.{balances_after, ends_in_chain, is_settled, is_stored, last_expiry as last_shown, last_expiry_from, linked_from}
-use Rattle.cdc_audit.specs.Known.{open_event, pending_amount, pending_event, settled_id_by}
-use Rattle.cdc_audit.specs.declared.fields.FixedFields.{FixedFields}
-use Rattle.cdc_audit.specs.declared.refusals.Refusal.TheVariants.{TransferShape, OtherKind, OtherTimestamp}
-use Rattle.cdc_audit.specs.EventShapes.{account_lines as shape_account_lines, asked_account, asked_transfer, is_of_kind, refused_as, shape_lines, stored_lines}
-use Rattle.cdc_audit.specs.Apart.{apart_lines, times_before, times_lines, together_lines}
-use Rattle.cdc_audit.specs.Fields.{accounts_of, created_lines, fields_before, fields_lines, fixed_fields, same_lines}
-use Rattle.cdc_audit.specs.Limits.{all_credits, all_debits, limit_lines, limits_lines}
-use Rattle.cdc_audit.specs.Rules.{chain_lines, fixed_lines, released, settled_event}
-use Rattle.cdc_audit.specs.Settling.{expires_at as expires_at_shown, has_data_of, is_same_transfer, settling_lines}
-use Rattle.cdc_audit.specs.Expiries.{can_expire, expiry_lines, first_due, is_sooner}
-use Rattle.cdc_audit.proofs.FirstLemmas.{first_of-all, passing}
 use Rattle.cdc_audit_laws.specs.Laws.{LedgersAreAccepted}
-use Rattle.cdc_audit_laws.proofs.Created.{own_pair, own_times}
-use Rattle.cdc_audit_laws.proofs.Entries.{last_timestamp-events, pending_amount-events, pending_event-events, settled_id-shown, unresolved, unsettled, unstored}
+use Rattle.cdc_audit_laws.proofs.Created.{own_pair, own_times, id_found}
+use Rattle.cdc_audit_laws.proofs.Entries.{last_timestamp-events, pending_amount-events, pending_event-events, settled_id-shown, unsettled, unstored}
 use Rattle.cdc_audit_laws.proofs.Following.{CanFollow, IsCredited, IsDebited, NoneApplies, none_of_both}
-use Rattle.cdc_audit_laws.proofs.Keeping.{end_from, is_in_chain, kept_by_legal, links, links_from, stores_asked}
-use Rattle.cdc_audit_laws.proofs.Kept.{IsCreated, IsKept, IsLimited, kept-account, kept-closed, kept-empty, kept-pushed, kept-timed}
-use Rattle.cdc_audit_laws.proofs.Requests.{Enters, HasLedger, HasShape, KeepsFields, account_of, asked, enters-accepted}
-use Rattle.cdc_audit_laws.proofs.Requests.{enters-expiry, keeps_data}
+use Rattle.cdc_audit_laws.proofs.Keeping.{end_from, kept_by_legal, links, links_from, stores_asked}
+use Rattle.cdc_audit_laws.proofs.Kept.{part_other, part_own, IsCreated, IsKept, IsLimited, kept-account, kept-closed, kept-empty, kept-pushed, kept-timed}
+use Rattle.cdc_audit_laws.proofs.Requests.{Enters, HasLedger, HasShape, KeepsFields, account_of, asked, enters-accepted, enters-expiry, keeps_data, account_is}
 use Rattle.cdc_audit_laws.proofs.Pulses.{LetsPass, expiry_from, in_turn-expiry, in_turn-stored, last_expiry}
 use Rattle.cdc_audit_laws.proofs.Shown.{balances_after-credited, balances_after-debited, balances_after-other, balances_of}
 use Rattle.cdc_audit_laws.proofs.Streams.{accepted-push, none_follows, prefixes_are_accepted}
+use Rattle.cdc_audit_laws.proofs.Cases.{◌&◌, and_unless}
+use Rattle.cdc_audit_laws.proofs.Traces.{unresolved}
 
 -- the events of a history are accepted, and show last the balances of each account
 pub record IsAudited (h : History) : Type 0 where
   pub accepted : is_accepted (events h) ≡ true
   pub shown : (id : ℕ) → balances_after (events h) id ≡ balances h id h.last
 
--- an account that is there is shown under its id
-pub id_found : (h : History) (id : ℕ) (o : Option Opened) → opened h id ≡ o → IsSome o
-    → (unwrap_or o nobody).request.id ≡ id
-id_found h id None is found = cc
-id_found h id (Some x) is found = opened_id h x id is
-
 -- what is stored under an id has this id
 stored_id : (h : History) (id : ℕ) (x : Entry) → stored h id ≡ Some x → x.transfer.id ≡ id
 stored_id h id x there =
     let passes = find_all (stores_id id) (λ e. Unit {0}) h.entries x
-    (AllByRecursion-every (λ e. Unit {0}) (λ e. tt) h.entries) there in
+    (AllByRecursion-every _ (λ e. tt) h.entries) there in
     eqb-true x.transfer.id id (and_parts (stores x.kind) (x.transfer.id == id) passes.0).1
-
--- the share of the account on a side, and of another one
-pub part_own : (a n : ℕ) → part a a n ≡ n
-part_own a n = rw (eq-eqb a a refl) refl
-
-pub part_other : (side a n : ℕ) → side ≢ a → part side a n ≡ 0
-part_other side a n other = rw (ne_eqb side a other) refl
-
--- a transfer is the same as itself
-is_same : (x : EventTransfer) → is_same_transfer x x ≡ true
-is_same x =
-    and_from _ _ (and_from _ _ (and_from _ _ (and_from _ _ (and_from _ _ (and_from _ _ (and_from _ _ (and_from _ _
-    (and_from _ _ (eq-eqb x.id x.id refl) (eq-eqb x.amount x.amount refl)) (eq-eqb x.pending_id x.pending_id refl))
-    (eq-eqb x.user_data_128 x.user_data_128 refl)) (eq-eqb x.user_data_64 x.user_data_64 refl))
-    (eq-eqb x.user_data_32 x.user_data_32 refl)) (eq-eqb x.timeout x.timeout refl)) (eq-eqb x.code x.code refl))
-    (eq-eqb x.flags x.flags refl)) (eq-eqb x.timestamp x.timestamp refl)
 
 -- an expiry has the whole transfer that it settles, and any other one its user data
 whole : (k : EventKind) (x p : Transfer) → (k ≡ TwoPhaseExpired → x ≡ p) → (stores k ≡ true → keeps_data p x ≡ true)
     → (if stores k then has_data_of (shown_transfer p) (shown_transfer x)
     else is_same_transfer (shown_transfer x) (shown_transfer p)) ≡ true
-whole SinglePhase x p shown kept = kept refl
-whole TwoPhasePending x p shown kept = kept refl
-whole TwoPhasePosted x p shown kept = kept refl
-whole TwoPhaseVoided x p shown kept = kept refl
-whole TwoPhaseExpired x p shown kept =
-    ap (λ (y : Transfer). is_same_transfer (shown_transfer x) (shown_transfer y)) (sym (shown refl))
-    ∙ is_same (shown_transfer x)
+whole k x p shown kept = grind arith
 
 -- the fields of an account that was opened
 abbrev pub fixed_of : Opened → FixedFields
@@ -129,44 +52,17 @@ fixed_of o = record {
 
 -- no line applies to fields that are the same
 all_same : (id : ℕ) (one other : FixedFields) → one ≡ other → NoneApplies (same_lines id one other)
-all_same id one other is = subst (λ x. NoneApplies (same_lines id one x)) is (
-  same_one one.user_data_128,
-  (
-    same_one one.user_data_64,
-    (
-      same_one one.user_data_32,
-      (
-        same_one one.ledger,
-        (same_one one.code, (same_one one.flags, (same_one one.timestamp, tt))),
-      ),
-    ),
-  ),
-)
-  where
-    same_one : (n : ℕ) → not (n == n) ≡ false
-    same_one n = not_from_true _ (eq-eqb n n refl)
+all_same id one other is = grind arith
 
 -- a limit that is kept, if the flag is set
 guard : (flag : Bool) (limit sum : ℕ) → (flag ≡ true → sum ≤ limit) → (flag && nat_lt limit sum) ≡ false
-guard true limit sum keeps = le-ltb limit sum (keeps refl)
-guard false limit sum keeps = refl
+guard flag limit sum keeps = and_unless _ _ (λ set. le-ltb limit sum (keeps set))
 
 -- what is found under an id among two accounts, and then the others, if each has what it has to have
 pick : (id d c e f : ℕ) (of_d of_c x : FixedFields) (rest : Option FixedFields) (has : ℕ → FixedFields) → d ≡ e → c ≡ f
     → of_d ≡ has e → of_c ≡ has f → (rest ≡ Some x → x ≡ has id)
     → (if id == d then Some of_d else if id == c then Some of_c else rest) ≡ Some x → x ≡ has id
-pick id d c e f of_d of_c x rest has d_is c_is of_d_is of_c_is later found =
-    by (id == d) refl (id == c) refl found
-  where
-    by : (p : Bool) → (id == d) ≡ p → (q : Bool) → (id == c) ≡ q
-        → (if p then Some of_d else if q then Some of_c else rest) ≡ Some x → x ≡ has id
-    by true p_is q q_is found =
-        let same : of_d ≡ x = cc in
-        sym same ∙ of_d_is ∙ ap has (sym (eqb-true id d p_is ∙ d_is))
-    by false p_is true q_is found =
-        let same : of_c ≡ x = cc in
-        sym same ∙ of_c_is ∙ ap has (sym (eqb-true id c q_is ∙ c_is))
-    by false p_is false q_is found = later found
+pick id d c e f of_d of_c x rest has d_is c_is of_d_is of_c_is later found = grind arith
 
 -- what events show of an account first, if each entry has the ledger of its accounts
 first_from : (h : History) (es : List Entry) → AllByRecursion (HasAccounts h) es → AllByRecursion (HasLedger h) es
@@ -180,7 +76,7 @@ first_from h (e ∷ es) known ledgers id x found =
     pick id event.debit_account.id event.credit_account.id d c (fixed_fields e.transfer.ledger event.debit_account)
     (fixed_fields e.transfer.ledger event.credit_account) x
     (lookup (nat_eq id) (flat_map accounts_of (map (event_of h) es))) (λ n. fixed_of (account_of h n))
-    (id_found h d _ refl known.0.0) (id_found h c _ refl known.0.1)
+    (id_found h d known.0.0) (id_found h c known.0.1)
     (ap (λ n. record (fixed_of (account_of h d)) { ledger = n }) ledgers.0.debit)
     (ap (λ n. record (fixed_of (account_of h c)) { ledger = n }) ledgers.0.credit)
     (first_from h es known.1 ledgers.1 id x) found
@@ -192,18 +88,12 @@ first_fields h sound kept id x found = first_from h h.entries sound.known kept.l
 
 -- an expiry of a transfer whose time is up, and a post or a void of one whose time isn't
 has_timeout : (storing zero up : Bool) → (storing ≡ false → (not zero && up) ≡ true) → (not storing && zero) ≡ false
-has_timeout true zero up is = refl
-has_timeout false true up is = let no = is refl in cc
-has_timeout false false up is = refl
+has_timeout storing zero up is = grind arith
 
 not_too_soon : (storing zero : Bool) (t end : ℕ) → (storing ≡ false → (not zero && nat_le end t) ≡ true)
     → (not storing && nat_lt t end) ≡ false
 not_too_soon true zero t end is = refl
 not_too_soon false zero t end is = le-ltb t end (leb-true end t (and_parts (not zero) (nat_le end t) (is refl)).1)
-
-not_too_late : (storing up : Bool) → (storing ≡ true → up ≡ false) → (storing && up) ≡ false
-not_too_late true up is = is refl
-not_too_late false up is = refl
 
 -- the events of entries end within a chain if these do, and at the same timestamp
 pub same_chain : (h : History) (b : Bool) (es : List Entry) → linked_from b (map (event_of h) es) ≡ links_from b es
@@ -227,13 +117,7 @@ same_expiry h last (e ∷ es) =
 -- what allows it that an expiry comes right after one of the same time
 apart_none : (a b t s : ℕ) (storing : Bool) → (a ≡ b → (storing ≡ false) × (t ≡ s + 1))
     → ((a == b) && not (not storing && (t == s + 1))) ≡ false
-apart_none a b t s storing next = by (a == b) refl
-  where
-    by : (same : Bool) → (a == b) ≡ same → (same && not (not storing && (t == s + 1))) ≡ false
-    by true is =
-        let both = next (eqb-true a b is) in
-        not_from_true _ (and_from _ _ (not_from_false _ both.0) (eq-eqb t (s + 1) both.1))
-    by false is = refl
+apart_none a b t s storing next = grind arith
 
 -- what holds of each image
 pub all_images : (h : History) (P : Event → Type 0) (es : List Entry) → AllByRecursion (λ y. P (event_of h y)) es
@@ -254,10 +138,10 @@ module _ (h : History) (e : Entry) (sound : IsSound h) (follows : Follows h e) (
 
   -- has its accounts
   debit_id : event.debit_account.id ≡ e.transfer.debit_account_id
-  debit_id = id_found h e.transfer.debit_account_id _ refl follows.accounts.0
+  debit_id = id_found h e.transfer.debit_account_id follows.accounts.0
 
   credit_id : event.credit_account.id ≡ e.transfer.credit_account_id
-  credit_id = id_found h e.transfer.credit_account_id _ refl follows.accounts.1
+  credit_id = id_found h e.transfer.credit_account_id follows.accounts.1
 
   apart : event.debit_account.id ≢ event.credit_account.id
   apart same = follows.apart (sym debit_id ∙ same ∙ credit_id)
@@ -268,7 +152,7 @@ module _ (h : History) (e : Entry) (sound : IsSound h) (follows : Follows h e) (
       × ((event_of h x).credit_account.id ≡ x.transfer.credit_account_id)
   ids_of x id there =
       let known : HasAccounts h x = stored_has (HasAccounts h) h id x sound.known there in
-      (id_found h x.transfer.debit_account_id _ refl known.0, id_found h x.transfer.credit_account_id _ refl known.1)
+      (id_found h x.transfer.debit_account_id known.0, id_found h x.transfer.credit_account_id known.1)
 
   -- the id of the pending transfer that it settles
   abbrev named_id : ℕ
@@ -288,33 +172,19 @@ module _ (h : History) (e : Entry) (sound : IsSound h) (follows : Follows h e) (
 
   -- a transfer that it stores is new
   is_new : (stores event.kind && is_stored (events h) event.transfer.id) ≡ false
-  is_new = by (stores e.kind) refl
-    where
-      by : (b : Bool) → stores e.kind ≡ b → (stores e.kind && is_stored (events h) e.transfer.id) ≡ false
-      by true is = ap₂ (λ b c. b && c) is (unstored h e.transfer.id (follows.fresh is))
-      by false is = and_left (stores e.kind) _ is
+  is_new = and_unless _ _ (λ is. unstored h e.transfer.id (follows.fresh is))
 
   -- the transfer that it settles is pending
   is_pending : (settles event.kind && is_none (pending_amount (events h) named_id)) ≡ false
-  is_pending = by (settles e.kind) refl
-    where
-      by : (b : Bool) → settles e.kind ≡ b → (settles e.kind && is_none (pending_amount (events h) named_id)) ≡ false
-      by true is = ap₂ (λ b (o : Option ℕ). b && is_none o) is (amount_of_settled is)
-      by false is = and_left (settles e.kind) _ is
+  is_pending = and_unless _ _ (λ is. ap (λ (o : Option ℕ). is_none o) (amount_of_settled is))
 
   -- and no event settled it
   is_unsettled : (settles event.kind && is_settled (events h) named_id) ≡ false
-  is_unsettled = by (settles e.kind) refl
-    where
-      by : (b : Bool) → settles e.kind ≡ b → (settles e.kind && is_settled (events h) named_id) ≡ false
-      by true is =
-          let of : SettlesOpen h e = follows.settling is in
-          let named : of.pending.transfer.id ≡ settled_id e.kind e.transfer =
-          stored_id h (settled_id e.kind e.transfer) of.pending of.settles.named in
-          ap₂ (λ b c. b && c) is
-          (ap (is_settled (events h)) (same_id ∙ sym named)
-          ∙ unsettled h of.pending.transfer sound.past of.unsettled)
-      by false is = and_left (settles e.kind) _ is
+  is_unsettled =
+      and_unless _ _ (λ is.
+      let of : SettlesOpen h e = follows.settling is in
+      let named = stored_id h (settled_id e.kind e.transfer) of.pending of.settles.named in
+      ap (is_settled (events h)) (same_id ∙ sym named) ∙ unsettled h of.pending.transfer sound.past of.unsettled)
 
   -- the pending transfer that it settles has its accounts, its ledger and its code, and an amount that it may have
   is_settling : NoneApplies (settling_lines (settled_event (events h) event) event)
@@ -335,23 +205,13 @@ module _ (h : History) (e : Entry) (sound : IsSound h) (follows : Follows h e) (
           ∙ ap (λ b. if b then None else pending_event (events h) named_id) unsettled_yet
           ∙ ap (pending_event (events h)) same_id
           ∙ pending_event-events h (settled_id e.kind e.transfer) x of.settles.named of.settles.pending in
-          rw shown (
-            not_from_true _ (and_from _ _ (and_from _ _ (and_from _ _ (and_from _ _
-                (eq-eqb _ _ (debit_id ∙ of.settles.debit ∙ sym ids.0))
-                (eq-eqb _ _ (credit_id ∙ of.settles.credit ∙ sym ids.1)))
-                (eq-eqb _ _ keeps.ledger)) (eq-eqb _ _ keeps.code))
-                (whole e.kind e.transfer x.transfer of.settles.shown keeps.user_data)),
-            (
-              not_from_true _ keeps.amount,
-              (
-                has_timeout (stores e.kind) _ _ keeps.ended,
-                (
-                  not_too_soon (stores e.kind) _ e.timestamp (expires_at x.transfer) keeps.ended,
-                  (not_too_late (stores e.kind) _ keeps.timely, tt),
-                ),
-              ),
-            ),
-          )
+          rw shown (not_from_true _ (and_from _ _ (and_from _ _ (and_from _ _ (and_from _ _
+          (eq-eqb _ _ (debit_id ∙ of.settles.debit ∙ sym ids.0))
+          (eq-eqb _ _ (credit_id ∙ of.settles.credit ∙ sym ids.1))) (eq-eqb _ _ keeps.ledger))
+          (eq-eqb _ _ keeps.code)) (whole e.kind e.transfer x.transfer of.settles.shown keeps.user_data))
+          & not_from_true _ keeps.amount & has_timeout (stores e.kind) _ _ keeps.ended
+          & not_too_soon (stores e.kind) _ e.timestamp (expires_at x.transfer) keeps.ended
+          & and_unless _ _ keeps.timely & tt)
 
   -- the transfer as a request, and its accounts as requests
   asked_is : asked_transfer event ≡ asked e.transfer
@@ -361,24 +221,15 @@ module _ (h : History) (e : Entry) (sound : IsSound h) (follows : Follows h e) (
 
   debit_asked : asked_account event.ledger event.debit_account
       ≡ (account_of h e.transfer.debit_account_id).request
-  debit_asked =
-      ap (λ n. let a : NewAccount = record (account_of h e.transfer.debit_account_id).request { ledger = n } in a)
-      enters.ledger.debit
+  debit_asked = grind arith
 
   credit_asked : asked_account event.ledger event.credit_account
       ≡ (account_of h e.transfer.credit_account_id).request
-  credit_asked =
-      ap (λ n. let a : NewAccount = record (account_of h e.transfer.credit_account_id).request { ledger = n } in a)
-      enters.ledger.credit
+  credit_asked = grind arith
 
   -- both accounts were accepted, before the event
   created : (id : ℕ) → IsSome (opened h id) → IsCreated h.last (account_of h id)
-  created id there = by (opened h id) refl there
-    where
-      by : (o : Option Opened) → opened h id ≡ o → IsSome o → IsCreated h.last (unwrap_or o nobody)
-      by None is some = cc
-      by (Some o) is some =
-          (find_all (λ (x : Opened). x.request.id == id) (IsCreated h.last) h.accounts o kept.accounts is).1
+  created id there = (find_all _ _ _ _ kept.accounts (account_is h id there)).1
 
   -- its fields are those that a ledger lets a request have
   account_none : (a : EventAccount) (request : NewAccount) → asked_account event.ledger a ≡ request
@@ -395,14 +246,7 @@ module _ (h : History) (e : Entry) (sound : IsSound h) (follows : Follows h e) (
   -- a pending transfer with a timeout expires by the greatest timestamp
   expires_in_time : (holds e.kind && not (e.transfer.timeout == 0) && nat_lt max_timestamp (expires_at e.transfer))
       ≡ false
-  expires_in_time = by (holds e.kind) refl (e.transfer.timeout == 0) refl
-    where
-      by : (holding : Bool) → holds e.kind ≡ holding → (zero : Bool) → (e.transfer.timeout == 0) ≡ zero
-          → (holding && not zero && nat_lt max_timestamp (expires_at e.transfer)) ≡ false
-      by false held zero is = refl
-      by true held true is = refl
-      by true held false is =
-          le-ltb max_timestamp (expires_at e.transfer) (follows.timely held (eqb-false e.transfer.timeout 0 is))
+  expires_in_time = grind arith
 
   has_shape : NoneApplies (shape_lines event)
   has_shape =
@@ -429,20 +273,9 @@ module _ (h : History) (e : Entry) (sound : IsSound h) (follows : Follows h e) (
             OtherTimestamp event.transfer.id event.transfer.timestamp event.timestamp,
           ) ∷
           []
-          )
-          (rw (ap transfer_refusal asked_is ∙ shape.fields) tt) (
-            ledger_some,
-            (
-              enters.ledger.code,
-              (
-                expires_in_time,
-                (
-                  not_from_true _ (ap (is_of_kind e.kind) asked_is ∙ shape.kind),
-                  (not_from_true _ (eq-eqb e.transfer.timestamp e.timestamp (follows.dated is)), tt),
-                ),
-              ),
-            ),
-          )
+          ) (rw (ap transfer_refusal asked_is ∙ shape.fields) tt) (ledger_some & enters.ledger.code & expires_in_time
+          & not_from_true _ (ap (is_of_kind e.kind) asked_is ∙ shape.kind)
+          & not_from_true _ (eq-eqb e.transfer.timestamp e.timestamp (follows.dated is)) & tt)
 
       by : (b : Bool) → stores e.kind ≡ b → NoneApplies (if b then stored_lines event else [])
       by true is = stored_none is
@@ -509,19 +342,11 @@ module _ (h : History) (e : Entry) (sound : IsSound h) (follows : Follows h e) (
       (subst (IsLimited (account_of h id).request.flags) (sym sums_are)
       ((kept-pushed h e sound follows after enters kept).limits id)) in
       let bounded = subst (λ (b : Balances). (b.debits_pending + b.debits_posted ≤ max_128)
-      × (b.credits_pending + b.credits_posted ≤ max_128)) (sym sums_are) (next.bounded id) in (
-        le-ltb max_128 (all_debits a) bounded.0,
-        (
-          le-ltb max_128 (all_credits a) bounded.1,
-          (
-            guard (has_flag a.flags DEBITS_MUST_NOT_EXCEED_CREDITS) a.credits_posted (all_debits a) limited.debits,
-            (
-              guard (has_flag a.flags CREDITS_MUST_NOT_EXCEED_DEBITS) a.debits_posted (all_credits a) limited.credits,
-              tt,
-            ),
-          ),
-        ),
-      )
+      × (b.credits_pending + b.credits_posted ≤ max_128)) (sym sums_are) (next.bounded id) in
+      (le-ltb max_128 (all_debits a) bounded.0 & le-ltb max_128 (all_credits a) bounded.1
+      & guard (has_flag a.flags DEBITS_MUST_NOT_EXCEED_CREDITS) a.credits_posted (all_debits a) limited.debits
+      & guard (has_flag a.flags CREDITS_MUST_NOT_EXCEED_DEBITS) a.debits_posted (all_credits a) limited.credits
+      & tt)
 
   -- an open pending transfer lets the event pass after this last expiry
   Allows : Option Entry → Event → Type 0
@@ -538,13 +363,11 @@ module _ (h : History) (e : Entry) (sound : IsSound h) (follows : Follows h e) (
       first_of-all (Allows last) (filter (can_expire (events h)) (events h))
       (passing (can_expire (events h)) (Allows last) (events h)
       (all_images h (λ f. can_expire (events h) f ≡ true → Allows last f) h.entries
-      (AllByRecursion-weaker (LetsPass last h e)
-      (λ y. can_expire (events h) (event_of h y) ≡ true → Allows last (event_of h y))
-      (λ y lets passes.
+      (AllByRecursion-weaker _ _ (λ y lets passes.
       let both = and_parts (holds y.kind && not (y.transfer.timeout == 0))
       (not (is_settled (events h) y.transfer.id)) passes in
       let timed = and_parts (holds y.kind) (not (y.transfer.timeout == 0)) both.0 in
-      lets timed.0 (not-true _ timed.1) (unresolved h y.transfer sound.past (not-true _ both.1))) h.entries all)))
+      lets timed.0 (not-true _ timed.1) (unresolved h y.transfer h.last (not-true _ both.1))) h.entries all)))
 
   -- so no line on expiries applies
   has_order : NoneApplies (expiry_lines (first_due (events h)) (last_shown (events h)) event)
@@ -574,17 +397,13 @@ module _ (h : History) (e : Entry) (sound : IsSound h) (follows : Follows h e) (
 
   -- after a linked transfer it stores one, one nanosecond later
   has_next : NoneApplies (chain_lines (ends_in_chain (events h)) (last_timestamp (events h)) event)
-  has_next = (by (is_in_chain h) refl, tt)
-    where
-      by : (b : Bool) → is_in_chain h ≡ b
-          → (ends_in_chain (events h) && not (stores e.kind && (e.timestamp == last_timestamp (events h) + 1))) ≡ false
-      by true is =
-          let next = enters.chain is in
-          let at : e.timestamp ≡ last_timestamp (events h) + 1 =
-          next.1 ∙ ap (λ n. n + 1) (sym (same_end h 0 h.entries)) in
-          and_right (ends_in_chain (events h)) _
-          (not_from_true _ (and_from (stores e.kind) _ next.0 (eq-eqb e.timestamp (last_timestamp (events h) + 1) at)))
-      by false is = and_left (ends_in_chain (events h)) _ (same_chain h false h.entries ∙ is)
+  has_next = (
+    and_unless _ _ (λ is.
+        let next = enters.chain (sym (same_chain h false h.entries) ∙ is) in
+        let at = next.1 ∙ ap (λ n. n + 1) (sym (same_end h 0 h.entries)) in
+        not_from_true _ (and_from _ _ next.0 (eq-eqb _ _ at))),
+    tt,
+  )
 
   has_limits : NoneApplies (limits_lines event)
   has_limits =
@@ -613,52 +432,30 @@ module _ (h : History) (e : Entry) (sound : IsSound h) (follows : Follows h e) (
   debited : IsDebited (events h) event (balances_after (events h) event.debit_account.id)
   debited =
       let d = e.transfer.debit_account_id in
-      let c = e.transfer.credit_account_id in
-      let f = effect_of h e in
-      let not : c ≢ d = λ same. follows.apart (sym same) in
-      let shows : balances_after (events h) event.debit_account.id ≡ balances h d h.last =
-      ap (balances_after (events h)) debit_id ∙ audited.shown d in
+      let not : e.transfer.credit_account_id ≢ d = λ same. follows.apart (sym same) in
       let enough = released_debit h e sound follows after in
       let release = same_released in
-      rw shows (record {
-        debits_pending =
-            let is = ap (λ (b : Balances). b.debits_pending) (now d) in
-            omega (arith, is, part_own d f.held, part_own d f.released);
-        debits_posted =
-            let is = ap (λ (b : Balances). b.debits_posted) (now d) in
-            omega (arith, is, part_own d f.moved);
-        credits_pending =
-            let is = ap (λ (b : Balances). b.credits_pending) (now d) in
-            omega (arith, is, part_other c d f.held not, part_other c d f.released not);
-        credits_posted =
-            let is = ap (λ (b : Balances). b.credits_posted) (now d) in
-            omega (arith, is, part_other c d f.moved not);
+      let is = now d in
+      rw (ap (balances_after (events h)) debit_id ∙ audited.shown d) (record {
+        debits_pending = omega (arith, ap (λ (b : Balances). b.debits_pending) is, part_own);
+        debits_posted = omega (arith, ap (λ (b : Balances). b.debits_posted) is, part_own);
+        credits_pending = omega (arith, ap (λ (b : Balances). b.credits_pending) is, part_other);
+        credits_posted = omega (arith, ap (λ (b : Balances). b.credits_posted) is, part_other);
       })
 
   -- and those of the credited one
   credited : IsCredited (events h) event (balances_after (events h) event.credit_account.id)
   credited =
-      let d = e.transfer.debit_account_id in
       let c = e.transfer.credit_account_id in
-      let f = effect_of h e in
-      let not : d ≢ c = follows.apart in
-      let shows : balances_after (events h) event.credit_account.id ≡ balances h c h.last =
-      ap (balances_after (events h)) credit_id ∙ audited.shown c in
+      let not : e.transfer.debit_account_id ≢ c = follows.apart in
       let enough = released_credit h e sound follows after in
       let release = same_released in
-      rw shows (record {
-        debits_pending =
-            let is = ap (λ (b : Balances). b.debits_pending) (now c) in
-            omega (arith, is, part_other d c f.held not, part_other d c f.released not);
-        debits_posted =
-            let is = ap (λ (b : Balances). b.debits_posted) (now c) in
-            omega (arith, is, part_other d c f.moved not);
-        credits_pending =
-            let is = ap (λ (b : Balances). b.credits_pending) (now c) in
-            omega (arith, is, part_own c f.held, part_own c f.released);
-        credits_posted =
-            let is = ap (λ (b : Balances). b.credits_posted) (now c) in
-            omega (arith, is, part_own c f.moved);
+      let is = now c in
+      rw (ap (balances_after (events h)) credit_id ∙ audited.shown c) (record {
+        debits_pending = omega (arith, ap (λ (b : Balances). b.debits_pending) is, part_other);
+        debits_posted = omega (arith, ap (λ (b : Balances). b.debits_posted) is, part_other);
+        credits_pending = omega (arith, ap (λ (b : Balances). b.credits_pending) is, part_own);
+        credits_posted = omega (arith, ap (λ (b : Balances). b.credits_posted) is, part_own);
       })
 
   -- so the event follows
@@ -686,15 +483,8 @@ module _ (h : History) (e : Entry) (sound : IsSound h) (follows : Follows h e) (
   others : (a : ℕ) → e.transfer.debit_account_id ≢ a → e.transfer.credit_account_id ≢ a
       → balances (pushed h e) a e.timestamp ≡ balances h a h.last
   others a not_debited not_credited =
-      let d = e.transfer.debit_account_id in
-      let c = e.transfer.credit_account_id in
-      let f = effect_of h e in
-      now a
-      ∙ same_balances _ _ _ _ _ _ _ _
-      (omega (arith, part_other d a f.held not_debited, part_other d a f.released not_debited))
-      (omega (arith, part_other d a f.moved not_debited))
-      (omega (arith, part_other c a f.held not_credited, part_other c a f.released not_credited))
-      (omega (arith, part_other c a f.moved not_credited))
+      now a ∙ same_balances _ _ _ _ _ _ _ _ (omega (arith, part_other)) (omega (arith, part_other))
+      (omega (arith, part_other)) (omega (arith, part_other))
 
   -- the balances of each account are shown
   shown_then : (id : ℕ) → balances_after (events h ++ event ∷ []) id ≡ balances (pushed h e) id e.timestamp

@@ -1,3 +1,8 @@
+pub mod OfStd
+pub mod OfTypes
+pub mod OfLedger
+pub mod OfAudit
+pub mod Cases
 pub mod Shown
 pub mod Following
 pub mod Streams
@@ -32,6 +37,7 @@ pub mod Unseen
 pub mod Soundness
 pub mod Whole
 pub mod Links
+mod ExampleEvents
 mod Examples
 mod SoundExamples
 mod TurnExamples

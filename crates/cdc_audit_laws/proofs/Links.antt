@@ -1,39 +1,16 @@
 -- A ledger's linked accounts: no entry comes right after one, and a batch has room for each chain of them.
-use Rattle.std.proofs.Common.{◌≡◌, ◌≢◌, ℕ, ◌+◌, ◌-◌, ◌<◌, ◌≤◌, Bool, true, false, List, [], ◌∷◌, ◌++◌, Option, Some, None, Result, Ok, Err, if◌then◌else◌, length, map, refl, sym, ◌∙◌, subst, arith}
-use Rattle.std.specs.Prelude.{◌==◌, ◌&&◌, ◌||◌, nat_lt, unwrap_or, IfSome, IsSome}
-use Rattle.std.specs.List.{AllByRecursion, flat_map}
-use Rattle.std.proofs.lemmas.Bool.{false≢true, ltb-false, ltb-true}
-use Rattle.cdc_types.specs.declared.accounts.Balances.{Balances}
-use Rattle.cdc_types.specs.declared.accounts.NewAccount.{NewAccount}
-use Rattle.cdc_types.specs.declared.batches.Batch.{Batch}
-use Rattle.cdc_types.specs.declared.batches.Batch.TheVariants as batch
-use Rattle.cdc_types.specs.declared.batches.BatchResults.{BatchResults}
-use Rattle.cdc_types.specs.declared.bounds.TheConstants.Limits.{BATCH_ITEMS}
-use Rattle.cdc_types.specs.declared.events.Entry.{Entry}
-use Rattle.cdc_types.specs.declared.events.Event.{Event}
+use Rattle.std.proofs.Common.{◌≡◌, ◌≢◌, ℕ, ◌+◌, ◌-◌, ◌<◌, ◌≤◌, Bool, true, false, List, [], ◌∷◌, Option, Some, None, Result, Ok, Err, if◌then◌else◌, length, map, refl, sym, ◌∙◌, subst, arith, ◌&&◌, ◌||◌, nat_lt, IfSome, IsSome}
+use Rattle.cdc_audit_laws.proofs.OfStd.{unwrap_or, AllByRecursion, flat_map, false≢true, ltb-false, ltb-true}
+use Rattle.cdc_audit_laws.proofs.OfTypes.{Balances, NewAccount, Batch, BatchResults, BATCH_ITEMS, Entry, Transfer, is_linked_account}
+use Rattle.cdc_audit_laws.proofs.OfLedger.{BatchError, balances, before_others, chains_from, chains_of, history_after, is_none_left, played, refused_in_chain, expiry, pushed, timed, with_account, due, event_of, events, shown_account, History, Opened, empty_history, opened, HasAccounts, IsSound, IsLegal, account_rules, after_batches, base, entry_of, expiries_from, history_or, opened_by, submit, time, transfer_rules, history_after-later, items_from-keeps, AllByRecursion-weaker, AllByRecursion_push, IsSound-from_legal, after_last, submit_parts, find_all}
+use Rattle.cdc_audit_laws.proofs.OfAudit.{accounts_of, fixed_fields, FixedFields}
 use Rattle.cdc_types.specs.declared.results.AccountResult.{AccountResult}
-use Rattle.cdc_types.specs.declared.transfers.Transfer.{Transfer}
-use Rattle.cdc_types.specs.Flags.{is_linked_account}
-use Rattle.cdc_ledger.specs.declared.errors.BatchError.{BatchError}
-use Rattle.cdc_ledger.specs.Balances.{balances}
-use Rattle.cdc_ledger.specs.Chains.{before_others, chains_from, chains_of, history_after, is_none_left, played, refused_in_chain}
-use Rattle.cdc_ledger.specs.Changes.{expiry, pushed, timed, with_account}
-use Rattle.cdc_ledger.specs.Due.{due}
-use Rattle.cdc_ledger.specs.Events.{event_of, events, nobody, shown_account}
-use Rattle.cdc_ledger.specs.History.{History, Opened, empty_history, opened}
-use Rattle.cdc_ledger.specs.Sound.{HasAccounts, IsSound}
-use Rattle.cdc_ledger.specs.Submit.{IsLegal, account_rules, after_batches, base, entry_of, expiries_from, history_or, opened_by, submit, time, transfer_rules}
-use Rattle.cdc_ledger.specs.Verdict.{account_refused}
-use Rattle.cdc_ledger.proofs.ChainLaws.{history_after-later, items_from-keeps}
-use Rattle.cdc_ledger.proofs.Elements.{AllByRecursion-weaker, AllByRecursion_push}
-use Rattle.cdc_ledger.proofs.KeptLaws.{IsSound-from_legal, after_last, submit_parts}
-use Rattle.cdc_ledger.proofs.StoredLaws.{find_all}
-use Rattle.cdc_audit.specs.Fields.{accounts_of, fixed_fields}
-use Rattle.cdc_audit.specs.declared.fields.FixedFields.{FixedFields}
+use Rattle.cdc_types.specs.declared.batches.Batch.TheVariants as batch
 use Rattle.cdc_audit_laws.specs.Soundness.{AccountsHaveRoom, IsUnlinked, LedgersEventsCanBeMade, NextIsFree, accounts_in}
 use Rattle.cdc_audit_laws.proofs.Keeping.{not_large, total, total-chains_of}
-use Rattle.cdc_audit_laws.proofs.Requests.{account_of}
+use Rattle.cdc_audit_laws.proofs.Requests.{account_of, account_is}
 use Rattle.cdc_audit_laws.proofs.Whole.{ledgers_events_are_whole}
+use Rattle.cdc_audit_laws.proofs.Ledgers.{all_images}
 
 -- no entry has the timestamp after the account
 abbrev IsFreeAfter : List Entry → Opened → Type 0
@@ -54,31 +31,22 @@ record AreLinked (h : History) : Type 0 where
 linked-pushed : (h : History) (e : Entry) → h.last < e.timestamp → AreLinked h → AreLinked (pushed h e)
 linked-pushed h e later linked = record {
   past =
-      AllByRecursion_push (λ x. x.timestamp ≤ e.timestamp) h.entries e
-      (AllByRecursion-weaker (λ x. x.timestamp ≤ h.last) (λ x. x.timestamp ≤ e.timestamp)
-      (λ x is. omega (arith, is, later)) h.entries linked.past) (omega arith);
+      AllByRecursion_push _ h.entries e
+      (AllByRecursion-weaker _ _ (λ x is. omega (arith, is, later)) h.entries linked.past) (omega arith);
   links =
-      AllByRecursion-weaker
-      (λ o. is_linked_account o.request ≡ true → (o.timestamp < h.last) × IsFreeAfter h.entries o)
-      (λ o. is_linked_account o.request ≡ true → (o.timestamp < e.timestamp) × IsFreeAfter (h.entries ++ e ∷ []) o)
-      (λ o is link.
+      AllByRecursion-weaker _ _ (λ o is link.
       let early = (is link).0 in (
         omega (arith, early, later),
-        AllByRecursion_push (λ x. x.timestamp ≢ o.timestamp + 1) h.entries e (is link).1
-            (λ same. omega (arith, same, early, later)),
+        AllByRecursion_push _ h.entries e (is link).1 (λ same. omega (arith, same, early, later)),
       )) h.accounts linked.links;
   few = linked.few;
 }
 
 linked-timed : (h : History) (t : ℕ) → h.last ≤ t → AreLinked h → AreLinked (timed h t)
 linked-timed h t later linked = record {
-  past =
-      AllByRecursion-weaker (λ x. x.timestamp ≤ h.last) (λ x. x.timestamp ≤ t) (λ x is. omega (arith, is, later))
-      h.entries linked.past;
+  past = AllByRecursion-weaker _ _ (λ x is. omega (arith, is, later)) h.entries linked.past;
   links =
-      AllByRecursion-weaker
-      (λ o. is_linked_account o.request ≡ true → (o.timestamp < h.last) × IsFreeAfter h.entries o)
-      (λ o. is_linked_account o.request ≡ true → (o.timestamp < t) × IsFreeAfter h.entries o)
+      AllByRecursion-weaker _ _
       (λ o is link. let early = (is link).0 in (omega (arith, early, later), (is link).1)) h.accounts linked.links;
   few = linked.few;
 }
@@ -100,14 +68,9 @@ record IsChained (s t : ℕ) (within : Bool) (g : History) : Type 0 where
 
 chained-start : (h : History) (s : ℕ) → h.last < s → AreLinked h → IsChained s s false h
 chained-start h s later linked = record {
-  entries =
-      AllByRecursion-weaker (λ x. x.timestamp ≤ h.last) (λ x. x.timestamp < s) (λ x is. omega (arith, is, later))
-      h.entries linked.past;
+  entries = AllByRecursion-weaker _ _ (λ x is. omega (arith, is, later)) h.entries linked.past;
   links =
-      AllByRecursion-weaker
-      (λ o. is_linked_account o.request ≡ true → (o.timestamp < h.last) × IsFreeAfter h.entries o)
-      (λ o. is_linked_account o.request ≡ true → IsLink s s false h.entries o)
-      (λ o is link.
+      AllByRecursion-weaker _ _ (λ o is link.
       let early = (is link).0 in
       record {
         early = omega (arith, early, later);
@@ -119,8 +82,7 @@ chained-start h s later linked = record {
       let one = linked.few u in (
         one.0,
         one.1,
-        AllByRecursion-weaker (IsEndAt (u + one.0)) (λ o. o.timestamp < s → IsEndAt (u + one.0) o)
-            (λ o is before. is) h.accounts one.2,
+        AllByRecursion-weaker _ _ (λ o is before. is) h.accounts one.2,
       );
   last = λ no. absurd (let none : ⊥ = omega (arith, no) in none);
 }
@@ -130,12 +92,7 @@ chained-taken : (s t : ℕ) (within : Bool) (g : History) (a : NewAccount) → s
 chained-taken s t within g a from chained = record {
   entries = chained.entries;
   links =
-      AllByRecursion_push
-      (λ o. is_linked_account o.request ≡ true → IsLink s (t + 1) (is_linked_account a) g.entries o) g.accounts
-      (opened_by a t)
-      (AllByRecursion-weaker (λ o. is_linked_account o.request ≡ true → IsLink s t within g.entries o)
-      (λ o. is_linked_account o.request ≡ true → IsLink s (t + 1) (is_linked_account a) g.entries o)
-      (λ o is link.
+      AllByRecursion_push _ g.accounts (opened_by a t) (AllByRecursion-weaker _ _ (λ o is link.
       let early = (is link).early in
       record {
         early = omega (arith, early);
@@ -146,16 +103,14 @@ chained-taken s t within g a from chained = record {
       (λ link. record {
         early = omega arith;
         other = λ same. omega (arith, same, from);
-        free =
-            AllByRecursion-weaker (λ e. e.timestamp < s) (λ e. e.timestamp ≢ t + 1)
-            (λ e before same. omega (arith, before, same, from)) g.entries chained.entries;
+        free = AllByRecursion-weaker _ _ (λ e before same. omega (arith, before, same, from)) g.entries chained.entries;
         done = λ no. absurd (false≢true (sym no ∙ link));
       });
   few = λ u.
       let one = chained.few u in (
         one.0,
         one.1,
-        AllByRecursion_push (λ o. o.timestamp < s → IsEndAt (u + one.0) o) g.accounts (opened_by a t) one.2
+        AllByRecursion_push _ g.accounts (opened_by a t) one.2
             (λ before. absurd (let no : ⊥ = omega (arith, before, from) in no)),
       );
   last = λ later. refl;
@@ -175,9 +130,7 @@ chained-played s t within g (a ∷ rest) from chained ends =
   where
     parts : (b c : Bool) (u : AccountResult) (o : Option AccountResult) → (if b && c then Some u else o) ≡ None
         → c ≡ true → b ≡ false
-    parts true true u o none is = cc
-    parts true false u o none is = cc
-    parts false c u o none is = refl
+    parts b c u o none is = grind arith
 
     by : (o : Option AccountResult) → refused_in_chain account_rules g a (is_none_left rest) t ≡ o
         → ((is_none_left rest ≡ true → is_linked_account a ≡ false)
@@ -187,25 +140,16 @@ chained-played s t within g (a ∷ rest) from chained ends =
         (before_others account_rules o rest
         (played account_rules (with_account g (opened_by a t)) (t + 1) rest)).1
         (IsChained s (t + length (a ∷ rest)) false)
-    by (Some why) is more = tt
-    by None is more =
-        subst
-        (λ n. IfSome (played account_rules (with_account g (opened_by a t)) (t + 1) rest).1 (IsChained s n false))
-        (let same : t + 1 + length rest ≡ t + length (a ∷ rest) = omega arith in same)
-        (more (parts (is_linked_account a) (is_none_left rest) _ (account_refused g a) is))
+    by o is more = grind arith
 
 -- a chain is done
 chained-done : (s n : ℕ) (g : History) → 0 < n → n ≤ BATCH_ITEMS → IsChained s (s + n) false g → AreLinked g
 chained-done s n g some most chained =
     let at_end : g.last + 1 ≡ s + n = chained.last (omega (arith, some)) in
     record {
-      past =
-          AllByRecursion-weaker (λ e. e.timestamp < s) (λ e. e.timestamp ≤ g.last)
-          (λ e is. omega (arith, is, at_end, some)) g.entries chained.entries;
+      past = AllByRecursion-weaker _ _ (λ e is. omega (arith, is, at_end, some)) g.entries chained.entries;
       links =
-          AllByRecursion-weaker (λ o. is_linked_account o.request ≡ true → IsLink s (s + n) false g.entries o)
-          (λ o. is_linked_account o.request ≡ true → (o.timestamp < g.last) × IsFreeAfter g.entries o)
-          (λ o is link.
+          AllByRecursion-weaker _ _ (λ o is link.
           let done = (is link).done refl in (omega (arith, done, at_end), (is link).free)) g.accounts chained.links;
       few = λ t. room t (nat_lt t s) refl (nat_lt t (s + n)) refl;
     }
@@ -214,7 +158,7 @@ chained-done s n g some most chained =
     none_at : (t : ℕ) → ((o : Opened) → IsLink s (s + n) false g.entries o → o.timestamp ≢ t)
         → AllByRecursion (IsEndAt t) g.accounts
     none_at t never =
-        AllByRecursion-weaker (λ o. is_linked_account o.request ≡ true → IsLink s (s + n) false g.entries o) (IsEndAt t)
+        AllByRecursion-weaker _ _
         (λ o is time. by o is time (is_linked_account o.request) refl) g.accounts chained.links
       where
         by : (o : Opened) → (is_linked_account o.request ≡ true → IsLink s (s + n) false g.entries o)
@@ -227,14 +171,13 @@ chained-done s n g some most chained =
         → (b : Bool) → nat_lt (t + k) s ≡ b
         → (k : ℕ) × (k < BATCH_ITEMS) × AllByRecursion (IsEndAt (t + k)) g.accounts
     before t k less early ones true is =
-        let it = ltb-true (t + k) s is in (
+        let it = ltb-true _ _ is in (
           k,
           less,
-          AllByRecursion-weaker (λ o. o.timestamp < s → IsEndAt (t + k) o) (IsEndAt (t + k))
-              (λ o is_end time. is_end (omega (arith, time, it)) time) g.accounts ones,
+          AllByRecursion-weaker _ _ (λ o is_end time. is_end (omega (arith, time, it)) time) g.accounts ones,
         )
     before t k less early ones false is =
-        let it = ltb-false (t + k) s is in (
+        let it = ltb-false _ _ is in (
           s - 1 - t,
           omega (arith, it, less, early),
           none_at (t + (s - 1 - t)) (λ o link time. link.other (omega (arith, time, early))),
@@ -246,8 +189,8 @@ chained-done s n g some most chained =
         let one = chained.few t in
         before t one.0 one.1 (ltb-true t s is) one.2 (nat_lt (t + one.0) s) refl
     room t false is true also =
-        let from = ltb-false t s is in
-        let to = ltb-true t (s + n) also in (
+        let from = ltb-false _ _ is in
+        let to = ltb-true _ _ also in (
           s + n - 1 - t,
           omega (arith, from, to, most),
           none_at (t + (s + n - 1 - t)) (λ o link time. let done = link.done refl in omega (arith, time, done, to)),
@@ -334,11 +277,7 @@ linked_by_legal h legal =
 -- what holds of each account holds of one that is there
 opened_has : (h : History) (P : Opened → Type 0) (id : ℕ) → AllByRecursion P h.accounts → IsSome (opened h id)
     → P (account_of h id)
-opened_has h P id all there = by (opened h id) refl there
-  where
-    by : (o : Option Opened) → opened h id ≡ o → IsSome o → P (unwrap_or o nobody)
-    by None is some = cc
-    by (Some o) is some = (find_all (λ (x : Opened). x.request.id == id) P h.accounts o all is).1
+opened_has h P id all there = (find_all _ _ _ _ all (account_is h id there)).1
 
 -- and so of each one that is shown
 shown_have : (h : History) (P : Opened → Type 0) (R : ℕ × FixedFields → Type 0)
@@ -358,17 +297,12 @@ shown_have h P R gives all (e ∷ es) known = (
   ),
 )
 
-all-map : (h : History) (t : ℕ) (es : List Entry) → AllByRecursion (λ e. e.timestamp ≢ t) es
-    → AllByRecursion (λ (e : Event). e.timestamp ≢ t) (map (event_of h) es)
-all-map h t [] all = tt
-all-map h t (e ∷ es) all = (all.0, all-map h t es all.1)
-
 -- no event comes right after a linked account
 next_free : (h : History) → IsSound h → AreLinked h
     → AllByRecursion (NextIsFree (events h)) (accounts_in (events h))
 next_free h sound linked =
     shown_have h (λ o. is_linked_account o.request ≡ true → (o.timestamp < h.last) × IsFreeAfter h.entries o)
-    (NextIsFree (events h)) (λ o ledger sums is link. all-map h (o.timestamp + 1) h.entries (is link).1) linked.links
+    (NextIsFree (events h)) (λ o ledger sums is link. all_images h _ h.entries (is link).1) linked.links
     h.entries sound.known
 
 -- and a batch has room for each chain of accounts

@@ -1,32 +1,12 @@
 -- An entry that has what an event shows makes this event.
 use Rattle.std.proofs.Common.{◌≡◌, ◌≢◌, ℕ, ◌+◌, Bool, true, false, [], ◌∷◌, ◌++◌, Option, if◌then◌else◌, refl, sym, ap, ap₂, ◌∙◌, subst, inl, inr, arith}
-use Rattle.std.specs.Prelude.{unwrap_or}
-use Rattle.std.proofs.lemmas.Bool.{ltb-false}
-use Rattle.std.proofs.lemmas.Bool.Decides.{eqb_tells}
-use Rattle.cdc_types.specs.declared.accounts.Balances.{Balances}
-use Rattle.cdc_types.specs.declared.bounds.TheConstants.Limits.{TIMESTAMP}
-use Rattle.cdc_types.specs.declared.events.Entry.{Entry}
-use Rattle.cdc_types.specs.declared.events.Event.{Event}
-use Rattle.cdc_types.specs.declared.events.EventAccount.{EventAccount}
-use Rattle.cdc_types.specs.declared.events.EventTransfer.{EventTransfer}
-use Rattle.cdc_types.specs.declared.transfers.Transfer.{Transfer}
-use Rattle.cdc_ledger.specs.Balances.{balances}
-use Rattle.cdc_ledger.specs.Changes.{pushed}
-use Rattle.cdc_ledger.specs.Effects.{amount_of, balances_after as after, effect_of}
-use Rattle.cdc_ledger.specs.Events.{event_of, events, nobody, shown_account, shown_transfer}
-use Rattle.cdc_ledger.specs.Follows.{Follows, SettlesOpen}
-use Rattle.cdc_ledger.specs.History.{History, Opened, opened}
-use Rattle.cdc_ledger.specs.Kinds.{holds, moves, settled_id, settles}
-use Rattle.cdc_ledger.specs.Sound.{IsSound}
-use Rattle.cdc_ledger.proofs.BalanceLaws.{balances-pushed, same_balances, settled_by_is, settled_by_none}
-use Rattle.cdc_ledger.proofs.EventLaws.{events-pushed}
-use Rattle.cdc_ledger.proofs.SoundLaws.{IsSound-pushed}
-use Rattle.cdc_audit.specs.Known.{balances_after, pending_amount, settled_id_by}
-use Rattle.cdc_audit.specs.Rules.{held, posted, released}
+use Rattle.cdc_audit_laws.proofs.OfStd.{unwrap_or, ltb-false, eqb_tells}
+use Rattle.cdc_audit_laws.proofs.OfTypes.{Balances, TIMESTAMP, Entry, Event, EventAccount, EventTransfer, Transfer}
+use Rattle.cdc_audit_laws.proofs.OfLedger.{balances, pushed, amount_of, balances_after as after, effect_of, event_of, events, nobody, shown_account, shown_transfer, Follows, SettlesOpen, History, Opened, opened, holds, moves, settled_id, settles, IsSound, balances-pushed, settled_by_is, settled_by_none, events-pushed, IsSound-pushed}
+use Rattle.cdc_audit_laws.proofs.OfAudit.{balances_after, pending_amount, settled_id_by, held, posted, released}
 use Rattle.cdc_audit_laws.proofs.Coming.{Comes}
 use Rattle.cdc_audit_laws.proofs.Entries.{pending_amount-events, settled_id-shown}
 use Rattle.cdc_audit_laws.proofs.Following.{IsCredited, IsDebited}
-use Rattle.cdc_audit_laws.proofs.Ledgers.{part_other, part_own}
 use Rattle.cdc_audit_laws.proofs.Shown.{balances_after-credited, balances_after-debited, balances_after-other, balances_of}
 
 -- the event shows this transfer
@@ -55,32 +35,17 @@ module _ (h : History) (x : Entry) (d c : ℕ) (b : Balances) where
   debit_after : (s : Balances) → c ≢ d → s.debits_pending + released_by ≡ b.debits_pending + held_by
       → s.debits_posted ≡ b.debits_posted + moved_by → s.credits_pending ≡ b.credits_pending
       → s.credits_posted ≡ b.credits_posted → after (effect_of h x) d c d b ≡ s
-  debit_after s other pending posted held moved =
-      same_balances _ _ _ _ s.debits_pending s.debits_posted s.credits_pending s.credits_posted
-      (omega (arith, pending, part_own d held_by, part_own d released_by))
-      (omega (arith, posted, part_own d moved_by))
-      (omega (arith, held, part_other c d held_by other, part_other c d released_by other))
-      (omega (arith, moved, part_other c d moved_by other))
+  debit_after s other pending posted held moved = grind arith
 
   -- of the credited one
   credit_after : (s : Balances) → d ≢ c → s.credits_pending + released_by ≡ b.credits_pending + held_by
       → s.credits_posted ≡ b.credits_posted + moved_by → s.debits_pending ≡ b.debits_pending
       → s.debits_posted ≡ b.debits_posted → after (effect_of h x) d c c b ≡ s
-  credit_after s other pending posted held moved =
-      same_balances _ _ _ _ s.debits_pending s.debits_posted s.credits_pending s.credits_posted
-      (omega (arith, held, part_other d c held_by other, part_other d c released_by other))
-      (omega (arith, moved, part_other d c moved_by other))
-      (omega (arith, pending, part_own c held_by, part_own c released_by))
-      (omega (arith, posted, part_own c moved_by))
+  credit_after s other pending posted held moved = grind arith
 
   -- of another one
   other_after : (a : ℕ) → d ≢ a → c ≢ a → after (effect_of h x) d c a b ≡ b
-  other_after a not_debited not_credited =
-      same_balances _ _ _ _ b.debits_pending b.debits_posted b.credits_pending b.credits_posted
-      (omega (arith, part_other d a held_by not_debited, part_other d a released_by not_debited))
-      (omega (arith, part_other d a moved_by not_debited))
-      (omega (arith, part_other c a held_by not_credited, part_other c a released_by not_credited))
-      (omega (arith, part_other c a moved_by not_credited))
+  other_after a not_debited not_credited = grind arith
 
 module _ (h : History) (e : Event) (comes : Comes h e) (y : Transfer) (is : IsShownBy e y)
     (follows : Follows h (entry_with e y)) where

@@ -1,27 +1,9 @@
 -- A history between two batches, within a chain, or within a pulse; and what comes next in a stream.
-use Rattle.std.proofs.Common.{◌≡◌, ◌⊎◌, inl, inr, ℕ, ◌+◌, ◌≤◌, Bool, true, false, not, List, [], ◌∷◌, ◌++◌, Option, Some, None, if◌then◌else◌, refl, sym, ap, ◌∙◌, subst, append_assoc, append-nil, arith}
-use Rattle.std.specs.Prelude.{◌==◌, ◌&&◌, filter, IfSome, IsSomeAnd}
-use Rattle.std.specs.List.{AllByRecursion}
-use Rattle.std.proofs.lemmas.Bool.{and_parts, eq-eqb, eqb-true, false≢true, not-false, not-true}
-use Rattle.cdc_types.specs.declared.events.Entry.{Entry}
-use Rattle.cdc_types.specs.declared.events.Event.{Event}
-use Rattle.cdc_types.specs.declared.transfers.Transfer.{Transfer}
-use Rattle.cdc_types.specs.Timestamps.{last_timestamp}
-use Rattle.cdc_ledger.specs.Balances.{resolved}
-use Rattle.cdc_ledger.specs.Due.{due}
-use Rattle.cdc_ledger.specs.Events.{event_of, events}
-use Rattle.cdc_ledger.specs.Filling.{expires_at as expires_at_one}
-use Rattle.cdc_ledger.specs.History.{History}
-use Rattle.cdc_ledger.specs.Kinds.{stores}
-use Rattle.cdc_ledger.specs.Sound.{IsSound}
-use Rattle.cdc_ledger.specs.Submit.{IsLegal}
-use Rattle.cdc_ledger.proofs.Elements.{AllByRecursion_push}
-use Rattle.cdc_ledger.proofs.PulseLaws.{IsOpen, due_open}
-use Rattle.cdc_ledger.proofs.StoredLaws.{stored_has}
-use Rattle.cdc_audit.specs.Expiries.{can_expire, expiry_lines, first_due, is_sooner}
-use Rattle.cdc_audit.specs.Known.{ends_in_chain, is_linked, last_expiry, last_expiry_from, linked_from}
-use Rattle.cdc_audit.specs.Settling.{expires_at}
-use Rattle.cdc_audit.proofs.FirstLemmas.{first_of-all, passing}
+use Rattle.std.proofs.Common.{◌≡◌, ◌⊎◌, inl, inr, ℕ, ◌+◌, ◌≤◌, Bool, true, false, not, List, [], ◌∷◌, ◌++◌, Option, Some, None, if◌then◌else◌, refl, sym, ap, ◌∙◌, subst, append_assoc, append-nil, arith, ◌==◌, ◌&&◌, IfSome, IsSomeAnd}
+use Rattle.cdc_audit_laws.proofs.OfStd.{AllByRecursion, and_parts, eq-eqb, eqb-true, false≢true, not-false, not-true}
+use Rattle.cdc_audit_laws.proofs.OfTypes.{Entry, Event, Transfer, last_timestamp}
+use Rattle.cdc_audit_laws.proofs.OfLedger.{resolved, due, event_of, events, expires_at as expires_at_one, History, stores, IsSound, IsLegal, AllByRecursion_push, IsOpen, due_open, stored_has}
+use Rattle.cdc_audit_laws.proofs.OfAudit.{expiry_lines, first_due, is_sooner, ends_in_chain, is_linked, last_expiry, last_expiry_from, linked_from, expires_at, first_of-all, passing}
 use Rattle.cdc_audit_laws.specs.Soundness.{AreCutOff, AreWhole}
 use Rattle.cdc_audit_laws.proofs.Following.{CanFollow, NoneApplies}
 use Rattle.cdc_audit_laws.proofs.Keeping.{IsUp, due_up}
@@ -83,7 +65,7 @@ starts-push P es e start is = record {
   legal = start.legal;
   part = start.part ++ e ∷ [];
   split = sym (append_assoc (events start.start) start.part (e ∷ [])) ∙ ap (λ xs. xs ++ e ∷ []) start.split;
-  all = AllByRecursion_push P start.part e start.all is;
+  all = AllByRecursion_push _ start.part e start.all is;
 }
 
 -- an event of a chain that isn't its last one
@@ -161,14 +143,11 @@ first_up h sound mode = by (first_due (events h)) refl no_later no_sooner
 
     no_later : IsNoSooner (events h) (event_of h next)
     no_later =
-        stored_has (λ y. CanExpire h y → IsNoSooner (events h) (event_of h y)) h mode.next.id next
-        (open_entries h (IsNoSooner (events h)) sound (none_sooner (events h))) is_open.there can
+        stored_has _ h _ _ (open_entries h (IsNoSooner (events h)) sound (none_sooner (events h))) is_open.there can
 
     -- and none expires before the time of the pulse
     no_sooner : IfSome (first_due (events h)) (λ f. mode.now ≤ expires_at f.transfer)
-    no_sooner =
-        first_of-all (λ f. mode.now ≤ expires_at f.transfer) (filter (can_expire (events h)) (events h))
-        (passing (can_expire (events h)) (λ f. mode.now ≤ expires_at f.transfer) (events h) mode.least)
+    no_sooner = first_of-all _ _ (passing _ _ _ mode.least)
 
     by : (o : Option Event) → first_due (events h) ≡ o
         → IsSomeAnd o (λ f. is_sooner (event_of h next).transfer f.transfer ≡ false)
@@ -183,11 +162,6 @@ pub pulse_left : (h : History) → IsSound h → IsInPulse h → AreWhole (event
 pulse_left h sound mode whole =
     let first = first_up h sound mode in
     whole.pulse mode.last first.one mode.last_is first.is (mode.time ∙ sym first.time)
-
--- a storing event or not
-pub stores_or_not : (b : Bool) → (b ≡ true) ⊎ (b ≡ false)
-stores_or_not true = inl refl
-stores_or_not false = inr refl
 
 -- within a pulse the next event is an expiry at the next timestamp, of a transfer that expires no later
 pub record IsPulseNext (h : History) (now : ℕ) (e : Event) : Type 0 where
@@ -205,9 +179,8 @@ pulse_next h e sound mode can =
     subst (λ o. NoneApplies (expiry_lines (Some first.one) o e)) mode.last_is expiry in
     let apart : not (not (stores e.kind) && (e.timestamp == mode.last.timestamp + 1)) ≡ false =
     sym (ap (λ b. b && not (not (stores e.kind) && (e.timestamp == mode.last.timestamp + 1)))
-    (eq-eqb (expires_at first.one.transfer) (expires_at mode.last.transfer) (first.time ∙ sym mode.time)))
-    ∙ lines.1.0 in
-    let parts = and_parts (not (stores e.kind)) (e.timestamp == mode.last.timestamp + 1) (not-false _ apart) in
+    (eq-eqb _ _ (first.time ∙ sym mode.time))) ∙ lines.1.0 in
+    let parts = and_parts _ _ (not-false _ apart) in
     let late : is_sooner first.one.transfer e.transfer ≡ false =
     sym (ap (λ b. b && is_sooner first.one.transfer e.transfer) parts.0) ∙ lines.0 in
     record {

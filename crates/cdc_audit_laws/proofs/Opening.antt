@@ -1,39 +1,13 @@
 -- A ledger that opens accounts in the order of their timestamps, as a plan has them: each by itself, or in a chain.
-use Rattle.std.proofs.Common.{◌≡◌, ◌⊎◌, inl, inr, ℕ, ◌+◌, ◌-◌, ◌<◌, ◌≤◌, Bool, true, false, List, ◌∷◌, Option, Some, None, is_some, refl, sym, ap, ap₂, ◌∙◌, subst, arith}
-use Rattle.std.specs.Prelude.{◌==◌, nat_eq, nat_lt, if◌then◌else◌}
-use Rattle.std.specs.List.{AllByRecursion}
-use Rattle.std.specs.Map.{lookup}
-use Rattle.std.specs.Option.{option_or}
-use Rattle.std.proofs.lemmas.Bool.{eq-eqb, eqb-false, eqb-true, false≢true, ltb-false, ltb-true}
-use Rattle.cdc_types.specs.declared.bounds.TheConstants.Limits.{BATCH_ITEMS}
-use Rattle.cdc_types.specs.declared.events.Event.{Event}
-use Rattle.cdc_types.specs.Flags.{is_linked_account}
-use Rattle.cdc_types.specs.Lines.{first_line}
-use Rattle.cdc_types.specs.Shapes.{account_shape_lines}
-use Rattle.cdc_ledger.specs.Balances.{balances}
-use Rattle.cdc_ledger.specs.Changes.{with_account}
-use Rattle.cdc_ledger.specs.Events.{events}
-use Rattle.cdc_ledger.specs.Fits.{NewAccountFits}
-use Rattle.cdc_ledger.specs.History.{History, Opened, opened}
-use Rattle.cdc_ledger.specs.Sound.{IsSound}
-use Rattle.cdc_ledger.specs.Submit.{IsLegal, account_rules}
-use Rattle.cdc_ledger.specs.Verdict.{account_refused, known_account_lines}
-use Rattle.cdc_ledger.proofs.BalanceLaws.{balances_later}
-use Rattle.cdc_ledger.proofs.Elements.{AllByRecursion-weaker, AllByRecursion_push}
-use Rattle.cdc_ledger.proofs.EventLaws.{events-with_account}
-use Rattle.cdc_ledger.proofs.LineLaws.{first_line-append_none}
-use Rattle.cdc_ledger.proofs.OpenedLaws.{opened-with_account, opened-with_account_same, opened_id}
-use Rattle.cdc_ledger.proofs.SoundLaws.{IsSound-with_account}
-use Rattle.cdc_ledger.proofs.StoredLaws.{find_all}
-use Rattle.cdc_message.specs.Widths.{EventFits}
-use Rattle.cdc_audit.specs.declared.fields.FixedFields.{FixedFields}
-use Rattle.cdc_audit.specs.Audits.{follows_on}
-use Rattle.cdc_audit.specs.Known.{balances_after}
+use Rattle.std.proofs.Common.{◌≡◌, ◌⊎◌, inl, inr, ℕ, ◌+◌, ◌-◌, ◌<◌, ◌≤◌, Bool, true, false, List, ◌∷◌, Option, Some, None, is_some, refl, sym, ap, ap₂, ◌∙◌, subst, arith, ◌==◌, nat_eq, nat_lt, if◌then◌else◌}
+use Rattle.cdc_audit_laws.proofs.OfStd.{AllByRecursion, lookup, option_or, eq-eqb, eqb-false, eqb-true, false≢true, ltb-false, ltb-true}
+use Rattle.cdc_audit_laws.proofs.OfTypes.{BATCH_ITEMS, Event, is_linked_account, first_line, account_shape_lines, EventFits}
+use Rattle.cdc_audit_laws.proofs.OfLedger.{balances, with_account, events, NewAccountFits, History, Opened, opened, IsSound, IsLegal, account_rules, account_refused, known_account_lines, balances_later, AllByRecursion-weaker, AllByRecursion_push, events-with_account, first_line-append_none, opened-with_account, opened-with_account_same, opened_id, IsSound-with_account, find_all}
+use Rattle.cdc_audit_laws.proofs.OfAudit.{FixedFields, follows_on, balances_after}
 use Rattle.cdc_audit_laws.specs.Soundness.{HaveRoom, accounts_in}
 use Rattle.cdc_audit_laws.proofs.Following.{CanFollow}
 use Rattle.cdc_audit_laws.proofs.Ledgers.{fixed_of}
-use Rattle.cdc_audit_laws.proofs.Modes.{IsInChain, IsInPulse, Mode, goes_on}
-use Rattle.cdc_audit_laws.proofs.Modes.{linked_run}
+use Rattle.cdc_audit_laws.proofs.Modes.{IsInChain, IsInPulse, Mode, goes_on, linked_run}
 use Rattle.cdc_audit_laws.proofs.Openings.{IsOpenable, opening_of}
 use Rattle.cdc_audit_laws.proofs.Running.{AccountsRunOn, accounts-legal, runs-done, runs-more, runs-taken}
 use Rattle.cdc_audit_laws.proofs.Streams.{first_follows}
@@ -46,11 +20,7 @@ module _ (all : List (ℕ × FixedFields)) where
 
   -- of two such accounts of one id each is the other
   same_shown : (o p : Opened) → IsShown o → IsShown p → o.request.id ≡ p.request.id → o ≡ p
-  same_shown o p o_is p_is same =
-      let found : Some (fixed_of o) ≡ Some (fixed_of p) =
-      sym o_is ∙ ap (λ n. lookup (nat_eq n) all) same ∙ p_is in
-      let fields : fixed_of o ≡ fixed_of p = cc in
-      ap₂ (λ n f. opening_of (n, f)) same fields
+  same_shown o p o_is p_is same = grind arith
 
   -- what can be made: an account that is openable and known, or an event
   abbrev pub CanMake : Planned → Type 0
@@ -62,8 +32,7 @@ module _ (all : List (ℕ × FixedFields)) where
   IsPast t o = IsShown o × (o.timestamp ≤ t)
 
   pub past_later : (s t : ℕ) (os : List Opened) → s ≤ t → AllByRecursion (IsPast s) os → AllByRecursion (IsPast t) os
-  past_later s t os later past =
-      AllByRecursion-weaker (IsPast s) (IsPast t) (λ o is. (is.0, omega (arith, is.1, later))) os past
+  past_later s t os later past = AllByRecursion-weaker _ _ (λ o is. (is.0, omega (arith, is.1, later))) os past
 
   -- an account is opened, or will be
   abbrev pub IsReady : History → List Planned → ℕ × FixedFields → Type 0
@@ -144,9 +113,7 @@ module _ (all : List (ℕ × FixedFields)) where
       by : IsReady h rest opening.next.account → Opens (opening_of opening.next.account) rest
       by (inl there) =
           let it = opening.next.account in
-          let past : IsPast h.last (opening_of it) =
-          (find_all (λ (y : Opened). y.request.id == it.0) (IsPast h.last) h.accounts (opening_of it) goes.past
-          there).1 in
+          let past : IsPast h.last (opening_of it) = (find_all _ _ _ _ goes.past there).1 in
           let time = opening.next.time in
           absurd (let no : ⊥ = omega (arith, past.1, time) in no)
       by (inr later) = later
@@ -288,11 +255,9 @@ module _ (all : List (ℕ × FixedFields)) where
       can = goes.can.1;
       past =
           let later : h.last < o.timestamp = goes.rises.0 in
-          AllByRecursion_push (IsPast o.timestamp) h.accounts o
-          (past_later h.last o.timestamp h.accounts (omega (arith, later)) goes.past)
+          AllByRecursion_push _ h.accounts o (past_later h.last o.timestamp h.accounts (omega (arith, later)) goes.past)
           (goes.can.0.1, omega arith);
-      ready = AllByRecursion-weaker (IsReady h (inl o ∷ rest)) (IsReady with_one rest) ready_then
-          (accounts_in (events_in rest)) goes.ready;
+      ready = AllByRecursion-weaker _ _ ready_then (accounts_in (events_in rest)) goes.ready;
       follow = subst (λ es. follows_on es (events_in rest) ≡ true) (sym same_events) goes.follow;
       room = subst (λ es. HaveRoom (linked_run es) (events_in rest)) (sym same_events) goes.room;
     }

@@ -1,16 +1,9 @@
 -- What a ledger opens for the accounts of events, and asks for their transfers.
-use Rattle.std.proofs.Common.{◌≡◌, ℕ, ◌<◌, ◌≤◌, List, None}
-use Rattle.std.specs.Prelude.{nat_lt}
-use Rattle.std.proofs.lemmas.Bool.{and_parts, ltb-true, not-false}
-use Rattle.cdc_types.specs.declared.bounds.TheConstants.Limits.{TIMESTAMP}
-use Rattle.cdc_types.specs.declared.events.Event.{Event}
-use Rattle.cdc_types.specs.Shapes.{account_refusal}
-use Rattle.cdc_ledger.specs.Fits.{NewAccountFits, NewTransferFits}
-use Rattle.cdc_ledger.specs.History.{Opened}
-use Rattle.cdc_message.specs.Widths.{EventFits}
-use Rattle.cdc_audit.specs.declared.fields.FixedFields.{FixedFields}
-use Rattle.cdc_audit.specs.EventShapes.{asked_transfer}
-use Rattle.cdc_audit.specs.Fields.{created_lines}
+use Rattle.std.proofs.Common.{◌≡◌, ℕ, ◌<◌, ◌≤◌, List, None, arith}
+use Rattle.cdc_audit_laws.proofs.OfStd.{and_parts, ltb-true, not-false}
+use Rattle.cdc_audit_laws.proofs.OfTypes.{TIMESTAMP, Event, account_refusal, EventFits}
+use Rattle.cdc_audit_laws.proofs.OfLedger.{NewAccountFits, NewTransferFits, Opened}
+use Rattle.cdc_audit_laws.proofs.OfAudit.{FixedFields, asked_transfer, created_lines}
 use Rattle.cdc_audit_laws.proofs.Following.{CanFollow, NoneApplies, fixed_parts}
 
 -- an account of these fields, as it was opened
@@ -36,20 +29,7 @@ pub record IsOpenable (o : Opened) : Type 0 where
 
 -- an event has numbers that a request may have
 pub request_fits : (e : Event) → EventFits e → NewTransferFits (asked_transfer e)
-request_fits e fits = record {
-  id = fits.transfer.id;
-  debit_account_id = fits.debit_account.id;
-  credit_account_id = fits.credit_account.id;
-  amount = fits.transfer.amount;
-  pending_id = fits.transfer.pending_id;
-  user_data_128 = fits.transfer.user_data_128;
-  user_data_64 = fits.transfer.user_data_64;
-  user_data_32 = fits.transfer.user_data_32;
-  timeout = fits.transfer.timeout;
-  ledger = fits.ledger;
-  code = fits.transfer.code;
-  flags = fits.transfer.flags;
-}
+request_fits e fits = grind arith
 
 -- both accounts of an event that can follow were created before it, and after 0
 pub record AreCreated (e : Event) : Type 0 where
@@ -61,10 +41,8 @@ pub record AreCreated (e : Event) : Type 0 where
 pub are_created : (past : List Event) (e : Event) → CanFollow past e → AreCreated e
 are_created past e can =
     let lines : NoneApplies (created_lines e) = (fixed_parts past e can.fixed).created in
-    let d = and_parts (nat_lt 0 e.debit_account.timestamp) (nat_lt e.debit_account.timestamp e.timestamp)
-    (not-false _ lines.0) in
-    let c = and_parts (nat_lt 0 e.credit_account.timestamp) (nat_lt e.credit_account.timestamp e.timestamp)
-    (not-false _ lines.1.0) in
+    let d = and_parts _ _ (not-false _ lines.0) in
+    let c = and_parts _ _ (not-false _ lines.1.0) in
     record {
       debit_some = ltb-true 0 e.debit_account.timestamp d.0;
       debit = ltb-true e.debit_account.timestamp e.timestamp d.1;

@@ -1,33 +1,10 @@
 -- A single-phase or a pending transfer of an event that is accepted: a ledger accepts a request for it.
-use Rattle.std.proofs.Common.{◌≡◌, ℕ, ◌+◌, ◌*◌, ◌≤◌, Bool, true, false, not, Some, None, if◌then◌else◌, refl, sym, ap, ap₂, ◌∙◌, arith}
-use Rattle.std.specs.Prelude.{◌==◌, ◌&&◌, nat_lt, unwrap_or}
-use Rattle.std.proofs.lemmas.Bool.{and_left, and_right, eq-eqb, le-ltb, ltb-false, not_from_true}
-use Rattle.cdc_types.specs.declared.accounts.Balances.{Balances}
-use Rattle.cdc_types.specs.declared.accounts.NewAccount.{NewAccount}
-use Rattle.cdc_types.specs.declared.accounts.TheConstants.AccountFlags.{CREDITS_MUST_NOT_EXCEED_DEBITS, DEBITS_MUST_NOT_EXCEED_CREDITS}
-use Rattle.cdc_types.specs.declared.bounds.TheConstants.Limits.{TIMESTAMP}
-use Rattle.cdc_types.specs.declared.events.Event.{Event}
-use Rattle.cdc_types.specs.declared.events.EventKind.{EventKind}
-use Rattle.cdc_types.specs.declared.events.EventKind.TheVariants.{SinglePhase, TwoPhasePending, TwoPhasePosted, TwoPhaseVoided, TwoPhaseExpired}
+use Rattle.std.proofs.Common.{◌≡◌, ℕ, ◌+◌, ◌*◌, ◌≤◌, Bool, true, false, not, Some, None, if◌then◌else◌, refl, sym, ap, ap₂, ◌∙◌, arith, ◌==◌, ◌&&◌, nat_lt}
+use Rattle.cdc_audit_laws.proofs.OfStd.{unwrap_or, and_left, eq-eqb, ltb-false, not_from_true}
+use Rattle.cdc_audit_laws.proofs.OfTypes.{Balances, NewAccount, CREDITS_MUST_NOT_EXCEED_DEBITS, DEBITS_MUST_NOT_EXCEED_CREDITS, TIMESTAMP, Event, EventKind, NewTransfer, has_flag, first_line, transfer_number, transfer_shape_lines, max_128}
+use Rattle.cdc_audit_laws.proofs.OfLedger.{balances, events, as_asked, expires_at, filled, filled_by, stored, History, opened, holds, moves, settles, stores, max_timestamp, plain_lines, settling_lines, sum_lines, own_lines, test_fails}
+use Rattle.cdc_audit_laws.proofs.OfAudit.{asked_account, asked_transfer, pending_amount, settled_id, all_credits, all_debits, held, posted, released}
 use Rattle.cdc_types.specs.declared.results.TransferResult.TheVariants as transfer
-use Rattle.cdc_types.specs.declared.transfers.NewTransfer.{NewTransfer}
-use Rattle.cdc_types.specs.Flags.{has_flag}
-use Rattle.cdc_types.specs.Lines.{first_line}
-use Rattle.cdc_types.specs.Results.{transfer_number}
-use Rattle.cdc_types.specs.Shapes.{transfer_shape_lines}
-use Rattle.cdc_types.specs.Widths.{max_128}
-use Rattle.cdc_ledger.specs.Balances.{balances}
-use Rattle.cdc_ledger.specs.Events.{events}
-use Rattle.cdc_ledger.specs.Filling.{as_asked, expires_at, filled, filled_by, stored}
-use Rattle.cdc_ledger.specs.History.{History, opened}
-use Rattle.cdc_ledger.specs.Kinds.{holds, moves, settles, stores}
-use Rattle.cdc_ledger.specs.Verdict.{max_timestamp, plain_lines, settling_lines, sum_lines}
-use Rattle.cdc_ledger.proofs.AcceptedLaws.{own_lines}
-use Rattle.cdc_ledger.proofs.LineLaws.{test_fails}
-use Rattle.cdc_audit.specs.EventShapes.{asked_account, asked_transfer}
-use Rattle.cdc_audit.specs.Known.{pending_amount, settled_id}
-use Rattle.cdc_audit.specs.Limits.{all_credits, all_debits}
-use Rattle.cdc_audit.specs.Rules.{held, posted, released}
 use Rattle.cdc_audit_laws.proofs.Coming.{Comes, asks_kind, credit_limits, credited, debit_limits, debited, on_stored, opening}
 use Rattle.cdc_audit_laws.proofs.Flags.{plain_is}
 use Rattle.cdc_audit_laws.proofs.Following.{NoneApplies, no_first_line}
@@ -45,34 +22,12 @@ record HasSums (d c : Balances) (debited credited : NewAccount) (r : NewTransfer
 -- then none of the lines on sums applies
 no_sum_line : (d c : Balances) (debited credited : NewAccount) (r : NewTransfer) (t : ℕ)
     → HasSums d c debited credited r t → NoneApplies (sum_lines d c debited credited r t)
-no_sum_line d c debited credited r t has = (
-  and_right _ _ (le-ltb max_128 (d.debits_pending + r.amount) (omega (arith, has.debits))),
-  (
-    and_right _ _ (le-ltb max_128 (c.credits_pending + r.amount) (omega (arith, has.credits))),
-    (
-      le-ltb max_128 (d.debits_posted + r.amount) (omega (arith, has.debits)),
-      (
-        le-ltb max_128 (c.credits_posted + r.amount) (omega (arith, has.credits)),
-        (
-          le-ltb max_128 (d.debits_pending + d.debits_posted + r.amount) has.debits,
-          (
-            le-ltb max_128 (c.credits_pending + c.credits_posted + r.amount) has.credits,
-            (has.timely, (has.debit_limit, (has.credit_limit, tt))),
-          ),
-        ),
-      ),
-    ),
-  ),
-)
+no_sum_line d c debited credited r t has = grind arith
 
 -- what a plain transfer holds and moves is its amount
 moved_by : (k : EventKind) (n : ℕ) → stores k ≡ true → settles k ≡ false
     → (if holds k then n else 0) + (if moves k then n else 0) ≡ n
-moved_by SinglePhase n storing is = omega arith
-moved_by TwoPhasePending n storing is = omega arith
-moved_by TwoPhasePosted n storing is = cc
-moved_by TwoPhaseVoided n storing is = cc
-moved_by TwoPhaseExpired n storing is = cc
+moved_by k n storing is = grind arith
 
 module _ (h : History) (e : Event) (comes : Comes h e) (storing : stores e.kind ≡ true)
     (is : settles e.kind ≡ false) where

@@ -1,12 +1,8 @@
 -- A plan for a ledger: accounts to open and events to store, in the order of their timestamps.
-use Rattle.std.proofs.Common.{◌≡◌, ◌≢◌, ◌⊎◌, inl, inr, ℕ, ◌<◌, Bool, true, false, List, [], ◌∷◌, if◌then◌else◌, map, refl, ap, ◌∙◌, arith}
-use Rattle.std.specs.Prelude.{◌==◌, nat_lt}
-use Rattle.std.specs.List.{AllByRecursion}
-use Rattle.std.proofs.lemmas.Bool.{eqb-false, eqb-true, ltb-false, ltb-true}
-use Rattle.cdc_types.specs.declared.events.Event.{Event}
-use Rattle.cdc_types.specs.Timestamps.{RiseFrom}
-use Rattle.cdc_ledger.specs.History.{Opened}
-use Rattle.cdc_ledger.proofs.Elements.{AllByRecursion-weaker}
+use Rattle.std.proofs.Common.{◌≡◌, ◌≢◌, ◌⊎◌, inl, inr, ℕ, ◌<◌, Bool, List, [], ◌∷◌, if◌then◌else◌, map, refl, ap, ◌∙◌, arith, ◌==◌, nat_lt}
+use Rattle.cdc_audit_laws.proofs.OfStd.{AllByRecursion}
+use Rattle.cdc_audit_laws.proofs.OfTypes.{Event, RiseFrom}
+use Rattle.cdc_audit_laws.proofs.OfLedger.{Opened, AllByRecursion-weaker}
 
 -- an account to open, or an event to store
 abbrev pub Planned : Type 0
@@ -86,10 +82,7 @@ place_in o (x ∷ rest) =
 -- the events stay the same
 events_in-place_by : (sooner same : Bool) (o : Opened) (x : Planned) (rest later : List Planned)
     → events_in later ≡ events_in rest → events_in (place_by sooner same o x rest later) ≡ events_in (x ∷ rest)
-events_in-place_by true same o x rest later is = refl
-events_in-place_by false true o x rest later is = refl
-events_in-place_by false false o (inl a) rest later is = is
-events_in-place_by false false o (inr e) rest later is = ap (λ es. e ∷ es) is
+events_in-place_by sooner same o x rest later is = grind arith
 
 pub events_in-place_in : (o : Opened) (plan : List Planned) → events_in (place_in o plan) ≡ events_in plan
 events_in-place_in o [] = refl
@@ -106,20 +99,13 @@ rises-place_in t o (x ∷ rest) after rises =
     by : (sooner : Bool) → nat_lt o.timestamp (time_of x) ≡ sooner → (same : Bool) → (o.timestamp == time_of x) ≡ same
         → (time_of x < o.timestamp → Rises (time_of x) (place_in o rest))
         → Rises t (place_by sooner same o x rest (place_in o rest))
-    by true is same same_is more = (after, (ltb-true o.timestamp (time_of x) is, rises.1))
-    by false is true same_is more = rises
-    by false is false same_is more =
-        let most = ltb-false o.timestamp (time_of x) is in
-        let other = eqb-false o.timestamp (time_of x) same_is in
-        (rises.0, more (omega (arith, most, other)))
+    by sooner is same same_is more = grind arith
 
 -- what holds of all of a plan, and of the account
 all-place_by : (P : Planned → Type 0) (sooner same : Bool) (o : Opened) (x : Planned)
     (rest later : List Planned) → P (inl o)
     → P x → AllByRecursion P rest → AllByRecursion P later → AllByRecursion P (place_by sooner same o x rest later)
-all-place_by P true same o x rest later here first others more = (here, (first, others))
-all-place_by P false true o x rest later here first others more = (first, others)
-all-place_by P false false o x rest later here first others more = (first, more)
+all-place_by P sooner same o x rest later here first others more = grind arith
 
 pub all-place_in : (P : Planned → Type 0) (o : Opened) (plan : List Planned) → P (inl o) → AllByRecursion P plan
     → AllByRecursion P (place_in o plan)
@@ -130,11 +116,7 @@ all-place_in P o (x ∷ rest) here all =
 -- what was opened still is
 opens_by : (a o : Opened) (sooner same : Bool) (x : Planned) (rest later : List Planned)
     → (Opens a rest → Opens a later) → Opens a (x ∷ rest) → Opens a (place_by sooner same o x rest later)
-opens_by a o true same x rest later more opens = inr opens
-opens_by a o false true x rest later more opens = opens
-opens_by a o false false (inl y) rest later more (inl here) = inl here
-opens_by a o false false (inl y) rest later more (inr there) = inr (more there)
-opens_by a o false false (inr e) rest later more opens = more opens
+opens_by a o sooner same x rest later more opens = grind arith
 
 pub opens-place_in : (a o : Opened) (plan : List Planned) → Opens a plan → Opens a (place_in o plan)
 opens-place_in a o [] opens = absurd opens
@@ -146,16 +128,6 @@ abbrev pub Admits : Opened → Planned → Type 0
 Admits o (inl x) = x.timestamp ≡ o.timestamp → x ≡ o
 Admits o (inr e) = e.timestamp ≢ o.timestamp
 
--- then the account is opened too
-opens_then : (o : Opened) (x : Planned) (rest : List Planned) → o.timestamp ≡ time_of x → Admits o x
-    → Opens o (x ∷ rest)
-opens_then o (inl x) rest same admits = inl (admits (let is : x.timestamp ≡ o.timestamp = cc in is))
-opens_then o (inr e) rest same admits = absurd (admits (let is : e.timestamp ≡ o.timestamp = cc in is))
-
-opens_further : (o : Opened) (x : Planned) (rest : List Planned) → Opens o rest → Opens o (x ∷ rest)
-opens_further o (inl x) rest opens = inr opens
-opens_further o (inr e) rest opens = opens
-
 pub place_in-opens : (o : Opened) (plan : List Planned) → AllByRecursion (Admits o) plan → Opens o (place_in o plan)
 place_in-opens o [] all = inl refl
 place_in-opens o (x ∷ rest) all =
@@ -163,9 +135,7 @@ place_in-opens o (x ∷ rest) all =
   where
     by : (sooner same : Bool) → (o.timestamp == time_of x) ≡ same → Opens o (place_in o rest)
         → Opens o (place_by sooner same o x rest (place_in o rest))
-    by true same is later = inl refl
-    by false true is later = opens_then o x rest (eqb-true o.timestamp (time_of x) is) all.0
-    by false false is later = opens_further o x (place_in o rest) later
+    by sooner same is later = grind arith
 
 -- several accounts to open, each in its place
 module _ {A : Type 0} (opening : A → Opened) where
@@ -205,9 +175,7 @@ module _ {A : Type 0} (opening : A → Opened) where
     place_in-opens (opening a) (place_all rest plan)
         (all-place_all (Admits (opening a)) rest plan
         (part (λ b. Admits (opening a) (inl (opening b))) admit.0.0).1 admit.0.1),
-    AllByRecursion-weaker (λ b. Opens (opening b) (place_all rest plan))
-        (λ b. Opens (opening b) (place_in (opening a) (place_all rest plan)))
-        (λ b opens. opens-place_in (opening b) (opening a) (place_all rest plan) opens) rest
+    AllByRecursion-weaker _ _ (λ b opens. opens-place_in (opening b) (opening a) (place_all rest plan) opens) rest
         (opens_each all rest plan (λ Q every. (part Q every).1) admit.1),
   )
 

@@ -1,79 +1,36 @@
 -- A post or a void of an event that is accepted: a ledger accepts a request for it.
-use Rattle.std.proofs.Common.{◌≡◌, ℕ, ◌≤◌, Bool, true, false, not, List, [], ◌∷◌, Option, Some, None, is_none, if◌then◌else◌, refl, sym, ap, ap₂, ◌∙◌, subst, arith}
-use Rattle.std.specs.Prelude.{◌==◌, ◌&&◌, ◌||◌, nat_le, nat_lt, option_map, unwrap_or}
-use Rattle.std.specs.List.{list_any}
-use Rattle.std.proofs.lemmas.Bool.{and_parts, and_right, eq-eqb, eqb-true, le-ltb, leb-true, not-false, not_from_true, or_from, or_parts}
-use Rattle.cdc_types.specs.declared.accounts.Balances.{Balances}
-use Rattle.cdc_types.specs.declared.events.Entry.{Entry}
-use Rattle.cdc_types.specs.declared.events.Event.{Event}
-use Rattle.cdc_types.specs.declared.events.EventKind.{EventKind}
-use Rattle.cdc_types.specs.declared.events.EventKind.TheVariants.{SinglePhase, TwoPhasePending, TwoPhasePosted, TwoPhaseVoided, TwoPhaseExpired}
-use Rattle.cdc_types.specs.declared.events.EventTransfer.{EventTransfer}
-use Rattle.cdc_types.specs.declared.transfers.NewTransfer.{NewTransfer}
-use Rattle.cdc_types.specs.declared.transfers.Transfer.{Transfer}
-use Rattle.cdc_types.specs.Flags.{is_post_request, is_void_request}
-use Rattle.cdc_types.specs.Lines.{first_line}
-use Rattle.cdc_types.specs.Widths.{max_128}
-use Rattle.cdc_ledger.specs.Balances.{resolved, resolves, some_by}
-use Rattle.cdc_ledger.specs.Events.{event_of, events, shown_transfer}
-use Rattle.cdc_ledger.specs.Filling.{as_asked, expires_at, filled, filled_by, or_own, settled_amount, stored}
-use Rattle.cdc_ledger.specs.History.{History, opened}
-use Rattle.cdc_ledger.specs.Kinds.{expires, moves, posts, settles, stores, voids}
-use Rattle.cdc_ledger.specs.Sound.{HasAccounts}
-use Rattle.cdc_ledger.specs.Verdict.{is_other, plain_lines, settling_lines}
-use Rattle.cdc_ledger.proofs.AcceptedLaws.{own_lines}
-use Rattle.cdc_ledger.proofs.BalanceLaws.{holds-settles}
-use Rattle.cdc_ledger.proofs.StoredLaws.{stored_has}
-use Rattle.cdc_audit.specs.EventShapes.{asked_transfer}
-use Rattle.cdc_audit.specs.Known.{is_settled, open_event, pending_amount, pending_event, settled_id, settled_id_by}
-use Rattle.cdc_audit.specs.Rules.{held, released, settled_event}
-use Rattle.cdc_audit.specs.Settling.{has_data_of, is_taken_over, is_same_transfer, settling_lines as lines_of}
+use Rattle.std.proofs.Common.{◌≡◌, ℕ, ◌≤◌, Bool, true, false, not, List, [], ◌∷◌, Option, Some, None, is_none, if◌then◌else◌, refl, sym, ap, ap₂, ◌∙◌, subst, arith, ◌==◌, ◌&&◌, nat_le, nat_lt, option_map}
+use Rattle.cdc_audit_laws.proofs.OfStd.{unwrap_or, list_any, and_parts, and_right, eq-eqb, eqb-true, le-ltb, leb-true, not-false, not_from_true, or_from, or_parts}
+use Rattle.cdc_audit_laws.proofs.OfTypes.{Balances, Entry, Event, EventKind, EventTransfer, NewTransfer, Transfer, is_post_request, is_void_request, first_line, max_128}
+use Rattle.cdc_audit_laws.proofs.OfLedger.{resolved, resolves, some_by, event_of, events, shown_transfer, as_asked, expires_at, filled, filled_by, or_own, settled_amount, stored, History, opened, expires, moves, posts, settles, stores, voids, HasAccounts, is_other, plain_lines, settling_lines, own_lines, holds-settles, stored_has}
+use Rattle.cdc_audit_laws.proofs.OfAudit.{asked_transfer, is_settled, open_event, pending_amount, pending_event, settled_id, settled_id_by, held, released, settled_event, has_data_of, is_taken_over, is_same_transfer, settling_lines as lines_of}
 use Rattle.cdc_audit_laws.proofs.Coming.{Comes, asks_kind}
 use Rattle.cdc_audit_laws.proofs.Flags.{plain_is}
-use Rattle.cdc_audit_laws.proofs.Following.{NoneApplies, no_first_line}
-use Rattle.cdc_audit_laws.proofs.Ledgers.{id_found}
+use Rattle.cdc_audit_laws.proofs.Following.{NoneApplies, no_first_line, settled_parts}
 use Rattle.cdc_audit_laws.proofs.Traces.{IsTraced, traced, unresolved}
+use Rattle.cdc_audit_laws.proofs.Cases.{◌&◌}
+use Rattle.cdc_audit_laws.proofs.Created.{id_found}
 
 -- a post and a void name a pending transfer
 named_by : (k : EventKind) (x : EventTransfer) → stores k ≡ true → settles k ≡ true → settled_id_by k x ≡ x.pending_id
-named_by SinglePhase x storing is = cc
-named_by TwoPhasePending x storing is = cc
-named_by TwoPhasePosted x storing is = refl
-named_by TwoPhaseVoided x storing is = refl
-named_by TwoPhaseExpired x storing is = cc
+named_by k x storing is = grind arith
 
 -- what is given and is the pending transfer's own
 no_other : (given own : ℕ) → given ≡ own → is_other given own ≡ false
 no_other given own same = and_right (not (given == 0)) _ (not_from_true _ (eq-eqb given own same))
 
 own_is : (given own : ℕ) → given ≡ own → or_own given own ≡ given
-own_is given own same = by (given == 0)
-  where
-    by : (b : Bool) → (if b then own else given) ≡ given
-    by true = sym same
-    by false = refl
+own_is given own same = grind arith
 
 -- what is given, and is 0 only if the pending transfer's own is
 data_is : (given own : ℕ) → is_taken_over given own ≡ true → or_own given own ≡ given
-data_is given own taken = by (given == 0) refl taken
-  where
-    by : (b : Bool) → (given == 0) ≡ b → (not b || (own == 0)) ≡ true → (if b then own else given) ≡ given
-    by true is none = eqb-true own 0 none ∙ sym (eqb-true given 0 is)
-    by false is none = refl
+data_is given own taken = grind arith
 
 -- the amount that is settled is the one that is shown
 amount_by : (moving : Bool) (shown own : ℕ) → own ≤ max_128
     → (if moving then nat_le shown own else (shown == own)) ≡ true
     → (if moving then (if shown == max_128 then own else shown) else or_own shown own) ≡ shown
-amount_by true shown own within is = by (shown == max_128) refl
-  where
-    by : (b : Bool) → (shown == max_128) ≡ b → (if b then own else shown) ≡ shown
-    by true full =
-        let all = eqb-true shown max_128 full in
-        let most = leb-true shown own is in
-        omega (arith, all, most, within)
-    by false full = refl
-amount_by false shown own within is = own_is shown own (eqb-true shown own is)
+amount_by moving shown own within is = grind arith
 
 at_most : (moving : Bool) (shown own : ℕ) → (if moving then nat_le shown own else (shown == own)) ≡ true → shown ≤ own
 at_most true shown own is = leb-true shown own is
@@ -101,10 +58,7 @@ none_of_less t test less implies (e ∷ es) none =
 -- the three ways of being settled, of which there was none
 resolved_parts : (p : Transfer) (x : Entry) → resolves p x ≡ false
     → (posts x.kind x.transfer p ≡ false) × (voids x.kind x.transfer p ≡ false) × (expires x.kind x.transfer p ≡ false)
-resolved_parts p x none =
-    let two = or_parts (posts x.kind x.transfer p || voids x.kind x.transfer p) (expires x.kind x.transfer p) none in
-    let one = or_parts (posts x.kind x.transfer p) (voids x.kind x.transfer p) two.0 in
-    (one.0, one.1, two.1)
+resolved_parts p x none = grind arith
 
 -- a transfer with these fields in place of its own
 abbrev with_fields : Transfer → ℕ → ℕ → ℕ → ℕ → ℕ → ℕ → ℕ → ℕ → Transfer
@@ -123,12 +77,7 @@ with_fields x d c n a b u l k = record x {
 same_fields : (x : Transfer) (d c n a b u l k : ℕ) → d ≡ x.debit_account_id → c ≡ x.credit_account_id → n ≡ x.amount
     → a ≡ x.user_data_128 → b ≡ x.user_data_64 → u ≡ x.user_data_32 → l ≡ x.ledger → k ≡ x.code
     → with_fields x d c n a b u l k ≡ x
-same_fields x d c n a b u l k one two three four five six seven eight =
-    ap₂ (λ d c. with_fields x d c n a b u l k) one two
-    ∙ ap₂ (λ n a. with_fields x x.debit_account_id x.credit_account_id n a b u l k) three four
-    ∙ ap₂ (λ b u. with_fields x x.debit_account_id x.credit_account_id x.amount x.user_data_128 b u l k) five six
-    ∙ ap₂ (λ l k. with_fields x x.debit_account_id x.credit_account_id x.amount x.user_data_128 x.user_data_64
-    x.user_data_32 l k) seven eight
+same_fields x d c n a b u l k one two three four five six seven eight = grind arith
 
 module _ (h : History) (e : Event) (comes : Comes h e) (storing : stores e.kind ≡ true)
     (is : settles e.kind ≡ true) where
@@ -183,25 +132,14 @@ module _ (h : History) (e : Event) (comes : Comes h e) (storing : stores e.kind 
   has_own : HasOwn
   has_own =
       let x = event_of h pending in
-      let rest = if stores e.kind then has_data_of x.transfer e.transfer
-      else is_same_transfer e.transfer x.transfer in
-      let d = e.debit_account.id == x.debit_account.id in
-      let c = e.credit_account.id == x.credit_account.id in
-      let l = e.ledger == x.ledger in
-      let k = e.transfer.code == x.transfer.code in
-      let four = and_parts (d && c && l && k) rest (not-false _ lines.0) in
-      let three = and_parts (d && c && l) k four.0 in
-      let two = and_parts (d && c) l three.0 in
-      let one = and_parts d c two.0 in
+      let all = settled_parts _ _ _ _ _ _ _ _ _ lines.0 in
       record {
-        debit = eqb-true e.debit_account.id x.debit_account.id one.0
-            ∙ id_found h own.debit_account_id _ refl there.0;
-        credit = eqb-true e.credit_account.id x.credit_account.id one.1
-            ∙ id_found h own.credit_account_id _ refl there.1;
-        ledger = eqb-true e.ledger x.ledger two.1;
-        code = eqb-true e.transfer.code x.transfer.code three.1;
+        debit = all.0 ∙ id_found h own.debit_account_id there.0;
+        credit = all.1 ∙ id_found h own.credit_account_id there.1;
+        ledger = all.2;
+        code = all.3;
         user_data = sym (ap (λ b. if b then has_data_of x.transfer e.transfer
-            else is_same_transfer e.transfer x.transfer) storing) ∙ four.1;
+            else is_same_transfer e.transfer x.transfer) storing) ∙ all.4;
       }
 
   -- and an amount that it may have
@@ -241,43 +179,19 @@ module _ (h : History) (e : Event) (comes : Comes h e) (storing : stores e.kind 
 
   -- so no line on its pending transfer applies
   no_line : NoneApplies (settling_lines (Some pending) h request e.timestamp)
-  no_line = (
-    not_from_true _ on_pending.pending,
-    (
-      no_other e.debit_account.id own.debit_account_id has_own.debit,
-      (
-        no_other e.credit_account.id own.credit_account_id has_own.credit,
-        (
-          no_other e.ledger own.ledger has_own.ledger,
-          (
-            no_other e.transfer.code own.code has_own.code,
-            (
-              ap (λ n. nat_lt own.amount n) amount_is
-                  ∙ le-ltb own.amount e.transfer.amount
-                  (at_most (moves e.kind) e.transfer.amount own.amount amount),
-              (
-                ap₂ (λ b n. b && nat_lt n own.amount) voiding amount_is
-                    ∙ whole (moves e.kind) e.transfer.amount own.amount amount,
-                (
-                  ended_by (λ x. posts x.kind x.transfer own) (λ x none. (resolved_parts own x none).0),
-                  (
-                    ended_by (λ x. voids x.kind x.transfer own) (λ x none. (resolved_parts own x none).1),
-                    (
-                      or_from _ _
-                          (ended_by (λ x. expires x.kind x.transfer own) (λ x none. (resolved_parts own x none).2))
-                          (sym (ap (λ b. b && (not (own.timeout == 0) && nat_le (expires_at own) e.timestamp))
-                          storing) ∙ lines.1.1.1.1.0),
-                      tt,
-                    ),
-                  ),
-                ),
-              ),
-            ),
-          ),
-        ),
-      ),
-    ),
-  )
+  no_line =
+      (not_from_true _ on_pending.pending & no_other e.debit_account.id own.debit_account_id has_own.debit
+      & no_other e.credit_account.id own.credit_account_id has_own.credit
+      & no_other e.ledger own.ledger has_own.ledger & no_other e.transfer.code own.code has_own.code
+      & ap (λ n. nat_lt own.amount n) amount_is
+      ∙ le-ltb _ _ (at_most (moves e.kind) e.transfer.amount own.amount amount)
+      & ap₂ (λ b n. b && nat_lt n own.amount) voiding amount_is
+      ∙ whole (moves e.kind) e.transfer.amount own.amount amount
+      & ended_by (λ x. posts x.kind x.transfer own) (λ x none. (resolved_parts own x none).0)
+      & ended_by (λ x. voids x.kind x.transfer own) (λ x none. (resolved_parts own x none).1)
+      & or_from _ _ (ended_by (λ x. expires x.kind x.transfer own) (λ x none. (resolved_parts own x none).2))
+      (sym (ap (λ b. b && (not (own.timeout == 0) && nat_le (expires_at own) e.timestamp)) storing) ∙ lines.1.1.1.1.0)
+      & tt)
 
   pub posting_passes : first_line (own_lines h request e.timestamp) ≡ None
   posting_passes =
@@ -292,11 +206,8 @@ module _ (h : History) (e : Event) (comes : Comes h e) (storing : stores e.kind 
   pub posting_filled : filled h request e.timestamp ≡ as_asked request e.timestamp
   posting_filled =
       let x : Transfer = as_asked request e.timestamp in
-      let two = and_parts (is_taken_over e.transfer.user_data_128 own.user_data_128
-      && is_taken_over e.transfer.user_data_64 own.user_data_64)
-      (is_taken_over e.transfer.user_data_32 own.user_data_32) has_own.user_data in
-      let one = and_parts (is_taken_over e.transfer.user_data_128 own.user_data_128)
-      (is_taken_over e.transfer.user_data_64 own.user_data_64) two.0 in
+      let two = and_parts _ _ has_own.user_data in
+      let one = and_parts _ _ two.0 in
       ap (λ b. if b then as_asked request e.timestamp else filled_by (stored h request.pending_id) request e.timestamp)
       (plain_is e.kind request (asks_kind h e comes storing) ∙ ap not is)
       ∙ ap (λ o. filled_by o request e.timestamp) on_pending.named

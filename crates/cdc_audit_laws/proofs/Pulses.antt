@@ -1,24 +1,9 @@
 -- The order in which pending transfers expire: a pulse lets them expire in the order of their expiry times, and none is
 -- left after it whose time was up.
-use Rattle.std.proofs.Common.{ℕ, ◌+◌, ◌<◌, ◌≤◌, Bool, true, false, List, [], ◌∷◌, ◌++◌, ◌≡◌, Option, Some, None, map, refl, sym, ap, ◌∙◌, subst, arith}
-use Rattle.std.specs.Prelude.{◌==◌, ◌&&◌, ◌||◌, not, nat_le, nat_lt, filter, if◌then◌else◌, IfSome}
-use Rattle.std.specs.List.{AllByRecursion, list_any}
-use Rattle.std.proofs.lemmas.Bool.{and_from, and_parts, eq-eqb, eqb-true, false≢true, not-true, not_from_false, or_from, or_left, or_parts, or_right}
-use Rattle.std.proofs.lemmas.Bool.Decides.{nat_tests}
-use Rattle.cdc_types.specs.declared.events.Entry.{Entry}
-use Rattle.cdc_types.specs.declared.transfers.Transfer.{Transfer}
-use Rattle.cdc_ledger.specs.Balances.{resolved}
-use Rattle.cdc_ledger.specs.Changes.{expiry, pushed}
-use Rattle.cdc_ledger.specs.Due.{due, in_order_of_end, insert_by_end, is_due, is_sooner}
-use Rattle.cdc_ledger.specs.Filling.{expires_at, stored}
-use Rattle.cdc_ledger.specs.History.{History}
-use Rattle.cdc_ledger.specs.Kinds.{holds, stores}
-use Rattle.cdc_ledger.specs.Sound.{IsSound}
-use Rattle.cdc_ledger.proofs.BalanceLaws.{resolved_later, resolved_then, stores-holds}
-use Rattle.cdc_ledger.proofs.DueOrder.{All-in_order, All-insert_by_end, is_sooner-once}
-use Rattle.cdc_ledger.proofs.Elements.{AllByRecursion-both, AllByRecursion-every, AllByRecursion-weaker, AllByRecursion_push}
-use Rattle.cdc_ledger.proofs.PulseLaws.{IsOpen}
-use Rattle.cdc_ledger.proofs.StoredLaws.{stored_each}
+use Rattle.std.proofs.Common.{ℕ, ◌+◌, ◌<◌, ◌≤◌, Bool, true, false, List, [], ◌∷◌, ◌++◌, ◌≡◌, Option, Some, None, map, refl, sym, ap, ◌∙◌, subst, arith, ◌==◌, ◌&&◌, ◌||◌, nat_le, nat_lt, filter, if◌then◌else◌, IfSome}
+use Rattle.cdc_audit_laws.proofs.OfStd.{AllByRecursion, list_any, and_from, and_parts, eq-eqb, eqb-true, false≢true, not-true, not_from_false, or_from, or_left, or_parts, or_right, nat_tests}
+use Rattle.cdc_audit_laws.proofs.OfTypes.{Entry, Transfer}
+use Rattle.cdc_audit_laws.proofs.OfLedger.{resolved, expiry, pushed, due, in_order_of_end, insert_by_end, is_due, is_sooner, expires_at, stored, History, holds, stores, IsSound, resolved_later, resolved_then, stores-holds, All-in_order, All-insert_by_end, is_sooner-once, AllByRecursion-both, AllByRecursion-every, AllByRecursion-weaker, AllByRecursion_push, IsOpen, stored_each}
 
 -- ---- the order
 
@@ -52,7 +37,7 @@ placed_in_order p (q ∷ qs) in_order = either (is_sooner q p) refl (placed_in_o
         → AreInOrder (if b then q ∷ insert_by_end p qs else p ∷ q ∷ qs)
     either true is more = (All-insert_by_end (IsNoSooner q) p qs (is_sooner-once q p is) in_order.0, more)
     either false is more = (
-      (is, AllByRecursion-weaker (IsNoSooner q) (IsNoSooner p) (λ r. no_sooner_then p q r is) qs in_order.0),
+      (is, AllByRecursion-weaker _ _ (λ r. no_sooner_then p q r is) qs in_order.0),
       in_order,
     )
 
@@ -72,9 +57,7 @@ placed_has id p [] has = has
 placed_has id p (q ∷ qs) has = either (is_sooner q p) (placed_has id p qs)
   where
     apart : (a b c d : Bool) → (a || (b || c)) ≡ true → ((a || c) ≡ true → d ≡ true) → (b || d) ≡ true
-    apart a true c d is more = refl
-    apart true false c d is more = more refl
-    apart false false c d is more = more is
+    apart a b c d is more = grind arith
 
     either : (b : Bool) → (((p.id == id) || has_id id qs) ≡ true → has_id id (insert_by_end p qs) ≡ true)
         → has_id id (if b then q ∷ insert_by_end p qs else p ∷ q ∷ qs) ≡ true
@@ -105,16 +88,12 @@ passing_has test (e ∷ es) = by (test e) refl (passing_has test es)
         (e ∷ es)
     by true is more = (
       λ passes. or_left (e.transfer.id == e.transfer.id) _ (eq-eqb e.transfer.id e.transfer.id refl),
-      AllByRecursion-weaker
-          (λ y. test y ≡ true → has_id y.transfer.id (map (λ x. x.transfer) (filter test es)) ≡ true)
-          (λ y. test y ≡ true
-          → ((e.transfer.id == y.transfer.id) || has_id y.transfer.id (map (λ x. x.transfer) (filter test es))) ≡ true)
-          (λ y has passes. or_right (e.transfer.id == y.transfer.id) _ (has passes)) es more,
+      AllByRecursion-weaker _ _ (λ y has passes. or_right (e.transfer.id == y.transfer.id) _ (has passes)) es more,
     )
     by false is more = (λ passes. absurd (false≢true (sym is ∙ passes)), more)
 
 -- what holds of each entry that passes holds of the transfers of those that pass
-passing_each : (test : Entry → Bool) (P : Transfer → Type 0) (es : List Entry)
+pub passing_each : (test : Entry → Bool) (P : Transfer → Type 0) (es : List Entry)
     → AllByRecursion (λ e. test e ≡ true → P e.transfer) es
     → AllByRecursion P (map (λ e. e.transfer) (filter test es))
 passing_each test P [] all = tt
@@ -136,11 +115,7 @@ ExpiresAfter h now ps y =
 -- each pending transfer that is left after a pulse expires later
 due_after : (h : History) (now : ℕ) → AllByRecursion (ExpiresAfter h now (due h now)) h.entries
 due_after h now =
-    AllByRecursion-weaker
-    (λ y. is_due h now y ≡ true
-    → has_id y.transfer.id (map (λ e. e.transfer) (filter (is_due h now) h.entries)) ≡ true)
-    (ExpiresAfter h now (due h now))
-    (λ y has holding timed unsettled away.
+    AllByRecursion-weaker _ _ (λ y has holding timed unsettled away.
     by y has holding timed unsettled away (nat_le (expires_at y.transfer) now) refl)
     h.entries (passing_has (is_due h now) h.entries)
   where
@@ -199,8 +174,7 @@ clear_later h g ps sound same later clear =
     by None is = tt
     by (Some x) is = record {
       past = let before = is.past in omega arith;
-      others = subst (AllByRecursion (ExpiresAfter g (expires_at x.transfer) ps)) (sym same)
-          (AllByRecursion-weaker (ExpiresAfter h (expires_at x.transfer) ps) (ExpiresAfter g (expires_at x.transfer) ps)
+      others = subst (AllByRecursion (ExpiresAfter g (expires_at x.transfer) ps)) (sym same) (AllByRecursion-weaker _ _
           (λ y after holding timed unsettled. after holding timed (sym (same_resolved y) ∙ unsettled)) h.entries
           is.others);
     }
@@ -218,9 +192,7 @@ clear-stored h e sound after storing timely clear =
     by (Some x) is = record {
       past = let before = is.past in omega arith;
       others =
-          AllByRecursion_push (ExpiresAfter (pushed h e) (expires_at x.transfer) []) h.entries e
-          (AllByRecursion-weaker (ExpiresAfter h (expires_at x.transfer) [])
-          (ExpiresAfter (pushed h e) (expires_at x.transfer) [])
+          AllByRecursion_push _ h.entries e (AllByRecursion-weaker _ _
           (λ y after_it holding timed unsettled. after_it holding timed
           (or_parts _ _ (sym (resolved_then h e y.transfer sound.past after) ∙ unsettled)).0) h.entries is.others)
           (λ holding timed unsettled away. let before = is.past in omega arith);
@@ -256,8 +228,7 @@ pulsing-due h now t clear ended = record {
     less None is = tt
     less (Some x) is = record {
       past = is.past;
-      others = AllByRecursion-weaker (ExpiresAfter h (expires_at x.transfer) [])
-          (ExpiresAfter h (expires_at x.transfer) (due h now))
+      others = AllByRecursion-weaker _ _
           (λ y after holding timed unsettled away. after holding timed unsettled refl) h.entries is.others;
     }
 
@@ -265,24 +236,15 @@ pulsing-due h now t clear ended = record {
     later_each x is =
         All-in_order (λ p. expires_at x.transfer < expires_at p)
         (map (λ e. e.transfer) (filter (is_due h now) h.entries))
-        (passing_each (is_due h now) (λ p. expires_at x.transfer < expires_at p) h.entries
-        (AllByRecursion-weaker (ExpiresAfter h (expires_at x.transfer) [])
-        (λ y. is_due h now y ≡ true → expires_at x.transfer < expires_at y.transfer)
-        (λ y after passes.
-        let last = and_parts (holds y.kind && not (y.transfer.timeout == 0) && nat_le (expires_at y.transfer) now)
-        (not (resolved h y.transfer h.last)) passes in
-        let up = and_parts (holds y.kind && not (y.transfer.timeout == 0)) (nat_le (expires_at y.transfer) now)
-        last.0 in
-        let timed = and_parts (holds y.kind) (not (y.transfer.timeout == 0)) up.0 in
+        (passing_each _ _ _ (AllByRecursion-weaker _ _ (λ y after passes.
+        let last = and_parts _ _ passes in
+        let up = and_parts _ _ last.0 in
+        let timed = and_parts _ _ up.0 in
         after timed.0 (not-true _ timed.1) (not-true _ last.1) refl) h.entries is.others))
 
     head : (x : Entry) (ps : List Transfer) → AllByRecursion (λ p. expires_at x.transfer < expires_at p) ps
         → FirstComesAfter (Some x) ps t
-    head x [] all = tt
-    head x (p ∷ ps) all = (
-      later_pair (expires_at x.transfer) (expires_at p) x.transfer.timestamp p.timestamp all.0,
-      λ same. let later = all.0 in omega arith,
-    )
+    head x ps all = grind arith
 
     by : (o : Option Entry) → IfSome o (IsClear h []) → FirstComesAfter o (due h now) t
     by None is = none_first (due h now)
@@ -301,9 +263,7 @@ pulsing-next h now t p ps sound after up pulsing = record {
   first = subst (λ o. FirstComesAfter o ps (t + 1)) (sym last_is) (next ps pulsing.in_order.0);
   clear = subst (λ o. IfSome o (IsClear (pushed h (expiry p t)) ps)) (sym last_is) (record {
     past = up;
-    others = AllByRecursion-weaker (ExpiresAfter (pushed h (expiry p t)) now ps)
-        (ExpiresAfter (pushed h (expiry p t)) (expires_at p) ps)
-        (λ y later holding timed unsettled away.
+    others = AllByRecursion-weaker _ _ (λ y later holding timed unsettled away.
         let end = later holding timed unsettled away in
         let within = pulsing.ended.0 in omega arith) (h.entries ++ expiry p t ∷ []) rest;
   });
@@ -319,9 +279,7 @@ pulsing-next h now t p ps sound after up pulsing = record {
 
     rest : AllByRecursion (ExpiresAfter (pushed h (expiry p t)) now ps) (h.entries ++ expiry p t ∷ [])
     rest =
-        AllByRecursion_push (ExpiresAfter (pushed h (expiry p t)) now ps) h.entries (expiry p t)
-        (AllByRecursion-weaker (ExpiresAfter h now (p ∷ ps)) (ExpiresAfter (pushed h (expiry p t)) now ps)
-        (λ y later holding timed unsettled away.
+        AllByRecursion_push _ h.entries (expiry p t) (AllByRecursion-weaker _ _ (λ y later holding timed unsettled away.
         let parts = or_parts _ _ (sym (resolved_then h (expiry p t) y.transfer sound.past after) ∙ unsettled) in
         later holding timed parts.0 (or_from _ _ parts.1 away)) h.entries pulsing.rest)
         (λ holding. absurd (false≢true holding))
@@ -347,11 +305,10 @@ in_turn-stored h e storing clear = by (last_expiry h) clear
   where
     by : (o : Option Entry) → IfSome o (IsClear h []) → AllByRecursion (LetsPass o h e) h.entries
     by None is =
-        AllByRecursion-every (LetsPass None h e)
+        AllByRecursion-every _
         (λ y holding timed unsettled. (λ no. absurd (false≢true (sym no ∙ storing)), tt)) h.entries
     by (Some x) is =
-        AllByRecursion-weaker (ExpiresAfter h (expires_at x.transfer) []) (LetsPass (Some x) h e)
-        (λ y after holding timed unsettled.
+        AllByRecursion-weaker _ _ (λ y after holding timed unsettled.
         let later = after holding timed unsettled refl in (
           λ no. absurd (false≢true (sym no ∙ storing)),
           λ same. absurd (omega arith),
@@ -372,18 +329,10 @@ one_of P id (p ∷ ps) all has = by (p.id == id) refl has (one_of P id ps all.1)
 no_sooner_self : (a s : ℕ) → (nat_lt a a || ((a == a) && nat_lt s s)) ≡ false
 no_sooner_self a s = grind (arith, nat_tests)
 
-no_later : (a b s t : ℕ) → (nat_lt b a || ((b == a) && nat_lt t s)) ≡ false → a ≤ b
-no_later a b s t is = grind (arith, nat_tests)
-
 -- the transfer of an open one that is stored under the id of one of an entry is that entry's
 open_one : (h : History) (q : Transfer) (y : Entry) → IsOpen h q → stored h y.transfer.id ≡ Some y
     → q.id ≡ y.transfer.id → q ≡ y.transfer
-open_one h q y is found same =
-    let there : is.pending ≡ y = some_same _ _ (sym is.there ∙ ap (stored h) same ∙ found) in
-    sym is.same ∙ ap (λ (x : Entry). x.transfer) there
-  where
-    some_same : (a b : Entry) → Some a ≡ Some b → a ≡ b
-    some_same a b both = cc
+open_one h q y is found same = grind arith
 
 -- within a pulse the first one expires
 pub in_turn-expiry : (h : History) (now t : ℕ) (p : Transfer) (ps : List Transfer) → IsSound h
@@ -391,9 +340,7 @@ pub in_turn-expiry : (h : History) (now t : ℕ) (p : Transfer) (ps : List Trans
 in_turn-expiry h now t p ps sound opened pulsing = by (last_expiry h) pulsing.first
   where
     all : AllByRecursion (λ q. IsOpen h q × IsNoSooner p q) (p ∷ ps)
-    all =
-        AllByRecursion-both (IsOpen h) (IsNoSooner p) (p ∷ ps) opened
-        (no_sooner_self (expires_at p) p.timestamp, pulsing.in_order.0)
+    all = AllByRecursion-both _ _ (p ∷ ps) opened (no_sooner_self (expires_at p) p.timestamp, pulsing.in_order.0)
 
     first : (y : Entry) → (stores y.kind ≡ true → stored h y.transfer.id ≡ Some y) → ExpiresAfter h now (p ∷ ps) y
         → holds y.kind ≡ true → (y.transfer.timeout == 0) ≡ false → resolved h y.transfer h.last ≡ false
@@ -408,19 +355,11 @@ in_turn-expiry h now t p ps sound opened pulsing = by (last_expiry h) pulsing.fi
 
     next : (o : Option Entry) → ComesAfter o p t → (y : Entry) → IsNoSooner p y.transfer
         → IfSome o (λ x. expires_at y.transfer ≡ expires_at x.transfer → (false ≡ false) × (t ≡ x.timestamp + 1))
-    next None comes y sooner = tt
-    next (Some x) comes y sooner = λ same.
-        let one = no_later (expires_at p) (expires_at y.transfer) p.timestamp y.transfer.timestamp sooner in
-        let other = no_later (expires_at x.transfer) (expires_at p) x.transfer.timestamp p.timestamp comes.0 in
-        (refl, comes.1 (omega arith))
+    next o comes y sooner = grind arith
 
     by : (o : Option Entry) → ComesAfter o p t → AllByRecursion (LetsPass o h (expiry p t)) h.entries
     by o comes =
-        AllByRecursion-weaker
-        (λ y. (stores y.kind ≡ true → stored h y.transfer.id ≡ Some y) × ExpiresAfter h now (p ∷ ps) y)
-        (LetsPass o h (expiry p t))
-        (λ y at holding timed unsettled.
+        AllByRecursion-weaker _ _ (λ y at holding timed unsettled.
         let no_sooner = first y at.0 at.1 holding timed unsettled (has_id y.transfer.id (p ∷ ps)) refl in
         (λ expiring. no_sooner, next o comes y no_sooner)) h.entries
-        (AllByRecursion-both (λ y. stores y.kind ≡ true → stored h y.transfer.id ≡ Some y)
-        (ExpiresAfter h now (p ∷ ps)) h.entries (stored_each h sound.once) pulsing.rest)
+        (AllByRecursion-both _ _ h.entries (stored_each h sound.once) pulsing.rest)

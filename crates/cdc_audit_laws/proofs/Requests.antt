@@ -1,40 +1,15 @@
 -- What a transfer that is accepted has: fields that a ledger lets it have, the ledger of its accounts, and what it
 -- settles of its pending transfer.
-use Rattle.std.proofs.Common.{◌≡◌, ℕ, ◌≤◌, Bool, true, false, not, List, ◌++◌, ◌+◌, ◌<◌, Option, Some, None, refl, sym, ap, ap₂, ◌∙◌, subst, arith}
-use Rattle.std.specs.Prelude.{◌==◌, ◌&&◌, ◌||◌, nat_le, nat_lt, if◌then◌else◌, unwrap_or}
-use Rattle.std.specs.List.{AllByRecursion}
-use Rattle.std.proofs.lemmas.Bool.{and_from, and_left, eq-eqb, eqb-true, false≢true, le-leb, ltb-false, not-false, not_from_false, or_left, or_parts, or_right}
-use Rattle.cdc_types.specs.declared.accounts.Balances.{Balances}
-use Rattle.cdc_types.specs.declared.accounts.TheConstants.AccountFlags.{CREDITS_MUST_NOT_EXCEED_DEBITS, DEBITS_MUST_NOT_EXCEED_CREDITS}
-use Rattle.cdc_types.specs.declared.events.Entry.{Entry}
-use Rattle.cdc_types.specs.declared.events.EventKind.{EventKind}
-use Rattle.cdc_types.specs.declared.events.EventKind.TheVariants.{SinglePhase, TwoPhasePending, TwoPhasePosted, TwoPhaseVoided, TwoPhaseExpired}
-use Rattle.cdc_types.specs.declared.results.TransferResult.{TransferResult}
+use Rattle.std.proofs.Common.{◌≡◌, ℕ, ◌≤◌, Bool, true, false, not, List, ◌++◌, ◌+◌, ◌<◌, Option, Some, None, refl, sym, ap, ap₂, ◌∙◌, subst, arith, ◌==◌, ◌&&◌, ◌||◌, nat_le, nat_lt, if◌then◌else◌, IsSome}
+use Rattle.cdc_audit_laws.proofs.OfStd.{unwrap_or, AllByRecursion, and_from, eq-eqb, eqb-true, false≢true, ltb-false, not-false, not_from_false, or_parts}
+use Rattle.cdc_audit_laws.proofs.OfTypes.{Balances, CREDITS_MUST_NOT_EXCEED_DEBITS, DEBITS_MUST_NOT_EXCEED_CREDITS, Entry, EventKind, SinglePhase, TwoPhasePending, TwoPhasePosted, TwoPhaseVoided, TwoPhaseExpired, TransferResult, NewTransfer, Transfer, has_flag, is_pending_request, is_plain_request, is_post_request, is_void_request, first_line, transfer_number, asks_for_two_kinds, transfer_refusal, transfer_shape_lines}
+use Rattle.cdc_audit_laws.proofs.OfLedger.{balances, expiry, nobody, as_asked, expires_at, filled, filled_by, filled_from, or_own, settled_amount, stored, History, Opened, opened, moves, settled_id, settles, stores, IsSound, entry_of, kind_of, is_other, known_transfer_lines, plain_lines, settling_lines, transfer_refused, balances_later, first_line_append_none_parts, test_fails, test_of, IsOpen, stored_has}
+use Rattle.cdc_audit_laws.proofs.OfAudit.{is_of_kind, is_taken_over}
+use Rattle.std.proofs.lemmas.Bool.{le-leb}
 use Rattle.cdc_types.specs.declared.results.TransferResult.TheVariants as transfer
-use Rattle.cdc_types.specs.declared.transfers.NewTransfer.{NewTransfer}
-use Rattle.cdc_types.specs.declared.transfers.Transfer.{Transfer}
-use Rattle.cdc_types.specs.Flags.{has_flag, is_pending_request, is_plain_request, is_post_request, is_void_request}
-use Rattle.cdc_types.specs.Lines.{first_line}
-use Rattle.cdc_types.specs.Results.{transfer_number}
-use Rattle.cdc_types.specs.Shapes.{asks_for_two_kinds, transfer_refusal, transfer_shape_lines}
-use Rattle.cdc_ledger.specs.Balances.{balances, some_by}
-use Rattle.cdc_ledger.specs.Changes.{expiry}
-use Rattle.cdc_ledger.specs.Events.{nobody}
-use Rattle.cdc_ledger.specs.Filling.{as_asked, expires_at, filled, filled_by, filled_from, or_own, settled_amount, stored}
-use Rattle.cdc_ledger.specs.History.{History, Opened, opened}
-use Rattle.cdc_ledger.specs.Kinds.{expires, moves, settled_id, settles, stores}
-use Rattle.cdc_ledger.specs.Sound.{IsSound}
-use Rattle.cdc_ledger.specs.Submit.{entry_of, kind_of}
-use Rattle.cdc_ledger.specs.Verdict.{is_other, known_transfer_lines, plain_lines, settling_lines, transfer_refused}
-use Rattle.cdc_ledger.proofs.BalanceLaws.{balances_later}
-use Rattle.cdc_ledger.proofs.LineLaws.{first_line_append_none_parts, test_fails, test_of}
-use Rattle.cdc_ledger.proofs.PulseLaws.{IsOpen}
-use Rattle.cdc_ledger.proofs.StoredLaws.{stored_has}
-use Rattle.cdc_audit.specs.EventShapes.{is_of_kind}
-use Rattle.cdc_audit.specs.Settling.{is_taken_over}
-use Rattle.cdc_audit_laws.proofs.Keeping.{IsUp, end_from, is_in_chain}
+use Rattle.cdc_audit_laws.proofs.Keeping.{IsUp, end_from, is_in_chain, stores_asked}
 use Rattle.cdc_audit_laws.proofs.Pulses.{IsInTurn}
-use Rattle.cdc_audit_laws.proofs.Following.{no_first_line, none_applies}
+use Rattle.cdc_audit_laws.proofs.Flags.{kind_by}
 
 -- the user data of a transfer is 0 only if that of the pending one is
 abbrev pub keeps_data : Transfer → Transfer → Bool
@@ -60,6 +35,14 @@ KeepsSettled h e =
 -- the account of this id, or the one that is shown if there is none
 abbrev pub account_of : History → ℕ → Opened
 account_of h id = unwrap_or (opened h id) nobody
+
+-- which is there, if there is one
+pub account_is : (h : History) (id : ℕ) → IsSome (opened h id) → opened h id ≡ Some (account_of h id)
+account_is h id there = by (opened h id) there
+  where
+    by : (o : Option Opened) → IsSome o → o ≡ Some (unwrap_or o nobody)
+    by None there = cc
+    by (Some o) there = refl
 
 -- an entry has the ledger of both of its accounts, and a code
 pub record HasLedger (h : History) (e : Entry) : Type 0 where
@@ -128,33 +111,15 @@ no_lines h r t none =
 
 -- a request names the same pending transfer once it is filled in
 same_pending_id : (h : History) (r : NewTransfer) (t : ℕ) → (filled h r t).pending_id ≡ r.pending_id
-same_pending_id h r t = by (is_plain_request r) (stored h r.pending_id)
-  where
-    by : (plain : Bool) (named : Option Entry)
-        → (if plain then as_asked r t else filled_by named r t).pending_id ≡ r.pending_id
-    by true named = refl
-    by false None = refl
-    by false (Some x) = refl
+same_pending_id h r t = grind arith
 
 -- what is given of the pending transfer is its own
 own_given : (given own : ℕ) → is_other given own ≡ false → or_own given own ≡ own
-own_given given own line = by (given == 0) (given == own) refl line
-  where
-    by : (none same : Bool) → (given == own) ≡ same → (not none && not same) ≡ false
-        → (if none then own else given) ≡ own
-    by true same is other = refl
-    by false true is other = eqb-true given own is
-    by false false is other = absurd (false≢true (sym other))
+own_given given own line = grind arith
 
 -- and it is 0 only if that one's own is
 own_taken : (given own : ℕ) → is_taken_over (or_own given own) own ≡ true
-own_taken given own = by (given == 0) (own == 0) refl refl
-  where
-    by : (none own_none : Bool) → (given == 0) ≡ none → (own == 0) ≡ own_none
-        → (not ((if none then own else given) == 0) || own_none) ≡ true
-    by true true is own_is = or_right _ true refl
-    by true false is own_is = or_left _ false (not_from_false _ own_is)
-    by false own_none is own_is = or_left _ own_none (not_from_false _ is)
+own_taken given own = grind arith
 
 -- a post or a void that no line refuses, of the pending entry x
 module _ (h : History) (r : NewTransfer) (t : ℕ) (x : Entry)
@@ -174,16 +139,14 @@ module _ (h : History) (r : NewTransfer) (t : ℕ) (x : Entry)
 
   no_less : is_void_request r ≡ true → x.transfer.amount ≤ settled_amount r x.transfer
   no_less is =
-      ltb-false (settled_amount r x.transfer) x.transfer.amount
-      (sym (ap (λ b. b && nat_lt (settled_amount r x.transfer) x.transfer.amount) is)
+      ltb-false _ _ (sym (ap (λ b. b && nat_lt (settled_amount r x.transfer) x.transfer.amount) is)
       ∙ fails transfer.PendingTransferHasDifferentAmount)
 
   -- so its entry keeps the fields
   keeps : (k : EventKind) → stores k ≡ true → (moves k ≡ false → is_void_request r ≡ true)
       → KeepsFields (record { timestamp = t; kind = k; transfer = filled_from x.transfer r t }) x.transfer
   keeps k storing voids = record {
-    timely = λ is. (or_parts (some_by h t (λ y. expires y.kind y.transfer x.transfer))
-        (not (x.transfer.timeout == 0) && nat_le (expires_at x.transfer) t) (fails transfer.PendingTransferExpired)).1;
+    timely = λ is. (or_parts _ _ (fails transfer.PendingTransferExpired)).1;
     ended = λ no. absurd (false≢true (sym no ∙ storing));
     ledger = same_ledger;
     code = same_code;
@@ -202,43 +165,20 @@ module _ (h : History) (r : NewTransfer) (t : ℕ) (x : Entry)
           let least = no_less (voids refl) in
           eq-eqb (settled_amount r x.transfer) x.transfer.amount (omega arith)
 
--- the kind that a request's flags ask for
-abbrev kind_by : Bool → Bool → Bool → EventKind
-kind_by pending post void =
-    if pending then TwoPhasePending else if post then TwoPhasePosted else if void then TwoPhaseVoided else SinglePhase
-
 -- what a request asks for that settles a pending transfer: a post, or else a void
 asks : (pending post void : Bool) → settles (kind_by pending post void) ≡ true
     → (not (post || void) ≡ false) × (moves (kind_by pending post void) ≡ false → void ≡ true)
-asks true post void is = cc
-asks false true void is = (refl, λ no. cc)
-asks false false true is = (refl, λ no. refl)
-asks false false false is = cc
-
--- a request stores its transfer
-stores_by : (pending post void : Bool) → stores (kind_by pending post void) ≡ true
-stores_by true post void = refl
-stores_by false true void = refl
-stores_by false false true = refl
-stores_by false false false = refl
+asks pending post void is = grind arith
 
 -- a kind that settles by a request names the pending transfer of the request
 names : (pending post void : Bool) (x : Transfer) → settles (kind_by pending post void) ≡ true
     → settled_id (kind_by pending post void) x ≡ x.pending_id
-names true post void x is = cc
-names false true void x is = refl
-names false false true x is = refl
-names false false false x is = cc
+names pending post void x is = grind arith
 
 -- a request of one kind that isn't plain settles, and a plain one doesn't
 settles_if : (pending post void : Bool) → ((pending && post) || (pending && void) || (post && void)) ≡ false
     → settles (kind_by pending post void) ≡ not (not (post || void))
-settles_if true true void one = cc
-settles_if true false true one = cc
-settles_if true false false one = refl
-settles_if false true void one = refl
-settles_if false false true one = refl
-settles_if false false false one = refl
+settles_if pending post void one = grind arith
 
 -- its flags are those of its kind
 of_kind : EventKind → Bool → Bool → Bool → Bool
@@ -271,40 +211,7 @@ one_kind r none = test_fails transfer_number transfer.FlagsAreMutuallyExclusive 
 -- a post or a void that is filled in has the shape of its request
 filled_shape : (r : NewTransfer) (p : Transfer) (t : ℕ) → is_plain_request r ≡ false
     → first_line (transfer_shape_lines r) ≡ None → first_line (transfer_shape_lines (asked (filled_from p r t))) ≡ None
-filled_shape r p t plain none =
-    let n = none_applies (transfer_shape_lines r) none in
-    let x : NewTransfer = asked (filled_from p r t) in
-    no_first_line (transfer_shape_lines x) (
-      n.0,
-      (
-        n.1.0,
-        (
-          n.1.1.0,
-          (
-            n.1.1.1.0,
-            (
-              n.1.1.1.1.0,
-              (
-                n.1.1.1.1.1.0,
-                (
-                  n.1.1.1.1.1.1.0,
-                  (
-                    n.1.1.1.1.1.1.1.0,
-                    (
-                      and_left _ (x.ledger == 0) plain,
-                      (
-                        and_left _ (x.code == 0) plain,
-                        (and_left _ (x.debit_account_id == x.credit_account_id) plain, tt),
-                      ),
-                    ),
-                  ),
-                ),
-              ),
-            ),
-          ),
-        ),
-      ),
-    )
+filled_shape r p t plain none = grind arith
 
 -- an accepted post or void
 module _ (h : History) (r : NewTransfer) (t : ℕ) (none : transfer_refused h r t ≡ None)
@@ -390,7 +297,7 @@ keeps-accepted h r t none is x there =
     sym (ap (stored h) (names (is_pending_request r) (is_post_request r) (is_void_request r) (filled h r t) is
     ∙ same_pending_id h r t)) ∙ there in
     rw (same_filled h r t none kind.0 x named) (keeps h r t x (settling h r t none kind.0 x named) (kind_of r)
-    (stores_by (is_pending_request r) (is_post_request r) (is_void_request r)) kind.1)
+    (stores_asked r) kind.1)
 
 -- and every accepted transfer enters with what it has to have
 pub enters-accepted : (h : History) (r : NewTransfer) (t : ℕ) → IsSound h → h.last < t
@@ -407,7 +314,7 @@ enters-accepted h r t sound later ledgers next none turn = by (is_plain_request 
         is_of_kind-by (kind_of r) r ∙ own_kind (is_pending_request r) (is_post_request r) (is_void_request r)
 
     storing : stores (kind_of r) ≡ true
-    storing = stores_by (is_pending_request r) (is_post_request r) (is_void_request r)
+    storing = stores_asked r
 
     settles_unless : settles (kind_of r) ≡ not (is_plain_request r)
     settles_unless =

@@ -1,41 +1,19 @@
 -- Batches that a ledger takes one item at a time: chains of accounts, chains of transfers, pulses.
-use Rattle.std.proofs.Common.{◌≡◌, ℕ, ◌+◌, ◌-◌, ◌<◌, ◌≤◌, false, true, List, [], ◌∷◌, ◌++◌, Some, None, Ok, length, refl, sym, ap, ap₂, ◌∙◌, subst, arith}
-use Rattle.std.specs.Prelude.{◌==◌, Bool, if◌then◌else◌, nat_lt, unwrap_or}
-use Rattle.std.specs.List.{AllByRecursion}
+use Rattle.std.proofs.Common.{◌≡◌, ℕ, ◌+◌, ◌-◌, ◌<◌, ◌≤◌, false, true, List, [], ◌∷◌, ◌++◌, Some, None, Ok, length, refl, ap, ap₂, ◌∙◌, subst, arith, ◌==◌, Bool, if◌then◌else◌, nat_lt}
+use Rattle.cdc_audit_laws.proofs.OfStd.{unwrap_or, AllByRecursion, and_right, eqb-false, eqb-true, le-ltb}
+use Rattle.cdc_audit_laws.proofs.OfTypes.{BATCH_ITEMS, TIMESTAMP, NewAccount, TransferResult, NewTransfer, Transfer, is_linked_account, is_linked_transfer}
+use Rattle.cdc_audit_laws.proofs.OfLedger.{expiry, pushed, timed, Rules, before_others, chains_from, chains_of, in_front, played, due, NewAccountFits, NewTransferFits, History, IsLegal, answered, base, expiries_from, refusal_at, taken, transfer_rules, transfers_from, account_rules, accounts_from, IsLegal-submit}
 use Rattle.std.proofs.Math.Nat.{max-eq_left}
-use Rattle.std.proofs.lemmas.Bool.{and_right, eqb-false, eqb-true, le-ltb}
+use Rattle.cdc_ledger.proofs.BatchLaws.{alone_accepted}
+use Rattle.cdc_ledger.proofs.Unlinked.{items_from-unlinked}
 use Rattle.cdc_types.specs.declared.batches.Batch.TheVariants as batch
 use Rattle.cdc_types.specs.declared.batches.BatchResults.TheVariants as results
-use Rattle.cdc_types.specs.declared.bounds.TheConstants.Limits.{BATCH_ITEMS, TIMESTAMP}
-use Rattle.cdc_types.specs.declared.accounts.NewAccount.{NewAccount}
-use Rattle.cdc_types.specs.declared.results.TransferResult.{TransferResult}
 use Rattle.cdc_types.specs.declared.results.TransferResult.TheVariants as transfer
-use Rattle.cdc_types.specs.declared.transfers.NewTransfer.{NewTransfer}
-use Rattle.cdc_types.specs.declared.transfers.Transfer.{Transfer}
-use Rattle.cdc_types.specs.Flags.{is_linked_account, is_linked_transfer}
-use Rattle.cdc_types.specs.Lines.{first_line}
-use Rattle.cdc_ledger.specs.declared.errors.BatchError.TheVariants as refusal
-use Rattle.cdc_ledger.specs.Changes.{expiry, pushed, timed}
-use Rattle.cdc_ledger.specs.Chains.{Rules, before_others, chains_from, chains_of, in_front, played}
-use Rattle.cdc_ledger.specs.Due.{due}
-use Rattle.cdc_ledger.specs.Fits.{NewAccountFits, NewTransferFits}
-use Rattle.cdc_ledger.specs.History.{History}
-use Rattle.cdc_ledger.specs.Submit.{IsLegal, answered, base, expiries_from, is_past_the_end, refusal_at, taken, transfer_rules, transfers_from, account_rules, accounts_from}
-use Rattle.cdc_ledger.specs.Verdict.{max_timestamp}
-use Rattle.cdc_ledger.proofs.BatchLaws.{alone_accepted}
-use Rattle.cdc_ledger.proofs.LegalLaws.{IsLegal-submit}
-use Rattle.cdc_ledger.proofs.Unlinked.{items_from-unlinked}
 
 -- a batch that isn't too large isn't refused, if there are timestamps for it
 unrefused : (h : History) (now t n : ℕ) (large : Bool) → h.closed ≡ false → large ≡ false → base h now ≡ t
     → t + n ≤ TIMESTAMP + 1 → refusal_at h large now n ≡ None
-unrefused h now t n large is_open small first within =
-    ap (λ b. first_line ((b, refusal.LedgerClosed) ∷ (large, refusal.BatchTooLarge)
-    ∷ (is_past_the_end h now n, refusal.TimestampsExhausted) ∷ [])) is_open
-    ∙ ap₂ (λ b c. first_line ((false, refusal.LedgerClosed) ∷ (b, refusal.BatchTooLarge)
-    ∷ (c, refusal.TimestampsExhausted) ∷ [])) small
-    (and_right (nat_lt 0 n) _ (ap (λ m. nat_lt max_timestamp (m + n - 1)) first
-    ∙ le-ltb max_timestamp (t + n - 1) (omega (arith, within))))
+unrefused h now t n large is_open small first within = grind arith
 
 -- a later timestamp is the first one of its batch
 own_time : (h : History) (t : ℕ) → h.last < t → base h t ≡ t
@@ -75,8 +53,7 @@ module _ {A R : Type 0} (rules : Rules A R) (Fits : A → Type 0) where
       let later = played rules (rules.taken h r t) (t + 1) (next ∷ rest) in
       runs r (next ∷ rest) g (omega (arith, long)) (linked, chain) (fit, fits) (omega (arith, within))
       (ap₂ (λ b o. (before_others rules (if b then Some rules.unfinished else o) (next ∷ rest) later).1)
-      (and_right (rules.linked r) false refl) none
-      ∙ is)
+      (and_right _ _ refl) none ∙ is)
 
   -- and the last one
   pub runs-done : (h : History) (t n : ℕ) (r : A) → RunsBy h t n → n < BATCH_ITEMS → t ≤ TIMESTAMP
@@ -105,8 +82,7 @@ runs-legal h t legal is_open later r rest g long chain fits within is =
     (omega (arith, within), fits) legal
     (ap (λ o. answered o (taken h (batch.Transfers t items)))
     (unrefused h t t (length items) (nat_lt BATCH_ITEMS (length items)) is_open
-    (le-ltb BATCH_ITEMS (length items) (omega (arith, long))) first within)
-    ∙ ap (λ q. Ok (results.Transfers q.0, q.1)) all)
+    (le-ltb _ _ (omega (arith, long))) first within) ∙ ap (λ q. Ok (results.Transfers q.0, q.1)) all)
 
 -- a chain of accounts begins
 pub accounts-legal : (h : History) (t : ℕ) → IsLegal h → h.closed ≡ false → h.last < t → AccountsRunOn h t 0
@@ -121,8 +97,7 @@ accounts-legal h t legal is_open later a rest g long chain fits within is =
     (omega (arith, within), fits) legal
     (ap (λ o. answered o (taken h (batch.Accounts t items)))
     (unrefused h t t (length items) (nat_lt BATCH_ITEMS (length items)) is_open
-    (le-ltb BATCH_ITEMS (length items) (omega (arith, long))) first within)
-    ∙ ap (λ q. Ok (results.Accounts q.0, q.1)) all)
+    (le-ltb _ _ (omega (arith, long))) first within) ∙ ap (λ q. Ok (results.Accounts q.0, q.1)) all)
 
 -- ---- a timestamp that nothing came of
 
@@ -144,20 +119,7 @@ nothing = record {
 }
 
 nothing_fits : NewTransferFits nothing
-nothing_fits = record {
-  id = omega arith;
-  debit_account_id = omega arith;
-  credit_account_id = omega arith;
-  amount = omega arith;
-  pending_id = omega arith;
-  user_data_128 = omega arith;
-  user_data_64 = omega arith;
-  user_data_32 = omega arith;
-  timeout = omega arith;
-  ledger = omega arith;
-  code = omega arith;
-  flags = omega arith;
-}
+nothing_fits = grind arith
 
 -- it takes its timestamp, and nothing else
 timed_later : (h : History) (t : ℕ) → IsLegal h → h.closed ≡ false → h.last < t → t ≤ TIMESTAMP → IsLegal (timed h t)
@@ -208,14 +170,8 @@ pulses-legal h now legal is_open before bound within =
 -- the first of them expires
 pub pulses-expired : (h : History) (now t : ℕ) (p : Transfer) → Pulses h now → t ≡ h.last + 1
     → due h now ≡ p ∷ due (pushed h (expiry p t)) now → Pulses (pushed h (expiry p t)) now
-pulses-expired h now t p pulses next first within =
-    let left = due (pushed h (expiry p t)) now in
-    let long = ap (λ (ps : List Transfer). length ps) first in
-    subst IsLegal (ap₂ (λ n ps. expiries_from h n ps) (sym next) first)
-    (pulses (omega (arith, long, within, next)))
+pulses-expired h now t p pulses next first within = grind arith
 
 -- and no more are due
 pub pulses-done : (h : History) (now : ℕ) → Pulses h now → due h now ≡ [] → h.last ≤ TIMESTAMP → IsLegal h
-pulses-done h now pulses none within =
-    let long = ap (λ (ps : List Transfer). length ps) none in
-    subst IsLegal (ap (expiries_from h (h.last + 1)) none) (pulses (omega (arith, long, within)))
+pulses-done h now pulses none within = grind arith

@@ -1,18 +1,10 @@
 -- What events show of an account after one more event.
-use Rattle.std.proofs.Common.{◌≡◌, ◌≢◌, ℕ, List, [], ◌∷◌, ◌++◌, refl, inl, inr}
-use Rattle.std.specs.Prelude.{◌==◌, find, reverse, Option}
-use Rattle.std.specs.List.{flat_map}
-use Rattle.std.specs.Option.{option_or}
-use Rattle.std.proofs.lemmas.Bool.Decides.{eqb_tells}
-use Rattle.std.proofs.lemmas.Grind.{flat_map-append}
-use Rattle.std.proofs.lemmas.List.{reverse-append}
-use Rattle.std.proofs.lemmas.List.Folds.{find-append}
-use Rattle.cdc_types.specs.declared.accounts.Balances.{Balances}
-use Rattle.cdc_types.specs.declared.events.Event.{Event}
-use Rattle.cdc_types.specs.declared.events.EventAccount.{EventAccount}
+use Rattle.std.proofs.Common.{◌≡◌, ◌≢◌, ℕ, List, [], ◌∷◌, ◌++◌, refl, inl, inr, ◌==◌, find, reverse, Option}
+use Rattle.cdc_audit_laws.proofs.OfStd.{flat_map, option_or, eqb_tells, flat_map-append, reverse-append, find-append}
+use Rattle.cdc_audit_laws.proofs.OfTypes.{Balances, Event, EventAccount}
+use Rattle.cdc_audit_laws.proofs.OfAudit.{balances_after}
 use Rattle.cdc_subscriber.specs.declared.book.BookEntry.{BookEntry}
 use Rattle.cdc_subscriber.specs.Book.{entry_of, sides}
-use Rattle.cdc_audit.specs.Known.{balances_after}
 
 -- the balances that an event shows of one of its accounts
 abbrev pub balances_of : EventAccount → Balances

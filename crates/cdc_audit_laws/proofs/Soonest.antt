@@ -1,23 +1,9 @@
 -- Of open pending transfers the one that expires first: none is sooner, and an expiry that follows is its expiry.
-use Rattle.std.proofs.Common.{◌≡◌, ℕ, ◌≤◌, Bool, true, false, List, [], ◌∷◌, ◌++◌, Option, Some, None, map, refl, sym, ap, ◌∙◌, if◌then◌else◌, arith}
-use Rattle.std.specs.Prelude.{◌==◌, ◌&&◌, ◌||◌, not, nat_lt, filter, IsSomeAnd}
-use Rattle.std.specs.List.{AllByRecursion, list_any}
-use Rattle.std.proofs.lemmas.Bool.{and_from, and_parts, false≢true, not-true, not_from_false, or_parts}
-use Rattle.std.proofs.lemmas.Bool.Decides.{nat_tests}
-use Rattle.std.proofs.lemmas.List.Folds.{list_any-append}
-use Rattle.cdc_types.specs.declared.events.Entry.{Entry}
-use Rattle.cdc_types.specs.declared.events.Event.{Event}
-use Rattle.cdc_types.specs.declared.events.EventKind.{EventKind}
-use Rattle.cdc_types.specs.declared.events.EventKind.TheVariants as kind
-use Rattle.cdc_ledger.specs.Balances.{resolved}
-use Rattle.cdc_ledger.specs.Events.{event_of, events}
-use Rattle.cdc_ledger.specs.History.{History}
-use Rattle.cdc_ledger.specs.Kinds.{holds, settles, stores}
-use Rattle.cdc_ledger.specs.Sound.{IsSound}
-use Rattle.cdc_ledger.proofs.Elements.{AllByRecursion-weaker, AllByRecursion_push}
-use Rattle.cdc_audit.specs.Expiries.{can_expire, expiry_lines, first_due, first_of, goes_first, is_sooner, sooner_of}
-use Rattle.cdc_audit.specs.Known.{is_settled, last_expiry, settled_id}
-use Rattle.cdc_audit.specs.Settling.{expires_at}
+use Rattle.std.proofs.Common.{◌≡◌, ℕ, ◌≤◌, Bool, true, false, List, [], ◌∷◌, ◌++◌, Option, Some, None, map, refl, sym, ap, ◌∙◌, if◌then◌else◌, arith, ◌==◌, ◌&&◌, ◌||◌, not, nat_lt, filter, IsSomeAnd}
+use Rattle.cdc_audit_laws.proofs.OfStd.{AllByRecursion, and_from, and_parts, false≢true, not-true, not_from_false, or_parts, nat_tests, list_any-append}
+use Rattle.cdc_audit_laws.proofs.OfTypes.{Entry, Event, EventKind}
+use Rattle.cdc_audit_laws.proofs.OfLedger.{resolved, event_of, events, History, holds, settles, stores, IsSound, AllByRecursion-weaker, AllByRecursion_push}
+use Rattle.cdc_audit_laws.proofs.OfAudit.{can_expire, expiry_lines, first_due, first_of, goes_first, is_sooner, sooner_of, last_expiry, settled_id, expires_at}
 use Rattle.cdc_audit_laws.proofs.Entries.{unsettled}
 use Rattle.cdc_audit_laws.proofs.Following.{CanFollow, NoneApplies}
 
@@ -35,10 +21,6 @@ not_both : (a s i b t j : ℕ) → (is_before a s b t || (not (is_before b t a s
     → is_before b t a s ≡ false
 not_both a s i b t j is = grind (arith, nat_tests)
 
--- of three pairs, if none comes before the next one, the first doesn't come before the last
-not_then : (a s b t c u : ℕ) → is_before a s b t ≡ false → is_before b t c u ≡ false → is_before a s c u ≡ false
-not_then a s b t c u one other = grind (arith, nat_tests)
-
 -- a pair that doesn't come before another one has no lesser number
 no_less : (a s b t : ℕ) → is_before a s b t ≡ false → b ≤ a
 no_less a s b t not_before = grind (arith, nat_tests)
@@ -51,9 +33,7 @@ no_earlier e f =
 
 sooner_then : (e f g : Event) → is_sooner e.transfer f.transfer ≡ false → is_sooner f.transfer g.transfer ≡ false
     → is_sooner e.transfer g.transfer ≡ false
-sooner_then e f g =
-    not_then (expires_at e.transfer) e.transfer.timestamp (expires_at f.transfer) f.transfer.timestamp
-    (expires_at g.transfer) g.transfer.timestamp
+sooner_then e f g = grind arith
 
 -- ---- the first of some events
 
@@ -63,9 +43,7 @@ none_before : (es : List Event)
 none_before [] = tt
 none_before (e ∷ es) = (
   own (first_of es),
-  AllByRecursion-weaker (λ x. IsSomeAnd (first_of es) (λ f. is_sooner x.transfer f.transfer ≡ false))
-      (λ x. is_sooner x.transfer (sooner_of e (first_of es)).transfer ≡ false)
-      (λ x. others (first_of es) x) es (none_before es),
+  AllByRecursion-weaker _ _ (λ x. others (first_of es) x) es (none_before es),
 )
   where
     own_with : (f : Event) (b : Bool) → goes_first f e ≡ b
@@ -119,9 +97,7 @@ none_sooner past =
 pub none_before_expiry : (past : List Event) (e : Event) → CanFollow past e → stores e.kind ≡ false
     → AllThatExpire past (λ y. is_sooner y.transfer e.transfer ≡ false)
 none_before_expiry past e can storing =
-    AllByRecursion-weaker
-    (λ y. can_expire past y ≡ true → IsNoSooner past y)
-    (λ y. can_expire past y ≡ true → is_sooner y.transfer e.transfer ≡ false)
+    AllByRecursion-weaker _ _
     (λ y least passes. by y (first_due past) (least passes) can.expiry) past (none_sooner past)
   where
     late : (f : Event) (last : Option Event) → NoneApplies (expiry_lines (Some f) last e)
@@ -139,34 +115,24 @@ none_before_expiry past e can storing =
 -- what isn't settled after one more event wasn't before it
 can_expire_before : (past : List Event) (e y : Event) → can_expire (past ++ e ∷ []) y ≡ true → can_expire past y ≡ true
 can_expire_before past e y passes =
-    let both = and_parts (holds y.kind && not (y.transfer.timeout == 0))
-    (not (is_settled (past ++ e ∷ []) y.transfer.id)) passes in
+    let both = and_parts _ _ passes in
     let settled = λ (f : Event). settles f.kind && (settled_id f == y.transfer.id) in
-    let parts = or_parts (is_settled past y.transfer.id) (list_any settled (e ∷ []))
-    (sym (list_any-append settled past (e ∷ [])) ∙ not-true _ both.1) in
+    let parts = or_parts _ _ (sym (list_any-append settled past (e ∷ [])) ∙ not-true _ both.1) in
     and_from _ _ both.0 (not_from_false _ parts.0)
 
 -- after an expiry the same can expire, and no more
 pub expire_then : (past : List Event) (e : Event) (P : Event → Type 0) → stores e.kind ≡ false → AllThatExpire past P
     → AllThatExpire (past ++ e ∷ []) P
 expire_then past e P storing all =
-    AllByRecursion_push (λ y. can_expire (past ++ e ∷ []) y ≡ true → P y) past e
-    (AllByRecursion-weaker (λ y. can_expire past y ≡ true → P y) (λ y. can_expire (past ++ e ∷ []) y ≡ true → P y)
-    (λ y is passes. is (can_expire_before past e y passes)) past all)
+    AllByRecursion_push _ past e
+    (AllByRecursion-weaker _ _ (λ y is passes. is (can_expire_before past e y passes)) past all)
     (λ passes. absurd (false≢true (sym (holds_not e.kind storing) ∙ and_left_of passes)))
   where
     and_left_of : can_expire (past ++ e ∷ []) e ≡ true → holds e.kind ≡ true
-    and_left_of passes =
-        (and_parts (holds e.kind) (not (e.transfer.timeout == 0))
-        (and_parts (holds e.kind && not (e.transfer.timeout == 0)) (not (is_settled (past ++ e ∷ []) e.transfer.id))
-        passes).0).0
+    and_left_of passes = grind arith
 
     holds_not : (k : EventKind) → stores k ≡ false → holds k ≡ false
-    holds_not kind.SinglePhase is = cc
-    holds_not kind.TwoPhasePending is = cc
-    holds_not kind.TwoPhasePosted is = cc
-    holds_not kind.TwoPhaseVoided is = cc
-    holds_not kind.TwoPhaseExpired is = refl
+    holds_not k is = grind arith
 
 -- ---- a ledger's events
 
@@ -186,8 +152,7 @@ pub record CanExpire (h : History) (y : Entry) : Type 0 where
 pub open_entries : (h : History) (P : Event → Type 0) → IsSound h → AllThatExpire (events h) P
     → AllByRecursion (λ y. CanExpire h y → P (event_of h y)) h.entries
 open_entries h P sound all =
-    AllByRecursion-weaker (λ y. can_expire (events h) (event_of h y) ≡ true → P (event_of h y))
-    (λ y. CanExpire h y → P (event_of h y))
+    AllByRecursion-weaker _ _
     (λ y is open_one. is (and_from _ _ (and_from _ _ open_one.holding (not_from_false _ open_one.timed))
     (not_from_false _ (unsettled h y.transfer sound.past open_one.unsettled)))) h.entries
     (entries_all h (λ y. can_expire (events h) y ≡ true → P y) h.entries all)

@@ -1,31 +1,16 @@
 -- Accepted events are the events of a legal history, if a ledger can make them.
-use Rattle.std.proofs.Common.{◌≡◌, ◌≢◌, not, map, inl, inr, ℕ, ◌+◌, ◌<◌, ◌≤◌, ◌^◌, Bool, true, false, List, [], ◌∷◌, ◌++◌, Option, Some, None, if◌then◌else◌, refl, sym, ap, ap₂, ◌∙◌, subst, arith}
-use Rattle.std.specs.Prelude.{◌==◌, ◌&&◌, ◌||◌, nat_eq}
-use Rattle.std.specs.List.{AllByRecursion, list_any}
-use Rattle.std.specs.Map.{lookup}
-use Rattle.std.specs.Option.{option_or}
-use Rattle.std.proofs.lemmas.Bool.{and_from, and_parts, eqb-false, eqb-true, false≢true, ltb-false, not-true, not_from_false, or_parts}
+use Rattle.std.proofs.Common.{◌≡◌, ◌≢◌, not, map, inl, inr, ℕ, ◌+◌, ◌<◌, ◌≤◌, ◌^◌, Bool, true, false, List, [], ◌∷◌, ◌++◌, Option, Some, None, if◌then◌else◌, refl, sym, ap, ap₂, ◌∙◌, subst, arith, ◌==◌, ◌&&◌, ◌||◌, nat_eq}
+use Rattle.cdc_audit_laws.proofs.OfStd.{AllByRecursion, list_any, lookup, option_or, and_from, and_parts, eqb-false, eqb-true, false≢true, ltb-false, not-true, not_from_false, or_parts}
+use Rattle.cdc_audit_laws.proofs.OfTypes.{TIMESTAMP, Event, EventAccount, has_flag, account_refusal, AccountFits, EventFits}
+use Rattle.cdc_audit_laws.proofs.OfLedger.{empty_history, AllByRecursion-both, AllByRecursion-weaker}
+use Rattle.cdc_audit_laws.proofs.OfAudit.{FixedFields, follows_on, is_accepted, asked_account, fields_before, fixed_fields, last_expiry_from, linked_from}
 use Rattle.cdc_types.specs.declared.accounts.TheConstants.AccountFlags.{LINKED}
-use Rattle.cdc_types.specs.declared.bounds.TheConstants.Limits.{TIMESTAMP}
-use Rattle.cdc_types.specs.declared.events.Event.{Event}
-use Rattle.cdc_types.specs.declared.events.EventAccount.{EventAccount}
-use Rattle.cdc_types.specs.Flags.{has_flag}
-use Rattle.cdc_types.specs.Shapes.{account_refusal}
-use Rattle.cdc_ledger.specs.History.{empty_history}
-use Rattle.cdc_ledger.proofs.Elements.{AllByRecursion-both, AllByRecursion-weaker}
-use Rattle.cdc_message.specs.Widths.{AccountFits, EventFits}
-use Rattle.cdc_audit.specs.declared.fields.FixedFields.{FixedFields}
-use Rattle.cdc_audit.specs.Audits.{follows_on, is_accepted}
-use Rattle.cdc_audit.specs.EventShapes.{asked_account}
-use Rattle.cdc_audit.specs.Fields.{fields_before, fixed_fields}
-use Rattle.cdc_audit.specs.Known.{last_expiry_from, linked_from}
 use Rattle.cdc_audit_laws.specs.Soundness.{AcceptedEventsAreALedgers, AcceptedEventsStartAsALedgers, AccountsHaveRoom, CanBeMade, EventsAloneAreALedgers, HaveRoom, IsAlone, NextIsFree, IsUnlinked, accounts_in}
 use Rattle.cdc_audit_laws.proofs.Coming.{has_accounts}
 use Rattle.cdc_audit_laws.proofs.Streams.{accepted_events_rise, first_follows}
 use Rattle.cdc_audit_laws.proofs.Alone.{AreAlone, all_alone, alone-nil}
 use Rattle.cdc_audit_laws.proofs.Known.{IsKnown, all_known, all_parts, lookup_parts}
-use Rattle.cdc_audit_laws.proofs.Unseen.{HasIds, each_there, has_ids, none_has, times_after, times_after-all, times_after-has, unseen}
-use Rattle.cdc_audit_laws.proofs.Unseen.{unseen-found, unseen-openable}
+use Rattle.cdc_audit_laws.proofs.Unseen.{HasIds, each_there, has_ids, none_has, times_after, times_after-all, times_after-has, unseen, unseen-found, unseen-openable}
 use Rattle.cdc_audit_laws.proofs.Plan.{Admits, AllAdmit, Opens, Planned, all-place_all, events_in, events_in-only, events_in-place_all, only, only-all, only-rises, place_all, place_all-opens, rises-place_all}
 use Rattle.cdc_audit_laws.proofs.Openings.{AreCreated, IsOpenable, are_created, opening_of}
 use Rattle.cdc_audit_laws.proofs.Modes.{Reaches, part_legal, whole_legal}
@@ -42,22 +27,7 @@ record IsFit (a : ℕ × FixedFields) : Type 0 where
 account_fits : (ledger : ℕ) (a : EventAccount) (t : ℕ) → ledger < 2 ^ 32 → AccountFits a
     → account_refusal (asked_account ledger a) ≡ None → 0 < a.timestamp
     → a.timestamp < t → t ≤ TIMESTAMP → IsFit (a.id, fixed_fields ledger a)
-account_fits ledger a t ledger_fits fits fields some earlier within = record {
-  openable = record {
-    fields = fields;
-    fits = record {
-      id = fits.id;
-      user_data_128 = fits.user_data_128;
-      user_data_64 = fits.user_data_64;
-      user_data_32 = fits.user_data_32;
-      ledger = ledger_fits;
-      code = fits.code;
-      flags = fits.flags;
-    };
-    within = omega (arith, earlier, within);
-  };
-  some = some;
-}
+account_fits ledger a t ledger_fits fits fields some earlier within = grind arith
 
 all_fit : (past rest : List Event) → follows_on past rest ≡ true → AllByRecursion EventFits rest
     → AllByRecursion IsFit (accounts_in rest)
@@ -195,21 +165,15 @@ module _ (events : List Event) (can : CanBeMade events) (accepted : is_accepted 
 
   times_are : AllByRecursion IsTime times
   times_are =
-      times_after-all needs IsTime shown
-      (AllByRecursion-weaker (λ a. (a.1.timestamp < TIMESTAMP) × NextIsFree events a)
-      (λ a. needs a ≡ true → IsTime (a.1.timestamp + 1))
-      (λ a is need.
-      let parts = and_parts (has_flag a.1.flags LINKED)
-      (not (list_any (λ b. b.1.timestamp == a.1.timestamp + 1) shown)) need in
+      times_after-all needs IsTime shown (AllByRecursion-weaker _ _ (λ a is need.
+      let parts = and_parts _ _ need in
       let early = is.0 in
       record {
         some = omega arith;
         within = omega (arith, early);
         no_event = is.1 parts.0;
         no_shown = none_there (a.1.timestamp + 1) shown (not-true _ parts.1);
-      }) shown
-      (AllByRecursion-both (λ a. a.1.timestamp < TIMESTAMP) (NextIsFree events) shown (all_early [] events accepted)
-      can.next_free))
+      }) shown (AllByRecursion-both _ _ shown (all_early [] events accepted) can.next_free))
 
   -- each account is found
   abbrev IsFound : ℕ × FixedFields → Type 0
@@ -217,26 +181,21 @@ module _ (events : List Event) (can : CanBeMade events) (accepted : is_accepted 
 
   found_times : AllByRecursion (λ t. IsFound (unseen ids.from t)) times
   found_times =
-      AllByRecursion-weaker (λ t. IsTime t × (list_any (λ u. t == u) times ≡ true))
-      (λ t. IsFound (unseen ids.from t))
-      (λ t is. lookup_parts (ids.from + t) shown others
+      AllByRecursion-weaker _ _ (λ t is. lookup_parts (ids.from + t) shown others
       ∙ ap₂ option_or (none_has ids.from t shown is.0.within ids.free)
       (unseen-found ids.from t times ∙ ap (λ b. if b then Some (unseen ids.from t).1 else None) is.1)) times
-      (AllByRecursion-both IsTime (λ t. list_any (λ u. t == u) times ≡ true) times times_are (each_there times))
+      (AllByRecursion-both _ _ times times_are (each_there times))
 
   found_all : AllByRecursion IsFound all
   found_all =
-      all_parts IsFound shown others
-      (AllByRecursion-weaker (IsKnown events) IsFound
+      all_parts _ _ _ (AllByRecursion-weaker _ _
       (λ a is. lookup_parts a.0 shown others ∙ ap (λ o. option_or o (lookup (nat_eq a.0) others)) is) shown known)
       (mapped IsFound (unseen ids.from) times found_times)
 
   -- and can be opened
   fit_all : AllByRecursion IsFit all
   fit_all =
-      all_parts IsFit shown others fit
-      (mapped IsFit (unseen ids.from) times
-      (AllByRecursion-weaker IsTime (λ t. IsFit (unseen ids.from t))
+      all_parts _ _ _ fit (mapped _ _ _ (AllByRecursion-weaker _ _
       (λ t is. record {
         openable = unseen-openable ids.from t ids.some ids.bound is.within;
         some = is.some;
@@ -260,49 +219,34 @@ module _ (events : List Event) (can : CanBeMade events) (accepted : is_accepted 
 
   admits_shown : (a : ℕ × FixedFields) → IsKnown events a → AllAdmit opening_of all (only events) a
   admits_shown a a_known = (
-    all_parts (λ b. Admits (opening_of a) (inl (opening_of b))) shown others
-        (AllByRecursion-weaker (IsKnown events) (λ b. Admits (opening_of a) (inl (opening_of b))) (no_other a a_known)
-        shown known)
-        (mapped (λ b. Admits (opening_of a) (inl (opening_of b))) (unseen ids.from) times
-        (AllByRecursion-weaker IsTime (λ t. Admits (opening_of a) (inl (opening_of (unseen ids.from t))))
-        (λ t is time. absurd (found_has (λ b. b.1.timestamp ≢ t) shown a is.no_shown a_known (sym time))) times
-        times_are)),
-    only-all (Admits (opening_of a)) events (each_alone.no_event a.0 a.1 a_known),
+    all_parts _ _ _ (AllByRecursion-weaker _ _ (no_other a a_known) shown known)
+        (mapped _ _ _ (AllByRecursion-weaker _ _
+        (λ t is time. absurd (found_has _ shown a is.no_shown a_known (sym time))) times times_are)),
+    only-all _ _ (each_alone.no_event a.0 a.1 a_known),
   )
 
   admits_other : (t : ℕ) → IsTime t → AllAdmit opening_of all (only events) (unseen ids.from t)
   admits_other t is = (
-    all_parts (λ b. Admits (opening_of (unseen ids.from t)) (inl (opening_of b))) shown others
-        (AllByRecursion-weaker (λ b. b.1.timestamp ≢ t)
-        (λ b. Admits (opening_of (unseen ids.from t)) (inl (opening_of b)))
-        (λ b other time. absurd (other time)) shown is.no_shown)
-        (mapped (λ b. Admits (opening_of (unseen ids.from t)) (inl (opening_of b))) (unseen ids.from) times
-        (AllByRecursion-weaker IsTime
-        (λ u. Admits (opening_of (unseen ids.from t)) (inl (opening_of (unseen ids.from u))))
-        (λ u other time. ap (λ v. opening_of (unseen ids.from v)) time) times times_are)),
+    all_parts _ _ _ (AllByRecursion-weaker _ _ (λ b other time. absurd (other time)) shown is.no_shown) (mapped _ _ _
+        (AllByRecursion-weaker _ _ (λ u other time. ap (λ v. opening_of (unseen ids.from v)) time) times times_are)),
     only-all (Admits (opening_of (unseen ids.from t))) events is.no_event,
   )
 
   opens : AllByRecursion (λ a. Opens (opening_of a) plan) all
   opens =
-      place_all-opens opening_of all (only events)
-      (all_parts (AllAdmit opening_of all (only events)) shown others
-      (AllByRecursion-weaker (IsKnown events) (AllAdmit opening_of all (only events)) admits_shown shown known)
-      (mapped (AllAdmit opening_of all (only events)) (unseen ids.from) times
-      (AllByRecursion-weaker IsTime (λ t. AllAdmit opening_of all (only events) (unseen ids.from t)) admits_other
-      times times_are)))
+      place_all-opens opening_of all (only events) (all_parts _ _ _ (AllByRecursion-weaker _ _ admits_shown shown known)
+      (mapped _ _ _ (AllByRecursion-weaker _ _ admits_other times times_are)))
 
   ready : AllByRecursion (IsReady all empty_history plan) (accounts_in (events_in plan))
   ready =
       subst (λ es. AllByRecursion (IsReady all empty_history plan) (accounts_in es)) (sym same_events)
-      (AllByRecursion-weaker (λ a. Opens (opening_of a) plan) (IsReady all empty_history plan) (λ a is. inr is) shown
+      (AllByRecursion-weaker _ _ (λ a is. inr is) shown
       (first_part (λ a. Opens (opening_of a) plan) shown others opens))
 
   can_make : AllByRecursion (CanMake all) plan
   can_make =
-      all-place_all opening_of (CanMake all) all (only events)
-      (AllByRecursion-weaker (λ a. IsFit a × IsFound a) (λ a. CanMake all (inl (opening_of a)))
-      (λ a is. (is.0.openable, is.1)) all (AllByRecursion-both IsFit IsFound all fit_all found_all))
+      all-place_all opening_of _ all (only events) (AllByRecursion-weaker _ _
+      (λ a is. (is.0.openable, is.1)) all (AllByRecursion-both _ _ all fit_all found_all))
       (only-all (CanMake all) events can.fit)
 
   -- after each linked account there is one: it is shown, or another one
@@ -318,38 +262,28 @@ module _ (events : List Event) (can : CanBeMade events) (accepted : is_accepted 
       by true some = any_there all shown (a.1.timestamp + 1) (first_part IsFound shown others found_all) some
       by false none = record {
         account = unseen ids.from (a.1.timestamp + 1);
-        known =
-            time_has (λ t. IsFound (unseen ids.from t)) (a.1.timestamp + 1) times found_times
-            (has (and_from _ _ linked (not_from_false _ none)));
+        known = time_has _ (a.1.timestamp + 1) times found_times (has (and_from _ _ linked (not_from_false _ none)));
         time = refl;
       }
 
   followed : AreFollowed all
   followed a found =
-      found_has HasNext all a
-      (all_parts HasNext shown others
-      (AllByRecursion-weaker (λ x. needs x ≡ true → list_any (λ u. x.1.timestamp + 1 == u) times ≡ true) HasNext
-      has_next shown (times_after-has needs shown))
-      (mapped HasNext (unseen ids.from) times
-      (AllByRecursion-weaker IsTime (λ t. HasNext (unseen ids.from t)) (λ t is linked. absurd (false≢true linked)) times
-      times_are))) found
+      found_has _ all a (all_parts _ _ _ (AllByRecursion-weaker _ _ has_next shown (times_after-has needs shown))
+      (mapped _ _ _ (AllByRecursion-weaker _ _ (λ t is linked. absurd (false≢true linked)) times times_are))) found
 
   few : AreFew all
   few t =
       let one = can.accounts_room t in (
         one.0,
         one.1,
-        λ a found. found_has (λ b. b.1.timestamp ≡ t + one.0 → IsUnlinked b) all a
-            (all_parts (λ b. b.1.timestamp ≡ t + one.0 → IsUnlinked b) shown others one.2
-            (mapped (λ b. b.1.timestamp ≡ t + one.0 → IsUnlinked b) (unseen ids.from) times
-            (AllByRecursion-weaker IsTime (λ u. u ≡ t + one.0 → IsUnlinked (unseen ids.from u)) (λ u is time. refl)
-            times times_are))) found,
+        λ a found. found_has _ all a (all_parts _ _ _ one.2
+            (mapped _ _ _ (AllByRecursion-weaker _ _ (λ u is time. refl) times times_are))) found,
       )
 
   reaches : Reaches events
   reaches =
       let after : AllByRecursion (λ a. 0 < (opening_of a).timestamp) all =
-      AllByRecursion-weaker IsFit (λ a. 0 < (opening_of a).timestamp) (λ a is. is.some) all fit_all in
+      AllByRecursion-weaker _ _ (λ a is. is.some) all fit_all in
       subst Reaches same_events
       (made_from_empty all plan followed few (λ a found. found_has (λ b. Opens (opening_of b) plan) all a opens found)
       (rises-place_all opening_of 0 all (only events) after (only-rises 0 events
@@ -391,15 +325,13 @@ alone_stored (e ∷ events) alone =
 pub each_next_free : (events : List Event) → AllByRecursion IsUnlinked (accounts_in events)
     → AllByRecursion (NextIsFree events) (accounts_in events)
 each_next_free events unlinked =
-    AllByRecursion-weaker IsUnlinked (NextIsFree events) (λ a is linked. absurd (false≢true (sym is ∙ linked)))
-    (accounts_in events) unlinked
+    AllByRecursion-weaker _ _ (λ a is linked. absurd (false≢true (sym is ∙ linked))) (accounts_in events) unlinked
 
 pub with_room : (events : List Event) → AllByRecursion IsUnlinked (accounts_in events) → AccountsHaveRoom events
 with_room events unlinked t = (
   0,
   omega arith,
-  AllByRecursion-weaker IsUnlinked (λ a. a.1.timestamp ≡ t + 0 → IsUnlinked a) (λ a is time. is) (accounts_in events)
-      unlinked,
+  AllByRecursion-weaker _ _ (λ a is time. is) (accounts_in events) unlinked,
 )
 
 -- nothing isn't something
@@ -409,7 +341,7 @@ none_some x is = cc
 pub events_alone_are_a_ledgers : EventsAloneAreALedgers
 events_alone_are_a_ledgers events alone unlinked accepted =
     accepted_events_are_a_ledgers events (record {
-      fit = AllByRecursion-weaker IsAlone EventFits (λ e is. is.fits) events alone;
+      fit = AllByRecursion-weaker _ _ (λ e is. is.fits) events alone;
       next_free = each_next_free events unlinked;
       accounts_room = with_room events unlinked;
       room = alone_room events alone;

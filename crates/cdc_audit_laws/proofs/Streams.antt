@@ -1,12 +1,8 @@
 -- Streams of events that are accepted: of two parts, and of all but the last event.
 use Rattle.std.proofs.Common.{◌≡◌, zero, suc, ℕ, true, List, [], ◌∷◌, ◌++◌, Option, Some, None, is_none, take, refl, ap, append_assoc, append-nil}
-use Rattle.std.proofs.lemmas.Bool.{and_from, and_parts}
-use Rattle.cdc_types.specs.declared.events.Event.{Event}
-use Rattle.cdc_types.specs.Timestamps.{RiseFrom, last_timestamp}
-use Rattle.cdc_types.proofs.Rising.{last_timestamp_from-push}
-use Rattle.cdc_audit.specs.declared.refusals.Refusal.{Refusal}
-use Rattle.cdc_audit.specs.Audits.{follows_on, is_accepted}
-use Rattle.cdc_audit.specs.Rules.{refusal}
+use Rattle.cdc_audit_laws.proofs.OfStd.{and_from, and_parts}
+use Rattle.cdc_audit_laws.proofs.OfTypes.{Event, RiseFrom, last_timestamp, last_timestamp_from-push}
+use Rattle.cdc_audit_laws.proofs.OfAudit.{Refusal, follows_on, is_accepted, refusal}
 use Rattle.cdc_audit_laws.specs.Laws.{AcceptedEventsRise, PrefixesAreAccepted}
 use Rattle.cdc_audit_laws.proofs.Following.{CanFollow, no_refusal, unrefused}
 
@@ -28,8 +24,7 @@ pub follows_first : (past : List Event) (e : Event) (rest : List Event) → CanF
     → follows_on (past ++ e ∷ []) rest ≡ true → follows_on past (e ∷ rest) ≡ true
 unfolding follows_on
 follows_first past e rest can others =
-    and_from (is_none (refusal past e)) (follows_on (past ++ e ∷ []) rest)
-    (ap (λ (o : Option Refusal). is_none o) (no_refusal past e can)) others
+    and_from _ _ (ap (λ (o : Option Refusal). is_none o) (no_refusal past e can)) others
 
 -- nothing follows anything
 pub none_follows : (past : List Event) → follows_on past [] ≡ true

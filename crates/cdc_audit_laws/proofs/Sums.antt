@@ -1,13 +1,9 @@
 -- The posted sums that accepted events show are the sums of all that these moved.
-use Rattle.std.proofs.Common.{◌≡◌, ◌≢◌, ℕ, ◌+◌, true, false, List, [], ◌∷◌, ◌++◌, refl, sym, ap, ◌∙◌, subst, inl, inr, arith, append_assoc, append-nil}
-use Rattle.std.specs.Prelude.{◌==◌, if◌then◌else◌}
-use Rattle.std.proofs.lemmas.Bool.Decides.{eqb_tells}
+use Rattle.std.proofs.Common.{◌≡◌, ◌≢◌, ℕ, ◌+◌, true, false, List, [], ◌∷◌, ◌++◌, refl, sym, ap, ◌∙◌, subst, inl, inr, arith, append_assoc, append-nil, ◌==◌, if◌then◌else◌}
+use Rattle.cdc_audit_laws.proofs.OfStd.{eqb_tells}
+use Rattle.cdc_audit_laws.proofs.OfTypes.{Balances, Event}
+use Rattle.cdc_audit_laws.proofs.OfAudit.{follows_on, balances_after, posted}
 use Rattle.std.proofs.lemmas.List.Sums.{sum_by_push}
-use Rattle.cdc_types.specs.declared.accounts.Balances.{Balances}
-use Rattle.cdc_types.specs.declared.events.Event.{Event}
-use Rattle.cdc_audit.specs.Audits.{follows_on}
-use Rattle.cdc_audit.specs.Known.{balances_after}
-use Rattle.cdc_audit.specs.Rules.{posted}
 use Rattle.cdc_audit_laws.specs.Laws.{BalancesAreSums, PostedSumsAdd, Shows, WhatIsLeftOutMovedNothing, credits_posted_by, debits_posted_by}
 use Rattle.cdc_audit_laws.proofs.Following.{CanFollow, IsCredited, IsDebited}
 use Rattle.cdc_audit_laws.proofs.Shown.{balances_after-credited, balances_after-debited, balances_after-other, balances_of}

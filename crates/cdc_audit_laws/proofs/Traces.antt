@@ -1,21 +1,10 @@
 -- What the entries of a history are by their events: the other way round of what `Entries` has.
-use Rattle.std.proofs.Common.{◌≡◌, ℕ, true, false, List, [], ◌∷◌, Option, Some, None, is_none, map, refl, sym, ap, ◌∙◌, subst}
-use Rattle.std.specs.Prelude.{◌==◌, ◌&&◌, find, option_map, nat_le, if◌then◌else◌}
-use Rattle.std.specs.List.{list_any}
-use Rattle.std.proofs.lemmas.Bool.{and_parts, and_right, eqb-true, or_from, or_parts, true≢false}
-use Rattle.cdc_types.specs.declared.events.Entry.{Entry}
-use Rattle.cdc_types.specs.declared.events.Event.{Event}
-use Rattle.cdc_types.specs.declared.transfers.Transfer.{Transfer}
-use Rattle.cdc_ledger.specs.Balances.{resolved, resolves}
-use Rattle.cdc_ledger.specs.Events.{event_of, events, shown_transfer}
-use Rattle.cdc_ledger.specs.Filling.{stored, stored_in}
-use Rattle.cdc_ledger.specs.History.{History}
-use Rattle.cdc_ledger.specs.Kinds.{holds, settles, stores}
-use Rattle.cdc_ledger.specs.Sound.{IsSound}
-use Rattle.cdc_ledger.proofs.BalanceLaws.{resolves_is, stores-holds}
+use Rattle.std.proofs.Common.{◌≡◌, ℕ, true, false, List, [], ◌∷◌, Option, Some, None, is_none, map, refl, sym, ap, ◌∙◌, subst, ◌==◌, ◌&&◌, find, option_map, nat_le, if◌then◌else◌}
+use Rattle.cdc_audit_laws.proofs.OfStd.{list_any, and_parts, and_right, eqb-true, or_from, or_parts, true≢false}
+use Rattle.cdc_audit_laws.proofs.OfTypes.{Entry, Event, Transfer}
+use Rattle.cdc_audit_laws.proofs.OfLedger.{resolved, resolves, event_of, events, stored, stored_in, History, holds, settles, stores, IsSound, resolves_is, stores-holds, find_all, stored_each}
+use Rattle.cdc_audit_laws.proofs.OfAudit.{is_settled, is_stored, pending_amount, pending_event, settled_id_by}
 use Rattle.cdc_ledger.proofs.Found.{find-map}
-use Rattle.cdc_ledger.proofs.StoredLaws.{find_all, is_stored as stores_id, stored_each}
-use Rattle.cdc_audit.specs.Known.{is_settled, is_stored, pending_amount, pending_event, settled_id_by}
 use Rattle.cdc_audit_laws.proofs.Entries.{settled_id-shown}
 
 -- no entry is found if no event passes the test
@@ -24,8 +13,7 @@ none_found : (h : History) (id : ℕ) (es : List Entry)
     → stored_in es id ≡ None
 none_found h id [] none = refl
 none_found h id (e ∷ es) none =
-    let parts = or_parts (stores_id id e)
-    (list_any (λ (x : Event). stores x.kind && (x.transfer.id == id)) (map (event_of h) es)) none in
+    let parts = or_parts _ _ none in
     ap (λ b. if b then Some e else stored_in es id) parts.0 ∙ none_found h id es parts.1
 
 -- an id that no event stored is stored by no entry
@@ -39,9 +27,7 @@ unresolved_from : (h : History) (p : Transfer) (t : ℕ) (es : List Entry)
     → list_any (λ e. nat_le e.timestamp t && resolves p e) es ≡ false
 unresolved_from h p t [] none = refl
 unresolved_from h p t (e ∷ es) none =
-    let parts = or_parts (settles e.kind && (settled_id_by e.kind (shown_transfer e.transfer) == p.id))
-    (list_any (λ (x : Event). settles x.kind && (settled_id_by x.kind x.transfer == p.id)) (map (event_of h) es))
-    none in
+    let parts = or_parts _ _ none in
     let first : resolves p e ≡ false =
     resolves_is e p ∙ ap (λ n. settles e.kind && (n == p.id)) (sym (settled_id-shown e.kind e.transfer)) ∙ parts.0 in
     or_from _ _ (and_right (nat_le e.timestamp t) (resolves p e) first) (unresolved_from h p t es parts.1)
@@ -76,10 +62,9 @@ traced h id sound some = by (find (λ (e : Entry). holds e.kind && (e.transfer.i
         absurd (true≢false (sym (ap (λ (o : Option Event). is_none (option_map (λ (e : Event). e.transfer.amount) o))
         (shown_of h id None is)) ∙ some))
     by (Some x) is =
-        let found = find_all (λ (e : Entry). holds e.kind && (e.transfer.id == id))
-        (λ e. stores e.kind ≡ true → stored h e.transfer.id ≡ Some e) h.entries x (stored_each h sound.once) is in
-        let parts = and_parts (holds x.kind) (x.transfer.id == id) found.0 in
-        let id_is : x.transfer.id ≡ id = eqb-true x.transfer.id id parts.1 in
+        let found = find_all _ _ _ _ (stored_each h sound.once) is in
+        let parts = and_parts _ _ found.0 in
+        let id_is : x.transfer.id ≡ id = eqb-true _ _ parts.1 in
         record {
           entry = x;
           named = subst (λ n. stored h n ≡ Some x) id_is (found.1 (stores-holds x.kind parts.0));

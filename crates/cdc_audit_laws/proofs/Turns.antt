@@ -1,42 +1,19 @@
 -- In which order the transfers of a ledger expire, by its events.
-use Rattle.std.proofs.Common.{◌≡◌, ◌≢◌, ℕ, ◌<◌, ◌≤◌, true, false, not, ◌∷◌, sym, ap, ◌∙◌, subst, arith}
-use Rattle.std.specs.Prelude.{◌==◌, ◌&&◌, ◌||◌, nat_le, nat_lt}
-use Rattle.std.specs.List.{AllByRecursion}
-use Rattle.std.proofs.lemmas.Bool.{and_from, and_parts, le-leb, not-true, not_from_false}
-use Rattle.std.proofs.lemmas.Bool.Decides.{nat_tests}
-use Rattle.cdc_types.specs.declared.events.Entry.{Entry}
-use Rattle.cdc_types.specs.declared.events.Event.{Event}
-use Rattle.cdc_types.specs.declared.events.EventTransfer.{EventTransfer}
-use Rattle.cdc_ledger.specs.Balances.{resolved}
-use Rattle.cdc_ledger.specs.Changes.{expiry, pushed}
-use Rattle.cdc_ledger.specs.Due.{due, is_due, is_sooner as is_sooner_one}
-use Rattle.cdc_ledger.specs.Events.{event_of, events, shown_transfer}
-use Rattle.cdc_ledger.specs.Filling.{expires_at}
-use Rattle.cdc_ledger.specs.History.{History}
-use Rattle.cdc_ledger.specs.Kinds.{holds, stores}
-use Rattle.cdc_ledger.proofs.BalanceLaws.{stores-holds}
+use Rattle.std.proofs.Common.{◌≡◌, ◌≢◌, ℕ, ◌<◌, ◌≤◌, true, false, ◌∷◌, sym, ap, ◌∙◌, subst, arith, ◌==◌, ◌&&◌, ◌||◌, nat_lt}
+use Rattle.cdc_audit_laws.proofs.OfStd.{AllByRecursion, and_from, not_from_false, nat_tests}
+use Rattle.cdc_audit_laws.proofs.OfTypes.{Entry, Event, EventTransfer}
+use Rattle.cdc_audit_laws.proofs.OfLedger.{expiry, pushed, due, is_due, is_sooner as is_sooner_one, events, shown_transfer, expires_at, History, stores, stores-holds, AllByRecursion-weaker, stored_has}
+use Rattle.cdc_audit_laws.proofs.OfAudit.{is_sooner, expires_at as expires_at_shown}
+use Rattle.std.proofs.lemmas.Bool.{le-leb}
 use Rattle.cdc_ledger.proofs.DueLaws.{due-first, due-rest}
-use Rattle.cdc_ledger.proofs.Elements.{AllByRecursion-weaker}
 use Rattle.cdc_ledger.proofs.Pending.{All-around, Around, Around-both, Around-weaker, IsAmong, IsOther, IsOther-around, IsStored-found}
-use Rattle.cdc_ledger.proofs.StoredLaws.{stored_has}
-use Rattle.cdc_audit.specs.Expiries.{is_sooner}
-use Rattle.cdc_audit.specs.Settling.{expires_at as expires_at_shown}
 use Rattle.cdc_audit_laws.proofs.Coming.{Comes}
 use Rattle.cdc_audit_laws.proofs.Expiry.{expired, has_timeout, is_open, on_expired, shows_expired}
 use Rattle.cdc_audit_laws.proofs.Soonest.{AllThatExpire, CanExpire, open_entries}
 
 -- an entry that is due can expire
 due_can : (h : History) (now : ℕ) (y : Entry) → is_due h now y ≡ true → CanExpire h y
-due_can h now y is =
-    let last = and_parts (holds y.kind && not (y.transfer.timeout == 0) && nat_le (expires_at y.transfer) now)
-    (not (resolved h y.transfer h.last)) is in
-    let ended = and_parts (holds y.kind && not (y.transfer.timeout == 0)) (nat_le (expires_at y.transfer) now) last.0 in
-    let timed = and_parts (holds y.kind) (not (y.transfer.timeout == 0)) ended.0 in
-    record {
-      holding = timed.0;
-      timed = not-true (y.transfer.timeout == 0) timed.1;
-      unsettled = not-true (resolved h y.transfer h.last) last.1;
-    }
+due_can h now y is = grind arith
 
 -- of two pairs of which the second isn't before the first, the first is before the second, if they differ
 before_other : (a b s t : ℕ) → (nat_lt b a || ((b == a) && nat_lt t s)) ≡ false → t ≢ s
@@ -78,9 +55,7 @@ module _ (h : History) (e : Event) (comes : Comes h e) (storing : stores e.kind 
   -- no other one that is due is sooner
   none_sooner : AllByRecursion (λ y. is_due h now y ≡ true → is_sooner_one y.transfer entry.transfer ≡ false) h.entries
   none_sooner =
-      AllByRecursion-weaker (λ y. CanExpire h y → is_sooner (event_of h y).transfer e.transfer ≡ false)
-      (λ y. is_due h now y ≡ true → is_sooner_one y.transfer entry.transfer ≡ false)
-      (λ y not_sooner is.
+      AllByRecursion-weaker _ _ (λ y not_sooner is.
       ap (λ (x : EventTransfer). is_sooner (shown_transfer y.transfer) x) (shows_expired h e comes storing).shown
       ∙ not_sooner (due_can h now y is)) h.entries
       (open_entries h (λ y. is_sooner y.transfer e.transfer ≡ false) comes.sound first)

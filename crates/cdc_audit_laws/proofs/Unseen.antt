@@ -1,19 +1,9 @@
 -- Accounts that no event shows: a ledger can open one after a linked account, under an id that no event shows.
-use Rattle.std.proofs.Common.{◌≡◌, ◌≢◌, ◌⊎◌, inl, inr, ℕ, suc, zero, ◌+◌, ◌*◌, ◌<◌, ◌≤◌, Bool, true, false, List, [], ◌∷◌, Option, Some, None, if◌then◌else◌, length, map, refl, sym, ap, ap₂, ◌∙◌, arith}
-use Rattle.std.specs.Prelude.{◌==◌, ◌&&◌, ◌||◌, nat_eq, nat_le, nat_lt}
-use Rattle.std.specs.List.{AllByRecursion, list_any}
-use Rattle.std.specs.Map.{lookup}
-use Rattle.std.proofs.lemmas.Bool.{and_from, and_parts, eq-eqb, eqb-false, eqb-true, false≢true, le-leb, leb-true, lt-ltb, ltb-true, ne_eqb, or_left, or_right}
-use Rattle.cdc_types.specs.declared.bounds.TheConstants.Limits.{TIMESTAMP}
-use Rattle.cdc_types.specs.declared.events.Event.{Event}
-use Rattle.cdc_types.specs.declared.results.AccountResult.TheVariants as account
-use Rattle.cdc_types.specs.Flags.{has_other_flag}
-use Rattle.cdc_types.specs.Lines.{first_line}
-use Rattle.cdc_types.specs.Shapes.{account_flags}
-use Rattle.cdc_types.specs.Timestamps.{RiseFrom}
-use Rattle.cdc_types.specs.Widths.{max_128}
-use Rattle.cdc_ledger.proofs.Elements.{AllByRecursion-weaker}
-use Rattle.cdc_audit.specs.declared.fields.FixedFields.{FixedFields}
+use Rattle.std.proofs.Common.{◌≡◌, ◌≢◌, ◌⊎◌, inl, inr, ℕ, suc, zero, ◌+◌, ◌*◌, ◌<◌, ◌≤◌, Bool, true, false, List, [], ◌∷◌, Option, Some, None, if◌then◌else◌, length, map, refl, sym, ap, ◌∙◌, arith, ◌==◌, ◌&&◌, ◌||◌, nat_eq, nat_le, nat_lt}
+use Rattle.cdc_audit_laws.proofs.OfStd.{AllByRecursion, list_any, lookup, eq-eqb, eqb-false, eqb-true, false≢true, ne_eqb, or_left, or_right}
+use Rattle.cdc_audit_laws.proofs.OfTypes.{TIMESTAMP, Event, RiseFrom, max_128}
+use Rattle.cdc_audit_laws.proofs.OfLedger.{AllByRecursion-weaker}
+use Rattle.cdc_audit_laws.proofs.OfAudit.{FixedFields}
 use Rattle.cdc_audit_laws.specs.Soundness.{accounts_in}
 use Rattle.cdc_audit_laws.proofs.Openings.{IsOpenable, opening_of}
 
@@ -61,16 +51,7 @@ fewer n (a ∷ those) = by (is_within (block n) a.0) refl (fewer n those) (no_mo
 
 -- an id of a block isn't of one before it
 apart : (k n id : ℕ) → k < n → is_within (block n) id ≡ true → is_within (block k) id ≡ false
-apart k n id less is = by (is_within (block k) id) refl
-  where
-    by : (b : Bool) → is_within (block k) id ≡ b → b ≡ false
-    by false one = refl
-    by true one =
-        let high = (and_parts (nat_le (block n) id) (nat_lt id (block n + 9223372036854775808)) is).0 in
-        let low = (and_parts (nat_le (block k) id) (nat_lt id (block k + 9223372036854775808)) one).1 in
-        let from = leb-true (block n) id high in
-        let to = ltb-true id (block k + 9223372036854775808) low in
-        absurd (let no : ⊥ = omega (arith, from, to, less) in no)
+apart k n id less is = grind arith
 
 -- so what is free without a block is free, if it is before that block
 still_free : (k n : ℕ) (those : List (ℕ × FixedFields)) → k < n → IsFree (without n those) (block k)
@@ -137,10 +118,7 @@ has_ids es rises within =
 
 -- an id of its own isn't that of a shown account
 other_id : (from t id : ℕ) → t ≤ TIMESTAMP → is_within from id ≡ false → id ≢ from + t
-other_id from t id within free same =
-    let low : from ≤ id = omega (arith, same) in
-    let high : id < from + 9223372036854775808 = omega (arith, same, within) in
-    false≢true (sym free ∙ and_from _ _ (le-leb from id low) (lt-ltb id (from + 9223372036854775808) high))
+other_id from t id within free same = grind arith
 
 -- ---- the accounts
 
@@ -162,24 +140,7 @@ module _ (from : ℕ) where
 
   pub unseen-openable : (t : ℕ) → 0 < from → from + TIMESTAMP < max_128 → t ≤ TIMESTAMP
       → IsOpenable (opening_of (unseen t))
-  unseen-openable t some bound within = record {
-    fields =
-        ap₂ (λ b c. first_line ((has_other_flag 0 account_flags, account.ReservedFlag)
-        ∷ (b, account.IdMustNotBeZero) ∷ (c, account.IdMustNotBeIntMax) ∷ (false, account.FlagsAreMutuallyExclusive)
-        ∷ (false, account.LedgerMustNotBeZero) ∷ (false, account.CodeMustNotBeZero) ∷ []))
-        (ne_eqb (from + t) 0 (λ same. omega (arith, same, some)))
-        (ne_eqb (from + t) max_128 (λ same. omega (arith, same, bound, within)));
-    fits = record {
-      id = omega (arith, bound, within);
-      user_data_128 = omega arith;
-      user_data_64 = omega arith;
-      user_data_32 = omega arith;
-      ledger = omega arith;
-      code = omega arith;
-      flags = omega arith;
-    };
-    within = within;
-  }
+  unseen-openable t some bound within = grind arith
 
   -- it is found if its timestamp is among these
   pub unseen-found : (t : ℕ) (ts : List ℕ)
@@ -207,8 +168,7 @@ module _ (from : ℕ) where
   none_has t [] within free = refl
   none_has t (a ∷ those) within free =
       ap (λ b. if b then Some a.1 else lookup (nat_eq (from + t)) those)
-      (ne_eqb (from + t) a.0 (λ same. other_id from t a.0 within free.0 (sym same)))
-      ∙ none_has t those within free.1
+      (ne_eqb _ _ (λ same. other_id from t a.0 within free.0 (sym same))) ∙ none_has t those within free.1
 
 -- ---- the timestamps after accounts
 
@@ -243,10 +203,7 @@ times_after-has test (a ∷ those) = by (test a) refl (times_after-has test thos
     by true is more = (
       λ passes. or_left (a.1.timestamp + 1 == a.1.timestamp + 1) _
           (eq-eqb (a.1.timestamp + 1) (a.1.timestamp + 1) refl),
-      AllByRecursion-weaker
-          (λ x. test x ≡ true → list_any (λ u. x.1.timestamp + 1 == u) (times_after test those) ≡ true)
-          (λ x. test x ≡ true
-          → list_any (λ u. x.1.timestamp + 1 == u) ((a.1.timestamp + 1) ∷ times_after test those) ≡ true)
+      AllByRecursion-weaker _ _
           (λ x has passes. or_right (x.1.timestamp + 1 == a.1.timestamp + 1) _ (has passes)) those more,
     )
     by false is more = (λ passes. absurd (false≢true (sym is ∙ passes)), more)
@@ -256,6 +213,5 @@ pub each_there : (ts : List ℕ) → AllByRecursion (λ t. list_any (λ u. t == 
 each_there [] = tt
 each_there (t ∷ ts) = (
   or_left (t == t) _ (eq-eqb t t refl),
-  AllByRecursion-weaker (λ u. list_any (λ v. u == v) ts ≡ true) (λ u. list_any (λ v. u == v) (t ∷ ts) ≡ true)
-      (λ u has. or_right (u == t) _ has) ts (each_there ts),
+  AllByRecursion-weaker _ _ (λ u has. or_right (u == t) _ has) ts (each_there ts),
 )

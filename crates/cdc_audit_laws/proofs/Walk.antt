@@ -1,54 +1,24 @@
 -- A ledger that opens accounts and stores events in the order of their timestamps, as a plan has them.
-use Rattle.std.proofs.Common.{◌≡◌, ◌⊎◌, inl, inr, ℕ, ◌+◌, ◌-◌, ◌<◌, ◌≤◌, Bool, true, false, List, [], ◌∷◌, ◌++◌, Some, refl, sym, ap, ◌∙◌, subst, append_assoc, arith}
-use Rattle.std.specs.Prelude.{◌&&◌, nat_eq}
-use Rattle.std.specs.List.{AllByRecursion}
-use Rattle.std.specs.Map.{lookup}
-use Rattle.std.proofs.lemmas.Bool.{false≢true, ltb-false}
-use Rattle.std.proofs.lemmas.List.{append-nil}
-use Rattle.cdc_types.specs.declared.bounds.TheConstants.Limits.{TIMESTAMP}
-use Rattle.cdc_types.specs.declared.events.Entry.{Entry}
-use Rattle.cdc_types.specs.declared.events.Event.{Event}
-use Rattle.cdc_types.specs.declared.transfers.NewTransfer.{NewTransfer}
+use Rattle.std.proofs.Common.{◌≡◌, ◌⊎◌, inl, inr, ℕ, ◌+◌, ◌-◌, ◌<◌, ◌≤◌, Bool, true, false, List, [], ◌∷◌, ◌++◌, Some, refl, sym, ap, ◌∙◌, subst, append_assoc, arith, ◌&&◌, nat_eq, append-nil}
+use Rattle.cdc_audit_laws.proofs.OfStd.{cases_Bool, AllByRecursion, lookup, false≢true, ltb-false}
+use Rattle.cdc_audit_laws.proofs.OfTypes.{TIMESTAMP, Entry, Event, NewTransfer, Transfer, has_flag, is_linked_transfer, last_timestamp, last_timestamp_from-push}
+use Rattle.cdc_audit_laws.proofs.OfLedger.{pushed, timed, with_account, due, events, expires_at as expires_at_one, NewTransferFits, Follows, History, empty_history, opened, stores, IsLegal, transfer_rules, balances_later, AllByRecursion-weaker, IsLegal-empty, IsSound-empty, IsSound-timed}
+use Rattle.cdc_audit_laws.proofs.OfAudit.{FixedFields, follows_on, asked_transfer, ends_in_chain, is_linked, last_expiry, expires_at}
 use Rattle.cdc_types.specs.declared.transfers.TheConstants.TransferFlags.{LINKED}
-use Rattle.cdc_types.specs.declared.transfers.Transfer.{Transfer}
-use Rattle.cdc_types.specs.Flags.{has_flag, is_linked_transfer}
-use Rattle.cdc_types.specs.Timestamps.{last_timestamp}
-use Rattle.cdc_types.proofs.Rising.{last_timestamp_from-push}
-use Rattle.cdc_ledger.specs.Changes.{pushed, timed, with_account}
-use Rattle.cdc_ledger.specs.Due.{due}
-use Rattle.cdc_ledger.specs.Events.{events}
-use Rattle.cdc_ledger.specs.Filling.{expires_at as expires_at_one}
-use Rattle.cdc_ledger.specs.Fits.{NewTransferFits}
-use Rattle.cdc_ledger.specs.Follows.{Follows}
-use Rattle.cdc_ledger.specs.History.{History, empty_history, opened}
-use Rattle.cdc_ledger.specs.Kinds.{stores}
-use Rattle.cdc_ledger.specs.Submit.{IsLegal, transfer_rules}
-use Rattle.cdc_ledger.proofs.BalanceLaws.{balances_later}
-use Rattle.cdc_ledger.proofs.Elements.{AllByRecursion-weaker}
-use Rattle.cdc_ledger.proofs.LegalLaws.{IsLegal-empty}
-use Rattle.cdc_ledger.proofs.SoundLaws.{IsSound-empty, IsSound-timed}
-use Rattle.cdc_audit.specs.declared.fields.FixedFields.{FixedFields}
-use Rattle.cdc_audit.specs.Audits.{follows_on}
-use Rattle.cdc_audit.specs.EventShapes.{asked_transfer}
-use Rattle.cdc_audit.specs.Known.{ends_in_chain, is_linked, last_expiry}
-use Rattle.cdc_audit.specs.Expiries.{can_expire, is_sooner}
-use Rattle.cdc_audit.specs.Settling.{expires_at}
 use Rattle.cdc_audit_laws.specs.Soundness.{HaveRoom, accounts_in}
 use Rattle.cdc_audit_laws.proofs.Coming.{Comes}
 use Rattle.cdc_audit_laws.proofs.Entering.{entry_is, own, own_follows, shows_own, unrefused}
 use Rattle.cdc_audit_laws.proofs.Expiry.{expired, expiry_follows, expiry_is, is_up, shows_expired}
 use Rattle.cdc_audit_laws.proofs.Following.{CanFollow}
 use Rattle.cdc_audit_laws.proofs.Made.{IsShownBy, entry_with, events_then, shown_then, sound_then}
-use Rattle.cdc_audit_laws.proofs.Modes.{IsOfChain, IsOfPulse, Mode, Reaches, StartsLegal, chain-push, chain_next, expiry-push}
-use Rattle.cdc_audit_laws.proofs.Modes.{linked_run, pulse_next, run-push, run_from-push, starts, starts-push, stores_or_not}
+use Rattle.cdc_audit_laws.proofs.Modes.{IsOfChain, IsOfPulse, Mode, Reaches, StartsLegal, chain-push, chain_next, expiry-push, linked_run, pulse_next, run-push, run_from-push, starts, starts-push}
 use Rattle.cdc_audit_laws.proofs.Openings.{are_created, opening_of, request_fits}
 use Rattle.cdc_audit_laws.proofs.Running.{Pulses, RunsOn, pulses-done, pulses-expired, pulses-legal, runs-done, runs-legal, runs-more, runs-taken, timed_before}
 use Rattle.cdc_audit_laws.proofs.Streams.{first_follows}
 use Rattle.cdc_audit_laws.proofs.Plan.{Opens, Rises, Planned, events_in, opens_later}
 use Rattle.cdc_audit_laws.proofs.Soonest.{AllThatExpire, expire_then, no_earlier, none_before_expiry}
 use Rattle.cdc_audit_laws.proofs.Turns.{its_time, next_due}
-use Rattle.cdc_audit_laws.proofs.Opening.{AreFew, AreFollowed, CanMake, Goes, IsBegun, IsOpening, IsReady, begun_before, begun_new}
-use Rattle.cdc_audit_laws.proofs.Opening.{goes_then, past_later, same_events, to_come, too_late}
+use Rattle.cdc_audit_laws.proofs.Opening.{AreFew, AreFollowed, CanMake, Goes, IsBegun, IsOpening, IsReady, begun_before, begun_new, goes_then, past_later, same_events, to_come, too_late}
 
 module _ (all : List (ℕ × FixedFields)) where
   -- ---- an event happens
@@ -218,9 +188,7 @@ module _ (all : List (ℕ × FixedFields)) where
       least =
           subst (λ es. AllThatExpire es (λ y. now ≤ expires_at y.transfer)) (sym same_gone)
           (expire_then (events h) e (λ y. now ≤ expires_at y.transfer) storing
-          (AllByRecursion-weaker (λ y. can_expire (events h) y ≡ true → is_sooner y.transfer e.transfer ≡ false)
-          (λ y. can_expire (events h) y ≡ true → now ≤ expires_at y.transfer)
-          (λ y not_sooner passes. no_earlier y e (not_sooner passes)) (events h)
+          (AllByRecursion-weaker _ _ (λ y not_sooner passes. no_earlier y e (not_sooner passes)) (events h)
           (none_before_expiry (events h) e first.0 storing)))
 
       gone_mode : Mode with_gone
@@ -291,7 +259,7 @@ module _ (all : List (ℕ × FixedFields)) where
     events_are : events after ≡ events h ++ e ∷ []
 
   steps : (h : History) (e : Event) (rest : List Planned) → Goes all h (inr e ∷ rest) → Steps h e rest
-  steps h e rest goes = by (stores_or_not (stores e.kind))
+  steps h e rest goes = by (cases_Bool (stores e.kind))
     where
       expires : stores e.kind ≡ false → Mode h → Steps h e rest
       expires storing (inl legal) =

@@ -1,29 +1,11 @@
 -- The events of a ledger have no chain and no pulse that is cut off, and a batch has room for each chain.
-use Rattle.std.proofs.Common.{◌≡◌, ℕ, ◌+◌, ◌<◌, true, false, not, List, [], ◌∷◌, ◌++◌, Option, Some, None, if◌then◌else◌, map, refl, sym, ◌∙◌, subst, arith}
-use Rattle.std.specs.Prelude.{◌==◌, ◌&&◌, filter, option_map, IfSome}
-use Rattle.std.specs.List.{AllByRecursion}
-use Rattle.std.proofs.lemmas.Bool.{and_parts, not-true}
-use Rattle.cdc_types.specs.declared.bounds.TheConstants.Limits.{BATCH_ITEMS}
-use Rattle.cdc_types.specs.declared.events.Entry.{Entry}
-use Rattle.cdc_types.specs.declared.events.Event.{Event}
-use Rattle.cdc_types.specs.declared.transfers.NewTransfer.{NewTransfer}
-use Rattle.cdc_types.specs.declared.transfers.Transfer.{Transfer}
-use Rattle.cdc_ledger.specs.Changes.{expiry, pushed, with_account}
-use Rattle.cdc_ledger.specs.Events.{event_of, events}
-use Rattle.cdc_ledger.specs.Filling.{expires_at as expires_at_one}
-use Rattle.cdc_ledger.specs.History.{History, Opened}
-use Rattle.cdc_ledger.specs.Kinds.{holds}
-use Rattle.cdc_ledger.specs.Sound.{IsSound}
-use Rattle.cdc_ledger.specs.Submit.{IsLegal, entry_of, opened_by}
-use Rattle.cdc_ledger.proofs.Elements.{AllByRecursion-weaker}
-use Rattle.cdc_ledger.proofs.EventLaws.{events-pushed, events-with_account}
-use Rattle.cdc_ledger.proofs.KeptLaws.{IsSound-from_legal}
-use Rattle.cdc_audit.specs.Expiries.{can_expire, first_due}
-use Rattle.cdc_audit.specs.Known.{is_linked, is_settled, last_expiry}
-use Rattle.cdc_audit.specs.Settling.{expires_at}
-use Rattle.cdc_audit.proofs.FirstLemmas.{first_of-all, passing}
+use Rattle.std.proofs.Common.{◌≡◌, ℕ, ◌+◌, ◌<◌, true, false, not, List, [], ◌∷◌, ◌++◌, Option, Some, None, if◌then◌else◌, map, refl, sym, ◌∙◌, subst, arith, ◌==◌, ◌&&◌, filter, option_map, IfSome}
+use Rattle.cdc_audit_laws.proofs.OfStd.{AllByRecursion, and_parts, not-true}
+use Rattle.cdc_audit_laws.proofs.OfTypes.{BATCH_ITEMS, Entry, Event, NewTransfer, Transfer}
+use Rattle.cdc_audit_laws.proofs.OfLedger.{expiry, pushed, with_account, event_of, events, expires_at as expires_at_one, History, Opened, holds, IsSound, IsLegal, entry_of, opened_by, AllByRecursion-weaker, events-pushed, events-with_account, IsSound-from_legal}
+use Rattle.cdc_audit_laws.proofs.OfAudit.{can_expire, first_due, is_linked, is_settled, last_expiry, expires_at, first_of-all, passing}
 use Rattle.cdc_audit_laws.specs.Soundness.{HaveRoom, LedgersEventsAreWhole}
-use Rattle.cdc_audit_laws.proofs.Entries.{unresolved}
+use Rattle.cdc_audit_laws.proofs.Traces.{unresolved}
 use Rattle.cdc_audit_laws.proofs.Keeping.{ended_by_legal, is_in_chain, kept_by_legal, links, run-none, run_from, run_of}
 use Rattle.cdc_audit_laws.proofs.Ledgers.{all_images, same_chain, same_expiry}
 use Rattle.cdc_audit_laws.proofs.Modes.{linked_run_from}
@@ -92,13 +74,11 @@ expires_later h x y sound clear last first =
         (first_of-all (λ f. n < expires_at f.transfer) (filter (can_expire (events h)) (events h))
         (passing (can_expire (events h)) (λ f. n < expires_at f.transfer) (events h)
         (all_images h (λ f. can_expire (events h) f ≡ true → n < expires_at f.transfer) h.entries
-        (AllByRecursion-weaker (ExpiresAfter h n [])
-        (λ z. can_expire (events h) (event_of h z) ≡ true → n < expires_at_one z.transfer)
-        (λ z is passes.
+        (AllByRecursion-weaker _ _ (λ z is passes.
         let both = and_parts (holds z.kind && not (z.transfer.timeout == 0))
         (not (is_settled (events h) z.transfer.id)) passes in
         let timed = and_parts (holds z.kind) (not (z.transfer.timeout == 0)) both.0 in
-        is timed.0 (not-true _ timed.1) (unresolved h z.transfer sound.past (not-true _ both.1)) refl)
+        is timed.0 (not-true _ timed.1) (unresolved h z.transfer h.last (not-true _ both.1)) refl)
         h.entries others))))
 
     by : (o : Option Entry) → option_map (event_of h) o ≡ Some x → IfSome o (IsClear h [])

@@ -1,5 +1,6 @@
 -- A line's event.
-use Rattle.std.proofs.Common.{◌≡◌, ◌≢◌, ℕ, List, ◌++◌, drop, Option, Some, None, Result, Ok, Err, sym, ap, ◌∙◌, subst, inl, inr}
+use Rattle.std.proofs.Common.{◌≡◌, ◌≢◌, ℕ, List, ◌++◌, drop, Option, Some, None, Result, Ok, Err, sym, ap, ◌∙◌}
+use Rattle.std.proofs.Common.{subst, inl, inr}
 use Rattle.std.specs.Prelude.{IsSomeAnd}
 use Rattle.cdc_types.specs.declared.events.Event.{Event}
 use Rattle.cdc_message.specs.declared.errors.DecodeError.{DecodeError}
@@ -8,11 +9,11 @@ use Rattle.cdc_message.specs.Bodies.{body}
 use Rattle.cdc_message.specs.Errors.{GivesUnlessMemory}
 use Rattle.cdc_message.specs.Reading.{read}
 use Rattle.cdc_message.proofs.Law.{read-body}
+use Rattle.cdc_codec.specs.ReadBack.{ReadsLine}
 use Rattle.cdc_audit_state.specs.declared.rows.ReadEvent.{ReadEvent}
 use Rattle.cdc_audit_state.specs.declared.rows.Row.{Row}
 use Rattle.cdc_audit_state.specs.declared.rows.Row.TheVariants.{Expired, Open}
-use Rattle.cdc_audit_state.specs.Reading.{ReadsLine, first_of}
-use Rattle.cdc_audit_state.specs.Rows.{IsEventLine}
+use Rattle.cdc_audit_state.specs.Rows.{IsEventLine, expired_byte, first_of, open_byte}
 use Rattle.cdc_audit_state.specs.Saveable.{RowFits}
 use Rattle.cdc_audit_state.specs.States.{row_line}
 use Rattle.cdc_audit_state.proofs.RowLemmas.{body_in_line, expired_is, open_is}
@@ -60,7 +61,7 @@ abbrev pub ReadsEvent : List ℕ → Option ReadEvent → Type 0
 ReadsEvent text read = (e : Event) (left : List ℕ) → IsEventLine text e left
     → IsSomeAnd read (λ (it : ReadEvent). (it.event ≡ e) × (it.rest.now ≡ left))
 
-pub expired_gives : (text mid : List ℕ) (read : Option ReadEvent) (it : ReadEvent) → first_of text ≡ 101
+pub expired_gives : (text mid : List ℕ) (read : Option ReadEvent) (it : ReadEvent) → first_of text ≡ expired_byte
     → mid ≡ drop 8 text → ReadsEvent mid read → read ≡ Some it → (row : Row) (rest : List ℕ) → RowFits row
     → text ≡ row_line row ++ rest → (Expired it.event ≡ row) × (it.rest.now ≡ rest)
 expired_gives text mid read it first is reads some row rest fits whole =
@@ -69,7 +70,7 @@ expired_gives text mid read it first is reads some row rest fits whole =
     let both = given shown.0 rest (subst (λ t. IsEventLine t shown.0 rest) (sym is) shown.2) in
     (ap Expired both.0 ∙ sym shown.1, both.1)
 
-pub open_gives : (text mid : List ℕ) (read : Option ReadEvent) (it : ReadEvent) → first_of text ≡ 111
+pub open_gives : (text mid : List ℕ) (read : Option ReadEvent) (it : ReadEvent) → first_of text ≡ open_byte
     → mid ≡ drop 5 text → ReadsEvent mid read → read ≡ Some it → (row : Row) (rest : List ℕ) → RowFits row
     → text ≡ row_line row ++ rest → (Open it.event ≡ row) × (it.rest.now ≡ rest)
 open_gives text mid read it first is reads some row rest fits whole =
@@ -79,15 +80,17 @@ open_gives text mid read it first is reads some row rest fits whole =
     (ap Open both.0 ∙ sym shown.1, both.1)
 
 -- there is one
-pub expired_some : (text mid : List ℕ) (read : Option ReadEvent) (row : Row) (rest : List ℕ) → first_of text ≡ 101
-    → mid ≡ drop 8 text → ReadsEvent mid read → read ≡ None → RowFits row → text ≡ row_line row ++ rest → ⊥
+pub expired_some : (text mid : List ℕ) (read : Option ReadEvent) (row : Row) (rest : List ℕ)
+    → first_of text ≡ expired_byte → mid ≡ drop 8 text → ReadsEvent mid read → read ≡ None → RowFits row
+    → text ≡ row_line row ++ rest → ⊥
 expired_some text mid read row rest first is reads none fits whole =
     let shown = expired_is text row rest first fits whole in
     let given : ReadsEvent mid None = subst (ReadsEvent mid) none reads in
     given shown.0 rest (subst (λ t. IsEventLine t shown.0 rest) (sym is) shown.2)
 
-pub open_some : (text mid : List ℕ) (read : Option ReadEvent) (row : Row) (rest : List ℕ) → first_of text ≡ 111
-    → mid ≡ drop 5 text → ReadsEvent mid read → read ≡ None → RowFits row → text ≡ row_line row ++ rest → ⊥
+pub open_some : (text mid : List ℕ) (read : Option ReadEvent) (row : Row) (rest : List ℕ)
+    → first_of text ≡ open_byte → mid ≡ drop 5 text → ReadsEvent mid read → read ≡ None → RowFits row
+    → text ≡ row_line row ++ rest → ⊥
 open_some text mid read row rest first is reads none fits whole =
     let shown = open_is text row rest first fits whole in
     let given : ReadsEvent mid None = subst (ReadsEvent mid) none reads in

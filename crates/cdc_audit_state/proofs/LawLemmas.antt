@@ -9,7 +9,7 @@ use Rattle.cdc_types.specs.declared.events.Event.{Event}
 use Rattle.cdc_types.specs.declared.events.EventAccount.{EventAccount}
 use Rattle.cdc_types.specs.declared.transfers.TheConstants.TransferFlags as transfer
 use Rattle.cdc_types.specs.Flags.{has_other_flag}
-use Rattle.cdc_ledger.specs.Kinds.{stores}
+use Rattle.cdc_audit.specs.Kinds.{stores}
 use Rattle.cdc_message.specs.Widths.{AccountFits, EventFits}
 use Rattle.cdc_follow.specs.declared.entries.Content.{Content}
 use Rattle.cdc_follow.specs.declared.entries.Content.TheVariants as content

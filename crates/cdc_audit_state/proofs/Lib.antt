@@ -1,4 +1,3 @@
-pub mod ReadingLemmas
 pub mod RowLemmas
 pub mod EventLemmas
 pub mod PartLemmas

@@ -1,5 +1,6 @@
 -- Reading line after line.
-use Rattle.std.proofs.Common.{◌≡◌, ℕ, ◌<◌, Bool, true, false, length, List, [], ◌∷◌, Some, None, refl, sym, ap, ◌∙◌, arith}
+use Rattle.std.proofs.Common.{◌≡◌, ℕ, ◌<◌, Bool, true, false, length, List, [], ◌∷◌, Some, None, refl, sym, ap}
+use Rattle.std.proofs.Common.{◌∙◌, arith}
 use Rattle.std.specs.Prelude.{◌==◌}
 use Rattle.std.specs.List.{AllByRecursion}
 use Rattle.cdc_audit.specs.declared.checks.Stored.TheVariants.{Plain, Pending, Settled}
@@ -7,7 +8,7 @@ use Rattle.cdc_audit_state.specs.declared.rows.ReadRow.{ReadRow}
 use Rattle.cdc_audit_state.specs.declared.rows.Row.{Row}
 use Rattle.cdc_audit_state.specs.declared.rows.Row.TheVariants.{Account, Expired, Transfer, Open, Fields, Time}
 use Rattle.cdc_audit_state.specs.Parts.{GivesParts, PartsState, no_parts, parts_of, with_row}
-use Rattle.cdc_audit_state.specs.Reading.{first_of}
+use Rattle.cdc_audit_state.specs.Rows.{first_of}
 use Rattle.cdc_audit_state.specs.Rows.{GivesRow}
 use Rattle.cdc_audit_state.specs.Saveable.{RowFits}
 use Rattle.cdc_audit_state.specs.States.{rows_text}

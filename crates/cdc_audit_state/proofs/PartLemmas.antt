@@ -15,7 +15,7 @@ use Rattle.cdc_audit.specs.declared.checks.Stored.{Stored}
 use Rattle.cdc_audit.specs.declared.fields.FixedFields.{FixedFields}
 use Rattle.cdc_audit.specs.Standing.{AuditorState, open_under, with_open}
 use Rattle.cdc_audit_state.specs.declared.rows.Row.{Row}
-use Rattle.cdc_audit_state.specs.declared.rows.Row.TheVariants.{Account, Time}
+use Rattle.cdc_audit_state.specs.declared.rows.Row.TheVariants.{Account}
 use Rattle.cdc_audit_state.specs.Parts.{PartsState, no_parts, parts_of, with_account, with_row}
 use Rattle.cdc_audit_state.specs.Saveable.{AreDistinct, CanBeSaved, IsByItsId}
 use Rattle.cdc_audit_state.specs.States.{expiry_rows, fields_rows, known_rows, open_rows, row_line, rows_text, time_rows, transfer_rows}

@@ -1,5 +1,6 @@
 -- The lines of a state's text, by their first bytes.
-use Rattle.std.proofs.Common.{◌≡◌, ◌≢◌, ℕ, ◌<◌, ◌^◌, List, [], ◌∷◌, ◌++◌, drop, Bool, true, false, Option, refl, sym, ap, ◌∙◌, append_assoc, arith}
+use Rattle.std.proofs.Common.{◌≡◌, ◌≢◌, ℕ, ◌<◌, ◌^◌, List, [], ◌∷◌, ◌++◌, drop, Bool, true, false, Option}
+use Rattle.std.proofs.Common.{refl, sym, ap, ◌∙◌, append_assoc, arith, length, length-drop}
 use Rattle.std.specs.Prelude.{◌&&◌, codes, nat_le, IsSomeAnd}
 use Rattle.std.specs.List.{join_with_byte, list_all}
 use Rattle.std.proofs.lemmas.List.Folds.{list_all-append}
@@ -9,17 +10,20 @@ use Rattle.cdc_message.specs.Bodies.{body, in_quotes, member_text, narrow_member
 use Rattle.cdc_message.specs.Headers.{headers_of_event}
 use Rattle.cdc_message.specs.Widths.{EventFits}
 use Rattle.cdc_subscriber.specs.declared.book.BookEntry.{BookEntry}
-use Rattle.cdc_subscriber.specs.Lines.{spaced}
-use Rattle.cdc_follow.specs.Saved.{is_in_line}
-use Rattle.cdc_queues.specs.Lines.{headers_text, message_line, message_members, seconds_of}
-use Rattle.cdc_queues.proofs.Neat.{neat_message}
+use Rattle.cdc_codec.specs.ReadBack.{ReadsNumber}
+use Rattle.cdc_codec.specs.Texts.{is_in_line, spaced}
+use Rattle.cdc_follow.specs.SavedParts.{ReadsAccount}
+use Rattle.cdc_follow.proofs.SavedLemmas.{account_parts}
+use Rattle.cdc_queue_lines.specs.Lines.{headers_text, message_line, message_members, seconds_of}
+use Rattle.cdc_queue_lines.proofs.Neat.{neat_message}
 use Rattle.cdc_audit.specs.declared.checks.Stored.{Stored}
 use Rattle.cdc_audit.specs.declared.checks.Stored.TheVariants.{Plain, Pending, Settled}
 use Rattle.cdc_audit.specs.declared.fields.FixedFields.{FixedFields}
 use Rattle.cdc_audit_state.specs.declared.rows.Row.{Row}
 use Rattle.cdc_audit_state.specs.declared.rows.Row.TheVariants.{Account, Expired, Transfer, Open, Fields, Time}
-use Rattle.cdc_audit_state.specs.Reading.{ReadsNumber, first_of}
-use Rattle.cdc_audit_state.specs.Rows.{IsEventLine, ReadsAccount, ReadsFields, account_numbers, fields_numbers}
+use Rattle.cdc_audit_state.specs.Rows.{IsEventLine, ReadsFields, fields_numbers, first_of}
+use Rattle.cdc_audit_state.specs.Rows.{account_byte, expired_byte, fields_byte, open_byte}
+use Rattle.cdc_audit_state.specs.Rows.{pending_byte, plain_byte, settled_byte, time_byte}
 use Rattle.cdc_audit_state.specs.Saveable.{RowFits}
 use Rattle.cdc_audit_state.specs.States.{row_line}
 
@@ -31,23 +35,10 @@ nest name a end rest = simp append_assoc
 nest_two : (name a b end rest : List ℕ) → (name ++ (a ++ (b ++ end))) ++ rest ≡ name ++ (a ++ (b ++ (end ++ rest)))
 nest_two name a b end rest = simp append_assoc
 
-nest_five : (name a b c d e end rest : List ℕ)
-    → ((name ++ a) ++ (b ++ (c ++ (d ++ (e ++ end))))) ++ rest
-    ≡ name ++ (a ++ (b ++ (c ++ (d ++ (e ++ (end ++ rest))))))
-nest_five name a b c d e end rest = simp append_assoc
-
 nest_eight : (name a b c d e f g h end rest : List ℕ)
     → (name ++ (a ++ (b ++ (c ++ (d ++ (e ++ (f ++ (g ++ (h ++ end))))))))) ++ rest
     ≡ name ++ (a ++ (b ++ (c ++ (d ++ (e ++ (f ++ (g ++ (h ++ (end ++ rest)))))))))
 nest_eight name a b c d e f g h end rest = simp append_assoc
-
-account_start : (entry : BookEntry) (rest : List ℕ)
-    → row_line (Account entry) ++ rest ≡ codes "account" ++ account_numbers entry (10 ∷ rest)
-unfolding row_line
-account_start entry rest =
-    let b = entry.balances in
-    nest_five (codes "account") (spaced entry.id) (spaced b.debits_pending) (spaced b.debits_posted)
-    (spaced b.credits_pending) (spaced b.credits_posted) (codes "\n") rest
 
 plain_start : (id : ℕ) (rest : List ℕ)
     → row_line (Transfer id Plain) ++ rest ≡ codes "plain" ++ (spaced id ++ 10 ∷ rest)
@@ -89,17 +80,18 @@ open_start e rest = nest (codes "open ") (body e) (codes "\n") rest
 
 -- the first byte of a line
 abbrev pub row_first : Row → ℕ
-row_first (Account entry) = 97
-row_first (Expired e) = 101
-row_first (Transfer id Plain) = 112
-row_first (Transfer id (Pending amount)) = 104
-row_first (Transfer id (Settled amount)) = 115
-row_first (Open e) = 111
-row_first (Fields id fields) = 102
-row_first (Time timestamp) = 116
+row_first (Account entry) = account_byte
+row_first (Expired e) = expired_byte
+row_first (Transfer id Plain) = plain_byte
+row_first (Transfer id (Pending amount)) = pending_byte
+row_first (Transfer id (Settled amount)) = settled_byte
+row_first (Open e) = open_byte
+row_first (Fields id fields) = fields_byte
+row_first (Time timestamp) = time_byte
 
 pub first_row : (row : Row) (rest : List ℕ) → first_of (row_line row ++ rest) ≡ row_first row
-first_row (Account entry) rest = ap first_of (account_start entry rest)
+unfolding row_line
+first_row (Account entry) rest = ap first_of (account_parts entry rest)
 first_row (Expired e) rest = ap first_of (expired_start e rest)
 first_row (Transfer id Plain) rest = ap first_of (plain_start id rest)
 first_row (Transfer id (Pending amount)) rest = ap first_of (held_start id amount rest)
@@ -114,11 +106,17 @@ pub begins : (text : List ℕ) (byte : ℕ) (row : Row) (rest : List ℕ) → fi
 begins text byte row rest is whole = sym is ∙ ap first_of whole ∙ first_row row rest
 
 -- a transfer's line begins with one of three bytes
-no_transfer : (byte id : ℕ) (stored : Stored) → byte ≡ row_first (Transfer id stored) → byte ≢ 112 → byte ≢ 104
-    → byte ≢ 115 → ⊥
+no_transfer : (byte id : ℕ) (stored : Stored) → byte ≡ row_first (Transfer id stored) → byte ≢ plain_byte
+    → byte ≢ pending_byte → byte ≢ settled_byte → ⊥
 no_transfer byte id Plain is plain held settled = plain is
 no_transfer byte id (Pending amount) is plain held settled = held is
 no_transfer byte id (Settled amount) is plain held settled = settled is
+
+-- a text that begins with a byte other than 0 is longer than what follows its first bytes
+pub drop_less : (count byte : ℕ) (text : List ℕ) → first_of text ≡ byte → 0 < byte → 0 < count
+    → length (drop count text) < length text
+drop_less count byte [] is some more = absurd (omega arith)
+drop_less count byte (b ∷ text) is some more = omega (arith, length-drop count (b ∷ text))
 
 -- ---- each kind of line is read back
 
@@ -127,24 +125,26 @@ abbrev Reads : List ℕ → Row → List ℕ → Type 0
 Reads text read left = (row : Row) (rest : List ℕ) → RowFits row → text ≡ row_line row ++ rest
     → (read ≡ row) × (left ≡ rest)
 
-pub account_reads : (text left : List ℕ) (entry : BookEntry) → first_of text ≡ 97
-    → ReadsAccount (drop 7 text) entry left → Reads text (Account entry) left
+pub account_reads : (text left : List ℕ) (entry : BookEntry) → first_of text ≡ account_byte
+    → ReadsAccount text entry left → Reads text (Account entry) left
+unfolding row_line
 account_reads text left entry is reads (Account shown) rest fits whole =
-    let both = reads shown rest fits (ap (drop 7) (whole ∙ account_start shown rest)) in (ap Account both.0, both.1)
+    let both = reads shown rest fits whole in (ap Account both.0, both.1)
 account_reads text left entry is reads (Transfer of stored) rest fits whole =
-    absurd (no_transfer 97 of stored (begins text 97 (Transfer of stored) rest is whole) (λ e. omega arith)
+    absurd (no_transfer account_byte of stored (begins text account_byte (Transfer of stored) rest is whole)
+    (λ e. omega arith)
     (λ e. omega arith)
     (λ e. omega arith))
 account_reads text left entry is reads row rest fits whole =
-    let byte : 97 ≡ row_first row = begins text 97 row rest is whole in absurd (omega arith)
+    let byte : account_byte ≡ row_first row = begins text account_byte row rest is whole in absurd (omega arith)
 
-pub plain_reads : (text mid left : List ℕ) (id : ℕ) → first_of text ≡ 112
+pub plain_reads : (text mid left : List ℕ) (id : ℕ) → first_of text ≡ plain_byte
     → ReadsNumber (2 ^ 128) (drop 5 text) id mid → left ≡ drop 1 mid → Reads text (Transfer id Plain) left
 plain_reads text mid left id is reads left_is (Transfer shown Plain) rest fits whole =
     let both = reads shown 10 rest fits.0 refl (ap (drop 5) (whole ∙ plain_start shown rest)) in
     (ap (λ i. Transfer i Plain) both.0, left_is ∙ ap (drop 1) both.1)
 plain_reads text mid left id is reads left_is row rest fits whole =
-    let byte : 112 ≡ row_first row = begins text 112 row rest is whole in absurd (omega arith)
+    let byte : plain_byte ≡ row_first row = begins text plain_byte row rest is whole in absurd (omega arith)
 
 -- two numbers
 two : (text mid mid2 left : List ℕ) (id amount shown held : ℕ) (rest : List ℕ) → shown < 2 ^ 128 → held < 2 ^ 128
@@ -156,7 +156,7 @@ two text mid mid2 left id amount shown held rest small fits first second left_is
     let other = second held 10 rest fits refl one.1 in
     (one.0, other.0, left_is ∙ ap (drop 1) other.1)
 
-pub held_reads : (text mid mid2 left : List ℕ) (id amount : ℕ) → first_of text ≡ 104
+pub held_reads : (text mid mid2 left : List ℕ) (id amount : ℕ) → first_of text ≡ pending_byte
     → ReadsNumber (2 ^ 128) (drop 4 text) id mid → ReadsNumber (2 ^ 128) mid amount mid2 → left ≡ drop 1 mid2
     → Reads text (Transfer id (Pending amount)) left
 held_reads text mid mid2 left id amount is first second left_is (Transfer shown (Pending held)) rest fits whole =
@@ -164,9 +164,9 @@ held_reads text mid mid2 left id amount is first second left_is (Transfer shown 
     (ap (drop 4) (whole ∙ held_start shown held rest)) in
     (ap (λ i. Transfer i (Pending amount)) all.0 ∙ ap (λ a. Transfer shown (Pending a)) all.1, all.2)
 held_reads text mid mid2 left id amount is first second left_is row rest fits whole =
-    let byte : 104 ≡ row_first row = begins text 104 row rest is whole in absurd (omega arith)
+    let byte : pending_byte ≡ row_first row = begins text pending_byte row rest is whole in absurd (omega arith)
 
-pub settled_reads : (text mid mid2 left : List ℕ) (id amount : ℕ) → first_of text ≡ 115
+pub settled_reads : (text mid mid2 left : List ℕ) (id amount : ℕ) → first_of text ≡ settled_byte
     → ReadsNumber (2 ^ 128) (drop 7 text) id mid → ReadsNumber (2 ^ 128) mid amount mid2 → left ≡ drop 1 mid2
     → Reads text (Transfer id (Settled amount)) left
 settled_reads text mid mid2 left id amount is first second left_is (Transfer shown (Settled held)) rest fits whole =
@@ -174,9 +174,9 @@ settled_reads text mid mid2 left id amount is first second left_is (Transfer sho
     (ap (drop 7) (whole ∙ settled_start shown held rest)) in
     (ap (λ i. Transfer i (Settled amount)) all.0 ∙ ap (λ a. Transfer shown (Settled a)) all.1, all.2)
 settled_reads text mid mid2 left id amount is first second left_is row rest fits whole =
-    let byte : 115 ≡ row_first row = begins text 115 row rest is whole in absurd (omega arith)
+    let byte : settled_byte ≡ row_first row = begins text settled_byte row rest is whole in absurd (omega arith)
 
-pub fields_reads : (text mid left : List ℕ) (id : ℕ) (fields : FixedFields) → first_of text ≡ 102
+pub fields_reads : (text mid left : List ℕ) (id : ℕ) (fields : FixedFields) → first_of text ≡ fields_byte
     → ReadsNumber (2 ^ 128) (drop 6 text) id mid → ReadsFields mid fields left → Reads text (Fields id fields) left
 fields_reads text mid left id fields is first second (Fields shown those) rest fits whole =
     let t : List ℕ = fields_numbers those (10 ∷ rest) in
@@ -184,23 +184,25 @@ fields_reads text mid left id fields is first second (Fields shown those) rest f
     let all = second those rest fits.1 one.1 in
     (ap (λ i. Fields i fields) one.0 ∙ ap (λ f. Fields shown f) all.0, all.1)
 fields_reads text mid left id fields is first second (Transfer of stored) rest fits whole =
-    absurd (no_transfer 102 of stored (begins text 102 (Transfer of stored) rest is whole) (λ e. omega arith)
+    absurd (no_transfer fields_byte of stored (begins text fields_byte (Transfer of stored) rest is whole)
+    (λ e. omega arith)
     (λ e. omega arith)
     (λ e. omega arith))
 fields_reads text mid left id fields is first second row rest fits whole =
-    let byte : 102 ≡ row_first row = begins text 102 row rest is whole in absurd (omega arith)
+    let byte : fields_byte ≡ row_first row = begins text fields_byte row rest is whole in absurd (omega arith)
 
-pub time_reads : (text mid left : List ℕ) (timestamp : ℕ) → first_of text ≡ 116
+pub time_reads : (text mid left : List ℕ) (timestamp : ℕ) → first_of text ≡ time_byte
     → ReadsNumber (2 ^ 64) (drop 4 text) timestamp mid → left ≡ drop 1 mid → Reads text (Time timestamp) left
 time_reads text mid left timestamp is reads left_is (Time shown) rest fits whole =
     let both = reads shown 10 rest fits refl (ap (drop 4) (whole ∙ time_start shown rest)) in
     (ap Time both.0, left_is ∙ ap (drop 1) both.1)
 time_reads text mid left timestamp is reads left_is (Transfer of stored) rest fits whole =
-    absurd (no_transfer 116 of stored (begins text 116 (Transfer of stored) rest is whole) (λ e. omega arith)
+    absurd (no_transfer time_byte of stored (begins text time_byte (Transfer of stored) rest is whole)
+    (λ e. omega arith)
     (λ e. omega arith)
     (λ e. omega arith))
 time_reads text mid left timestamp is reads left_is row rest fits whole =
-    let byte : 116 ≡ row_first row = begins text 116 row rest is whole in absurd (omega arith)
+    let byte : time_byte ≡ row_first row = begins text time_byte row rest is whole in absurd (omega arith)
 
 -- ---- events
 
@@ -210,27 +212,29 @@ Gives text read = (row : Row) (rest : List ℕ) → RowFits row → text ≡ row
     → IsSomeAnd read (λ (it : Row × List ℕ). (it.0 ≡ row) × (it.1 ≡ rest))
 
 -- a line's event
-pub expired_is : (text : List ℕ) (row : Row) (rest : List ℕ) → first_of text ≡ 101 → RowFits row
+pub expired_is : (text : List ℕ) (row : Row) (rest : List ℕ) → first_of text ≡ expired_byte → RowFits row
     → text ≡ row_line row ++ rest → (e : Event) × (row ≡ Expired e) × IsEventLine (drop 8 text) e rest
 expired_is text (Expired e) rest is fits whole =
     (e, refl, record { fits = fits; whole = ap (drop 8) (whole ∙ expired_start e rest) })
 expired_is text (Transfer of stored) rest is fits whole =
-    absurd (no_transfer 101 of stored (begins text 101 (Transfer of stored) rest is whole) (λ e. omega arith)
+    absurd (no_transfer expired_byte of stored (begins text expired_byte (Transfer of stored) rest is whole)
+    (λ e. omega arith)
     (λ e. omega arith)
     (λ e. omega arith))
 expired_is text row rest is fits whole =
-    let byte : 101 ≡ row_first row = begins text 101 row rest is whole in absurd (omega arith)
+    let byte : expired_byte ≡ row_first row = begins text expired_byte row rest is whole in absurd (omega arith)
 
-pub open_is : (text : List ℕ) (row : Row) (rest : List ℕ) → first_of text ≡ 111 → RowFits row
+pub open_is : (text : List ℕ) (row : Row) (rest : List ℕ) → first_of text ≡ open_byte → RowFits row
     → text ≡ row_line row ++ rest → (e : Event) × (row ≡ Open e) × IsEventLine (drop 5 text) e rest
 open_is text (Open e) rest is fits whole =
     (e, refl, record { fits = fits; whole = ap (drop 5) (whole ∙ open_start e rest) })
 open_is text (Transfer of stored) rest is fits whole =
-    absurd (no_transfer 111 of stored (begins text 111 (Transfer of stored) rest is whole) (λ e. omega arith)
+    absurd (no_transfer open_byte of stored (begins text open_byte (Transfer of stored) rest is whole)
+    (λ e. omega arith)
     (λ e. omega arith)
     (λ e. omega arith))
 open_is text row rest is fits whole =
-    let byte : 111 ≡ row_first row = begins text 111 row rest is whole in absurd (omega arith)
+    let byte : open_byte ≡ row_first row = begins text open_byte row rest is whole in absurd (omega arith)
 
 -- printable bytes are no line feeds
 printable_in_line : (text : List ℕ) → list_all (λ b. nat_le 32 b && nat_le b 126) text ≡ true
@@ -286,24 +290,6 @@ body_in_line e fits = printable_in_line (body e) (body_printable e fits)
 
 -- ---- records whose parts were read
 
-pub same_account : {id pending posted credited settled : ℕ} (entry : BookEntry) → id ≡ entry.id
-    → pending ≡ entry.balances.debits_pending → posted ≡ entry.balances.debits_posted
-    → credited ≡ entry.balances.credits_pending → settled ≡ entry.balances.credits_posted
-    → (let read : BookEntry = record {
-      id = id;
-      balances = record {
-        debits_pending = pending;
-        debits_posted = posted;
-        credits_pending = credited;
-        credits_posted = settled;
-      };
-    } in read)
-    ≡ entry
-same_account entry p q r s t = λ i. record {
-  id = p i;
-  balances = record { debits_pending = q i; debits_posted = r i; credits_pending = s i; credits_posted = t i };
-}
-
 pub same_fields : {a b d e g h i : ℕ} (fields : FixedFields) → a ≡ fields.user_data_128 → b ≡ fields.user_data_64
     → d ≡ fields.user_data_32 → e ≡ fields.ledger → g ≡ fields.code → h ≡ fields.flags → i ≡ fields.timestamp
     → (let read : FixedFields = record {
@@ -328,8 +314,8 @@ same_fields fields p q r s t u v = λ i. record {
 
 -- a line that begins with none of these bytes is none
 pub no_row : (byte : ℕ) (text : List ℕ) (row : Row) (rest : List ℕ) → byte ≡ first_of text
-    → text ≡ row_line row ++ rest → byte ≢ 97 → byte ≢ 101 → byte ≢ 102 → byte ≢ 104 → byte ≢ 111 → byte ≢ 112
-    → byte ≢ 115 → byte ≢ 116 → ⊥
+    → text ≡ row_line row ++ rest → byte ≢ account_byte → byte ≢ expired_byte → byte ≢ fields_byte
+    → byte ≢ pending_byte → byte ≢ open_byte → byte ≢ plain_byte → byte ≢ settled_byte → byte ≢ time_byte → ⊥
 no_row byte text (Account entry) rest is whole a e f h o p s t =
     a (begins text byte (Account entry) rest (sym is) whole)
 no_row byte text (Expired shown) rest is whole a e f h o p s t =

@@ -5,13 +5,13 @@ use Rattle.std.specs.List.{AllByRecursion, flat_map}
 use Rattle.std.proofs.lemmas.Grind.{flat_map-append}
 use Rattle.cdc_follow.specs.Saved.{EntryFits}
 use Rattle.cdc_subscriber.specs.declared.book.BookEntry.{BookEntry}
-use Rattle.cdc_subscriber.specs.Lines.{account_line, spaced, subscriber_line}
+use Rattle.cdc_codec.specs.Texts.{spaced, yes_or_no}
+use Rattle.cdc_subscriber.specs.Lines.{account_line, subscriber_line}
 use Rattle.cdc_audit.specs.Standing.{AuditorState}
 use Rattle.cdc_audit_state.specs.declared.rows.Row.{Row}
 use Rattle.cdc_audit_state.specs.declared.saved.Front.{Front}
 use Rattle.cdc_audit_state.specs.Headings.{IsFront, ReadsFront}
 use Rattle.cdc_audit_state.specs.Parts.{GivesParts, PartsState}
-use Rattle.cdc_audit_state.specs.Reading.{word_of}
 use Rattle.cdc_audit_state.specs.Saveable.{CanBeSaved, RowFits}
 use Rattle.cdc_audit_state.specs.States.{heading, known_rows, row_line, rows_text, state_text}
 use Rattle.cdc_audit_state.proofs.PartLemmas.{account_rows, accounts_text, contained}
@@ -48,15 +48,16 @@ regroup a w b x z s n p q l m e f c k y rest = simp append_assoc
 -- what precedes the lines, number by number
 pub front_text : (auditor : AuditorState) (lines : List ℕ)
     → heading auditor ++ (subscriber_line 1 auditor.kept ++ lines)
-    ≡ codes "audit-state 1 foreign" ++ (word_of auditor.foreign ++ (codes " linked" ++ (word_of auditor.linked
+    ≡ codes "audit-state 1 foreign" ++ (yes_or_no auditor.foreign ++ (codes " linked" ++ (yes_or_no auditor.linked
     ++ (codes "\nsubscriber" ++ (spaced 1 ++ (codes " applied" ++ (spaced auditor.kept.applied
-    ++ (codes " last" ++ (spaced auditor.kept.last ++ (codes " ended" ++ (word_of auditor.kept.ended
-    ++ (codes " closed" ++ (word_of auditor.kept.closed ++ 10 ∷ lines)))))))))))))
+    ++ (codes " last" ++ (spaced auditor.kept.last ++ (codes " ended" ++ (yes_or_no auditor.kept.ended
+    ++ (codes " closed" ++ (yes_or_no auditor.kept.closed ++ 10 ∷ lines)))))))))))))
 front_text auditor lines =
     let kept = auditor.kept in
-    regroup (codes "audit-state 1 foreign") (word_of auditor.foreign) (codes " linked") (word_of auditor.linked)
+    regroup (codes "audit-state 1 foreign") (yes_or_no auditor.foreign) (codes " linked") (yes_or_no auditor.linked)
     (codes "\n") (codes "subscriber") (spaced 1) (codes " applied") (spaced kept.applied) (codes " last")
-    (spaced kept.last) (codes " ended") (word_of kept.ended) (codes " closed") (word_of kept.closed) (codes "\n") lines
+    (spaced kept.last) (codes " ended") (yes_or_no kept.ended) (codes " closed") (yes_or_no kept.closed) (codes "\n")
+    lines
 
 -- ---- the whole
 

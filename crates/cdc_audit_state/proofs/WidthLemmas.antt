@@ -9,7 +9,7 @@ use Rattle.std.proofs.lemmas.Map.Keys.{IsDistinct-head, IsDistinct-tail}
 use Rattle.cdc_types.specs.declared.events.Event.{Event}
 use Rattle.cdc_types.specs.declared.events.EventAccount.{EventAccount}
 use Rattle.cdc_message.specs.Widths.{AccountFits, EventFits}
-use Rattle.cdc_ledger.specs.Kinds.{holds, stores}
+use Rattle.cdc_audit.specs.Kinds.{holds, stores}
 use Rattle.cdc_subscriber.specs.declared.book.BookEntry.{BookEntry}
 use Rattle.cdc_subscriber.specs.Book.{are_distinct, book_of, entry_of, ids_of, is_among, put}
 use Rattle.cdc_subscriber.specs.SubscriberState.{SubscriberState}

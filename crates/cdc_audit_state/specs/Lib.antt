@@ -3,7 +3,6 @@ pub mod States
 pub mod Saveable
 pub mod Laws
 -- private: what the code's own contracts cite
-pub mod Reading
 pub mod Rows
 pub mod Parts
 pub mod Headings

@@ -4,7 +4,8 @@ use Rattle.std.specs.Prelude.{ℕ, List, [], ◌∷◌, ◌++◌, Option, Some, 
 use Rattle.std.specs.List.{flat_map}
 use Rattle.cdc_types.specs.declared.events.Event.{Event}
 use Rattle.cdc_message.specs.Bodies.{body}
-use Rattle.cdc_subscriber.specs.Lines.{account_line, flagged, spaced, subscriber_text}
+use Rattle.cdc_codec.specs.Texts.{flagged, spaced}
+use Rattle.cdc_subscriber.specs.Lines.{account_line, subscriber_text}
 use Rattle.cdc_audit.specs.declared.checks.Stored.{Stored}
 use Rattle.cdc_audit.specs.declared.checks.Stored.TheVariants.{Plain, Pending, Settled}
 use Rattle.cdc_audit.specs.declared.fields.FixedFields.{FixedFields}

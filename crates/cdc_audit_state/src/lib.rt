@@ -2,7 +2,6 @@
 #![tactic(auto)]
 
 pub mod laws;
-pub mod numbers;
 pub mod parts;
 pub mod printing;
 pub mod rows;

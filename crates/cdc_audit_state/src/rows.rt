@@ -2,14 +2,16 @@
 
 ghost use Rattle.std.specs.Prelude.{◌≡◌, ◌≢◌, ◌<◌, ◌≤◌, ℕ, List, IfOk, IfSome, IsSomeAnd, OnOk, length};
 ghost use Rattle.cdc_types.specs.declared.events.Event.{Event as Shown};
-ghost use Rattle.cdc_audit_state.specs.Reading.{first_of};
-ghost use Rattle.cdc_audit_state.specs.Rows.{GivesRow, IsEventLine, ReadsAccount, ReadsFields, ReadsRow};
+ghost use Rattle.cdc_audit_state.specs.Rows.{GivesRow, IsEventLine, ReadsFields, ReadsRow, first_of};
+ghost use Rattle.cdc_audit_state.specs.Rows.{account_byte, expired_byte, fields_byte, open_byte};
+ghost use Rattle.cdc_audit_state.specs.Rows.{pending_byte, plain_byte, settled_byte, time_byte};
 
-use crate::numbers::{first, line, number, number_16, number_32, number_64, skip};
 use cdc_audit::{FixedFields, Stored};
+use cdc_codec::{line, number, number_16, number_32, number_64, skip};
+use cdc_follow::read_account;
 use cdc_message::{DecodeError, decode};
 use cdc_subscriber::BookEntry;
-use cdc_types::{Balances, Event};
+use cdc_types::Event;
 use std::alloc::{AllocError, Global};
 
 /// A line of a state's text.
@@ -36,23 +38,14 @@ pub(crate) struct ReadRow<'a> {
     pub(crate) rest: &'a [u8],
 }
 
-/// The numbers of an account, and the bytes after their line.
-fn read_account(text: &[u8]) -> (BookEntry, &[u8])
-    ensures reads { ReadsAccount text.now result.0 result.1.now }
-    ensures shorter { length result.1.now ≤ length text.now }
+/// The first byte of a text; 0 if there is none.
+fn first(text: &[u8]) -> u8
+    ensures { result ≡ first_of text.now }
 {
-    let (id, rest) = number(text);
-    let (debits_pending, rest) = number(rest);
-    let (debits_posted, rest) = number(rest);
-    let (credits_pending, rest) = number(rest);
-    let (credits_posted, rest) = number(rest);
-    let balances = Balances {
-        debits_pending,
-        debits_posted,
-        credits_pending,
-        credits_posted,
-    };
-    (BookEntry { id, balances }, skip(rest, 1))
+    match text.first() {
+        Some(byte) => *byte,
+        None => 0,
+    }
 }
 
 /// The numbers of an account's fixed fields, and the bytes after their line.
@@ -112,13 +105,13 @@ fn read_event(alloc: Global, text: &[u8]) -> Result<Option<ReadEvent<'_>>, Alloc
     }
 }
 
-/// The line of an account, whose first byte is an `a`.
+/// The line of an account.
 fn account_row(text: &[u8]) -> ReadRow<'_>
-    requires { first_of text.now ≡ 97 }
+    requires { first_of text.now ≡ account_byte }
     ensures reads { ReadsRow text.now result }
     ensures shorter { length result.rest.now < length text.now }
 {
-    let (entry, rest) = read_account(skip(text, 7));
+    let (entry, rest) = read_account(text);
     ReadRow {
         row: Row::Account(entry),
         rest,
@@ -127,7 +120,7 @@ fn account_row(text: &[u8]) -> ReadRow<'_>
 
 /// The line of a transfer that isn't pending and never was.
 fn plain_row(text: &[u8]) -> ReadRow<'_>
-    requires { first_of text.now ≡ 112 }
+    requires { first_of text.now ≡ plain_byte }
     ensures reads { ReadsRow text.now result }
     ensures shorter { length result.rest.now < length text.now }
 {
@@ -140,7 +133,7 @@ fn plain_row(text: &[u8]) -> ReadRow<'_>
 
 /// The line of a transfer that is pending.
 fn held_row(text: &[u8]) -> ReadRow<'_>
-    requires { first_of text.now ≡ 104 }
+    requires { first_of text.now ≡ pending_byte }
     ensures reads { ReadsRow text.now result }
     ensures shorter { length result.rest.now < length text.now }
 {
@@ -154,7 +147,7 @@ fn held_row(text: &[u8]) -> ReadRow<'_>
 
 /// The line of a transfer that was pending.
 fn settled_row(text: &[u8]) -> ReadRow<'_>
-    requires { first_of text.now ≡ 115 }
+    requires { first_of text.now ≡ settled_byte }
     ensures reads { ReadsRow text.now result }
     ensures shorter { length result.rest.now < length text.now }
 {
@@ -168,7 +161,7 @@ fn settled_row(text: &[u8]) -> ReadRow<'_>
 
 /// The line of an account's fixed fields.
 fn fields_row(text: &[u8]) -> ReadRow<'_>
-    requires { first_of text.now ≡ 102 }
+    requires { first_of text.now ≡ fields_byte }
     ensures reads { ReadsRow text.now result }
     ensures shorter { length result.rest.now < length text.now }
 {
@@ -182,7 +175,7 @@ fn fields_row(text: &[u8]) -> ReadRow<'_>
 
 /// The line of an event's timestamp.
 fn time_row(text: &[u8]) -> ReadRow<'_>
-    requires { first_of text.now ≡ 116 }
+    requires { first_of text.now ≡ time_byte }
     ensures reads { ReadsRow text.now result }
     ensures shorter { length result.rest.now < length text.now }
 {
@@ -195,7 +188,7 @@ fn time_row(text: &[u8]) -> ReadRow<'_>
 
 /// The line of the last expiry, if it is one.
 fn expired_row(alloc: Global, text: &[u8]) -> Result<Option<ReadRow<'_>>, AllocError>
-    requires { first_of text.now ≡ 101 }
+    requires { first_of text.now ≡ expired_byte }
     ensures reads { IfOk result (λ read. GivesRow text.now read) }
     ensures shorter { IfOk result (λ read. IfSome read (λ it. length it.rest.now < length text.now)) }
 {
@@ -210,7 +203,7 @@ fn expired_row(alloc: Global, text: &[u8]) -> Result<Option<ReadRow<'_>>, AllocE
 
 /// The line of an open pending transfer, if it is one.
 fn open_row(alloc: Global, text: &[u8]) -> Result<Option<ReadRow<'_>>, AllocError>
-    requires { first_of text.now ≡ 111 }
+    requires { first_of text.now ≡ open_byte }
     ensures reads { IfOk result (λ read. GivesRow text.now read) }
     ensures shorter { IfOk result (λ read. IfSome read (λ it. length it.rest.now < length text.now)) }
 {

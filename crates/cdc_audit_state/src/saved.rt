@@ -6,10 +6,10 @@ ghost use Rattle.cdc_audit_state.specs.Headings.{ReadsFront};
 ghost use Rattle.cdc_audit_state.specs.Saveable.{CanBeSaved};
 ghost use Rattle.cdc_audit_state.specs.States.{state_text};
 
-use crate::numbers::{flag, number, number_64, skip};
 use crate::parts::{Parts, read_parts};
 use crate::printing::push_state;
 use cdc_audit::Auditor;
+use cdc_codec::{flag, number, number_64, skip};
 use cdc_subscriber::Subscriber;
 use std::alloc::{AllocError, Global};
 

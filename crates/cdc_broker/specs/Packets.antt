@@ -1,7 +1,7 @@
 -- What packets make of a broker: which of them it takes, and what is in those.
 use Rattle.std.specs.Prelude.{ℕ, ◌+◌, ◌==◌, ◌&&◌, nat_lt, Bool, false, Option, Some, None, List, fold, if◌then◌else◌}
 use Rattle.std.specs.List.{filter_map}
-use Rattle.cdc_types.specs.Widths.{max_64}
+use Rattle.cdc_match.specs.Widths.{max_64}
 use Rattle.cdc_message.specs.declared.items.Item.{Item}
 use Rattle.cdc_message.specs.declared.packets.Packet.{Packet}
 use Rattle.cdc_message.specs.declared.packets.Packet.TheVariants.{Connect, Publish}

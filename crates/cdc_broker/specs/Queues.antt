@@ -2,7 +2,7 @@
 use Rattle.std.specs.Prelude.{ℕ, ◌==◌, ◌||◌, max, nat_lt, Bool, Option, Some, None, List, [], ◌∷◌, ◌++◌, if◌then◌else◌}
 use Rattle.cdc_match.specs.Arguments.{Arguments}
 use Rattle.cdc_match.specs.Queue.{takes_item}
-use Rattle.cdc_types.specs.declared.events.Event.{Event}
+use Rattle.cdc_message.specs.Event.{Event}
 use Rattle.cdc_message.specs.Items.{item_event}
 use Rattle.cdc_message.specs.declared.items.Item.{Item}
 use Rattle.cdc_message.specs.declared.items.Delivery.{Delivery}

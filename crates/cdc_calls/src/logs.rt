@@ -6,7 +6,7 @@ use crate::tries::{Tried, first, second};
 use cdc_expiry::DueIndex;
 use cdc_log::EventLog;
 use cdc_match::Binding;
-use cdc_queues::{Predecessors, message_lines, queue_lines};
+use cdc_queue_lines::{Predecessors, message_lines, queue_lines};
 use cdc_types::Event;
 use std::alloc::Global;
 

@@ -21,7 +21,7 @@ use Rattle.cdc_subscriber.specs.Reception.{nothing, next, kept_of}
 use Rattle.cdc_subscriber.specs.SubscriberState.{SubscriberState}
 use Rattle.cdc_commands.specs.Feeds.{kept_by, receiving}
 use Rattle.cdc_commands.specs.Private.Takers.{AreFed, TakesDelivery, caught_up, receiving_delivery, with_taken}
-use Rattle.cdc_commands.proofs.FoundElements.{found_at, take_found}
+use Rattle.cdc_output.proofs.FoundElements.{found_at, take_found}
 use Rattle.cdc_commands.proofs.HalfwayLemmas.{halfway, halfway-all, halfway-get, halfway-length, halfway-set}
 
 -- ---- one queue and its subscriber, with one more item

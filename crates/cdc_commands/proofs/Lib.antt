@@ -2,10 +2,10 @@ mod Examples
 pub mod HeldLaws
 pub mod FeedLemmas
 pub mod OutputLemmas
-pub mod FoundElements
 pub mod HalfwayLemmas
 pub mod SimulationLemmas
 pub mod SimulationReached
 pub mod TakerLemmas
 pub mod TextLemmas
 pub mod ReadingLemmas
+pub mod ShownWords

@@ -12,8 +12,8 @@ use Rattle.cdc_commands.specs.declared.book_reports.ParsedBatches.{ParsedBatches
 use Rattle.cdc_commands.specs.declared.books.BooksOutput.{BooksOutput}
 use Rattle.cdc_commands.specs.declared.endings.Ending.{Ending}
 use Rattle.cdc_commands.specs.declared.endings.Ending.TheVariants.{Done, Failed, Refused, BadScript, BadSteps, BadWords}
-use Rattle.cdc_commands.specs.declared.faults.ProgramFault.{ProgramFault}
-use Rattle.cdc_commands.specs.declared.faults.ProgramFault.TheVariants as fault
+use Rattle.cdc_output.specs.declared.faults.ProgramFault.{ProgramFault}
+use Rattle.cdc_output.specs.declared.faults.ProgramFault.TheVariants as fault
 use Rattle.cdc_commands.specs.declared.output.Output.{Output}
 use Rattle.cdc_commands.specs.BookReports.{AreBatchesOf, AreParsedFrom}
 use Rattle.cdc_commands.specs.Checked.{IsGoodStepFile, ValidatesFiles}
@@ -21,7 +21,7 @@ use Rattle.cdc_commands.specs.FaultWords.{IsParsedAs, PrintsAtWord, bytes_at}
 use Rattle.cdc_commands.specs.Outcomes.{IsPrinted, IsReadFault, IsSimulationFault, IsWriteFault, MayFailScript, Outcome, PrintsFailure, Writes, ending_of, outcome_of, refusal_ending}
 use Rattle.cdc_commands.specs.Printed.{PrintsScript}
 use Rattle.cdc_commands.specs.QueuePrinted.{AnswersQueue, PrintsQueue}
-use Rattle.cdc_commands.specs.Simulated.{IsGoodScript, PrintsPlan, StatesPlan, SimulationInput, ReportsPlan, of_acts, of_files}
+use Rattle.cdc_commands.specs.Simulated.{IsGoodScript, PrintsNone, PrintsPlan, SimulationInput, ReportsPlan, of_acts, of_files}
 use Rattle.cdc_commands.specs.Simulations.{Plan}
 
 -- a command writes what it made of its input, or why it made nothing
@@ -103,16 +103,6 @@ parsed_of_script bytes script (Ok x) reads are = go x.parsed are
     go (Some parsed) is = (script, (reads, is))
 parsed_of_script bytes script (Err why) reads are = tt
 
--- a plan that is read of a text of a script is that of all its bytes
-same_script : (window : ℕ) (script bytes : List ℕ) (steps : Result (List Act) ScriptFault) (plan : Plan)
-    → script_of script ≡ script_of bytes
-    → StatesPlan window script steps plan → StatesPlan window bytes steps plan
-same_script window script bytes steps plan same states = record {
-  window_is = states.window_is;
-  script_stated = sym same ∙ states.script_stated;
-  steps_stated = states.steps_stated;
-}
-
 -- what fails because memory ran out fails as a command that reads may
 pub may_fail : (why : ProgramFault) → IsSimulationFault why → MayFailScript why
 may_fail (fault.ReadFault why) is = absurd is
@@ -140,12 +130,12 @@ module _ (Prints : List ℕ → List ℕ → Type 0) where
   at_same_word parse text (Some all) at printed same bad prints =
       subst (λ (word : List ℕ). Prints word printed) (same.1 at bad) prints
 
--- a text of which nothing is known, or which is parsed so, has this fault
-pub same_fault : {A : Type 0} (parse : List ℕ → Result A ScriptFault) (text : List ℕ) (bytes : Option (List ℕ))
-    (at : ScriptFault) → IfSome bytes (IsParsedAs parse text) → parse text ≡ Err at
-    → IfSome bytes (λ all. parse all ≡ Err at)
-same_fault parse text None at same bad = tt
-same_fault parse text (Some all) at same bad = sym same.0 ∙ bad
+-- a text of which nothing is known, or which is parsed so, is parsed as this
+pub same_parsed : {A : Type 0} (parse : List ℕ → Result A ScriptFault) (text : List ℕ) (bytes : Option (List ℕ))
+    (parsed : Result A ScriptFault) → IfSome bytes (IsParsedAs parse text) → parse text ≡ parsed
+    → IfSome bytes (λ all. parse all ≡ parsed)
+same_parsed parse text None parsed same is = tt
+same_parsed parse text (Some all) parsed same is = sym same.0 ∙ is
 
 -- what is printed for a text of a script is printed for all its bytes
 pub printed_of_script : (Prints : Script → List ℕ → Type 0) (PrintsFault : List ℕ → Ending → List ℕ → Type 0)
@@ -157,7 +147,7 @@ printed_of_script Prints PrintsFault text (Some all) Done printed same prints =
     (prints.0, (sym same.0 ∙ prints.1.0, prints.1.1))
 printed_of_script Prints PrintsFault text bytes (BadScript at) printed same prints = (
   at_same_word (λ word. PrintsFault word (BadScript at)) script_of text bytes at printed same prints.1 prints.0,
-  same_fault script_of text bytes at same prints.1,
+  same_parsed script_of text bytes (Err at) same prints.1,
 )
 printed_of_script Prints PrintsFault text bytes (Failed why) printed same prints = prints
 printed_of_script Prints PrintsFault text bytes (Refused why) printed same prints = absurd prints
@@ -185,7 +175,7 @@ module _ (PrintsFault : List ℕ → Ending → List ℕ → Type 0) where
       → ValidatesFiles PrintsFault script steps (BadScript at) printed
   bad_script text script steps at printed same bad prints = (
     at_same_word (λ word. PrintsFault word (BadScript at)) script_of text script at printed same bad prints,
-    same_fault script_of text script at same bad,
+    same_parsed script_of text script (Err at) same bad,
   )
 
   -- the same of a step file, after a good script
@@ -195,7 +185,7 @@ module _ (PrintsFault : List ℕ → Ending → List ℕ → Type 0) where
       → ValidatesFiles PrintsFault script steps (BadSteps at) printed
   bad_steps text script steps at printed good same bad prints = (
     at_same_word (λ word. PrintsFault word (BadSteps at)) acts_of text steps at printed same bad prints,
-    (good, same_fault acts_of text steps at same bad),
+    (good, same_parsed acts_of text steps (Err at) same bad),
   )
 
 -- the same of a queue
@@ -213,7 +203,7 @@ pub printed_of_queue : (PrintsFault : List ℕ → Ending → List ℕ → Type 
     → PrintsQueue PrintsFault number (Some text) ending printed → PrintsQueue PrintsFault number bytes ending printed
 printed_of_queue PrintsFault number text bytes (BadScript at) printed same prints = (
   at_same_word (λ word. PrintsFault word (BadScript at)) script_of text bytes at printed same prints.1 prints.0,
-  same_fault script_of text bytes at same prints.1,
+  same_parsed script_of text bytes (Err at) same prints.1,
 )
 printed_of_queue PrintsFault number text bytes (Failed why) printed same prints = prints
 printed_of_queue PrintsFault number text bytes Done printed same prints =
@@ -225,59 +215,85 @@ printed_of_queue PrintsFault number text bytes (BadSteps at) printed same prints
 printed_of_queue PrintsFault number text bytes BadWords printed same prints =
     queue_of_script number text bytes BadWords printed same prints
 
--- for whatever is printed of plans, and of faults
-module _ (ReportsOf : Plan → Option StepError → List ℕ → Type 0)
+-- a plan that is parsed from the text of a script is parsed from all its bytes
+plan_of_script : (Prints : Plan → List ℕ → Type 0) (window : ℕ) (script : List ℕ) (bytes : Option (List ℕ))
+    (steps : Option (Result (List Act) ScriptFault)) (file : Option (List ℕ)) (printed : List ℕ)
+    → IfSome bytes (IsParsedAs script_of script)
+    → ReportsPlan Prints (record { window = window; script = Some script; steps = steps; step_file = file }) printed
+    → ReportsPlan Prints (record { window = window; script = bytes; steps = steps; step_file = file }) printed
+plan_of_script Prints window script bytes steps file printed same (plan, (states, prints)) = (
+  plan,
+  (
+    record {
+      window_is = states.window_is;
+      script_stated = same_parsed script_of script bytes (Ok plan.script) same states.script_stated;
+      steps_stated = states.steps_stated;
+    },
+    prints,
+  ),
+)
+
+-- a plan whose steps are parsed so is one of steps of which nothing is known
+plan_of_unknown : (Prints : Plan → List ℕ → Type 0) (window : ℕ) (script : Option (List ℕ))
+    (steps : Result (List Act) ScriptFault) (file : Option (List ℕ)) (printed : List ℕ)
+    → ReportsPlan Prints (record { window = window; script = script; steps = Some steps; step_file = file }) printed
+    → ReportsPlan Prints (record { window = window; script = script; steps = None; step_file = None }) printed
+plan_of_unknown Prints window script steps file printed (plan, (states, prints)) = (
+  plan,
+  (record { window_is = states.window_is; script_stated = states.script_stated; steps_stated = tt }, prints),
+)
+
+-- for whatever is printed of plans in whose script something is found, and of faults
+module _ {X : Type 0} (ReportsOf : Plan → Option StepError → List ℕ → Type 0) (Finds : Script → Option X → Type 0)
     (ReportsFault : List ℕ → Ending → List ℕ → Type 0) where
   -- what is printed for a text of a script is printed for all its bytes
   of_script : (window : ℕ) (script : List ℕ) (bytes : Option (List ℕ)) (steps : Option (Result (List Act) ScriptFault))
       (file : Option (List ℕ)) (ending : Ending) (printed : List ℕ) → IfSome bytes (IsParsedAs script_of script)
-      → PrintsPlan ReportsOf ReportsFault
+      → PrintsPlan ReportsOf Finds ReportsFault
       (record { window = window; script = Some script; steps = steps; step_file = file }) ending printed
-      → PrintsPlan ReportsOf ReportsFault
+      → PrintsPlan ReportsOf Finds ReportsFault
       (record { window = window; script = bytes; steps = steps; step_file = file }) ending printed
-  of_script window script None steps file Done printed same prints = tt
-  of_script window script (Some all) None file Done printed same prints = tt
-  of_script window script (Some all) (Some steps) file Done printed same prints =
-      (prints.0, (same_script window script all steps prints.0 same.0 prints.1.0, prints.1.1))
-  of_script window script None steps file (Refused why) printed same prints = tt
-  of_script window script (Some all) None file (Refused why) printed same prints = tt
-  of_script window script (Some all) (Some steps) file (Refused why) printed same prints =
-      (prints.0, (same_script window script all steps prints.0 same.0 prints.1.0, prints.1.1))
+  of_script window script bytes steps file Done printed same prints =
+      plan_of_script (λ plan. ReportsOf plan None) window script bytes steps file printed same prints
+  of_script window script bytes steps file (Refused why) printed same prints =
+      plan_of_script (λ plan. ReportsOf plan (Some why)) window script bytes steps file printed same prints
+  of_script window script bytes steps file BadWords printed same prints =
+      plan_of_script (PrintsNone Finds) window script bytes steps file printed same prints
   of_script window script bytes steps file (BadScript at) printed same prints = (
     at_same_word (λ word. ReportsFault word (BadScript at)) script_of script bytes at printed same prints.1 prints.0,
-    same_fault script_of script bytes at same prints.1,
+    same_parsed script_of script bytes (Err at) same prints.1,
   )
   of_script window script None steps file (BadSteps at) printed same prints = (prints.0, (tt, prints.1.1))
   of_script window script (Some all) steps file (BadSteps at) printed same prints =
       (prints.0, ((prints.1.0.0, sym same.0 ∙ prints.1.0.1), prints.1.1))
   of_script window script bytes steps file (Failed why) printed same prints = prints
-  of_script window script bytes steps file BadWords printed same prints = absurd prints
 
   -- what is printed for steps is printed if nothing is known of them
   of_unknown_steps : (window : ℕ) (script : Option (List ℕ)) (steps : Result (List Act) ScriptFault)
       (file : Option (List ℕ)) (ending : Ending) (printed : List ℕ)
-      → PrintsPlan ReportsOf ReportsFault
+      → PrintsPlan ReportsOf Finds ReportsFault
       (record { window = window; script = script; steps = Some steps; step_file = file }) ending printed
-      → PrintsPlan ReportsOf ReportsFault
+      → PrintsPlan ReportsOf Finds ReportsFault
       (record { window = window; script = script; steps = None; step_file = None }) ending printed
-  of_unknown_steps window None steps file Done printed prints = tt
-  of_unknown_steps window (Some bytes) steps file Done printed prints = tt
-  of_unknown_steps window None steps file (Refused why) printed prints = tt
-  of_unknown_steps window (Some bytes) steps file (Refused why) printed prints = tt
+  of_unknown_steps window script steps file Done printed prints =
+      plan_of_unknown (λ plan. ReportsOf plan None) window script steps file printed prints
+  of_unknown_steps window script steps file (Refused why) printed prints =
+      plan_of_unknown (λ plan. ReportsOf plan (Some why)) window script steps file printed prints
+  of_unknown_steps window script steps file BadWords printed prints =
+      plan_of_unknown (PrintsNone Finds) window script steps file printed prints
   of_unknown_steps window script steps file (BadScript at) printed prints = prints
   of_unknown_steps window script steps file (BadSteps at) printed prints = (
     at_some_word (λ word. ReportsFault word (BadSteps at)) file at.word printed prints.0,
     (prints.1.0, tt),
   )
   of_unknown_steps window script steps file (Failed why) printed prints = prints
-  of_unknown_steps window script steps file BadWords printed prints = absurd prints
 
   -- the same of the text of a step file
   of_file : (window : ℕ) (script : Option (List ℕ)) (text all : List ℕ) (ending : Ending) (printed : List ℕ)
       → IsParsedAs acts_of text all
-      → PrintsPlan ReportsOf ReportsFault
+      → PrintsPlan ReportsOf Finds ReportsFault
       (record { window = window; script = script; steps = Some (acts_of all); step_file = Some text }) ending printed
-      → PrintsPlan ReportsOf ReportsFault
+      → PrintsPlan ReportsOf Finds ReportsFault
       (record { window = window; script = script; steps = Some (acts_of all); step_file = Some all }) ending printed
   of_file window script text all (BadSteps at) printed same prints = (
     at_same_word (λ word. ReportsFault word (BadSteps at)) acts_of text (Some all) at printed same
@@ -288,62 +304,40 @@ module _ (ReportsOf : Plan → Option StepError → List ℕ → Type 0)
   of_file window script text all (Refused why) printed same prints = prints
   of_file window script text all (BadScript at) printed same prints = prints
   of_file window script text all (Failed why) printed same prints = prints
-  of_file window script text all BadWords printed same prints = absurd prints
+  of_file window script text all BadWords printed same prints = prints
 
   -- what is printed for the acts of a text is printed for those of all its bytes
   of_steps : (window : ℕ) (script : Option (List ℕ)) (steps : List ℕ) (bytes : Option (List ℕ)) (ending : Ending)
       (printed : List ℕ) → IfSome bytes (IsParsedAs acts_of steps)
-      → PrintsPlan ReportsOf ReportsFault (of_files window script (Some steps)) ending printed
-      → PrintsPlan ReportsOf ReportsFault (of_files window script bytes) ending printed
+      → PrintsPlan ReportsOf Finds ReportsFault (of_files window script (Some steps)) ending printed
+      → PrintsPlan ReportsOf Finds ReportsFault (of_files window script bytes) ending printed
   of_steps window script steps None ending printed same prints =
       of_unknown_steps window script (acts_of steps) (Some steps) ending printed prints
   of_steps window script steps (Some all) ending printed same prints =
       of_file window script steps all ending printed same
-      (subst (λ (acts : Result (List Act) ScriptFault). PrintsPlan ReportsOf ReportsFault
+      (subst (λ (acts : Result (List Act) ScriptFault). PrintsPlan ReportsOf Finds ReportsFault
       (record { window = window; script = script; steps = Some acts; step_file = Some steps }) ending printed)
       same.0 prints)
 
-  -- the same of what a command made of the text of a script, which may be none
-  pub made_of_script : {X : Type 0} (ending_of : X → Ending) (text_of : X → List ℕ) (window : ℕ) (text script : List ℕ)
-      (bytes : Option (List ℕ)) (steps : Option (Result (List Act) ScriptFault)) (file : Option (List ℕ))
-      (made : Result X ProgramFault) → text ≡ script → IfSome bytes (IsParsedAs script_of script)
-      → IfOk made (λ x. PrintsPlan ReportsOf ReportsFault
-      (record { window = window; script = Some text; steps = steps; step_file = file }) (ending_of x) (text_of x))
-      → IfOk made (λ x. PrintsPlan ReportsOf ReportsFault
-      (record { window = window; script = bytes; steps = steps; step_file = file }) (ending_of x) (text_of x))
-  made_of_script ending_of text_of window text script bytes steps file (Ok x) is same prints =
-      of_script window script bytes steps file (ending_of x) (text_of x) same
-      (subst (λ (xs : List ℕ). PrintsPlan ReportsOf ReportsFault
-      (record { window = window; script = Some xs; steps = steps; step_file = file }) (ending_of x) (text_of x)) is
-      prints)
-  made_of_script ending_of text_of window text script bytes steps file (Err why) is same prints = tt
-
-  -- the same of what it made of the text of steps
-  pub made_of_steps : {X : Type 0} (ending_of : X → Ending) (text_of : X → List ℕ) (window : ℕ)
-      (script : Option (List ℕ)) (text steps : List ℕ) (bytes : Option (List ℕ)) (made : Result X ProgramFault)
-      → text ≡ steps → IfSome bytes (IsParsedAs acts_of steps)
-      → IfOk made (λ x. PrintsPlan ReportsOf ReportsFault (of_files window script (Some text)) (ending_of x)
-      (text_of x))
-      → IfOk made (λ x. PrintsPlan ReportsOf ReportsFault (of_files window script bytes) (ending_of x) (text_of x))
-  made_of_steps ending_of text_of window script text steps bytes (Ok x) is same prints =
-      of_steps window script steps bytes (ending_of x) (text_of x) same
-      (subst (λ (xs : List ℕ). PrintsPlan ReportsOf ReportsFault (of_files window script (Some xs)) (ending_of x)
-      (text_of x)) is prints)
-  made_of_steps ending_of text_of window script text steps bytes (Err why) is same prints = tt
-
   -- what is printed of a simulation with this ending is printed by the command
   pub prints_after : (input : SimulationInput) (refusal : Option StepError) (ending : Ending) (printed : List ℕ)
-      → ending ≡ refusal_ending refusal → ReportsPlan ReportsOf input refusal printed
-      → PrintsPlan ReportsOf ReportsFault input ending printed
+      → ending ≡ refusal_ending refusal → ReportsPlan (λ plan. ReportsOf plan refusal) input printed
+      → PrintsPlan ReportsOf Finds ReportsFault input ending printed
   prints_after input None ending printed is prints =
-      subst (λ (e : Ending). PrintsPlan ReportsOf ReportsFault input e printed) (sym is) prints
+      subst (λ (e : Ending). PrintsPlan ReportsOf Finds ReportsFault input e printed) (sym is) prints
   prints_after input (Some why) ending printed is prints =
-      subst (λ (e : Ending). PrintsPlan ReportsOf ReportsFault input e printed) (sym is) prints
+      subst (λ (e : Ending). PrintsPlan ReportsOf Finds ReportsFault input e printed) (sym is) prints
+
+  -- so is nothing, if what has to be found isn't in the script
+  pub prints_none : (input : SimulationInput) (ending : Ending) (printed : List ℕ) → ending ≡ BadWords
+      → ReportsPlan (PrintsNone Finds) input printed → PrintsPlan ReportsOf Finds ReportsFault input ending printed
+  prints_none input ending printed is prints =
+      subst (λ (e : Ending). PrintsPlan ReportsOf Finds ReportsFault input e printed) (sym is) prints
 
   -- what is printed for acts is printed for a file that has them
   in_file : (window : ℕ) (script : Option (List ℕ)) (acts : List Act) (file : Option (List ℕ)) (ending : Ending)
-      (printed : List ℕ) → PrintsPlan ReportsOf ReportsFault (of_acts window script acts) ending printed
-      → PrintsPlan ReportsOf ReportsFault
+      (printed : List ℕ) → PrintsPlan ReportsOf Finds ReportsFault (of_acts window script acts) ending printed
+      → PrintsPlan ReportsOf Finds ReportsFault
       (record { window = window; script = script; steps = Some (Ok acts); step_file = file }) ending printed
   in_file window script acts file (BadSteps at) printed prints =
       let no : Ok acts ≡ Err at = prints.1.1 in cc
@@ -351,17 +345,57 @@ module _ (ReportsOf : Plan → Option StepError → List ℕ → Type 0)
   in_file window script acts file (Refused why) printed prints = prints
   in_file window script acts file (BadScript at) printed prints = prints
   in_file window script acts file (Failed why) printed prints = prints
-  in_file window script acts file BadWords printed prints = absurd prints
+  in_file window script acts file BadWords printed prints = prints
 
-  -- what is printed for the acts of a text without a fault is printed for the text
-  pub made_of_acts : {X : Type 0} (ending_of : X → Ending) (text_of : X → List ℕ) (window : ℕ)
-      (script : Option (List ℕ)) (steps : List ℕ) (acts : List Act) (made : Result X ProgramFault)
-      → acts_of steps ≡ Ok acts
-      → IfOk made (λ x. PrintsPlan ReportsOf ReportsFault (of_acts window script acts) (ending_of x) (text_of x))
-      → IfOk made (λ x. PrintsPlan ReportsOf ReportsFault (of_files window script (Some steps)) (ending_of x)
-      (text_of x))
-  made_of_acts ending_of text_of window script steps acts (Ok x) stated prints =
-      subst (λ (parsed : Result (List Act) ScriptFault). PrintsPlan ReportsOf ReportsFault
-      (record { window = window; script = script; steps = Some parsed; step_file = Some steps }) (ending_of x)
-      (text_of x)) (sym stated) (in_file window script acts (Some steps) (ending_of x) (text_of x) prints)
-  made_of_acts ending_of text_of window script steps acts (Err why) stated prints = tt
+  -- for whatever is printed of what a command made
+  module _ (text_of : Output → List ℕ) where
+    -- the same of what it made of the text of a script, which may be none
+    pub made_of_script : (window : ℕ) (text script : List ℕ) (bytes : Option (List ℕ))
+        (steps : Option (Result (List Act) ScriptFault)) (file : Option (List ℕ)) (made : Result Output ProgramFault)
+        → text ≡ script → IfSome bytes (IsParsedAs script_of script)
+        → IfOk made (λ o. PrintsPlan ReportsOf Finds ReportsFault
+        (record { window = window; script = Some text; steps = steps; step_file = file }) o.ending (text_of o))
+        → IfOk made (λ o. PrintsPlan ReportsOf Finds ReportsFault
+        (record { window = window; script = bytes; steps = steps; step_file = file }) o.ending (text_of o))
+    made_of_script window text script bytes steps file (Ok o) is same prints =
+        of_script window script bytes steps file o.ending (text_of o) same
+        (subst (λ (xs : List ℕ). PrintsPlan ReportsOf Finds ReportsFault
+        (record { window = window; script = Some xs; steps = steps; step_file = file }) o.ending (text_of o)) is prints)
+    made_of_script window text script bytes steps file (Err why) is same prints = tt
+
+    -- the same of what it made of the text of steps
+    pub made_of_steps : (window : ℕ) (script : Option (List ℕ)) (text steps : List ℕ) (bytes : Option (List ℕ))
+        (made : Result Output ProgramFault) → text ≡ steps → IfSome bytes (IsParsedAs acts_of steps)
+        → IfOk made (λ o. PrintsPlan ReportsOf Finds ReportsFault (of_files window script (Some text)) o.ending
+        (text_of o))
+        → IfOk made (λ o. PrintsPlan ReportsOf Finds ReportsFault (of_files window script bytes) o.ending (text_of o))
+    made_of_steps window script text steps bytes (Ok o) is same prints =
+        of_steps window script steps bytes o.ending (text_of o) same
+        (subst (λ (xs : List ℕ). PrintsPlan ReportsOf Finds ReportsFault (of_files window script (Some xs)) o.ending
+        (text_of o)) is prints)
+    made_of_steps window script text steps bytes (Err why) is same prints = tt
+
+    -- what is printed for the acts of a text without a fault is printed for the text
+    pub made_of_acts : (window : ℕ) (script : Option (List ℕ)) (steps : List ℕ) (acts : List Act)
+        (made : Result Output ProgramFault) → acts_of steps ≡ Ok acts
+        → IfOk made (λ o. PrintsPlan ReportsOf Finds ReportsFault (of_acts window script acts) o.ending (text_of o))
+        → IfOk made (λ o. PrintsPlan ReportsOf Finds ReportsFault (of_files window script (Some steps)) o.ending
+        (text_of o))
+    made_of_acts window script steps acts (Ok o) stated prints =
+        subst (λ (parsed : Result (List Act) ScriptFault). PrintsPlan ReportsOf Finds ReportsFault
+        (record { window = window; script = script; steps = Some parsed; step_file = Some steps }) o.ending
+        (text_of o)) (sym stated) (in_file window script acts (Some steps) o.ending (text_of o) prints)
+    made_of_acts window script steps acts (Err why) stated prints = tt
+
+    -- a bad script is reported whatever the steps are
+    pub made_of_bad_script : (window : ℕ) (script : List ℕ) (steps : Option (Result (List Act) ScriptFault))
+        (file : Option (List ℕ)) (made : Result Output ProgramFault)
+        → IfOk made (λ o. (at : ScriptFault) × ((o.ending ≡ BadScript at) × ((script_of script ≡ Err at)
+        × ReportsFault (bytes_at script at.word) (BadScript at) (text_of o))))
+        → IfOk made (λ o. PrintsPlan ReportsOf Finds ReportsFault
+        (record { window = window; script = Some script; steps = steps; step_file = file }) o.ending (text_of o))
+    made_of_bad_script window script steps file (Ok o) (at, (is, (bad, line))) =
+        subst (λ (e : Ending). PrintsPlan ReportsOf Finds ReportsFault
+        (record { window = window; script = Some script; steps = steps; step_file = file }) e (text_of o)) (sym is)
+        (line, bad)
+    made_of_bad_script window script steps file (Err why) bad = tt

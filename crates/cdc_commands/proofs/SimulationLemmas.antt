@@ -30,7 +30,7 @@ use Rattle.cdc_commands.specs.Private.Stages.{IsAt, SimulationParts}
 use Rattle.cdc_commands.specs.Report.{answered_lines}
 use Rattle.cdc_commands.specs.Seen.{Seen}
 use Rattle.cdc_commands.specs.Simulations.{ActsTo, AnswersTo, PlaysActs, Stage, after_act, did_answer, step_for, progress_line, refusal_line, simulation_text, steps_line, subscriptions_text}
-use Rattle.cdc_commands.proofs.TextLemmas.{pieces}
+use Rattle.cdc_output.proofs.TextLemmas.{pieces}
 
 -- the element at a place, and those after it
 pub drop_found : {X : Type 0} (xs : List X) (i : ℕ) (x : X) → slice_get xs i ≡ Some x → drop i xs ≡ x ∷ drop (i + 1) xs

@@ -1,25 +1,14 @@
--- Text that grows piece by piece.
-use Rattle.std.proofs.Common.{◌≡◌, ℕ, ◌+◌, ◌≤◌, List, [], ◌∷◌, ◌++◌, Some, drop, length, map, take, append_assoc, append-nil, refl, sym, ap, ◌∙◌}
-use Rattle.std.proofs.lemmas.Grind.{flat_map-append}
+-- The lines of subscribers, one after another.
+use Rattle.std.proofs.Common.{◌≡◌, ℕ, ◌+◌, ◌≤◌, List, [], ◌∷◌, ◌++◌, Some, drop, length, map, append_assoc, append-nil, refl, sym, ap, ◌∙◌}
 use Rattle.std.proofs.lemmas.List.{drop_all}
-use Rattle.std.specs.List.{flat_map, slice_get}
+use Rattle.std.specs.List.{slice_get}
 use Rattle.cdc_match.specs.Arguments.{Arguments}
 use Rattle.cdc_message.specs.declared.items.Item.{Item}
 use Rattle.cdc_subscriber.specs.SubscriberState.{SubscriberState}
 use Rattle.cdc_subscriber.specs.Lines.{subscriber_text}
 use Rattle.cdc_commands.specs.Feeds.{kept_by, subscribers_text}
 use Rattle.cdc_commands.specs.Private.Takers.{kept_text}
-use Rattle.cdc_commands.proofs.FoundElements.{drop_found, take_found}
-
--- a piece, and what follows it
-pub pieces : (old mid new piece rest : List ℕ) → mid ≡ old ++ piece → new ≡ mid ++ rest → new ≡ old ++ (piece ++ rest)
-pieces old mid new piece rest h k = rw (k, h, append_assoc) refl
-
--- the texts of the first elements of a list, and that of the next one
-pub texts_more : {X : Type 0} (f : X → List ℕ) (xs : List X) (i : ℕ) (x : X) (old new : List ℕ)
-    → old ≡ flat_map f (take i xs) → slice_get xs i ≡ Some x → new ≡ old ++ f x → new ≡ flat_map f (take (i + 1) xs)
-texts_more f xs i x old new before found added =
-    rw (take_found xs i x found, flat_map-append, append-nil, ← before) added
+use Rattle.cdc_output.proofs.FoundElements.{drop_found}
 
 -- one more subscriber is printed
 pub kept_text-more : (all : List SubscriberState) (place : ℕ) (kept : SubscriberState) (now next whole : List ℕ)

@@ -1,9 +1,10 @@
 pub mod BookReports
 pub mod Checked
 pub mod FaultWords
-pub mod Faults
 pub mod Feeds
 pub mod Held
+pub mod JsonReports
+pub mod JsonValues
 pub mod Messages
 pub mod Observed
 pub mod Outcomes
@@ -12,6 +13,7 @@ pub mod Private
 pub mod QueuePrinted
 pub mod Report
 pub mod Seen
+pub mod ShownWords
 pub mod Simulated
 pub mod SimulationReports
 pub mod Simulations

@@ -3,8 +3,8 @@ use Rattle.std.specs.Prelude.{◌≡◌, ◌⊎◌, ℕ, List, [], Option, Some,
 use Rattle.std.specs.Io.KnownBytes.{Appends}
 use Rattle.cdc_commands.specs.declared.endings.Ending.{Ending}
 use Rattle.cdc_commands.specs.declared.endings.Ending.TheVariants.{Done, Failed, Refused, BadScript, BadSteps, BadWords}
-use Rattle.cdc_commands.specs.declared.faults.ProgramFault.{ProgramFault}
-use Rattle.cdc_commands.specs.declared.faults.ProgramFault.TheVariants as fault
+use Rattle.cdc_output.specs.declared.faults.ProgramFault.{ProgramFault}
+use Rattle.cdc_output.specs.declared.faults.ProgramFault.TheVariants as fault
 use Rattle.cdc_commands.specs.declared.output.Output.{Output}
 use Rattle.cdc_world.specs.declared.steps.StepError.{StepError}
 

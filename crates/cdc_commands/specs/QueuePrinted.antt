@@ -3,7 +3,7 @@ use Rattle.std.specs.Prelude.{◌≡◌, ℕ, ◌-◌, ◌==◌, List, [], if◌
 use Rattle.std.specs.List.{slice_get}
 use Rattle.cdc_ledger.specs.Events.{events}
 use Rattle.cdc_match.specs.Arguments.{Arguments}
-use Rattle.cdc_queues.specs.Lines.{queue_text}
+use Rattle.cdc_queue_lines.specs.Lines.{queue_text}
 use Rattle.cdc_script.specs.declared.scripts.Script.{Script}
 use Rattle.cdc_script.specs.Scripts.{script_of}
 use Rattle.cdc_commands.specs.declared.endings.Ending.{Ending}

@@ -9,11 +9,10 @@ use Rattle.cdc_ledger.specs.BatchErrors.{batch_error_number, batch_error_name}
 use Rattle.cdc_commands.specs.declared.batches.Answered.{Answered}
 use Rattle.cdc_commands.specs.declared.endings.Ending.{Ending}
 use Rattle.cdc_commands.specs.declared.endings.Ending.TheVariants.{Failed, BadScript, BadSteps}
-use Rattle.cdc_commands.specs.declared.faults.ProgramFault.{ProgramFault}
-use Rattle.cdc_commands.specs.declared.faults.ProgramFault.TheVariants as fault
 use Rattle.cdc_script.specs.declared.faults.ScriptFault.{ScriptFault}
+use Rattle.cdc_output.specs.Faults.{program_fault_line}
 use Rattle.cdc_script.specs.Faults.{kind_name}
-use Rattle.cdc_subscriber.specs.Lines.{spaced}
+use Rattle.cdc_codec.specs.Texts.{spaced}
 
 -- what the ledger answered to a batch: a number for each item, or how many transfers expired by a pulse
 abbrev pub answer_text : Result BatchResults BatchError → List ℕ
@@ -45,17 +44,6 @@ abbrev pub file_fault_line : Ending → List ℕ
 file_fault_line (BadScript at) = script_fault_line at
 file_fault_line (BadSteps at) = steps_fault_line at
 file_fault_line _ = []
-
--- the line of a command that failed
-abbrev pub program_fault_line : ProgramFault → List ℕ
-program_fault_line (fault.ReadFault why) = codes "fault: read_fault\n"
-program_fault_line (fault.WriteFault why) = codes "fault: write_fault\n"
-program_fault_line (fault.Store why) = codes "fault: store\n"
-program_fault_line fault.OutOfMemory = codes "fault: out_of_memory\n"
-program_fault_line fault.PeerGone = codes "fault: peer_gone\n"
-program_fault_line fault.SessionsExhausted = codes "fault: sessions_exhausted\n"
-program_fault_line fault.StartNotAllowed = codes "fault: start_not_allowed\n"
-program_fault_line fault.NotOneSystem = codes "fault: not_one_system\n"
 
 -- the line of the fault that a command ends with: it failed, or a file has a fault
 abbrev pub ending_line : Ending → List ℕ

@@ -24,7 +24,7 @@ use Rattle.cdc_script.specs.declared.step_files.Act.TheVariants as act
 use Rattle.cdc_commands.specs.Report.{answered_lines}
 use Rattle.cdc_commands.specs.Seen.{Seen}
 use Rattle.cdc_commands.specs.declared.batches.Answered.{Answered}
-use Rattle.cdc_subscriber.specs.Lines.{spaced}
+use Rattle.cdc_codec.specs.Texts.{spaced}
 
 -- how far a simulation has come: the world, how many of the script's batches are done, what the ledger answered to
 -- batches, how many acts are done, and what each step did and moved

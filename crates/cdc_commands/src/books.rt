@@ -13,12 +13,12 @@ ghost use Rattle.cdc_commands.specs.Printed.{PrintsScript, history_of};
 
 use crate::book_reports::{ParsedBatches, books_report};
 use crate::endings::Ending;
-use crate::faults::ProgramFault;
 use crate::forms::Form;
 use crate::notes::Notes;
 use crate::output::{Ended, Output, print_output};
 use crate::reading::read_file;
 use crate::tally::Tally;
+use cdc_output::ProgramFault;
 use cdc_script::{Script, ScriptError, parse_script};
 use std::alloc::{AllocError, Global};
 use std::io::{Read, Write};

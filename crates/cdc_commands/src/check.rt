@@ -9,10 +9,10 @@ ghost use Rattle.cdc_commands.specs.Printed.{PrintsScript};
 ghost use Rattle.cdc_commands.specs.Simulated.{IsGoodScript};
 
 use crate::endings::Ending;
-use crate::faults::ProgramFault;
 use crate::forms::Form;
 use crate::output::{Output, print_output};
 use crate::reading::read_file;
+use cdc_output::ProgramFault;
 use cdc_script::{ScriptError, parse_script, parse_steps};
 use std::alloc::{AllocError, Global};
 use std::io::{Read, Write};

@@ -3,7 +3,7 @@
 ghost use Rattle.std.specs.Prelude.{◌≡◌};
 ghost use Rattle.cdc_commands.specs.Outcomes.{refusal_ending, status_of};
 
-use crate::faults::ProgramFault;
+use cdc_output::ProgramFault;
 use cdc_script::ScriptFault;
 use cdc_world::StepError;
 

@@ -8,19 +8,20 @@ ghost use Rattle.cdc_commands.specs.Printed.{history_of};
 ghost use Rattle.cdc_commands.specs.SimulationReports.{ComesTo};
 ghost use Rattle.cdc_commands.specs.Simulations.{Plan};
 ghost use Rattle.cdc_ledger.specs.Events.{events};
+ghost use Rattle.cdc_output.specs.declared.faults.ProgramFault.{ProgramFault as Failure};
 ghost use Rattle.cdc_script.specs.declared.scripts.Script.{Script as Parsed};
 ghost use Rattle.cdc_world.specs.declared.steps.StepError.{StepError as Refusal};
 
 use crate::book_reports::BooksReport;
-use crate::faults::ProgramFault;
 use crate::simulations::Simulated;
 use cdc_log::EventLog;
 use cdc_match::Binding;
+use cdc_output::FaultForm;
 use cdc_script::ScriptFault;
 use std::alloc::{AllocError, Global};
 
 /// A form in which commands print what they report: lines of text, or JSON objects.
-pub trait Form {
+pub trait Form: FaultForm {
     /// What `books` may print for a script.
     ghost prints_books: { Parsed → List ℕ → Type 0 };
 
@@ -82,7 +83,7 @@ pub trait Form {
         ensures { IfOk result (λ text. prints_fault (bytes_at steps.now fault.word)
             (EndsSo.BadSteps fault) text.items) };
 
-    /// The line of a command that failed. It needs no memory, since there may be none.
-    fn failure(&self, fault: ProgramFault) -> &'static str
-        ensures { prints_fault [] (EndsSo.Failed fault) result.now };
+    /// What is printed of a failure is what may be printed for the fault that a command ends with.
+    ghost prints_its_fault: { (fault : Failure) (line : List ℕ) → Self.prints_failure fault line
+        → prints_fault [] (EndsSo.Failed fault) line };
 }

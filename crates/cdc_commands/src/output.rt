@@ -1,18 +1,16 @@
 //! The output of a command.
 
-ghost use Rattle.std.specs.Prelude.{◌≡◌, [], IfErr, IfOk, OnOk};
-ghost use Rattle.std.specs.Io.KnownBytes.{Appends};
+ghost use Rattle.std.specs.Prelude.{◌≡◌, [], IfErr, IfOk};
 ghost use Rattle.cdc_commands.specs.FaultWords.{bytes_at};
 ghost use Rattle.cdc_commands.specs.Outcomes.{IsPrinted, PrintsFailure, outcome_of};
 
 use crate::endings::Ending;
-use crate::faults::ProgramFault;
 use crate::forms::Form;
 use crate::notes::Notes;
 use crate::tally::Tally;
+use cdc_output::{ProgramFault, write_text};
 use cdc_script::ScriptFault;
 use std::alloc::{AllocError, Global};
-use std::io;
 use std::io::Write;
 
 /// The output of a command, and how it ends.
@@ -56,6 +54,13 @@ impl Output {
         ensures { outcome_of result ≡ record { text = []; ending = Ending.Done } }
     {
         Output::without_batches(Vec::new(alloc), Ending::Done)
+    }
+
+    /// The output of a command whose script doesn't have what its arguments name.
+    pub fn of_usage_error(alloc: Global) -> Output
+        ensures { outcome_of result ≡ record { text = []; ending = Ending.BadWords } }
+    {
+        Output::without_batches(Vec::new(alloc), Ending::BadWords)
     }
 
     /// The output of a command whose script has a fault.
@@ -130,14 +135,6 @@ pub fn print_text<W: Write>(writer: &mut W, text: &[u8], ending: Ending) -> Endi
         Ok(()) => ending,
         Err(error) => Ending::Failed(ProgramFault::WriteFault(error)),
     }
-}
-
-/// Writes a text and flushes it. After an error some of it may be written.
-fn write_text<W: Write>(writer: &mut W, text: &[u8]) -> io::Result<()>
-    ensures { OnOk result (Appends (W.contents writer.old) (W.contents writer.new) text.now) }
-{
-    writer.write_all(text)?;
-    writer.flush()
 }
 
 /// Writes the line of a command that failed. Returns the failure, or a write fault if the write fails.

@@ -10,14 +10,14 @@ ghost use Rattle.cdc_commands.specs.QueuePrinted as spec;
 
 use crate::batches::take_batches;
 use crate::endings::Ending;
-use crate::faults::ProgramFault;
 use crate::forms::Form;
 use crate::notes::Notes;
 use crate::output::{Ended, Output, print_output};
 use crate::reading::read_file;
 use crate::tally::Tally;
 use cdc_match::Binding;
-use cdc_queues::queue_lines;
+use cdc_output::ProgramFault;
+use cdc_queue_lines::queue_lines;
 use cdc_script::{Script, ScriptError, parse_script};
 use std::alloc::{AllocError, Global};
 use std::io::{Read, Write};
@@ -46,12 +46,7 @@ fn print_queue(alloc: Global, script: &Script, number: usize) -> Result<Output, 
     ensures { IfOk result (λ output. AnswersQueue script.now number output.ending output.text.items) }
 {
     let Some(binding) = binding_at(script.bindings.as_slice(), number) else {
-        return Ok(Output {
-            text: Vec::new(alloc),
-            ending: Ending::BadWords,
-            tally: Tally::NONE,
-            notes: Notes::NONE,
-        });
+        return Ok(Output::of_usage_error(alloc));
     };
     let taken = take_batches(alloc, script)?;
     let text = queue_lines(alloc, taken.ledger.log(), binding)?;

@@ -4,7 +4,8 @@ ghost use Rattle.std.specs.Prelude.{◌≡◌, ◌++◌, codes, Err, OnOk, strin
 ghost use Rattle.std.specs.List.{flat_map};
 ghost use Rattle.cdc_types.specs.Results.{account_number, transfer_number};
 ghost use Rattle.cdc_script.specs.Faults.{kind_name};
-ghost use Rattle.cdc_subscriber.specs.Lines.{spaced, subscriber_text};
+ghost use Rattle.cdc_codec.specs.Texts.{spaced};
+ghost use Rattle.cdc_subscriber.specs.Lines.{subscriber_text};
 ghost use Rattle.cdc_commands.specs.Private.Takers.{kept_text};
 ghost use Rattle.cdc_commands.specs.Report.{answer_text, answered_lines, batch_line, file_fault_line};
 

@@ -1,18 +1,18 @@
 //! The command `simulate`: takes a script's batches and a session's packets step by step.
 
-ghost use Rattle.std.specs.Prelude.{◌≡◌, ◌⊎◌, ◌+◌, ℕ, List, Option, Result};
+ghost use Rattle.std.specs.Prelude.{◌≡◌, ◌⊎◌, ◌+◌, ℕ, List};
 ghost use Rattle.std.specs.Prelude.{Err, IfErr, IfOk, IfSome, Ok, Some};
 ghost use Rattle.cdc_script.specs.Reading.{ConsumesAtMost};
 ghost use Rattle.cdc_script.specs.declared.faults.ScriptFault.{ScriptFault};
-ghost use Rattle.cdc_script.specs.declared.step_files.Act.{Act};
 ghost use Rattle.cdc_script.specs.Scripts.{max_bytes, script_of};
 ghost use Rattle.cdc_types.specs.Windows.{IsWindow};
+ghost use Rattle.cdc_commands.specs.FaultWords.{bytes_at};
 ghost use Rattle.cdc_commands.specs.Observed.{SawSteps};
 ghost use Rattle.cdc_commands.specs.Outcomes.{IsReadFault, IsSimulationFault, MayFailScript, Writes, ending_of};
 ghost use Rattle.cdc_commands.specs.Simulated.{IsGoodScript, PrintsPlan, of_acts, of_files};
 
+use crate::contents::SimulationContent;
 use crate::endings::Ending;
-use crate::faults::ProgramFault;
 use crate::forms::Form;
 use crate::notes::Notes;
 use crate::observers::Observer;
@@ -20,16 +20,19 @@ use crate::output::{Ended, Output, print_output};
 use crate::reading::read_file;
 use crate::simulations::play_script;
 use crate::tally::Tally;
+use cdc_output::ProgramFault;
 use cdc_script::{ReadError, Script, ScriptError, StepFile, parse_script, parse_steps};
 use std::alloc::Global;
 use std::io::{Read, Write};
 
 /// What `simulate` prints for the bytes of a script and of a step file, and how it ends. The steps are taken in
-/// order, up to the first that is refused. It prints the results of the batches that were taken, how many steps were
-/// done, what the session has saved, and the book of each subscriber; or the fault of a bad script or step file. The
-/// observer has seen just the steps that were taken. Fails if memory runs out.
-pub fn simulation_of<F: Form, O: Observer>(
+/// order, up to the first that is refused. It prints this content of the simulation; the report has the results of the
+/// batches that were taken, how many steps were done, what the session has saved, and the book of each subscriber. Or
+/// it prints the fault of a bad script or step file. If the script lacks what the content has to find, it prints
+/// nothing and ends as a usage error. The observer has seen just the steps that were taken. Fails if memory runs out.
+pub fn simulation_of<F: Form, C: SimulationContent<F, O>, O: Observer>(
     form: &F,
+    content: &C,
     alloc: Global,
     script: &[u8],
     steps: &[u8],
@@ -37,17 +40,17 @@ pub fn simulation_of<F: Form, O: Observer>(
     observer: &mut O,
 ) -> Result<Output, ProgramFault>
     requires { IsWindow window }
-    ensures output { IfOk result (λ output. PrintsPlan F.prints_simulation F.prints_fault
-        (of_files window (Some script.now) (Some steps.now))
+    ensures output { IfOk result (λ output. PrintsPlan (C.prints_plan content.now)
+        (C.finds content.now) F.prints_fault (of_files window (Some script.now) (Some steps.now))
         output.ending output.text.items) }
-    ensures seen { IfOk result (λ output. SawSteps (O.has_seen observer.new)
+    ensures seen { IfOk result (λ output. SawSteps (O.has_seen observer.new) (C.finds content.now)
         (of_files window (Some script.now) (Some steps.now))
         output.ending) }
     ensures fault { IfErr result IsSimulationFault }
     ensures no_read { IsReadFault (ending_of result) → ⊥ }
 {
     match parse_script(alloc, script) {
-        Ok(stated) => script_simulation(form, alloc, stated, steps, window, observer),
+        Ok(stated) => script_simulation(form, content, alloc, stated, steps, window, observer),
         Err(ScriptError::Fault(fault)) => Ok(Output::of_bad_script(form, alloc, script, fault)?),
         Err(ScriptError::OutOfMemory) => Err(ProgramFault::OutOfMemory),
     }
@@ -55,8 +58,9 @@ pub fn simulation_of<F: Form, O: Observer>(
 
 /// What `simulate` prints for the bytes of a script and for these steps, and how it ends. It is the same as for a step
 /// file that has these steps, so only the script can be bad. Fails if memory runs out.
-pub fn simulation_of_steps<F: Form, O: Observer>(
+pub fn simulation_of_steps<F: Form, C: SimulationContent<F, O>, O: Observer>(
     form: &F,
+    content: &C,
     alloc: Global,
     script: &[u8],
     steps: &StepFile,
@@ -64,25 +68,26 @@ pub fn simulation_of_steps<F: Form, O: Observer>(
     observer: &mut O,
 ) -> Result<Output, ProgramFault>
     requires { IsWindow window }
-    ensures output { IfOk result (λ output. PrintsPlan F.prints_simulation F.prints_fault
-        (of_acts window (Some script.now) steps.now.acts.items)
+    ensures output { IfOk result (λ output. PrintsPlan (C.prints_plan content.now)
+        (C.finds content.now) F.prints_fault (of_acts window (Some script.now) steps.now.acts.items)
         output.ending output.text.items) }
-    ensures seen { IfOk result (λ output. SawSteps (O.has_seen observer.new)
+    ensures seen { IfOk result (λ output. SawSteps (O.has_seen observer.new) (C.finds content.now)
         (of_acts window (Some script.now) steps.now.acts.items)
         output.ending) }
     ensures fault { IfErr result IsSimulationFault }
     ensures no_read { IsReadFault (ending_of result) → ⊥ }
 {
     match parse_script(alloc, script) {
-        Ok(stated) => steps_simulation(form, alloc, stated, steps, window, observer),
+        Ok(stated) => steps_simulation(form, content, alloc, stated, steps, window, observer),
         Err(ScriptError::Fault(fault)) => Ok(Output::of_bad_script(form, alloc, script, fault)?),
         Err(ScriptError::OutOfMemory) => Err(ProgramFault::OutOfMemory),
     }
 }
 
 /// What `simulate` prints for a script and the bytes of a step file.
-fn script_simulation<F: Form, O: Observer>(
+fn script_simulation<F: Form, C: SimulationContent<F, O>, O: Observer>(
     form: &F,
+    content: &C,
     alloc: Global,
     script: Script,
     steps: &[u8],
@@ -91,11 +96,11 @@ fn script_simulation<F: Form, O: Observer>(
 ) -> Result<Output, ProgramFault>
     requires { IsWindow window }
     ensures output { (bytes : List ℕ) → script_of bytes ≡ Ok script
-        → IfOk result (λ output. PrintsPlan F.prints_simulation F.prints_fault
-        (of_files window (Some bytes) (Some steps.now))
+        → IfOk result (λ output. PrintsPlan (C.prints_plan content.now)
+        (C.finds content.now) F.prints_fault (of_files window (Some bytes) (Some steps.now))
         output.ending output.text.items) }
     ensures seen { (bytes : List ℕ) → script_of bytes ≡ Ok script
-        → IfOk result (λ output. SawSteps (O.has_seen observer.new)
+        → IfOk result (λ output. SawSteps (O.has_seen observer.new) (C.finds content.now)
         (of_files window (Some bytes) (Some steps.now))
         output.ending) }
     ensures fault { IfErr result IsSimulationFault }
@@ -108,12 +113,13 @@ fn script_simulation<F: Form, O: Observer>(
         }
         Err(ScriptError::OutOfMemory) => return Err(ProgramFault::OutOfMemory),
     };
-    steps_simulation(form, alloc, script, &stated, window, observer)
+    steps_simulation(form, content, alloc, script, &stated, window, observer)
 }
 
 /// What `simulate` prints for a script and for steps.
-fn steps_simulation<F: Form, O: Observer>(
+fn steps_simulation<F: Form, C: SimulationContent<F, O>, O: Observer>(
     form: &F,
+    content: &C,
     alloc: Global,
     script: Script,
     steps: &StepFile,
@@ -122,21 +128,25 @@ fn steps_simulation<F: Form, O: Observer>(
 ) -> Result<Output, ProgramFault>
     requires { IsWindow window }
     ensures output { (bytes : List ℕ) → script_of bytes ≡ Ok script
-        → IfOk result (λ output. PrintsPlan F.prints_simulation F.prints_fault
-        (of_acts window (Some bytes) steps.now.acts.items)
+        → IfOk result (λ output. PrintsPlan (C.prints_plan content.now)
+        (C.finds content.now) F.prints_fault (of_acts window (Some bytes) steps.now.acts.items)
         output.ending output.text.items) }
     ensures seen { (bytes : List ℕ) → script_of bytes ≡ Ok script
-        → IfOk result (λ output. SawSteps (O.has_seen observer.new)
+        → IfOk result (λ output. SawSteps (O.has_seen observer.new) (C.finds content.now)
         (of_acts window (Some bytes) steps.now.acts.items)
         output.ending) }
     ensures fault { IfErr result IsSimulationFault }
     ensures no_read { IsReadFault (ending_of result) → ⊥ }
 {
     let notes = Notes::of(alloc, &script);
+    let sought = content.find(alloc, &script)?;
+    let Some(found) = sought else {
+        return Ok(Output::of_usage_error(alloc));
+    };
     observer.begin(alloc, &script, steps);
     let acts = steps.acts.as_slice();
     let simulated = play_script(alloc, script, window, acts, observer)?;
-    let text = form.simulation(alloc, &simulated, acts.len())?;
+    let text = content.print(form, alloc, &found, &simulated, acts.len(), observer)?;
     Ok(Output {
         text,
         ending: Ending::of_refusal(simulated.played.refusal),
@@ -148,8 +158,16 @@ fn steps_simulation<F: Form, O: Observer>(
 /// Reads a script and then a step file, and prints what `simulation_of` makes of their bytes. The observer sees the
 /// steps that are done. A command that fails prints why, and nothing else; nothing is written after a write that
 /// failed.
-pub fn simulate<F: Form, R: Read, Q: Read, W: Write, O: Observer>(
+pub fn simulate_command<
+    F: Form,
+    C: SimulationContent<F, O>,
+    R: Read,
+    Q: Read,
+    W: Write,
+    O: Observer,
+>(
     form: &F,
+    content: &C,
     alloc: Global,
     script: &mut R,
     steps: &mut Q,
@@ -158,10 +176,10 @@ pub fn simulate<F: Form, R: Read, Q: Read, W: Write, O: Observer>(
     observer: &mut O,
 ) -> Ended
     requires { IsWindow window }
-    ensures writes { Writes (PrintsPlan F.prints_simulation F.prints_fault
-        (of_files window (R.remaining script.old) (Q.remaining steps.old)))
+    ensures writes { Writes (PrintsPlan (C.prints_plan content.now)
+        (C.finds content.now) F.prints_fault (of_files window (R.remaining script.old) (Q.remaining steps.old)))
         (W.contents writer.old) (W.contents writer.new) result.ending }
-    ensures seen { Writes (λ ending _. SawSteps (O.has_seen observer.new)
+    ensures seen { Writes (λ ending _. SawSteps (O.has_seen observer.new) (C.finds content.now)
         (of_files window (R.remaining script.old) (Q.remaining steps.old))
         ending)
         (W.contents writer.old) (W.contents writer.new) result.ending }
@@ -171,13 +189,14 @@ pub fn simulate<F: Form, R: Read, Q: Read, W: Write, O: Observer>(
         (R.remaining script.old) (R.remaining script.new) }
     ensures steps { ConsumesAtMost (max_bytes + 1) (Q.remaining steps.old) (Q.remaining steps.new) }
 {
-    let output = read_simulation(form, alloc, script, steps, window, observer);
+    let output = read_simulation(form, content, alloc, script, steps, window, observer);
     print_output(form, writer, output)
 }
 
 /// Reads a script and a step file, and returns what `simulate` prints for them.
-fn read_simulation<F: Form, R: Read, Q: Read, O: Observer>(
+fn read_simulation<F: Form, C: SimulationContent<F, O>, R: Read, Q: Read, O: Observer>(
     form: &F,
+    content: &C,
     alloc: Global,
     script: &mut R,
     steps: &mut Q,
@@ -185,10 +204,10 @@ fn read_simulation<F: Form, R: Read, Q: Read, O: Observer>(
     observer: &mut O,
 ) -> Result<Output, ProgramFault>
     requires { IsWindow window }
-    ensures output { IfOk result (λ output. PrintsPlan F.prints_simulation F.prints_fault
-        (of_files window (R.remaining script.old) (Q.remaining steps.old))
+    ensures output { IfOk result (λ output. PrintsPlan (C.prints_plan content.now)
+        (C.finds content.now) F.prints_fault (of_files window (R.remaining script.old) (Q.remaining steps.old))
         output.ending output.text.items) }
-    ensures seen { IfOk result (λ output. SawSteps (O.has_seen observer.new)
+    ensures seen { IfOk result (λ output. SawSteps (O.has_seen observer.new) (C.finds content.now)
         (of_files window (R.remaining script.old) (Q.remaining steps.old))
         output.ending) }
     ensures fault { IfErr result MayFailScript }
@@ -200,7 +219,7 @@ fn read_simulation<F: Form, R: Read, Q: Read, O: Observer>(
 {
     let script = read_file(alloc, script)?;
     match read_file(alloc, steps) {
-        Ok(steps) => simulation_of(form, alloc, &script, &steps, window, observer),
+        Ok(steps) => simulation_of(form, content, alloc, &script, &steps, window, observer),
         Err(error) => unread_steps(form, alloc, &script, error),
     }
 }
@@ -212,12 +231,9 @@ fn unread_steps<F: Form>(
     script: &[u8],
     error: ReadError,
 ) -> Result<Output, ProgramFault>
-    ensures output { (window : ℕ) → (steps : Option (Result (List Act) ScriptFault)) (file : Option (List ℕ))
-        → IfOk result (λ output. PrintsPlan F.prints_simulation F.prints_fault
-        (record { window = window; script = Some script.now; steps = steps; step_file = file })
-        output.ending output.text.items) }
-    ensures ending { IfOk result (λ output. (at : ScriptFault)
-        × ((output.ending ≡ Ending.BadScript at) × (script_of script.now ≡ Err at))) }
+    ensures output { IfOk result (λ output. (at : ScriptFault) × ((output.ending ≡ Ending.BadScript at)
+        × ((script_of script.now ≡ Err at)
+        × F.prints_fault (bytes_at script.now at.word) (Ending.BadScript at) output.text.items))) }
     ensures fault { IfErr result MayFailScript }
     ensures order { IsReadFault (ending_of result) → IsGoodScript script.now }
 {

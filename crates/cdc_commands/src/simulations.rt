@@ -12,9 +12,9 @@ ghost use Rattle.cdc_commands.specs.Simulations.{ActsTo, AnswersTo, PlaysActs, S
 ghost use Rattle.cdc_commands.specs.Simulations.{at_start, did_answer};
 
 use crate::batches::Answered;
-use crate::faults::ProgramFault;
 use crate::observers::Observer;
 use cdc_match::Binding;
+use cdc_output::ProgramFault;
 use cdc_progress::{MemoryStore, Progress};
 use cdc_script::{Act, ClientBatch, Script};
 use cdc_world::{Did, Played, Step, StepError, World};

@@ -9,19 +9,15 @@ ghost use Rattle.cdc_script.specs.declared.scripts.Script.{Script as Parsed};
 use crate::book_reports::BooksReport;
 use crate::endings::Ending;
 use crate::event_lines::event_lines;
-use crate::faults::ProgramFault;
 use crate::forms::Form;
 use crate::report::{push_answers, push_file_fault, push_subscribers};
 use crate::simulation_report::print_simulated;
 use crate::simulations::Simulated;
 use cdc_log::EventLog;
 use cdc_match::Binding;
+use cdc_output::Text;
 use cdc_script::ScriptFault;
 use std::alloc::{AllocError, Global};
-
-/// The text form: lines of text.
-#[derive(Clone, Copy)]
-pub struct Text;
 
 impl Form for Text {
     ghost use Rattle.std.specs.Prelude.{◌≡◌};
@@ -77,9 +73,7 @@ impl Form for Text {
         fault_line(alloc, Ending::BadSteps(fault))
     }
 
-    fn failure(&self, fault: ProgramFault) -> &'static str {
-        fault.line()
-    }
+    ghost prints_its_fault = { λ fault line is. is };
 }
 
 fn print_books(alloc: Global, report: &BooksReport) -> Result<Vec<u8>, AllocError>

@@ -5,6 +5,8 @@
 mod bindings;
 pub mod bodies;
 #[cfg(test)]
+mod codec;
+#[cfg(test)]
 mod expiry;
 #[cfg(test)]
 mod log;

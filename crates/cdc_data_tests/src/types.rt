@@ -356,6 +356,10 @@ fn flags_and_limits_have_their_numbers(rt: HostRuntime) {
             Limits::PROGRESS_BYTES as u64,
             128,
         ),
+        ("bytes of a line", Limits::LINE_BYTES as u64, 65_536),
+        ("bytes of a buffer", Limits::BUFFER_BYTES as u64, 65_536),
+        ("ready messages", Limits::READY_MESSAGES as u64, 64),
+        ("random steps", Limits::RANDOM_STEPS.into(), 20_000),
         ("timestamp", Limits::TIMESTAMP, 9_223_372_036_854_775_807),
         ("session", Limits::SESSION, u64::MAX),
     ];

@@ -7,7 +7,7 @@ use Rattle.cdc_subscriber.specs.Answers.{answer_to}
 use Rattle.cdc_subscriber.specs.declared.subscriber.Taking.{Taking}
 use Rattle.cdc_subscriber.specs.Reception.{Reception, kept_of, next as next_reception, nothing}
 use Rattle.cdc_subscriber.specs.SubscriberState.{SubscriberState}
-use Rattle.cdc_queues.specs.Lines.{ended}
+use Rattle.cdc_queue_lines.specs.Lines.{ended}
 use Rattle.cdc_deliveries.specs.declared.arrivals.Arrival.{Arrival}
 use Rattle.cdc_deliveries.specs.declared.feeds.Placed.{Placed}
 use Rattle.cdc_deliveries.specs.DeliveryLines.{line_of}

@@ -2,7 +2,6 @@ pub mod Walks
 pub mod IndexLemmas
 pub mod LineTexts
 pub mod ExpectedTexts
-pub mod AskedLemmas
 pub mod RecordingLemmas
 pub mod SubscriptionSteps
 pub mod TakenDeliveries

@@ -6,7 +6,7 @@ use Rattle.cdc_types.specs.declared.events.Event.{Event}
 use Rattle.cdc_message.specs.Bodies.{body, in_quotes, member_text, narrow_member, object_text}
 use Rattle.cdc_message.specs.Headers.{headers_of_event}
 use Rattle.cdc_message.proofs.Members.{members_then, object_text-append}
-use Rattle.cdc_queues.specs.Lines.{ended, headers_text, seconds_of}
+use Rattle.cdc_queue_lines.specs.Lines.{ended, headers_text, seconds_of}
 use Rattle.cdc_deliveries.specs.declared.arrivals.Arrival.{Arrival}
 use Rattle.cdc_deliveries.specs.DeliveryLines.{content_members, deliveries_from, delivery_line, line_of}
 use Rattle.cdc_deliveries.specs.Feeds.{placed}

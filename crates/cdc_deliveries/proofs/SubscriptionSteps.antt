@@ -4,8 +4,8 @@ use Rattle.std.specs.Prelude.{Contains, if◌then◌else◌, slice_get, slice_se
 use Rattle.std.specs.Option.{option_and_then, option_map, option_or}
 use Rattle.std.proofs.lemmas.Bool.{cases_Bool, eqb-false, eqb-true}
 use Rattle.std.proofs.lemmas.List.{length-append}
-use Rattle.cdc_broker.specs.Cursors.{Cursor, after_ack, rewound}
-use Rattle.cdc_broker.specs.Packets.{is_taken}
+use Rattle.cdc_world.specs.Cursors.{Cursor, after_ack, rewound}
+use Rattle.cdc_world.specs.Packets.{is_taken}
 use Rattle.cdc_ledger.specs.History.{History}
 use Rattle.cdc_ledger.specs.Submit.{submit}
 use Rattle.cdc_ledger.specs.declared.errors.BatchError.{BatchError}
@@ -14,8 +14,8 @@ use Rattle.cdc_message.specs.declared.items.Delivery.{Delivery}
 use Rattle.cdc_message.specs.declared.items.Item.{Item}
 use Rattle.cdc_message.specs.declared.packets.Packet.{Packet}
 use Rattle.cdc_progress.specs.Records.{Saved}
-use Rattle.cdc_publisher.specs.Courses.{Course, begun, next_packet, next_poll}
-use Rattle.cdc_publisher.specs.declared.errors.StartError.{StartError}
+use Rattle.cdc_world.specs.Courses.{Course, begun, next_packet, next_poll}
+use Rattle.cdc_world.specs.StartError.{StartError}
 use Rattle.cdc_subscriber.specs.Answers.{answer_to}
 use Rattle.cdc_subscriber.specs.Reception.{kept_of}
 use Rattle.cdc_types.specs.declared.batches.Batch.{Batch}

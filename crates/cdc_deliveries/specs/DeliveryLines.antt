@@ -5,7 +5,7 @@ use Rattle.cdc_message.specs.Bodies.{body, in_quotes, member_text, narrow_member
 use Rattle.cdc_message.specs.Headers.{headers_of_event}
 use Rattle.cdc_match.specs.Arguments.{Arguments}
 use Rattle.cdc_match.specs.Queue.{feed}
-use Rattle.cdc_queues.specs.Lines.{ended, headers_text, seconds_of}
+use Rattle.cdc_queue_lines.specs.Lines.{ended, headers_text, seconds_of}
 use Rattle.cdc_deliveries.specs.declared.arrivals.Arrival.{Arrival}
 use Rattle.cdc_deliveries.specs.declared.feeds.Placed.{Placed}
 use Rattle.cdc_deliveries.specs.Feeds.{placed}

@@ -3,7 +3,7 @@
 ghost use Rattle.std.specs.Prelude.{◌≡◌, ◌++◌, IfOk, List, OnOk, map, string_bytes};
 ghost use Rattle.std.specs.List.{join_with_byte};
 ghost use Rattle.cdc_types.specs.declared.events.Event.{Event as SomeEvent};
-ghost use Rattle.cdc_queues.specs.Lines.{ended};
+ghost use Rattle.cdc_queue_lines.specs.Lines.{ended};
 ghost use Rattle.cdc_subscriber.specs.Book.{entry_of};
 ghost use Rattle.cdc_subscriber.specs.Answers.{answer_to};
 ghost use Rattle.cdc_subscriber.specs.Reception.{Reception, kept_of, next as next_reception};

@@ -2,20 +2,20 @@
 #![tactic(auto)]
 
 pub mod arrivals;
+pub mod asked;
 pub mod counts;
 mod expected;
 pub mod feeds;
 mod lines;
 pub mod pairs;
 pub mod recorder;
-pub mod simulate;
 pub mod steps;
 
 pub use arrivals::{Arrival, arrivals_of};
+pub use asked::Asked;
 pub use counts::{Count, count_of};
 pub use expected::expected_lines;
 pub use lines::delivery_lines;
 pub use pairs::Both;
 pub use recorder::Recorder;
-pub use simulate::{Asked, deliver, deliveries_of, deliveries_of_steps};
 pub use steps::DeliveryStep;

@@ -3,7 +3,7 @@
 ghost use Rattle.std.specs.Prelude.{◌≡◌, ◌++◌, IfOk, List, OnOk, Some, string_bytes};
 ghost use Rattle.std.specs.List.{join_with_byte};
 ghost use Rattle.cdc_types.specs.declared.events.Event.{Event as SomeEvent};
-ghost use Rattle.cdc_queues.specs.Lines.{ended};
+ghost use Rattle.cdc_queue_lines.specs.Lines.{ended};
 ghost use Rattle.cdc_deliveries.specs.DeliveryLines.{content_members, delivery_line, delivery_text};
 ghost use Rattle.cdc_deliveries.specs.DeliveryLines.{flag_text as flag_named, line_of};
 ghost use Rattle.cdc_deliveries.specs.Feeds.{placed};
@@ -14,7 +14,7 @@ use crate::feeds::{FeedIndex, Placed};
 use cdc_log::EventLog;
 use cdc_match::Binding;
 use cdc_message::Message;
-use cdc_queues::push_headers;
+use cdc_queue_lines::push_headers;
 use cdc_types::Event;
 use itoa::{Buffer, Integer};
 use std::alloc::{AllocError, Global};

@@ -1,4 +1,3 @@
 mod Examples
 pub mod Events
 pub mod OneMoreStep
-pub mod ShownWords

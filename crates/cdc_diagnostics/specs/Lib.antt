@@ -5,4 +5,3 @@ pub mod Sentences
 pub mod StepTexts
 pub mod Texts
 pub mod Traces
-pub mod Words

@@ -1,12 +1,8 @@
-//! What is wrong with a script or a step file: the word in error, and a sentence on it.
-
-ghost use Rattle.std.specs.Prelude.{◌≡◌, IfOk, string_bytes};
-ghost use Rattle.cdc_commands.specs.FaultWords as spec;
-ghost use Rattle.cdc_diagnostics.specs.Words.{shown_bytes};
+//! What is wrong with a script or a step file: a sentence on it.
 
 use crate::bindings::push_bad_binding;
-use crate::files::{script_sentence, steps_sentence};
 use crate::letters::push_bad_letter;
+use crate::requirements::{script_sentence, steps_sentence};
 use crate::script_lines::{
     push_bad_client, push_bad_line_number, push_key_twice, push_large_line_number, push_line_count,
     push_many_subscribers, push_no_batch, push_unknown_field, push_unknown_line,
@@ -16,7 +12,7 @@ use crate::step_lines::{
     push_bad_step_number, push_large_step_number, push_step_count, push_unknown_step,
 };
 use crate::texts::Text;
-use crate::words::bytes_at;
+use cdc_commands::bytes_at;
 use cdc_script::{Detail, FaultKind, ScriptFault, Span};
 use std::alloc::{AllocError, Global};
 use std::str;
@@ -28,17 +24,6 @@ pub(crate) struct FaultText<'a> {
     pub first: &'a str,
     /// The word in error; empty if one is missing, or if it isn't printable.
     pub word: &'a str,
-}
-
-/// The word in error in a script or a step file of these bytes, as it is shown. It is empty if a word is missing, or
-/// if the error is in the file as a whole. A byte that isn't printable ASCII is shown as a question mark, and a long
-/// word is cut.
-pub fn fault_word(alloc: Global, file: &[u8], fault: ScriptFault) -> Result<String, AllocError>
-    ensures { IfOk result (λ word. string_bytes word ≡ shown_bytes (spec.bytes_at file.now fault.word)) }
-{
-    let mut shown = Text::new(alloc);
-    shown.push_bytes(bytes_at(file, fault.word));
-    shown.finish()
 }
 
 /// What is wrong with a script of these bytes, and what was expected. Fails if it is out of memory.

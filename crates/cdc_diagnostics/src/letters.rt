@@ -1,10 +1,7 @@
 //! Names for bytes that aren't printable ASCII.
 
-ghost use Rattle.std.specs.Prelude.{◌≡◌};
-ghost use Rattle.cdc_diagnostics.specs.Words as spec;
-
 use crate::texts::Text;
-use crate::words::bytes_at;
+use cdc_commands::bytes_at;
 use cdc_script::Span;
 use std::str;
 
@@ -39,19 +36,6 @@ pub(crate) fn push_bad_letter(text: &mut Text, file: &[u8], place: Span) {
     } else {
         push_letter(text, letter, place.start == 0);
     }
-}
-
-/// A byte as it is shown: a question mark if it isn't printable ASCII.
-pub(crate) fn shown_byte(byte: u8) -> u8
-    ensures { result ≡ spec.shown_byte byte }
-{
-    if is_printable(byte) { byte } else { b'?' }
-}
-
-fn is_printable(byte: u8) -> bool
-    ensures { result ≡ spec.is_printable byte }
-{
-    matches!(byte, b' '..=b'~')
 }
 
 /// Names the character of these bytes. At the head of a file it may be a byte order mark.

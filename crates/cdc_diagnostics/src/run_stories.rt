@@ -2,7 +2,7 @@
 
 use crate::movements::Movement;
 use crate::texts::Text;
-use cdc_actors::{Carried, Fate, Repeat, Repeats, Sending, Span, Story};
+use cdc_broker_actors::{Carried, Fate, Repeat, Repeats, Sending, Span, Story};
 use std::alloc::{AllocError, Global};
 
 /// A line for each event, and for the end mark, that was lost, whose confirm was lost, that was ignored or that was

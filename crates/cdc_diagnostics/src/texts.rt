@@ -1,26 +1,21 @@
 //! Texts that are built piece by piece.
 
-ghost use Rattle.std.specs.Prelude.{◌≡◌, ◌++◌, ◌∷◌, ℕ, List, if◌then◌else◌, Err, IfOk, IsFalse, IsTrue, Ok, []};
-ghost use Rattle.std.specs.Prelude.{alloc_error, decimal, map, string_bytes};
+ghost use Rattle.std.specs.Prelude.{◌≡◌, ◌++◌, ℕ, List, if◌then◌else◌, Err, IfOk, IsFalse, IsTrue, Ok, []};
+ghost use Rattle.std.specs.Prelude.{alloc_error, decimal, string_bytes};
 ghost use Rattle.cdc_diagnostics.specs.Sentences.{sentence_text};
 ghost use Rattle.cdc_diagnostics.specs.Texts.{Holds};
-ghost use Rattle.cdc_diagnostics.specs.Words as spec;
-ghost use Rattle.cdc_diagnostics.specs.Words.{shown_bytes};
+ghost use Rattle.cdc_commands.specs.ShownWords.{shown_bytes};
 
-use crate::letters::shown_byte;
 use crate::sentences::Sentence;
-use crate::words::prefix;
+use cdc_commands::shown_word;
 use itoa::Buffer;
 use std::alloc::{AllocError, Global};
-use std::str;
-
-/// How many bytes of a word of a file are shown.
-const MOST_SHOWN: usize = 60;
 
 /// A text so far. If memory runs out for a piece, nothing more is added, and `finish` fails. So code that adds to it
 /// needn't check each time.
 #[derive(Drop)]
 pub(crate) struct Text {
+    alloc: Global,
     /// Its pieces, up to the one that memory ran out for.
     pieces: String,
     is_out_of_memory: bool,
@@ -33,6 +28,7 @@ impl Text {
         ensures holds { Holds result [] }
     {
         Text {
+            alloc,
             pieces: String::new(alloc),
             is_out_of_memory: false,
         }
@@ -70,36 +66,13 @@ impl Text {
     }
 
     /// Adds a word of a file, without grave accents. A long one is cut.
-    #[tactic(auto, using(crate::proofs::ShownWords::cut_off))]
     pub(crate) fn push_bytes(&mut self, word: &[u8])
         ensures { (bytes : List ℕ) → Holds self.old bytes
             → Holds self.new (bytes ++ shown_bytes word.now) }
     {
-        self.push_shown(prefix(word, MOST_SHOWN));
-        if word.len() > MOST_SHOWN {
-            self.push("..");
-        }
-    }
-
-    /// Adds bytes of a file, each as it is shown.
-    fn push_shown(&mut self, shown: &[u8])
-        ensures { (bytes : List ℕ) → Holds self.old bytes
-            → Holds self.new (bytes ++ map spec.shown_byte shown.now) }
-    {
-        for byte in shown {
-            self.push_byte(*byte);
-        }
-    }
-
-    /// Adds a byte of a file, as it is shown.
-    fn push_byte(&mut self, byte: u8)
-        ensures { (bytes : List ℕ) → Holds self.old bytes
-            → Holds self.new (bytes ++ spec.shown_byte byte ∷ []) }
-    {
-        let shown = [shown_byte(byte)];
-        match str::from_utf8(&shown) {
-            Ok(text) => self.push(text),
-            Err(_) => unreachable!(),
+        match shown_word(self.alloc, word) {
+            Ok(shown) => self.push(shown.as_str()),
+            Err(AllocError) => self.abort(),
         }
     }
 
@@ -158,6 +131,7 @@ impl Text {
             → IfOk result (λ text. string_bytes text ≡ bytes) }
     {
         let Text {
+            alloc: _,
             pieces,
             is_out_of_memory,
         } = self;

@@ -7,14 +7,14 @@ use Rattle.std.proofs.lemmas.List.Elements.{All-filter, All-head, All-tail}
 use Rattle.cdc_types.specs.declared.events.Event.{Event}
 use Rattle.cdc_types.specs.Timestamps.{last_timestamp}
 use Rattle.cdc_types.specs.Widths.{max_64}
-use Rattle.cdc_ledger.specs.Events.{events}
-use Rattle.cdc_ledger.specs.History.{History}
-use Rattle.cdc_log.specs.Log.{events_after}
-use Rattle.cdc_match.specs.Arguments.{Arguments}
-use Rattle.cdc_match.specs.Queue.{takes_event}
-use Rattle.cdc_subscriber.specs.Book.{book_of}
-use Rattle.cdc_subscriber.specs.Reception.{Reception, has_ended}
-use Rattle.cdc_subscriber.specs.SubscriberState.{SubscriberState}
+use Rattle.cdc_laws.specs.Events.{events}
+use Rattle.cdc_laws.specs.History.{History}
+use Rattle.cdc_laws.specs.Log.{events_after}
+use Rattle.cdc_laws.specs.Arguments.{Arguments}
+use Rattle.cdc_laws.specs.Queue.{takes_event}
+use Rattle.cdc_laws.specs.Book.{book_of}
+use Rattle.cdc_laws.specs.Reception.{Reception, has_ended}
+use Rattle.cdc_laws.specs.SubscriberState.{SubscriberState}
 use Rattle.cdc_laws.specs.Faithful.{IsFaithful, applied, kept_from}
 use Rattle.cdc_laws.specs.Line.{feed_after}
 use Rattle.cdc_run.specs.Subscribing.{ClosesWith, EndsOpen, HasCome}

@@ -6,12 +6,12 @@ use Rattle.std.proofs.Math.Seq.{take-append_seam}
 use Rattle.std.proofs.lemmas.List.Elements.{All-contains, Contains-append_left, Contains-get_or, filter_map-append}
 use Rattle.std.proofs.lemmas.List.Sums.{fold-append}
 use Rattle.std.proofs.lemmas.Option.{slice_get_within, unwrap_or-slice_get}
-use Rattle.cdc_broker.specs.Broker.{nobody, queue_of}
-use Rattle.cdc_broker.specs.Packets.{items_of}
-use Rattle.cdc_broker.specs.Queues.{QueueState, empty_queue}
-use Rattle.cdc_ledger.specs.History.{History}
-use Rattle.cdc_ledger.specs.Sound.{IsSound}
-use Rattle.cdc_match.specs.Queue.{queue}
+use Rattle.cdc_laws.specs.Broker.{nobody, queue_of}
+use Rattle.cdc_laws.specs.Packets.{items_of}
+use Rattle.cdc_laws.specs.Queues.{QueueState, empty_queue}
+use Rattle.cdc_laws.specs.History.{History}
+use Rattle.cdc_laws.specs.Sound.{IsSound}
+use Rattle.cdc_laws.specs.Queue.{queue}
 use Rattle.cdc_message.specs.declared.items.Delivery.{Delivery}
 use Rattle.cdc_message.specs.declared.items.Item.{Item}
 use Rattle.cdc_message.specs.declared.packets.Answer.TheVariants.{Confirmed}
@@ -19,7 +19,7 @@ use Rattle.cdc_message.specs.declared.packets.Confirm.{Confirm}
 use Rattle.cdc_message.specs.declared.packets.Packet.{Packet}
 use Rattle.cdc_message.specs.Replays.{IsPrefix, IsReplay}
 use Rattle.cdc_message.proofs.ReplayLaws.{IsReplay-take}
-use Rattle.cdc_subscriber.specs.Reception.{Reception}
+use Rattle.cdc_laws.specs.Reception.{Reception}
 use Rattle.cdc_laws.specs.Arrivals.{AreAmong, taken_of}
 use Rattle.cdc_laws.specs.ConnectorRuns.{IsConnectorRun}
 use Rattle.cdc_laws.specs.Deliveries.{deliveries, items_in}
@@ -38,13 +38,14 @@ use Rattle.cdc_traffic.specs.declared.messages.ToSubscriber.TheVariants as to_su
 use Rattle.cdc_traffic.specs.declared.pasts.Past.{Past}
 use Rattle.cdc_traffic.proofs.Continuing.{Continues-same, Continues-trans}
 use Rattle.cdc_traffic.proofs.Named.{follow-continues, follow-rest}
-use Rattle.cdc_actors.specs.Broker.{ArrivedWasReceived, BrokerCore, as_confirm, dealings, delivery_in, deliveries_in}
-use Rattle.cdc_actors.specs.Broker.SoFar.{BrokersComeSoFar, IsBrokerSoFar}
-use Rattle.cdc_actors.specs.Connector.{ConnectorCore, confirm_in, confirms_in, origin_of, packet_in, packets_in}
-use Rattle.cdc_actors.specs.Ledger.{LedgerCore}
-use Rattle.cdc_actors.specs.Ledger.SoFar.{IsLedgerSoFar, LedgersComeSoFar}
-use Rattle.cdc_actors.specs.Subscriber.{DeliveriesAreReceived, SubscriberCore, delivery_of, received_by, taken_by}
-use Rattle.cdc_actors.specs.declared.broker.consumers.Consumer.{Consumer}
+use Rattle.cdc_broker_actors.specs.Broker.{ArrivedWasReceived, BrokerCore, as_confirm, dealings, delivery_in, deliveries_in}
+use Rattle.cdc_broker_actors.specs.Broker.SoFar.{BrokersComeSoFar, IsBrokerSoFar}
+use Rattle.cdc_actor_work.specs.Packets.{packet_in, packets_in}
+use Rattle.cdc_actors.specs.Connector.{ConnectorCore, confirm_in, confirms_in, origin_of}
+use Rattle.cdc_ledger_actors.specs.Ledger.{LedgerCore}
+use Rattle.cdc_ledger_actors.specs.Ledger.SoFar.{IsLedgerSoFar, LedgersComeSoFar}
+use Rattle.cdc_broker_actors.specs.Subscriber.{DeliveriesAreReceived, SubscriberCore, delivery_of, received_by, taken_by}
+use Rattle.cdc_broker_actors.specs.declared.broker.consumers.Consumer.{Consumer}
 use Rattle.cdc_end_laws.specs.Cut.{AreCutOff, CutOffSubscribersAreFaithful, IsFaithfulSoFar, IsServed}
 use Rattle.cdc_end_laws.specs.Said.{ConnectorsKeepToRuns, HasSubscriberSaid, SubscribersLackOne}
 

@@ -14,18 +14,18 @@ use Rattle.cdc_traffic.specs.Pasts.{history_of}
 use Rattle.cdc_traffic.specs.declared.messages.ToLedger.{ToLedger}
 use Rattle.cdc_traffic.specs.declared.pasts.Past.{Past}
 use Rattle.cdc_traffic.specs.declared.requests.Reply.{Reply}
-use Rattle.cdc_actors.specs.Broker.{BrokerCore, Dealings, as_confirm, answer_after, confirm_of, dealings, dealings_of, is_lost, no_dealings, with_packet}
-use Rattle.cdc_actors.specs.Broker.SoFar.{BrokersComeSoFar, IsBrokerSoFar}
-use Rattle.cdc_actors.specs.Client.{ClientCore, done_if, request_for, requests_from}
-use Rattle.cdc_actors.specs.Client.SoFar.{ClientsComeSoFar, IsClientSoFar}
-use Rattle.cdc_actors.specs.Connector.{packets_in}
-use Rattle.cdc_actors.specs.Connector.SoFar.{ConnectorsComeSoFar}
-use Rattle.cdc_actors.specs.Ledger.{LedgerCore, ReceiveReplies, order_of}
-use Rattle.cdc_actors.specs.Ledger.SoFar.{IsLedgerSoFar, LedgersComeSoFar}
-use Rattle.cdc_actors.specs.Orders.{RepliesAreSent, batches_in, named_replies_of, named_replies_to, past_of, reply_after}
-use Rattle.cdc_actors.specs.Subscriber.{SubscriberCore, ack_of, taken_by}
-use Rattle.cdc_actors.specs.Subscriber.SoFar.{IsSubscriberSoFar, SubscribersComeSoFar}
-use Rattle.cdc_actors.specs.declared.broker.plans.BrokerPlan.{BrokerPlan}
+use Rattle.cdc_broker_actors.specs.Broker.{BrokerCore, Dealings, as_confirm, answer_after, confirm_of, dealings, dealings_of, is_lost, no_dealings, with_packet}
+use Rattle.cdc_broker_actors.specs.Broker.SoFar.{BrokersComeSoFar, IsBrokerSoFar}
+use Rattle.cdc_ledger_actors.specs.Client.{ClientCore, done_if, request_for, requests_from}
+use Rattle.cdc_ledger_actors.specs.Client.SoFar.{ClientsComeSoFar, IsClientSoFar}
+use Rattle.cdc_actor_work.specs.Packets.{packets_in}
+use Rattle.cdc_actors.specs.SoFar.{ConnectorsComeSoFar}
+use Rattle.cdc_ledger_actors.specs.Ledger.{LedgerCore, ReceiveReplies, order_of}
+use Rattle.cdc_ledger_actors.specs.Ledger.SoFar.{IsLedgerSoFar, LedgersComeSoFar}
+use Rattle.cdc_ledger_actors.specs.Orders.{RepliesAreSent, batches_in, named_replies_of, named_replies_to, past_of, reply_after}
+use Rattle.cdc_broker_actors.specs.Subscriber.{SubscriberCore, ack_of, taken_by}
+use Rattle.cdc_broker_actors.specs.Subscriber.SoFar.{IsSubscriberSoFar, SubscribersComeSoFar}
+use Rattle.cdc_broker_actors.specs.declared.broker.plans.BrokerPlan.{BrokerPlan}
 use Rattle.cdc_end_laws.specs.Said.{BrokersLackOne, ClientsLackOne, ConnectorsKeepToRuns, HasBrokerSaid, HasClientSaid, HasLedgerSaid, HasSubscriberSaid, Lacks, LedgersLackOne, SubscribersLackOne}
 
 -- ---- lists

@@ -4,7 +4,7 @@ use Rattle.std.specs.Prelude.{Option, None, Some}
 use Rattle.std.proofs.lemmas.Bool.{cases_Bool}
 use Rattle.std.proofs.lemmas.List.{map-append}
 use Rattle.std.proofs.lemmas.List.Elements.{filter_map-append}
-use Rattle.cdc_ledger.specs.History.{History}
+use Rattle.cdc_laws.specs.History.{History}
 use Rattle.cdc_links.specs.Links.{Incoming, Outgoing}
 use Rattle.cdc_traffic.specs.Answering.{read_by}
 use Rattle.cdc_traffic.specs.declared.messages.ToConnector.{ToConnector}
@@ -15,7 +15,7 @@ use Rattle.cdc_traffic.specs.declared.pasts.Past.{Past}
 use Rattle.cdc_traffic.specs.declared.polls.Poll.{Poll}
 use Rattle.cdc_traffic.specs.declared.polls.PollReply.{PollReply}
 use Rattle.cdc_actors.specs.Connector.{poll_in}
-use Rattle.cdc_actors.specs.Ledger.{FinishedLedgersAreClosed, IsLedgerTurn, LedgerCore, asked, first_ledger, has_to_wait, is_over, kept_of, past_of_inbox, replied_first, replied_of, replies_of, with_replies}
+use Rattle.cdc_ledger_actors.specs.Ledger.{FinishedLedgersAreClosed, IsLedgerTurn, LedgerCore, asked, first_ledger, has_to_wait, is_over, kept_of, past_of_inbox, replied_first, replied_of, replies_of, with_replies}
 use Rattle.cdc_end_laws.specs.Polls.{FinishedLedgersReplyToAll, HasWorked, PollsLackOne, TurnsTo, poll_replied, polls_received, polls_replied}
 
 -- ---- replies

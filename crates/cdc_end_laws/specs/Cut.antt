@@ -1,20 +1,20 @@
 -- What subscribers may rely on wherever a run is cut off.
 use Rattle.std.specs.Prelude.{◌≡◌, ℕ, ◌+◌, true, Some, map, slice_get}
-use Rattle.cdc_broker.specs.Broker.{queue_of}
+use Rattle.cdc_laws.specs.Broker.{queue_of}
 use Rattle.cdc_links.specs.Links.{CanSend, of_sender}
 use Rattle.cdc_message.specs.Replays.{IsPrefix}
-use Rattle.cdc_subscriber.specs.Reception.{Reception, kept_of}
+use Rattle.cdc_laws.specs.Reception.{Reception, kept_of}
 use Rattle.cdc_laws.specs.Faithful.{IsFaithful}
 use Rattle.cdc_traffic.specs.Following.{FollowsToConnector}
-use Rattle.cdc_actors.specs.Broker.{BrokerCore, IsBrokerActor}
-use Rattle.cdc_actors.specs.Broker.SoFar as broker
+use Rattle.cdc_broker_actors.specs.Broker.{BrokerCore, IsBrokerActor}
+use Rattle.cdc_broker_actors.specs.Broker.SoFar as broker
 use Rattle.cdc_actors.specs.Connector.{ConnectorCore, IsAtStart, IsConnectorActor, origin_of}
-use Rattle.cdc_actors.specs.Connector.SoFar as connector
-use Rattle.cdc_actors.specs.Ledger.{IsLedgerActor, LedgerCore}
-use Rattle.cdc_actors.specs.Ledger.SoFar as ledger
-use Rattle.cdc_actors.specs.Subscriber.{IsSubscriberActor, SubscriberCore}
-use Rattle.cdc_actors.specs.Subscriber.SoFar as subscriber
-use Rattle.cdc_actors.specs.declared.broker.consumers.Consumer.{Consumer}
+use Rattle.cdc_actors.specs.SoFar as connector
+use Rattle.cdc_ledger_actors.specs.Ledger.{IsLedgerActor, LedgerCore}
+use Rattle.cdc_ledger_actors.specs.Ledger.SoFar as ledger
+use Rattle.cdc_broker_actors.specs.Subscriber.{IsSubscriberActor, SubscriberCore}
+use Rattle.cdc_broker_actors.specs.Subscriber.SoFar as subscriber
+use Rattle.cdc_broker_actors.specs.declared.broker.consumers.Consumer.{Consumer}
 use Rattle.cdc_end_laws.specs.Said.{AtAnyTime}
 
 -- a ledger's actor, a connector and a broker at any time, whichever of them have failed. Over each link a prefix of

@@ -9,7 +9,7 @@ use Rattle.cdc_traffic.specs.declared.pasts.Past.{Past}
 use Rattle.cdc_traffic.specs.declared.polls.Poll.{Poll}
 use Rattle.cdc_traffic.specs.declared.requests.Reply.{Reply}
 use Rattle.cdc_actors.specs.Connector.{poll_in}
-use Rattle.cdc_actors.specs.Ledger.{IsLedgerTurn, LedgerCore, first_ledger, is_over}
+use Rattle.cdc_ledger_actors.specs.Ledger.{IsLedgerTurn, LedgerCore, first_ledger, is_over}
 use Rattle.cdc_end_laws.specs.Said.{Lacks}
 
 -- the polls that were received, in order

@@ -1,10 +1,10 @@
 -- What an actor has sent at any time, of what it owes for all that it has received: it lacks one message at most.
 use Rattle.std.specs.Prelude.{◌≡◌, ◌⊎◌, ℕ, ◌+◌, ◌≤◌, ◌==◌, false, true, Some, List, ◌++◌, length, map, slice_get}
 use Rattle.cdc_types.specs.declared.batches.Batch.{Batch}
-use Rattle.cdc_broker.specs.Broker.{queue_of}
+use Rattle.cdc_laws.specs.Broker.{queue_of}
 use Rattle.cdc_message.specs.declared.items.Delivery.{Delivery}
 use Rattle.cdc_message.specs.Replays.{IsReplay}
-use Rattle.cdc_subscriber.specs.Reception.{kept_of}
+use Rattle.cdc_laws.specs.Reception.{kept_of}
 use Rattle.cdc_laws.specs.ConnectorRuns.{IsConnectorRun}
 use Rattle.cdc_laws.specs.Deliveries.{deliveries}
 use Rattle.cdc_links.specs.Links.{CanSend, Outgoing, of_sender}
@@ -12,19 +12,20 @@ use Rattle.cdc_traffic.specs.Following.{FollowsToConnector, last_named}
 use Rattle.cdc_traffic.specs.Pasts.{history_of}
 use Rattle.cdc_traffic.specs.declared.pasts.Past.{Past}
 use Rattle.cdc_traffic.specs.declared.requests.Reply.{Reply}
-use Rattle.cdc_actors.specs.Broker.{BrokerCore, IsBrokerActor, as_confirm, dealings_of, deliveries_in}
-use Rattle.cdc_actors.specs.Broker.SoFar as broker
-use Rattle.cdc_actors.specs.Client.{ClientCore, IsClient, requests_from}
-use Rattle.cdc_actors.specs.Client.SoFar.{AsksSoFar}
-use Rattle.cdc_actors.specs.Connector.{ConnectorCore, IsAtStart, IsConnectorActor, confirms_in, origin_of, packets_in}
-use Rattle.cdc_actors.specs.Connector.SoFar as connector
-use Rattle.cdc_actors.specs.Ledger.{IsLedgerActor, LedgerCore, order_of}
-use Rattle.cdc_actors.specs.Ledger.SoFar as ledger
-use Rattle.cdc_actors.specs.Orders.{batches_in, named_replies_to}
-use Rattle.cdc_actors.specs.Subscriber.{IsSubscriberActor, SubscriberCore, ack_of, received_by, taken_by}
-use Rattle.cdc_actors.specs.Subscriber.SoFar as subscriber
-use Rattle.cdc_actors.specs.declared.broker.consumers.Consumer.{Consumer}
-use Rattle.cdc_actors.specs.declared.faults.RunFault.{RunFault}
+use Rattle.cdc_broker_actors.specs.Broker.{BrokerCore, IsBrokerActor, as_confirm, dealings_of, deliveries_in}
+use Rattle.cdc_broker_actors.specs.Broker.SoFar as broker
+use Rattle.cdc_ledger_actors.specs.Client.{ClientCore, IsClient, requests_from}
+use Rattle.cdc_ledger_actors.specs.Client.SoFar.{AsksSoFar}
+use Rattle.cdc_actor_work.specs.Packets.{packets_in}
+use Rattle.cdc_actors.specs.Connector.{ConnectorCore, IsAtStart, IsConnectorActor, confirms_in, origin_of}
+use Rattle.cdc_actors.specs.SoFar as connector
+use Rattle.cdc_ledger_actors.specs.Ledger.{IsLedgerActor, LedgerCore, order_of}
+use Rattle.cdc_ledger_actors.specs.Ledger.SoFar as ledger
+use Rattle.cdc_ledger_actors.specs.Orders.{batches_in, named_replies_to}
+use Rattle.cdc_broker_actors.specs.Subscriber.{IsSubscriberActor, SubscriberCore, ack_of, received_by, taken_by}
+use Rattle.cdc_broker_actors.specs.Subscriber.SoFar as subscriber
+use Rattle.cdc_broker_actors.specs.declared.broker.consumers.Consumer.{Consumer}
+use Rattle.cdc_actor_work.specs.declared.faults.RunFault.{RunFault}
 
 -- this is all of a list but so many at most, from its end
 pub record Lacks {X : Type 0} (n : ℕ) (some all : List X) : Type 0 where

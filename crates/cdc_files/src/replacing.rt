@@ -1,7 +1,8 @@
 //! Replacing a file as a whole.
 
-ghost use Rattle.std.specs.Prelude.{◌≡◌, ◌++◌, codes, IfOk, OnOk, string_bytes};
-ghost use Rattle.std.specs.Io.KnownBytes.{Appends};
+ghost use Rattle.std.specs.Prelude.{◌≡◌, ◌<◌, ◌≤◌, ◌++◌, codes, length, take, IfOk, OnOk, string_bytes};
+ghost use Rattle.std.specs.Io.KnownBytes.{Appends, Consumes, IsAtEnd};
+ghost use Rattle.cdc_files.specs.Leftovers.{is_short_leftover as may_be_left};
 
 use std::alloc::{AllocError, Global};
 use std::fs::{File, Files, OpenFile, Permissions, TryLockError};
@@ -34,6 +35,8 @@ pub struct Replaced<'a> {
 pub enum Leftover {
     /// A file that begins with the mark, as far as it goes.
     Begins,
+    /// The same, of at most so many bytes, below 4,096.
+    Short(usize),
     /// A file whose whole content is a prefix of the mark.
     PrefixOf,
 }
@@ -47,6 +50,17 @@ fn is_taken(file: &File) -> bool {
     }
 }
 
+/// Opens a file without a lock; `None` if there is no file. Anything but a plain file, such as a folder or a pipe, is the
+/// error `InvalidInput` and isn't opened, since that might block.
+pub fn open_plain<R: Files<File = File>>(rt: &R, path: &str) -> io::Result<Option<File>> {
+    match fs::metadata(rt, path) {
+        Ok(metadata) if metadata.is_file() => Ok(Some(File::open(rt, path)?)),
+        Ok(_) => Err(io::Error::from(ErrorKind::InvalidInput)),
+        Err(error) if error.kind() == ErrorKind::NotFound => Ok(None),
+        Err(error) => Err(error),
+    }
+}
+
 /// Whether a path names this open file.
 pub fn names<R: Files<File = File>>(rt: &R, path: &str, file: &File) -> io::Result<bool> {
     let named = match fs::metadata(rt, path) {
@@ -57,9 +71,9 @@ pub fn names<R: Files<File = File>>(rt: &R, path: &str, file: &File) -> io::Resu
     Ok(named.dev() == open.dev() && named.ino() == open.ino())
 }
 
-/// Opens a file and locks it until it is dropped; `None` if there is no file. Anything but a plain file, such as a
-/// folder or a pipe, isn't opened, since that might block. The path names the file when it is locked: if something else
-/// has replaced it meanwhile, the new one is opened. A file that is locked already is the error `WouldBlock`.
+/// Opens a file as `open_plain` does, and locks it until it is dropped. The path names the file when it is locked: if
+/// something else has replaced it meanwhile, the new one is opened. A file that is locked already is the error
+/// `WouldBlock`.
 pub fn open_locked<R: Files<File = File>>(rt: &R, path: &str) -> io::Result<Option<File>> {
     for _ in 0..OPENINGS {
         match lock_once(rt, path)? {
@@ -72,17 +86,10 @@ pub fn open_locked<R: Files<File = File>>(rt: &R, path: &str) -> io::Result<Opti
 
 /// Opens the file that a path names now, and locks it; `None` if there is no file.
 fn lock_once<R: Files<File = File>>(rt: &R, path: &str) -> io::Result<Option<File>> {
-    match fs::metadata(rt, path) {
-        Ok(metadata) if metadata.is_file() => {}
-        Ok(_) => return Err(io::Error::from(ErrorKind::InvalidInput)),
-        Err(error) if error.kind() == ErrorKind::NotFound => return Ok(None),
-        Err(error) => return Err(error),
+    match open_plain(rt, path)? {
+        Some(file) if is_taken(&file) => Err(io::Error::from(ErrorKind::WouldBlock)),
+        found => Ok(found),
     }
-    let file = File::open(rt, path)?;
-    if is_taken(&file) {
-        return Err(io::Error::from(ErrorKind::WouldBlock));
-    }
-    Ok(Some(file))
 }
 
 /// The path of the file that a path refers to, with links resolved. If there is no file, it is the path itself; a link
@@ -108,6 +115,26 @@ pub fn path_of_new(alloc: Global, path: &str) -> Result<String, AllocError>
     text.push_str(path)?;
     text.push_str(".new")?;
     Ok(text)
+}
+
+/// Reads until the buffer is full or the reader ends, and returns the number of bytes read.
+pub fn fill<F: Read>(reader: &mut F, buffer: &mut [u8]) -> io::Result<usize>
+    ensures count { IfOk result (λ filled. filled ≤ length buffer.new) }
+    ensures size { length buffer.new ≡ length buffer.old }
+    ensures text { IfOk result (λ filled. Consumes (F.remaining reader.old) (F.remaining reader.new)
+        (take filled buffer.new)) }
+    ensures whole { IfOk result (λ filled. filled < length buffer.new
+        → IsAtEnd (F.remaining reader.new)) }
+{
+    let mut filled = 0;
+    while filled < buffer.len() {
+        let count = reader.read(&mut buffer[filled..])?;
+        if count == 0 {
+            return Ok(filled);
+        }
+        filled += count;
+    }
+    Ok(filled)
 }
 
 /// Whether a reader has exactly these bytes left.
@@ -137,8 +164,15 @@ fn write_whole(file: &mut File, mode: Option<Permissions>, text: &[u8]) -> io::R
     if let Some(mode) = mode {
         file.set_permissions(mode)?;
     }
-    file.write_all(text)?;
+    write_text(file, text)?;
     file.sync_all()
+}
+
+/// Writes a whole text.
+fn write_text<W: Write>(writer: &mut W, text: &[u8]) -> io::Result<()>
+    ensures { OnOk result (Appends (W.contents writer.old) (W.contents writer.new) text.now) }
+{
+    writer.write_all(text)
 }
 
 /// Whether the file at this path can be the leftover of an interrupted replacement: a plain file that nobody has
@@ -157,17 +191,24 @@ fn is_leftover<R: Files<File = File>>(
         return Ok(false);
     }
     match leftover {
-        Leftover::Begins => begins(&mut file, mark),
+        Leftover::Begins => begins(&mut file, mark, usize::MAX),
+        Leftover::Short(most) => begins(&mut file, mark, most),
         Leftover::PrefixOf => Ok(rest_after(&mut file, mark)?.is_some()),
     }
 }
 
-/// Whether the bytes of a reader begin with a mark, as far as they go.
-fn begins<F: Read>(reader: &mut F, mark: &[u8]) -> io::Result<bool> {
+/// Whether the bytes of a reader begin with a mark, as far as they go, and are at most so many.
+fn begins<F: Read>(reader: &mut F, mark: &[u8], most: usize) -> io::Result<bool> {
     let mut piece = [0u8; PIECE_BYTES];
-    let count = reader.read(&mut piece)?;
-    let start = &piece[..count];
-    Ok(start.starts_with(mark) || mark.starts_with(start))
+    let count = fill(reader, &mut piece)?;
+    Ok(is_short_leftover(&piece[..count], mark, most))
+}
+
+/// Whether these bytes begin with a mark, as far as they go, and are at most so many.
+fn is_short_leftover(bytes: &[u8], mark: &[u8], most: usize) -> bool
+    ensures { result ≡ may_be_left mark.now most bytes.now }
+{
+    bytes.len() <= most && (bytes.starts_with(mark) || mark.starts_with(bytes))
 }
 
 /// Creates the file that is written first, and locks it, in place of the leftover of an interrupted replacement, if

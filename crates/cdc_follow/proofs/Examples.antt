@@ -116,8 +116,8 @@ abbrev after_two : FollowState
 after_two = follow_all of_700 begins (entry 0 700 2000 ∷ entry 2000 800 2001 ∷ [])
 
 -- what becomes of entries then: the next event is applied, or passed by; an event again is a duplicate, also the one
--- that was passed by; behind a missing event there is a gap, and also before an event that follows an earlier one, which
--- is of another queue; and the end is complete only behind the last event seen
+-- that was passed by; behind a missing event there is a gap, and also before an event that follows an earlier one,
+-- which is of another queue; and the end is complete only behind the last event seen
 becomes : (outcome_of of_700 after_two (entry 2001 700 2002) ≡ Applied)
     × (outcome_of of_700 after_two (entry 2001 800 2002) ≡ PassedBy)
     × (outcome_of of_700 after_two (entry 2000 800 2001) ≡ Duplicate)

@@ -1,248 +1,80 @@
--- What was printed of a book is read back.
-use Rattle.std.proofs.Common.{◌≡◌, ◌≢◌, ℕ, ◌+◌, ◌<◌, ◌≤◌, ◌^◌, List, [], ◌∷◌, ◌++◌, length, take, drop, Bool, true}
-use Rattle.std.proofs.Common.{false, cond, Some, refl, sym, ap, ◌∙◌, arith, subst, append_assoc, append-nil, le-leb}
-use Rattle.std.specs.Prelude.{◌&&◌, ◌==◌, not, codes, decimal, unwrap_or}
-use Rattle.std.specs.Char.{is_ascii_digit}
-use Rattle.std.specs.List.{AllByRecursion, flat_map, list_all, prefix_len}
-use Rattle.std.proofs.Math.Seq.{take-append_seam, drop-append_seam}
-use Rattle.std.proofs.lemmas.Bool.{false≢true}
-use Rattle.std.proofs.lemmas.Fmt.{decimal_is_IsNumeral_wide}
-use Rattle.cdc_types.specs.Widths.{max_64, max_128}
-use Rattle.cdc_message.specs.Decimals.{decimal_up_to}
-use Rattle.cdc_message.proofs.DecimalTexts.{own_digits}
+-- What was written of a book is read back.
+use Rattle.std.proofs.Common.{◌≡◌, ◌≢◌, ℕ, List, [], ◌∷◌, ◌++◌, length, Bool, true, false, cond, refl, sym, ap, ◌∙◌}
+use Rattle.std.proofs.Common.{arith, subst, append_assoc, append-nil}
+use Rattle.std.specs.Prelude.{◌==◌, not, codes}
+use Rattle.std.specs.List.{AllByRecursion, flat_map}
+use Rattle.std.proofs.lemmas.Bool.{and_parts, false≢true}
+use Rattle.cdc_codec.specs.Texts.{spaced, yes_or_no}
 use Rattle.cdc_subscriber.specs.declared.book.BookEntry.{BookEntry}
 use Rattle.cdc_subscriber.specs.Book.{are_distinct, ids_of, is_among}
-use Rattle.cdc_subscriber.specs.Lines.{account_line, spaced}
-use Rattle.cdc_subscriber.proofs.BookLemmas.{eqb_swap, neither}
+use Rattle.cdc_subscriber.specs.Lines.{account_line}
 use Rattle.cdc_subscriber.specs.SubscriberState.{SubscriberState}
+use Rattle.cdc_subscriber.proofs.BookLemmas.{eqb_swap, neither}
 use Rattle.cdc_follow.specs.declared.saved.Front.{Front}
 use Rattle.cdc_follow.specs.Following.{FollowState}
-use Rattle.cdc_follow.specs.Saved.{AreBook, CanBeSaved, EntryFits, book_text, heading, is_in_line}
-use Rattle.cdc_follow.specs.SavedParts.{FrontParts, IsFront, Part, account_at, flag_at, front_at, line_at, number_at}
-use Rattle.cdc_follow.specs.SavedParts.{small}
-
-both_left : (a b : Bool) → (a && b) ≡ true → a ≡ true
-both_left true b is = refl
-both_left false b is = is
-
-both_right : (a b : Bool) → (a && b) ≡ true → b ≡ true
-both_right true b is = is
-both_right false b is = absurd (false≢true is)
-
--- ---- numbers
-
--- bytes that pass a test end at the first byte that doesn't
-prefix_end : (test : ℕ → Bool) (bytes : List ℕ) (end : ℕ) (rest : List ℕ) → list_all test bytes ≡ true
-    → test end ≡ false → prefix_len test (bytes ++ end ∷ rest) ≡ length bytes
-prefix_end test [] end rest all other = ap (λ b. cond b (1 + prefix_len test rest) 0) other
-prefix_end test (b ∷ bytes) end rest all other =
-    let more = prefix_end test bytes end rest (both_right (test b) _ all) other in
-    ap (λ t. cond t (1 + prefix_len test (bytes ++ end ∷ rest)) 0) (both_left (test b) (list_all test bytes) all)
-    ∙ omega (arith, more)
-
--- what a number is printed as: digits, and at least one
-no_zero : (n : ℕ) → 0 < n → not (n == 0) ≡ true
-no_zero n h = grind arith
-
-printed_digits : (n : ℕ) → n < 2 ^ 128 → list_all is_ascii_digit (decimal n) ≡ true
-printed_digits n fits =
-    let numeral = (decimal_is_IsNumeral_wide n (omega (arith, fits))).0 in own_digits.from (decimal n) numeral.1
-
-printed_value : (n : ℕ) → n < 2 ^ 128 → decimal_up_to max_128 (decimal n) ≡ Some n
-printed_value n fits =
-    let numeral = decimal_is_IsNumeral_wide n (omega (arith, fits)) in
-    let within : n ≤ max_128 = omega (arith, fits) in
-    rw (no_zero (length (decimal n)) numeral.0.0, printed_digits n fits, numeral.1, le-leb n max_128 within) refl
-
--- a part of a text
-abbrev part : {T : Type 0} → T → List ℕ → Part T
-part value rest = record { value = value; rest = rest }
-
--- two parts are equal if their halves are
-same_part : {T : Type 0} (a b : T) (x y : List ℕ) → a ≡ b → x ≡ y → part a x ≡ part b y
-same_part a b x y same more = ap (λ v. part v x) same ∙ ap (λ r. part b r) more
-
--- a number is read back if another byte follows it
-pub number_first : (n end : ℕ) (rest : List ℕ) → n < 2 ^ 128 → is_ascii_digit end ≡ false
-    → number_at (spaced n ++ end ∷ rest) ≡ part n (end ∷ rest)
-unfolding number_at
-number_first n end rest fits other =
-    let text : List ℕ = decimal n ++ end ∷ rest in
-    let len : prefix_len is_ascii_digit text ≡ length (decimal n) =
-    prefix_end is_ascii_digit (decimal n) end rest (printed_digits n fits) other in
-    let cut : take (prefix_len is_ascii_digit text) text ≡ decimal n =
-    ap (λ k. take k text) len ∙ take-append_seam (decimal n) (end ∷ rest) in
-    let left : drop (prefix_len is_ascii_digit text) text ≡ end ∷ rest =
-    ap (λ k. drop k text) len ∙ drop-append_seam (decimal n) (end ∷ rest) in
-    same_part _ _ _ _
-    (ap (λ digits. unwrap_or (decimal_up_to max_128 digits) 0) cut ∙ ap (λ v. unwrap_or v 0) (printed_value n fits))
-    left
-
-small_is : (n : ℕ) → n < 2 ^ 64 → small n ≡ n
-small_is n fits = let within : n ≤ max_64 = omega (arith, fits) in rw (le-leb n max_64 within) refl
-
--- ---- yes or no
-
-abbrev word_of : Bool → List ℕ
-word_of flag = cond flag (codes " yes") (codes " no")
-
-flag_first : (flag : Bool) (rest : List ℕ) → flag_at (word_of flag ++ rest) ≡ part flag rest
-unfolding flag_at
-flag_first true rest = refl
-flag_first false rest = refl
-
--- ---- the binding
-
-line_first : (line rest : List ℕ) → list_all is_in_line line ≡ true
-    → line_at (line ++ 10 ∷ rest) ≡ part line (10 ∷ rest)
-unfolding line_at
-line_first line rest all =
-    let text : List ℕ = line ++ 10 ∷ rest in
-    let len : prefix_len is_in_line text ≡ length line = prefix_end is_in_line line 10 rest all refl in
-    same_part _ _ _ _ (ap (λ k. take k text) len ∙ take-append_seam line (10 ∷ rest))
-    (ap (λ k. drop k text) len ∙ drop-append_seam line (10 ∷ rest))
+use Rattle.cdc_follow.specs.Saved.{AreBook, EntryFits, book_text, heading}
+use Rattle.cdc_follow.specs.SavedParts.{IsFront, ReadsAccount}
 
 -- ---- the line of an account
 
+nest_five : (name a b c d e end rest : List ℕ)
+    → ((name ++ a) ++ (b ++ (c ++ (d ++ (e ++ end))))) ++ rest
+    ≡ name ++ (a ++ (b ++ (c ++ (d ++ (e ++ (end ++ rest))))))
+nest_five name a b c d e end rest = simp append_assoc
+
 -- the line with what follows it, number by number
-abbrev account_text : BookEntry → List ℕ → List ℕ
-account_text entry rest =
-    spaced entry.id ++ (spaced entry.balances.debits_pending ++ (spaced entry.balances.debits_posted
-    ++ (spaced entry.balances.credits_pending ++ (spaced entry.balances.credits_posted ++ 10 ∷ rest))))
-
-line_text : (entry : BookEntry) (rest : List ℕ)
-    → account_line entry ++ rest ≡ codes "account" ++ account_text entry rest
-line_text entry rest =
-    let name = codes "account" in
-    let id = spaced entry.id in
-    let a = spaced entry.balances.debits_pending in
-    let b = spaced entry.balances.debits_posted in
-    let c = spaced entry.balances.credits_pending in
-    let d = spaced entry.balances.credits_posted in
-    let end = codes "\n" in
-    append_assoc (name ++ id) (a ++ (b ++ (c ++ (d ++ end)))) rest
-    ∙ append_assoc name id ((a ++ (b ++ (c ++ (d ++ end)))) ++ rest)
-    ∙ ap (λ l. name ++ (id ++ l)) (append_assoc a (b ++ (c ++ (d ++ end))) rest
-    ∙ ap (λ l. a ++ l) (append_assoc b (c ++ (d ++ end)) rest
-    ∙ ap (λ l. b ++ l) (append_assoc c (d ++ end) rest ∙ ap (λ l. c ++ l) (append_assoc d end rest))))
-
--- it is read back
-pub account_first : (entry : BookEntry) (rest : List ℕ) → EntryFits entry
-    → account_at (account_line entry ++ rest) ≡ part entry rest
-unfolding account_at
-account_first entry rest fits =
+pub account_parts : (entry : BookEntry) (rest : List ℕ)
+    → account_line entry ++ rest
+    ≡ codes "account" ++ (spaced entry.id ++ (spaced entry.balances.debits_pending
+    ++ (spaced entry.balances.debits_posted ++ (spaced entry.balances.credits_pending
+    ++ (spaced entry.balances.credits_posted ++ 10 ∷ rest)))))
+account_parts entry rest =
     let b = entry.balances in
-    let t5 = 10 ∷ rest in
-    let t4 = spaced b.credits_posted ++ t5 in
-    let t3 = spaced b.credits_pending ++ t4 in
-    let t2 = spaced b.debits_posted ++ t3 in
-    let t1 = spaced b.debits_pending ++ t2 in
-    let one : number_at (spaced entry.id ++ t1) ≡ part entry.id t1 =
-    number_first entry.id 32 (decimal b.debits_pending ++ t2) fits.id refl in
-    let two : number_at t1 ≡ part b.debits_pending t2 =
-    number_first b.debits_pending 32 (decimal b.debits_posted ++ t3) fits.debits_pending refl in
-    let three : number_at t2 ≡ part b.debits_posted t3 =
-    number_first b.debits_posted 32 (decimal b.credits_pending ++ t4) fits.debits_posted refl in
-    let four : number_at t3 ≡ part b.credits_pending t4 =
-    number_first b.credits_pending 32 (decimal b.credits_posted ++ t5) fits.credits_pending refl in
-    let five : number_at t4 ≡ part b.credits_posted t5 =
-    number_first b.credits_posted 10 rest fits.credits_posted refl in
-    ap account_at (line_text entry rest) ∙ rw (one, two, three, four, five) refl
+    nest_five (codes "account") (spaced entry.id) (spaced b.debits_pending) (spaced b.debits_posted)
+    (spaced b.credits_pending) (spaced b.credits_posted) (codes "\n") rest
+
+-- an account whose numbers were read
+pub same_account : {id pending posted credited settled : ℕ} (entry : BookEntry) → id ≡ entry.id
+    → pending ≡ entry.balances.debits_pending → posted ≡ entry.balances.debits_posted
+    → credited ≡ entry.balances.credits_pending → settled ≡ entry.balances.credits_posted
+    → (let read : BookEntry = record {
+      id = id;
+      balances = record {
+        debits_pending = pending;
+        debits_posted = posted;
+        credits_pending = credited;
+        credits_posted = settled;
+      };
+    } in read)
+    ≡ entry
+same_account entry p q r s t = λ i. record {
+  id = p i;
+  balances = record { debits_pending = q i; debits_posted = r i; credits_pending = s i; credits_posted = t i };
+}
 
 -- ---- what precedes the accounts
 
+regroup : (a w s n b l e u m p q r t f g k z y rest : List ℕ)
+    → ((a ++ w) ++ ((s ++ n) ++ (b ++ (l ++ e))))
+    ++ (((u ++ m) ++ ((p ++ q) ++ ((r ++ t) ++ ((f ++ g) ++ ((k ++ z) ++ y))))) ++ rest)
+    ≡ a ++ (w ++ (s ++ (n ++ (b ++ (l ++ (e ++ (u ++ (m ++ (p ++ (q ++ (r ++ (t
+    ++ (f ++ (g ++ (k ++ (z ++ (y ++ rest)))))))))))))))))
+regroup a w s n b l e u m p q r t f g k z y rest = simp append_assoc
+
 -- a book's text, part by part
-abbrev text_from : Bool → List ℕ → FollowState → List ℕ → List ℕ
-text_from chained binding state lines =
-    codes "book 1 chained" ++ (word_of chained ++ (codes " seen" ++ (spaced state.seen
-    ++ (codes "\nbinding " ++ (binding ++ (codes "\nsubscriber" ++ (spaced 1
-    ++ (codes " applied" ++ (spaced state.kept.applied ++ (codes " last" ++ (spaced state.kept.last
-    ++ (codes " ended" ++ (word_of state.kept.ended
-    ++ (codes " closed" ++ (word_of state.kept.closed ++ 10 ∷ lines)))))))))))))))
-
--- four texts, the first two of which belong together
-regroup : (a b c d : List ℕ) → ((a ++ b) ++ c) ++ d ≡ a ++ (b ++ (c ++ d))
-regroup a b c d = append_assoc (a ++ b) c d ∙ append_assoc a b (c ++ d)
-
--- the text of a book is such a text
-book_text-parts : (chained : Bool) (binding : List ℕ) (state : FollowState)
-    → book_text chained binding state ≡ text_from chained binding state (flat_map account_line state.kept.book)
+pub book_parts : (chained : Bool) (binding : List ℕ) (state : FollowState)
+    → book_text chained binding state
+    ≡ codes "book 1 chained" ++ (yes_or_no chained ++ (codes " seen" ++ (spaced state.seen ++ (codes "\nbinding "
+    ++ (binding ++ 10 ∷ (codes "subscriber" ++ (spaced 1 ++ (codes " applied" ++ (spaced state.kept.applied
+    ++ (codes " last" ++ (spaced state.kept.last ++ (codes " ended" ++ (yes_or_no state.kept.ended
+    ++ (codes " closed" ++ (yes_or_no state.kept.closed ++ 10 ∷ flat_map account_line state.kept.book)))))))))))))))
 unfolding book_text heading
-book_text-parts chained binding state =
+book_parts chained binding state =
     let kept = state.kept in
-    let lines = flat_map account_line kept.book in
-    let y0 = word_of chained in
-    let y1 = word_of kept.ended in
-    let y2 = word_of kept.closed in
-    let end = codes "\n" in
-    let b = codes "\nbinding " in
-    let named = b ++ (binding ++ end) in
-    let r4 = (codes " closed" ++ y2) ++ end in
-    let r3 = (codes " ended" ++ y1) ++ r4 in
-    let r2 = (codes " last" ++ spaced kept.last) ++ r3 in
-    let r1 = (codes " applied" ++ spaced kept.applied) ++ r2 in
-    let l = ((codes "subscriber" ++ spaced 1) ++ r1) ++ lines in
-    regroup (codes "book 1 chained") y0 ((codes " seen" ++ spaced state.seen) ++ named) l
-    ∙ ap (λ t. codes "book 1 chained" ++ (y0 ++ t)) (regroup (codes " seen") (spaced state.seen) named l
-    ∙ ap (λ t. codes " seen" ++ (spaced state.seen ++ (b ++ t))) (append_assoc binding end l
-    ∙ ap (λ t. binding ++ (end ++ t)) (regroup (codes "subscriber") (spaced 1) r1 lines
-    ∙ ap (λ t. codes "subscriber" ++ (spaced 1 ++ t)) (regroup (codes " applied") (spaced kept.applied) r2 lines
-    ∙ ap (λ t. codes " applied" ++ (spaced kept.applied ++ t)) (regroup (codes " last") (spaced kept.last) r3 lines
-    ∙ ap (λ t. codes " last" ++ (spaced kept.last ++ t)) (regroup (codes " ended") y1 r4 lines
-    ∙ ap (λ t. codes " ended" ++ (y1 ++ t)) (regroup (codes " closed") y2 end lines)))))))
-
--- what a follower's text is read as
-abbrev parts_of : Bool → List ℕ → FollowState → List ℕ → FrontParts
-parts_of chained binding state lines = record {
-  chained = chained;
-  seen = state.seen;
-  binding = binding;
-  applied = state.kept.applied;
-  last = state.kept.last;
-  ended = state.kept.ended;
-  closed = state.kept.closed;
-  accounts = lines;
-}
-
--- what precedes the accounts is read back
-front_first : (chained : Bool) (binding : List ℕ) (state : FollowState) (lines : List ℕ) → CanBeSaved binding state
-    → front_at (text_from chained binding state lines) ≡ parts_of chained binding state lines
-unfolding front_at
-front_first chained binding state lines fits =
-    let kept = state.kept in
-    let t8 = 10 ∷ lines in
-    let t7 = codes " closed" ++ (word_of kept.closed ++ t8) in
-    let t6 = codes " ended" ++ (word_of kept.ended ++ t7) in
-    let t5 = codes " last" ++ (spaced kept.last ++ t6) in
-    let t4 = codes " applied" ++ (spaced kept.applied ++ t5) in
-    let t3 = codes "\nsubscriber" ++ (spaced 1 ++ t4) in
-    let t2 = codes "\nbinding " ++ (binding ++ t3) in
-    let t1 = codes " seen" ++ (spaced state.seen ++ t2) in
-    let wide : (n : ℕ) → n < 2 ^ 64 → n < 2 ^ 128 = λ n h. omega (arith, h) in
-    let f1 = flag_first chained t1 in
-    let n1 : number_at (spaced state.seen ++ t2) ≡ part state.seen t2 =
-    number_first state.seen 10 (drop 1 t2) (wide _ fits.seen) refl in
-    let b : line_at (binding ++ t3) ≡ part binding t3 = line_first binding (drop 1 t3) fits.line in
-    let n2 : number_at (spaced 1 ++ t4) ≡ part 1 t4 = number_first 1 32 (drop 1 t4) (omega arith) refl in
-    let n3 : number_at (spaced kept.applied ++ t5) ≡ part kept.applied t5 =
-    number_first kept.applied 32 (drop 1 t5) (wide _ fits.applied) refl in
-    let n4 : number_at (spaced kept.last ++ t6) ≡ part kept.last t6 =
-    number_first kept.last 32 (drop 1 t6) (wide _ fits.last) refl in
-    let f2 = flag_first kept.ended t7 in
-    let f3 = flag_first kept.closed t8 in
-    rw (
-      f1,
-      n1,
-      b,
-      n2,
-      n3,
-      n4,
-      f2,
-      f3,
-      small_is state.seen fits.seen,
-      small_is kept.applied fits.applied,
-      small_is kept.last fits.last,
-    ) refl
+    regroup (codes "book 1 chained") (yes_or_no chained) (codes " seen") (spaced state.seen) (codes "\nbinding ")
+    binding (codes "\n") (codes "subscriber") (spaced 1) (codes " applied") (spaced kept.applied) (codes " last")
+    (spaced kept.last) (codes " ended") (yes_or_no kept.ended) (codes " closed") (yes_or_no kept.closed) (codes "\n")
+    (flat_map account_line kept.book)
 
 -- ---- the accounts, one line after another
 
@@ -290,8 +122,9 @@ not_yet : (book left : List BookEntry) (entry : BookEntry) → are_distinct (ids
 not_yet [] left entry distinct = refl
 not_yet (b ∷ book) left entry distinct =
     let ids = ids_of (book ++ entry ∷ left) in
-    let absent : is_among b.id ids ≡ false = not_true _ (both_left _ (are_distinct ids) distinct) in
-    let more = not_yet book left entry (both_right (not (is_among b.id ids)) (are_distinct ids) distinct) in
+    let parts = and_parts (not (is_among b.id ids)) (are_distinct ids) distinct in
+    let absent : is_among b.id ids ≡ false = not_true _ parts.0 in
+    let more = not_yet book left entry parts.1 in
     let other : (b.id == entry.id) ≡ false = eqb_swap entry.id b.id (apart b.id book left entry absent) in
     rw (other, more) refl
 
@@ -303,10 +136,10 @@ fits_later (b ∷ book) left entry all = fits_later book left entry all.1
 
 -- one more line
 pub reads-more : (text : List ℕ) (book new : List BookEntry) (rest after : List ℕ) (entry : BookEntry) (added : Bool)
-    → ReadSoFar text book rest → rest ≢ [] → entry ≡ (account_at rest).value → after ≡ (account_at rest).rest
+    → ReadSoFar text book rest → rest ≢ [] → ReadsAccount rest entry after
     → added ≡ not (is_among entry.id (ids_of book)) → new ≡ cond added (book ++ entry ∷ []) book
     → ReadSoFar text new after
-reads-more text book new rest after entry added before some value next adds pushed entries are is =
+reads-more text book new rest after entry added before some reads adds pushed entries are is =
     let so_far = before entries are is in
     go so_far.left so_far.parted so_far.lines
   where
@@ -315,9 +148,8 @@ reads-more text book new rest after entry added before some value next adds push
     go (e ∷ left) parted lines =
         let fits = fits_later book left e (subst (AllByRecursion EntryFits) parted are.fit) in
         let absent = not_yet book left e (sym (ap (λ es. are_distinct (ids_of es)) parted) ∙ are.distinct) in
-        let read : account_at rest ≡ part e (flat_map account_line left) =
-        ap account_at lines ∙ account_first e (flat_map account_line left) fits in
-        let same : entry ≡ e = value ∙ ap (λ p. p.value) read in
+        let read = reads e (flat_map account_line left) fits lines in
+        let same : entry ≡ e = read.0 in
         let is_new : added ≡ true =
         adds ∙ ap (λ (x : BookEntry). not (is_among x.id (ids_of book))) same ∙ ap (λ b. not b) absent in
         let grown : new ≡ book ++ e ∷ [] =
@@ -325,7 +157,7 @@ reads-more text book new rest after entry added before some value next adds push
         record {
           left = left;
           parted = parted ∙ sym (append_assoc book (e ∷ []) left) ∙ ap (λ es. es ++ left) (sym grown);
-          lines = next ∙ ap (λ p. p.rest) read;
+          lines = read.1;
         }
 
 -- when no text is left, the book has all entries
@@ -343,52 +175,32 @@ reads-all text book rest before none entries are is =
 
 -- ---- the whole
 
--- a follower put together of what was read
-abbrev pub follower_of : FrontParts → List BookEntry → FollowState
-follower_of parts book = record {
+-- a follower that is made of what was read
+abbrev pub follower_of : Front → List BookEntry → FollowState
+follower_of front book = record {
   kept = record {
     book = book;
-    last = parts.last;
-    applied = parts.applied;
-    ended = parts.ended;
-    closed = parts.closed;
+    last = front.last;
+    applied = front.applied;
+    ended = front.ended;
+    closed = front.closed;
   };
-  seen = parts.seen;
+  seen = front.seen;
 }
 
--- a follower that is made of the parts
-pub restores : (parts : FrontParts) (front : Front) (book : List BookEntry) (kept : SubscriberState)
-    (follower : FollowState) → IsFront parts front
-    → kept ≡ record {
-      book = book;
-      last = front.last;
-      applied = front.applied;
-      ended = front.ended;
-      closed = front.closed;
-    }
-    → follower ≡ record { kept = kept; seen = front.seen } → follower ≡ follower_of parts book
-restores parts front book kept follower is keeps has = cc
-
--- what was saved is what is read
-pub record IsSaved (parts : FrontParts) (book : List BookEntry) (chained : Bool) (binding : List ℕ)
-    (state : FollowState) : Type 0 where
-  pub chained_is : parts.chained ≡ chained
-  pub binding_is : parts.binding ≡ binding
-  pub state_is : follower_of parts book ≡ state
-
-pub reads_back : (text : List ℕ) (book : List BookEntry) (chained : Bool) (binding : List ℕ) (state : FollowState)
-    → ((entries : List BookEntry) → AreBook entries → (front_at text).accounts ≡ flat_map account_line entries
-    → book ≡ entries)
-    → CanBeSaved binding state → text ≡ book_text chained binding state
-    → IsSaved (front_at text) book chained binding state
-reads_back text book chained binding state reads fits is =
-    let lines = flat_map account_line state.kept.book in
-    let parts = parts_of chained binding state lines in
-    let front : front_at text ≡ parts =
-    ap front_at (is ∙ book_text-parts chained binding state) ∙ front_first chained binding state lines fits in
-    let same : book ≡ state.kept.book = reads state.kept.book fits.book (ap (λ (p : FrontParts). p.accounts) front) in
-    record {
-      chained_is = ap (λ (p : FrontParts). p.chained) front;
-      binding_is = ap (λ (p : FrontParts). p.binding) front;
-      state_is = ap (λ (p : FrontParts). follower_of p book) front ∙ ap (follower_of parts) same;
-    }
+-- it is the one that was saved
+pub same_follower : {chained : Bool} {binding : List ℕ} (state : FollowState) (front : Front) (book : List BookEntry)
+    (kept : SubscriberState) (follower : FollowState) → IsFront front chained binding state → book ≡ state.kept.book
+    → kept ≡ (follower_of front book).kept → follower ≡ record { kept = kept; seen = front.seen } → follower ≡ state
+same_follower state front book kept follower is same keeps has =
+    let made : SubscriberState → FollowState = λ kept. record { kept = kept; seen = front.seen } in
+    has ∙ ap made keeps ∙ (λ i. record {
+      kept = record {
+        book = same i;
+        last = is.last i;
+        applied = is.applied i;
+        ended = is.ended i;
+        closed = is.closed i;
+      };
+      seen = is.seen i;
+    })

@@ -1,9 +1,10 @@
 -- The text of a saved book: a heading, and then the lines that a subscriber prints.
-use Rattle.std.specs.Prelude.{◌≡◌, ℕ, ◌==◌, ◌<◌, ◌^◌, Bool, true, not, List, ◌++◌, codes}
+use Rattle.std.specs.Prelude.{◌≡◌, ℕ, ◌<◌, ◌^◌, Bool, true, List, ◌++◌, codes}
 use Rattle.std.specs.List.{AllByRecursion, list_all}
+use Rattle.cdc_codec.specs.Texts.{flagged, is_in_line, named}
 use Rattle.cdc_subscriber.specs.declared.book.BookEntry.{BookEntry}
 use Rattle.cdc_subscriber.specs.Book.{are_distinct, ids_of}
-use Rattle.cdc_subscriber.specs.Lines.{flagged, named, subscriber_text}
+use Rattle.cdc_subscriber.specs.Lines.{subscriber_text}
 use Rattle.cdc_follow.specs.declared.saved.SavedBook.{SavedBook}
 use Rattle.cdc_follow.specs.Following.{FollowState}
 
@@ -16,10 +17,6 @@ heading chained binding seen =
 -- the whole text
 unfoldable pub book_text : Bool → List ℕ → FollowState → List ℕ
 book_text chained binding state = heading chained binding state.seen ++ subscriber_text 1 state.kept
-
--- a byte is no line feed
-abbrev pub is_in_line : ℕ → Bool
-is_in_line b = not (b == 10)
 
 -- the numbers of an account have their widths
 pub record EntryFits (entry : BookEntry) : Type 0 where

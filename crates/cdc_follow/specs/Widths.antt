@@ -2,6 +2,7 @@
 use Rattle.std.specs.Prelude.{◌≡◌, ℕ, List, Bool, true, Some, Ok}
 use Rattle.std.specs.List.{AllByRecursion, list_all}
 use Rattle.cdc_message.specs.Widths.{EventFits}
+use Rattle.cdc_codec.specs.Texts.{is_in_line}
 use Rattle.cdc_match.specs.Arguments.{Arguments}
 use Rattle.cdc_follow.specs.declared.entries.Content.{Content}
 use Rattle.cdc_follow.specs.declared.entries.Content.TheVariants as content
@@ -9,7 +10,7 @@ use Rattle.cdc_follow.specs.declared.entries.Entry.{Entry}
 use Rattle.cdc_follow.specs.Entries.{line_entry}
 use Rattle.cdc_follow.specs.Following.{FollowState, follow_all}
 use Rattle.cdc_follow.specs.Laws.{begins}
-use Rattle.cdc_follow.specs.Saved.{CanBeSaved, is_in_line}
+use Rattle.cdc_follow.specs.Saved.{CanBeSaved}
 use Rattle.cdc_follow.specs.Stops.{bytes_followed}
 use Rattle.cdc_follow.specs.declared.streams.Rules.{Rules}
 

@@ -10,12 +10,12 @@ ghost use Rattle.cdc_follow.specs.LineErrors.{GivesUnlessMemory};
 
 use crate::errors::LineError;
 use cdc_message::{DecodeError, decimal_up_to, event_of, fast_event, is_decimal};
-use cdc_types::Event;
+use cdc_types::{Event, Limits};
 use serde_json::Value;
 use std::alloc::Global;
 
 /// The bytes of a line, at most, without its line feed.
-pub const LONGEST_LINE: usize = 65_536;
+pub const LONGEST_LINE: usize = Limits::LINE_BYTES;
 
 /// What an entry carries.
 #[derive(Clone, Copy, Debug, PartialEq, Eq)]

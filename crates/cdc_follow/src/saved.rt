@@ -2,22 +2,20 @@
 
 ghost use Rattle.std.specs.Prelude.{◌≡◌, ◌↔◌, ◌≤◌, ◌-◌, ℕ, Bool, IsTrue, List};
 ghost use Rattle.std.specs.Prelude.{IfOk, IfSome, IsSomeAnd, OnOk};
-ghost use Rattle.std.specs.Prelude.{codes, drop, if◌then◌else◌, length};
-ghost use Rattle.std.specs.Char.{is_ascii_digit as is_digit};
-ghost use Rattle.std.specs.List.{prefix_len, flat_map};
+ghost use Rattle.std.specs.Prelude.{length};
+ghost use Rattle.std.specs.List.{flat_map};
 ghost use Rattle.std.specs.Io.KnownBytes.{Appends};
 ghost use Rattle.cdc_subscriber.specs.Lines.{account_line};
 ghost use Rattle.cdc_subscriber.specs.declared.book.BookEntry.{BookEntry as Shown};
 ghost use Rattle.cdc_follow.specs.Following.{FollowState};
 ghost use Rattle.cdc_follow.specs.Saved.{AreBook, CanBeSaved, IsBook};
-ghost use Rattle.cdc_follow.specs.Saved.{book_text, heading, is_in_line};
-ghost use Rattle.cdc_follow.specs.SavedParts as spec;
+ghost use Rattle.cdc_follow.specs.Saved.{book_text, heading};
+ghost use Rattle.cdc_follow.specs.SavedParts.{ReadsAccount, ReadsFront};
 
 use crate::follower::Follower;
-use cdc_message::decimal_up_to;
+use cdc_codec::{flag, line, number, number_64, skip, write_flagged, write_named, write_text};
 use cdc_subscriber::{Book, BookEntry, Subscriber};
 use cdc_types::Balances;
-use itoa::Buffer;
 use std::alloc::{AllocError, Global};
 use std::io;
 use std::io::Write;
@@ -62,101 +60,17 @@ fn write_heading<W: Write>(
     ensures { OnOk result (Appends (W.contents writer.old) (W.contents writer.new)
         (heading chained binding.now seen)) }
 {
-    write_text(writer, "book 1 chained")?;
-    write_text(writer, yes_or_no(chained))?;
-    write_text(writer, " seen ")?;
-    write_text(writer, Buffer::new().format(seen))?;
+    write_flagged(writer, "book 1 chained", chained)?;
+    write_named(writer, " seen", seen)?;
     write_text(writer, "\nbinding ")?;
     writer.write_all(binding)?;
     write_text(writer, "\n")
 }
 
-fn yes_or_no(flag: bool) -> &'static str
-    ensures { result.now ≡ (if flag then codes " yes" else codes " no") }
-{
-    if flag { " yes" } else { " no" }
-}
-
-fn write_text<W: Write>(writer: &mut W, text: &str) -> io::Result<()>
-    ensures { OnOk result (Appends (W.contents writer.old) (W.contents writer.new) text.now) }
-{
-    writer.write_all(text.as_bytes())
-}
-
-// The bytes after the first ones, none if there are no more.
-fn skip(text: &[u8], count: usize) -> &[u8]
-    ensures { result.now ≡ drop count text.now }
-{
-    if count <= text.len() {
-        &text[count..]
-    } else {
-        &[]
-    }
-}
-
-// How many digits a text begins with.
-fn count_digits(text: &[u8]) -> usize
-    ensures { result ≡ prefix_len is_digit text.now }
-{
-    text.iter().take_while(|byte| byte.is_ascii_digit()).count()
-}
-
-// The number whose digits follow the first byte, 0 if there is none, and the bytes after it.
-fn number(text: &[u8]) -> (u128, &[u8])
-    ensures value { result.0 ≡ (spec.number_at text.now).value }
-    ensures rest { result.1.now ≡ (spec.number_at text.now).rest }
-    ensures shorter { length result.1.now ≤ length text.now }
-{
-    let text = skip(text, 1);
-    let length = count_digits(text);
-    let digits = &text[..length];
-    let value = decimal_up_to(digits, u128::MAX).unwrap_or(0);
-    (value, &text[length..])
-}
-
-// The same number if it has at most 64 bits, otherwise 0.
-fn small_number(text: &[u8]) -> (u64, &[u8])
-    ensures value { result.0 ≡ spec.small (spec.number_at text.now).value }
-    ensures rest { result.1.now ≡ (spec.number_at text.now).rest }
-{
-    let (value, rest) = number(text);
-    (u64::try_from(value).unwrap_or(0), rest)
-}
-
-// How many bytes precede the first line feed.
-fn line_length(text: &[u8]) -> usize
-    ensures count { result ≡ prefix_len is_in_line text.now }
-    ensures within { result ≤ length text.now }
-{
-    text.iter().take_while(|byte| **byte != b'\n').count()
-}
-
-// The bytes before the first line feed, and the bytes after them.
-fn line(text: &[u8]) -> (&[u8], &[u8])
-    ensures value { result.0.now ≡ (spec.line_at text.now).value }
-    ensures rest { result.1.now ≡ (spec.line_at text.now).rest }
-{
-    let length = line_length(text);
-    let first = &text[..length];
-    (first, &text[length..])
-}
-
-// Whether a text begins with " yes", and the bytes after that or after " no".
-fn flag(text: &[u8]) -> (bool, &[u8])
-    ensures value { result.0 ≡ (spec.flag_at text.now).value }
-    ensures rest { result.1.now ≡ (spec.flag_at text.now).rest }
-{
-    if text.starts_with(b" yes") {
-        (true, skip(text, 4))
-    } else {
-        (false, skip(text, 3))
-    }
-}
-
-// The account of a line, and the bytes after the line.
-fn account(text: &[u8]) -> (BookEntry, &[u8])
-    ensures value { result.0 ≡ (spec.account_at text.now).value }
-    ensures rest { result.1.now ≡ (spec.account_at text.now).rest }
+/// The account of a line, and the bytes after the line. A text that doesn't begin with the line of an account is read
+/// as some account, too.
+pub fn read_account(text: &[u8]) -> (BookEntry, &[u8])
+    ensures reads { ReadsAccount text.now result.0 result.1.now }
     ensures shorter { length result.1.now ≤ length text.now - 7 }
 {
     let (id, rest) = number(skip(text, 7));
@@ -181,7 +95,7 @@ fn read_accounts(alloc: Global, text: &[u8]) -> Result<Book, AllocError>
     let mut book = Book::new(alloc);
     let mut rest = text;
     while !rest.is_empty() {
-        let (entry, after) = account(rest);
+        let (entry, after) = read_account(rest);
         let _added = book.push(entry)?;
         rest = after;
     }
@@ -200,16 +114,16 @@ struct Front<'a> {
     accounts: &'a [u8],
 }
 
-// The parts of a text, whatever it is.
+// The parts of a text. A text that isn't a saved book's is read as some parts, too.
 fn read_front(text: &[u8]) -> Front<'_>
-    ensures { spec.IsFront (spec.front_at text.now) result }
+    ensures { ReadsFront text.now result }
 {
     let (chained, rest) = flag(skip(text, 14));
-    let (seen, rest) = small_number(skip(rest, 5));
+    let (seen, rest) = number_64(skip(rest, 5));
     let (binding, rest) = line(skip(rest, 9));
-    let (_, rest) = number(skip(rest, 11));
-    let (applied, rest) = small_number(skip(rest, 8));
-    let (last, rest) = small_number(skip(rest, 5));
+    let (_, rest) = number(skip(rest, 10));
+    let (applied, rest) = number_64(skip(rest, 8));
+    let (last, rest) = number_64(skip(rest, 5));
     let (ended, rest) = flag(skip(rest, 6));
     let (closed, rest) = flag(skip(rest, 7));
     Front {

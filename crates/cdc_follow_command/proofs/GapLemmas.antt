@@ -11,19 +11,9 @@ use Rattle.cdc_follow.specs.Following.{FollowState}
 use Rattle.cdc_follow.specs.Gaps.{StepSkips, bytes_skipped, gap_count, gaps_skipped}
 use Rattle.cdc_follow.specs.Lines.{lines_of}
 use Rattle.cdc_follow.proofs.StopLemmas.{Follows}
-
--- so many gaps were skipped in the lines before this number, and the others are in the bytes that are left
-abbrev pub HasSkipped : Arguments → Rules → FollowState → Option (List ℕ) → ℕ → FollowState → ℕ → Option (List ℕ)
-    → Type 0
-HasSkipped binding rules start known gaps state number left =
-    IfSome known (λ bytes. IfSome left (λ rest.
-    bytes_skipped binding rules start bytes ≡ gaps + gaps_skipped binding rules state number (lines_of rest)))
+use Rattle.cdc_follow_command.specs.Private.Followed.{HasSkipped}
 
 module _ (binding : Arguments) (rules : Rules) (start : FollowState) where
-  pub skipped_begins : (known : Option (List ℕ)) → HasSkipped binding rules start known 0 start 1 known
-  skipped_begins None = tt
-  skipped_begins (Some bytes) = sym (zero-add (bytes_skipped binding rules start bytes))
-
   -- what is added for a line
   counts : (skipped : Bool) (added : ℕ) → added ≡ from_bool skipped → added ≡ gap_count skipped
   counts true added is = is

@@ -1,4 +1,2 @@
 pub mod GapLemmas
 pub mod KeptLemmas
-pub mod RunLemmas
-pub mod SavingLemmas

@@ -1,3 +1,6 @@
+pub mod Books
 pub mod Endings
-pub mod Saving
+pub mod Following
+pub mod JsonLines
+pub mod Private
 pub mod Texts

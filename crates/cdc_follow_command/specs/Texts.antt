@@ -2,13 +2,9 @@
 use Rattle.std.specs.Prelude.{ℕ, List, [], ◌++◌, codes, decimal, unwrap_or}
 use Rattle.cdc_subscriber.specs.Lines.{subscriber_text}
 use Rattle.cdc_follow.specs.Following.{FollowState}
-use Rattle.cdc_follow.specs.LineErrors.{line_error_name}
 use Rattle.cdc_follow.specs.declared.streams.Stop.{Stop}
 use Rattle.cdc_follow.specs.declared.streams.Stop.TheVariants.{AtEnd, Gap, AfterEnd, BadLine}
-
--- the line of a save at which the last event seen has this timestamp
-abbrev pub saved_line : ℕ → List ℕ
-saved_line timestamp = (codes "saved " ++ decimal timestamp) ++ codes "\n"
+use Rattle.cdc_streams.specs.Lines.{bad_line_text}
 
 -- the line of an entry that contradicts the end, which came after the event of this timestamp
 abbrev pub after_end_line : ℕ → ℕ → List ℕ
@@ -22,8 +18,7 @@ stop_line seen (Gap line entry) =
     (codes "gap: line " ++ decimal line) ++ ((codes ": after " ++ decimal (unwrap_or entry.previous 0))
     ++ ((codes ", expected after " ++ decimal seen) ++ codes "\n"))
 stop_line seen (AfterEnd line entry) = after_end_line seen line
-stop_line seen (BadLine line error) =
-    (codes "fault: line " ++ decimal line) ++ (codes ": " ++ (line_error_name error ++ codes "\n"))
+stop_line seen (BadLine line error) = bad_line_text line error
 
 -- what is printed at the end: the subscriber with its book, and why following stopped
 abbrev pub end_text : FollowState → Stop → List ℕ

@@ -3,27 +3,20 @@
 ghost use Rattle.std.specs.Prelude.{◌≡◌, ◌++◌, ℕ, List, Option, IfOk, OnOk};
 ghost use Rattle.cdc_follow.specs.Following.{FollowState};
 ghost use Rattle.cdc_follow.specs.declared.streams.Stop.{Stop as Stops};
-ghost use Rattle.cdc_follow_command.specs.Texts.{after_end_line, end_text, saved_line, stop_line};
+ghost use Rattle.cdc_follow_command.specs.Texts.{after_end_line, stop_line};
 ghost use Rattle.cdc_subscriber.specs.Lines.{subscriber_text};
 
-use cdc_commands::Text;
 use cdc_follow::{Entry, Follower, Stop};
+use cdc_output::{Text, push, push_named};
+use cdc_streams::{StreamForm, push_bad_line};
 use cdc_subscriber::Subscriber;
-use itoa::{Buffer, Integer};
 use std::alloc::{AllocError, Global};
 
-/// A form in which `follow` prints what it reports: lines of text, or JSON objects.
-pub trait FollowForm {
-    /// What is printed of a save at which the last event seen has this timestamp.
-    ghost prints_saved: { ℕ → List ℕ };
-
+/// A form in which `follow` prints what it reports.
+pub trait FollowForm: StreamForm {
     /// What is printed at the end: of how many gaps were skipped, if they are to be, of a follower, and of why
     /// following stopped.
     ghost prints_end: { Option ℕ → FollowState → Stops → List ℕ };
-
-    /// The line of a save at which the last event seen has this timestamp, in nanoseconds.
-    fn saved(&self, alloc: Global, timestamp: u64) -> Result<Vec<u8>, AllocError>
-        ensures { IfOk result (λ text. text.items ≡ prints_saved timestamp) };
 
     /// The lines of a follower at the end, and of why following stopped. `skipped`: how many gaps were skipped; `None`
     /// if gaps aren't to be skipped.
@@ -38,19 +31,10 @@ pub trait FollowForm {
 }
 
 impl FollowForm for Text {
-    ghost use Rattle.cdc_follow_command.specs.Texts.{end_text, saved_line};
-
-    ghost prints_saved = { saved_line };
+    ghost use Rattle.cdc_follow_command.specs.Texts.{end_text};
 
     // (standard error reports how many gaps were skipped)
     ghost prints_end = { λ _. end_text };
-
-    fn saved(&self, alloc: Global, timestamp: u64) -> Result<Vec<u8>, AllocError> {
-        let mut text = Vec::new(alloc);
-        push_named(&mut text, "saved ", timestamp)?;
-        push(&mut text, "\n")?;
-        Ok(text)
-    }
 
     fn end(
         &self,
@@ -64,21 +48,6 @@ impl FollowForm for Text {
         push_stop(&mut text, follower.seen(), stop)?;
         Ok(text)
     }
-}
-
-/// Adds a part of a text.
-fn push(text: &mut Vec<u8>, part: &str) -> Result<(), AllocError>
-    ensures { OnOk result (text.new.items ≡ text.old.items ++ part.now) }
-{
-    text.extend_from_slice(part.as_bytes())
-}
-
-/// Adds a name and a number.
-fn push_named<I: Integer>(text: &mut Vec<u8>, name: &str, value: I) -> Result<(), AllocError>
-    ensures { OnOk result (text.new.items ≡ text.old.items ++ (name.now ++ I.text value)) }
-{
-    push(text, name)?;
-    push(text, Buffer::new().format(value))
 }
 
 /// Adds the lines of the subscriber, which has the number 1.
@@ -97,13 +66,7 @@ fn push_stop(text: &mut Vec<u8>, seen: u64, stop: Stop) -> Result<(), AllocError
         Stop::AtEnd => Ok(()),
         Stop::Gap(line, entry) => push_gap(text, seen, line, entry),
         Stop::AfterEnd(line, _) => push_after_end(text, seen, line),
-        Stop::BadLine(line, error) => {
-            push_named(text, "fault: line ", line)?;
-            push(text, ": ")?;
-            push(text, error.name())?;
-            push(text, "\n")?;
-            Ok(())
-        }
+        Stop::BadLine(line, error) => push_bad_line(text, line, error),
     }
 }
 

@@ -1,19 +1,13 @@
 //! The command `follow`: follows a stream of messages, keeps its book, and saves it.
 #![tactic(auto)]
 
-mod book_files;
+mod books;
 mod endings;
-mod follow;
+mod followers;
 mod forms;
-mod json;
-mod readers;
-mod savers;
-mod stores;
+mod json_lines;
 
-pub use book_files::FileBook;
-pub use endings::FollowEnding;
-pub use follow::{follow_command, follow_stream};
+pub use books::{begin, begin_book, resume};
+pub use endings::{FollowEnding, follow_status};
+pub use followers::{FollowSetup, StreamFollower, follow_command};
 pub use forms::FollowForm;
-pub use readers::{LineReader, Origin};
-pub use savers::{Saver, begin, begin_book, resume};
-pub use stores::BookStore;

@@ -18,7 +18,7 @@ use Rattle.cdc_follow.specs.declared.streams.Rules.{Rules}
 use Rattle.cdc_follow.specs.Following.{FollowState, follow_all}
 use Rattle.cdc_follow.specs.Laws.{IsOfQueue, KeepsPrefix, begins, taken_by}
 use Rattle.cdc_follow.specs.Stops.{bytes_followed}
-use Rattle.cdc_queues.specs.Lines.{queue_text}
+use Rattle.cdc_queue_lines.specs.Lines.{queue_text}
 use Rattle.cdc_queue_laws.specs.Laws.{HasLinesOf}
 
 -- a binding takes each of these events

@@ -1,5 +1,5 @@
 -- What a broker takes of a connector run is a replay of the line.
-use Rattle.std.proofs.Common.{◌≡◌, ℕ, ◌+◌, ◌-◌, ◌<◌, ◌≤◌, true, List, [], ◌∷◌, ◌++◌, length, map, refl, sym, ap, ◌∙◌, subst, inl, inr, append-nil, arith}
+use Rattle.std.proofs.Common.{◌≡◌, ℕ, ◌+◌, ◌-◌, ◌<◌, ◌≤◌, true, List, [], ◌∷◌, ◌++◌, length, map, refl, sym, ap, ◌∙◌, inl, inr, append-nil, arith}
 use Rattle.std.specs.Prelude.{◌==◌, Some, Contains, fold, slice_get}
 use Rattle.std.specs.List.{AllByRecursion}
 use Rattle.std.proofs.lemmas.Bool.{and_parts, cases_Bool, cases_lt, eqb-true}
@@ -18,7 +18,7 @@ use Rattle.cdc_laws.proofs.Lines.{line_splits, split_after}
 use Rattle.cdc_laws.proofs.LongerRuns.{each_late}
 use Rattle.cdc_laws.proofs.ListElements.{Contains_slice_get, each_from, each_has, none_there, slice_get-before, slice_get-behind}
 use Rattle.cdc_laws.proofs.Replays.{from_places}
-use Rattle.cdc_laws.proofs.Sessions.{IsPublished, IsPublished-sent, follows, one_session}
+use Rattle.cdc_laws.proofs.Sessions.{IsPublished-sent, follows, one_session}
 use Rattle.cdc_laws.proofs.Taking.{current_session-push, expected_tag-push, is_tag-some, item_taken, items_of-push, later_numbers, tag_after-is, taken_after-false, taken_after-true}
 use Rattle.cdc_log.specs.Log.{events_after}
 use Rattle.cdc_message.specs.declared.items.Item.{Item}
@@ -46,20 +46,16 @@ pub IsReplay-behind : (all f front rest : List Item) (k : ℕ) (item : Item) →
 IsReplay-behind all f front rest k item replay whole has there earlier =
     let place : ℕ = length front + k in
     let here : slice_get f place ≡ Some item =
-    ap (λ items. slice_get items place) whole
-    ∙ slice_get-behind front rest place (omega arith)
-    ∙ ap (λ n. slice_get rest n) (omega arith)
-    ∙ there in
+    rw (whole, slice_get-behind front rest place (omega arith)) (ap (slice_get rest) (omega arith) ∙ there) in
     let before : (i : ℕ) (y : Item) → i < place → slice_get f i ≡ Some y → Contains all y =
-    λ i y below is. elim (cases_lt i (length front)) [
+    λ i y below is.
+    let at = rw whole at is in
+    elim (cases_lt i (length front)) [
       | inl early ↦
           each_has (Contains all) front y has
-          (Contains_slice_get front i y
-          (sym (slice_get-before front rest i early) ∙ ap (λ items. slice_get items i) (sym whole) ∙ is))
+          (Contains_slice_get front i y (sym (slice_get-before front rest i early) ∙ at))
       | inr late ↦
-          let at : slice_get rest (i - length front) ≡ Some y =
-          sym (slice_get-behind front rest i late) ∙ ap (λ items. slice_get items i) (sym whole) ∙ is in
-          earlier (i - length front) y (omega (arith, below, late)) at
+          earlier (i - length front) y (omega (arith, below, late)) (sym (slice_get-behind front rest i late) ∙ at)
     ] in
     IsReplay-in_turn all f item place replay here (from_places (Contains all) place f before)
 
@@ -94,16 +90,11 @@ module _ (h : History) (sound : IsSound h) (start : ℕ) (confirms : List Confir
       → slice_get s.items place ≡ Some item → Contains taken (Publish s.number (place + 1) other)
       → Contains (items_of taken) item
   its_item taken sent s among place item other here there =
-      let found : IsPublished sessions s.number (place + 1) other =
-      IsPublished-sent sessions s.number (place + 1) other (sent (Publish s.number (place + 1) other) there) in
-      let same : found.session ≡ s =
-      one_session h start confirms sessions found.session s each found.among among found.its in
+      let found = IsPublished-sent sessions s.number (place + 1) other (sent _ there) in
+      let same = one_session h start confirms sessions found.session s each found.among among found.its in
       let places : found.place ≡ place = omega (arith, found.tagged) in
-      let is : slice_get s.items place ≡ Some other =
-      subst (λ n. slice_get s.items n ≡ Some other) places
-      (subst (λ (x : Shown). slice_get x.items found.place ≡ Some other) same found.here) in
-      subst (Contains (items_of taken)) (same_Some other item (sym is ∙ here))
-      (item_taken taken s.number (place + 1) other there)
+      let is : slice_get s.items place ≡ Some other = rw (same, places) at found.here in
+      rw (← same_Some other item (sym is ∙ here)) (item_taken taken s.number (place + 1) other there)
 
   -- ---- a session connects
 
@@ -113,17 +104,16 @@ module _ (h : History) (sound : IsSound h) (start : ℕ) (confirms : List Confir
       → Contains (sent_by sessions) (Connect session) → IsInTurn (taken ++ Connect session ∷ [])
   IsInTurn-connect taken rest session confirmed is was_sent =
       let after : List Packet = taken ++ Connect session ∷ [] in
-      let same : items_of after ≡ items_of taken =
-      items_of-push taken (Connect session) ∙ append-nil (items_of taken) in
-      let number : current_session after ≡ session = current_session-push taken (Connect session) in
+      let same = items_of-push taken (Connect session) ∙ append-nil (items_of taken) in
+      let number = current_session-push taken (Connect session) in
       let was_taken : (s : Shown) → Contains sessions s → s.number < session → (place : ℕ) (item : Item)
       → slice_get s.items place ≡ Some item → IsConfirmed confirms s.number (place + 1)
       → Contains (items_of taken) item =
       λ s among below place item here confirm.
       let publish = confirmed s.number (place + 1) confirm in
-      elim (later_numbers after rest (Publish s.number (place + 1) publish.0) publish.1) [
+      elim (later_numbers after rest _ publish.1) [
         | inl so_far ↦
-            elim (Contains-push_cases taken (Connect session) (Publish s.number (place + 1) publish.0) so_far) [
+            elim (Contains-push_cases taken (Connect session) _ so_far) [
               | inl old ↦ its_item taken is.sent s among place item publish.0 here old
               | inr not ↦ cc
             ]
@@ -133,16 +123,15 @@ module _ (h : History) (sound : IsSound h) (start : ℕ) (confirms : List Confir
         sent = λ packet there.
             elim (Contains-push_cases taken (Connect session) packet there) [
               | inl old ↦ is.sent packet old
-              | inr new ↦ subst (Contains (sent_by sessions)) new was_sent
+              | inr new ↦ rw (← new) was_sent
             ];
-        replay = subst (λ items. IsReplay items (line_after h start)) (sym same) is.replay;
+        replay = rw same is.replay;
         current = λ s among its next expected.
-            let first : 1 ≡ next = same_Some 1 next (sym (expected_tag-push taken (Connect session)) ∙ expected) in
-            let base : HasTakenUpTo h start (items_of taken) s.base =
-            bases_taken h sound start confirms session (items_of taken) sessions each was_taken s among
-            (omega (arith, its, number)) in
+            let first = same_Some 1 next (sym (expected_tag-push taken (Connect session)) ∙ expected) in
             record {
-              base = subst (λ items. HasTakenUpTo h start items s.base) (sym same) base;
+              base = rw same
+                  (bases_taken h sound start confirms session (items_of taken) sessions each was_taken s among
+                  (omega (arith, its, number)));
               before = λ k x below here. absurd (omega (arith, below, first));
             };
       }
@@ -158,41 +147,35 @@ module _ (h : History) (sound : IsSound h) (start : ℕ) (confirms : List Confir
       let after : List Packet = taken ++ packet ∷ [] in
       let pushed : items_of after ≡ items_of taken ++ item ∷ [] = items_of-push taken packet in
       let more : (x : Item) → Contains (items_of taken) x → Contains (items_of after) x =
-      λ x old.
-      subst (λ items. Contains items x) (sym pushed) (Contains-append_left (items_of taken) (item ∷ []) x old) in
-      let last : Contains (items_of after) item =
-      subst (λ items. Contains items item) (sym pushed) (Contains-push (items_of taken) item) in
-      let found : IsPublished sessions session tag item = IsPublished-sent sessions session tag item was_sent in
+      λ x old. rw pushed (Contains-append_left (items_of taken) (item ∷ []) x old) in
+      let found = IsPublished-sent sessions session tag item was_sent in
       let s : Shown = found.session in
-      let here : slice_get (line_after h s.base) found.place ≡ Some item =
+      let here =
       prefix_at s.items (line_after h s.base) found.place item
       (follows h start confirms sessions s each found.among).may.items found.here in
-      let up_to : IsUpTo h start (items_of taken) s tag = is.current s found.among (found.its ∙ its) tag expected in
+      let up_to = is.current s found.among (found.its ∙ its) tag expected in
       let cut = split_after h start s.base sound (each_late h sound start confirms sessions each s found.among) in
-      let front : AllByRecursion (λ e. Contains (items_of taken) (OfEvent e)) cut.0 =
+      let front =
       each_from (λ e. Contains (items_of taken) (OfEvent e)) cut.0
       (λ e there. up_to.base e
-      (subst (λ (es : List Event). Contains es e) (sym cut.1.whole)
-      (Contains-append_left cut.0 (events_after s.base (events h)) e there))
+      (rw cut.1.whole (Contains-append_left cut.0 (events_after s.base (events h)) e there))
       (each_has (λ x. x.timestamp ≤ s.base) cut.0 e cut.1.low there)) in
-      let replay : IsReplay (items_of taken ++ item ∷ []) (line_after h start) =
-      IsReplay-behind (items_of taken) (line_after h start) (map OfEvent cut.0) (line_after h s.base) found.place item
-      is.replay (line_splits h start s.base cut.0 cut.1) (each_of_map (Contains (items_of taken)) cut.0 front) here
-      (λ i x below at. up_to.before i x (omega (arith, below, found.tagged)) at) in
       record {
         sent = λ other there.
             elim (Contains-push_cases taken packet other there) [
               | inl old ↦ is.sent other old
-              | inr new ↦ subst (Contains (sent_by sessions)) new was_sent
+              | inr new ↦ rw (← new) was_sent
             ];
-        replay = subst (λ items. IsReplay items (line_after h start)) (sym pushed) replay;
+        replay = rw pushed
+            (IsReplay-behind _ _ (map OfEvent cut.0) (line_after h s.base) found.place item is.replay
+            (line_splits h start s.base cut.0 cut.1) (each_of_map (Contains (items_of taken)) cut.0 front) here
+            (λ i x below at. up_to.before i x (omega (arith, below, found.tagged)) at));
         current = λ t among number next expects.
-            let current : current_session after ≡ current_session taken = current_session-push taken packet in
-            let same : s ≡ t =
+            let same =
             one_session h start confirms sessions s t each found.among among
-            (found.its ∙ its ∙ sym current ∙ sym number) in
-            let is_next : next ≡ tag + 1 = tag_after-is tag next (sym (expected_tag-push taken packet) ∙ expects) in
-            subst (λ (x : Shown). IsUpTo h start (items_of after) x next) same
+            (found.its ∙ its ∙ sym (current_session-push taken packet) ∙ sym number) in
+            let is_next = tag_after-is tag next (sym (expected_tag-push taken packet) ∙ expects) in
+            rw (← same)
             (record {
               base = λ e there low. more (OfEvent e) (up_to.base e there low);
               before = λ k x below at.
@@ -200,9 +183,8 @@ module _ (h : History) (sound : IsSound h) (start : ℕ) (confirms : List Confir
                     | inl early ↦ more x (up_to.before k x early at)
                     | inr late ↦
                         let this : k ≡ found.place = omega (arith, late, below, is_next, found.tagged) in
-                        let item_is : item ≡ x =
-                        same_Some item x (sym here ∙ ap (slice_get (line_after h s.base)) (sym this) ∙ at) in
-                        subst (Contains (items_of after)) item_is last
+                        let item_is = same_Some item x (sym here ∙ rw this at at) in
+                        rw (pushed, ← item_is) (Contains-push (items_of taken) item)
                   ];
             });
       }
@@ -231,16 +213,13 @@ module _ (h : History) (sound : IsSound h) (start : ℕ) (confirms : List Confir
       elim (cases_Bool (is_taken taken packet)) [
         | inl takes ↦
             let same = taken_after-true taken packet takes in
-            let of_taken : AreOfTaken confirms (fold taken_after (taken ++ packet ∷ []) rest) =
-            subst (λ ps. AreOfTaken confirms (fold taken_after ps rest)) same confirmed in
-            subst (λ ps. IsInTurn (fold taken_after ps rest)) (sym same)
+            let of_taken = rw same at confirmed in
+            rw same
             (IsInTurn-all (taken ++ packet ∷ []) rest of_taken others
             (IsInTurn-taken taken rest packet of_taken is first takes))
         | inr passes ↦
             let same = taken_after-false taken packet passes in
-            let of_taken : AreOfTaken confirms (fold taken_after taken rest) =
-            subst (λ ps. AreOfTaken confirms (fold taken_after ps rest)) same confirmed in
-            subst (λ ps. IsInTurn (fold taken_after ps rest)) (sym same) (IsInTurn-all taken rest of_taken others is)
+            rw same (IsInTurn-all taken rest (rw same at confirmed) others is)
       ]
 
 -- so whatever arrives of what a connector has sent, what a broker takes of it is a replay of the line after the start
@@ -248,7 +227,6 @@ pub IsReplay-taken : (h : History) (start : ℕ) (sent arrived : List Packet) (c
     → IsConnectorRun h start sent confirms → AreAmong arrived sent → AreOfTaken confirms (taken_of arrived)
     → IsReplay (items_of (taken_of arrived)) (line_after h start)
 IsReplay-taken h start sent arrived confirms sound run among confirmed =
-    let came : AreAmong arrived (sent_by run.sessions) =
-    λ packet there. subst (λ ps. Contains ps packet) (sym run.makes) (among packet there) in
+    let came : AreAmong arrived (sent_by run.sessions) = λ packet there. rw run.makes (among packet there) in
     (IsInTurn-all h sound start confirms run.sessions run.each [] arrived confirmed came
     (IsInTurn-nil h sound start confirms run.sessions run.each)).replay

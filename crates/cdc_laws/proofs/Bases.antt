@@ -1,6 +1,6 @@
 -- When a session connects to a broker, every event after the start and up to the timestamp after which the session
 -- begins was taken.
-use Rattle.std.proofs.Common.{◌≡◌, ℕ, zero, suc, ◌+◌, ◌<◌, ◌≤◌, Bool, true, false, List, [], ◌∷◌, length, get_or, map, refl, sym, ap, ◌∙◌, subst, inl, inr, arith}
+use Rattle.std.proofs.Common.{◌≡◌, ℕ, zero, suc, ◌+◌, ◌<◌, ◌≤◌, Bool, true, false, List, [], ◌∷◌, length, map, refl, sym, ap, ◌∙◌, inl, inr, arith}
 use Rattle.std.specs.Prelude.{Contains, Some, slice_get}
 use Rattle.std.specs.Option.{option_map}
 use Rattle.std.proofs.lemmas.Bool.{cases_lt}
@@ -50,27 +50,22 @@ no_further t es i j a b rise here there early =
       | inl before ↦
           let rises = TimestampsRise-from es (RiseFrom-earlier 0 t es (omega arith) rise) in
           let later = rises.rising i j a before (slice_get_within es j b there) in
-          let first : get_or es i a ≡ a = get_or_from_slice_get es i a a here in
-          let second : get_or es j a ≡ b = get_or_from_slice_get es j b a there in
-          let first_timestamp = ap (λ (e : Event). e.timestamp) first in
-          let second_timestamp = ap (λ (e : Event). e.timestamp) second in
-          absurd (omega (arith, later, first_timestamp, second_timestamp, early))
+          let first = ap (λ (e : Event). e.timestamp) (get_or_from_slice_get es i a a here) in
+          let second = ap (λ (e : Event). e.timestamp) (get_or_from_slice_get es j b a there) in
+          absurd (omega (arith, later, first, second, early))
       | inr not ↦ not
     ]
 
 -- an element of the prefix is at the same place in the whole list
 pub prefix_at : {X : Type 0} (some all : List X) (k : ℕ) (x : X) → IsPrefix some all → slice_get some k ≡ Some x
     → slice_get all k ≡ Some x
-prefix_at {X} some all k x front there =
-    subst (λ (xs : List X). slice_get xs k ≡ Some x) front.whole (slice_get-append some front.rest k x there)
+prefix_at some all k x front there = rw front.whole at (slice_get-append some front.rest k x there)
 
 -- and conversely, if the place is within the prefix
 pub prefix_has : {X : Type 0} (some all : List X) (k : ℕ) (x : X) → IsPrefix some all → k < length some
     → slice_get all k ≡ Some x → slice_get some k ≡ Some x
 prefix_has {X} some all k x front below there =
-    sym (slice_get-before some front.rest k below)
-    ∙ ap (λ (xs : List X). slice_get xs k) front.whole
-    ∙ there
+    sym (slice_get-before some front.rest k below) ∙ ap (λ (xs : List X). slice_get xs k) front.whole ∙ there
 
 module _ (h : History) (sound : IsSound h) (start : ℕ) where
   -- an event after a timestamp is among those after it
@@ -80,27 +75,22 @@ module _ (h : History) (sound : IsSound h) (start : ℕ) where
       let cut = split_events h t sound in
       elim (Contains-append_cases cut.0 (events_after t (events h)) e (rw cut.1.whole at there)) [
         | inl early ↦
-            let low : e.timestamp ≤ t = each_has (λ x. x.timestamp ≤ t) cut.0 e cut.1.low early in
-            absurd (omega (arith, late, low))
-        | inr (k, below, is) ↦ (
-          k,
-          slice_get_read (events_after t (events h)) (length (events_after t (events h))) k e refl below (sym is),
-        )
+            let low = each_has (λ x. x.timestamp ≤ t) cut.0 e cut.1.low early in absurd (omega (arith, late, low))
+        | inr (k, below, is) ↦ (k, slice_get_read (events_after t (events h)) _ k e refl below (sym is))
       ]
 
   -- an event after the start is one of the ledger's
   of_all : (e : Event) → Contains (events_after start (events h)) e → Contains (events h) e
   of_all e there =
       let cut = split_events h start sound in
-      subst (λ (es : List Event). Contains es e) (sym cut.1.whole)
-      (Contains-append_right cut.0 (events_after start (events h)) e there)
+      rw cut.1.whole (Contains-append_right cut.0 (events_after start (events h)) e there)
 
   -- no event after the start is up to it
   none_at_start : (taken : List Item) → HasTakenUpTo h start taken start
   none_at_start taken e there low =
       let es : List Event = events_after start (events h) in
-      let above : start < e.timestamp =
-      each_has (λ x. start < x.timestamp) es e (all_later start es (split_events h start sound).1.rise) there in
+      let rise = all_later start es (split_events h start sound).1.rise in
+      let above = each_has (λ x. start < x.timestamp) es e rise there in
       absurd (omega (arith, above, low))
 
   module _ (confirms : List Confirm) (n : ℕ) (taken : List Item) where
@@ -118,19 +108,17 @@ module _ (h : History) (sound : IsSound h) (start : ℕ) where
         elim (cases_lt s.base e.timestamp) [
           | inl late ↦
               let es : List Event = events_after s.base (events h) in
-              let rise : RiseFrom s.base es = (split_events h s.base sound).1.rise in
               let found = after_at s.base e (of_all e there) late in
-              let last : slice_get es is.place ≡ Some is.event =
+              let last =
               event_at es h.closed is.place is.event
               (prefix_at s.items (line_after h s.base) is.place (OfEvent is.event) front is.published) in
-              let early : found.0 ≤ is.place =
-              no_further s.base es is.place found.0 is.event e rise last found.1 (omega (arith, low, is.at)) in
-              let within : found.0 < length s.items =
-              omega (arith, early, slice_get_within s.items is.place (OfEvent is.event) is.published) in
-              let here : slice_get s.items found.0 ≡ Some (OfEvent e) =
-              prefix_has s.items (line_after h s.base) found.0 (OfEvent e) front within
-              (emitted_at es h.closed found.0 e found.1) in
-              has s among below found.0 (OfEvent e) here
+              let early =
+              no_further s.base es is.place found.0 is.event e (split_events h s.base sound).1.rise last found.1
+              (omega (arith, low, is.at)) in
+              let within = slice_get_within s.items is.place (OfEvent is.event) is.published in
+              has s among below found.0 (OfEvent e)
+              (prefix_has s.items (line_after h s.base) found.0 (OfEvent e) front (omega (arith, early, within))
+              (emitted_at es h.closed found.0 e found.1))
               (is.confirmed (found.0 + 1) (omega arith) (omega (arith, early)))
           | inr early ↦ base e there early
         ]
@@ -140,13 +128,11 @@ module _ (h : History) (sound : IsSound h) (start : ℕ) where
         → AreSessions h start confirms earlier → HasConfirmed earlier → x.number ≤ n
         → ((t : Shown) → Contains earlier t → t.number ≤ n → HasTakenUpTo h start taken t.base)
         → IsBase start confirms earlier x.base → HasTakenUpTo h start taken x.base
-    of_base earlier x may each has low before (inl none) =
-        subst (HasTakenUpTo h start taken) (sym none) (none_at_start taken)
+    of_base earlier x may each has low before (inl none) = rw none (none_at_start taken)
     of_base earlier x may each has low before (inr (t, among, inl same)) =
-        let above : t.number < x.number = may.above t among in
-        subst (HasTakenUpTo h start taken) same (before t among (omega (arith, above, low)))
+        let above = may.above t among in rw (← same) (before t among (omega (arith, above, low)))
     of_base earlier x may each has low before (inr (t, among, inr is)) =
-        let above : t.number < x.number = may.above t among in
+        let above = may.above t among in
         up_to_confirmed earlier t x.base has among (omega (arith, above, low))
         (follows h start confirms earlier t each among).may.items (before t among (omega (arith, above, low))) is
 
@@ -158,9 +144,9 @@ module _ (h : History) (sound : IsSound h) (start : ℕ) where
         let older : HasConfirmed earlier = λ t among. has t (Contains-append_right (x ∷ []) earlier t among) in
         elim (Contains-cons_cases x earlier s there) [
           | inl is ↦
-              let number : x.number ≡ s.number = ap (λ (y : Shown). y.number) is in
-              subst (λ (y : Shown). HasTakenUpTo h start taken y.base) is
-              (of_base earlier x each.0 each.1 older (omega (arith, low, number))
-              (λ t among below. bases_taken earlier each.1 older t among below) each.0.base)
+              let number = ap (λ (y : Shown). y.number) is in
+              rw (← is)
+              (of_base earlier x each.0 each.1 older (omega (arith, low, number)) (bases_taken earlier each.1 older)
+              each.0.base)
           | inr old ↦ bases_taken earlier each.1 older s old low
         ]

@@ -105,8 +105,7 @@ all_front P (x ∷ xs) ys all = (all.0, all_front P xs ys all.1)
 IsUpTo-pushed : (h : History) (e : Entry) → IsUpTo h.last h → h.last < e.timestamp → IsUpTo e.timestamp (pushed h e)
 IsUpTo-pushed h e within after =
     AllByRecursion_push (λ x. x.timestamp ≤ e.timestamp) h.entries e
-    (AllByRecursion-weaker (λ x. x.timestamp ≤ h.last) (λ x. x.timestamp ≤ e.timestamp)
-    (λ x early. omega arith) h.entries within) (omega arith)
+    (AllByRecursion-weaker _ (λ x. x.timestamp ≤ e.timestamp) (λ x early. omega arith) h.entries within) (omega arith)
 
 -- so it goes on through further entries, even if more entries follow
 ShowsLast-followed : (all : List Entry) (h : History) (es later : List Entry) → h.entries ++ (es ++ later) ≡ all
@@ -115,8 +114,7 @@ ShowsLast-followed : (all : List Entry) (h : History) (es later : List Entry) �
     → ShowsLast (followed h es) × IsUpTo (end_timestamp h.last es) (followed h es)
 ShowsLast-followed all h [] later whole shows within rise sides known = rw append-nil (shows, within)
 ShowsLast-followed all h (e ∷ es) later whole shows within rise sides known =
-    let before = all_front (HasSidesOf e) h.entries (e ∷ (es ++ later))
-    (subst (AllByRecursion (HasSidesOf e)) (sym whole) sides.0) in
+    let before = all_front (HasSidesOf e) h.entries (e ∷ (es ++ later)) (rw whole sides.0) in
     let next = ShowsLast-pushed h e shows within rise.0 before known.0 in
     let rest = ShowsLast-followed all (pushed h e) es later (append_assoc h.entries (e ∷ []) (es ++ later) ∙ whole) next
     (IsUpTo-pushed h e within rise.0) rise.1 sides.1 known.1 in
@@ -166,15 +164,9 @@ front_of : {X Y : Type 0} (f : X → Y) (xs : List X) (start rest : List Y) → 
 front_of f xs [] rest same = record { front = []; back = xs; whole = refl; made = refl }
 front_of f [] (y ∷ start) rest same = cc
 front_of f (x ∷ xs) (y ∷ start) rest same =
-    let first : f x ≡ y = cc in
     let others : start ++ rest ≡ map f xs = cc in
     let more = front_of f xs start rest others in
-    record {
-      front = x ∷ more.front;
-      back = more.back;
-      whole = ap (λ zs. x ∷ zs) more.whole;
-      made = ap₂ (λ z zs. z ∷ zs) first more.made;
-    }
+    record { front = x ∷ more.front; back = more.back; whole = ap (λ zs. x ∷ zs) more.whole; made = cc }
 
 -- the entries after the first ones are later than these, so they change no balances as of the last of these
 rise_back : (t : ℕ) (xs ys : List Entry) → RiseFrom t (xs ++ ys) → RiseFrom (end_timestamp t xs) ys
@@ -197,22 +189,20 @@ holds_front h sound front back whole id =
     at_front = followed (before_all h) front
 
     rises : RiseFrom 0 (front ++ back)
-    rises = subst (RiseFrom 0) (sym whole) sound.rising
+    rises = rw whole sound.rising
 
     shows : ShowsLast at_front × IsUpTo (end_timestamp 0 front) at_front
     shows = ShowsLast-followed h.entries (before_all h) front back whole (λ n. refl) tt (rise_front 0 front back rises)
-        (all_front _ front back (subst (AllByRecursion _) (sym whole) (sides_of_all h sound)))
-        (all_front _ front back (subst (AllByRecursion _) (sym whole) sound.known))
+        (all_front _ front back (rw whole (sides_of_all h sound))) (all_front _ front back (rw whole sound.known))
 
     same_events : map (event_of h) front ≡ events at_front
-    same_events =
-        rw whole at (events-followed at_front back shows.1 (rise_back 0 front back rises))
+    same_events = rw whole at (events-followed at_front back shows.1 (rise_back 0 front back rises))
 
     as_of_end : as_of h (last_timestamp (map (event_of h) front)) id ≡ balances at_front id (end_timestamp 0 front)
     as_of_end =
-        let later : RiseFrom (end_timestamp 0 front) back = rise_back 0 front back rises in
         rw (last-events h 0 front)
-        (rw whole at (balances-followed at_front id (end_timestamp 0 front) back (omega arith) later))
+        (rw whole at
+        (balances-followed at_front id (end_timestamp 0 front) back (omega arith) (rise_back 0 front back rises)))
 
 -- the book of a prefix of a ledger's events holds, for every number, the ledger's balances as of the last event of
 -- the prefix
@@ -242,11 +232,10 @@ found_sums (Some entry) id = refl
 pub last_shown-prefix : (h : History) (emitted : List Event) → IsSound h → IsPrefix emitted (events h) → (id : ℕ)
     → last_shown (flat_map sides emitted) id ≡ record { id = id; balances = as_of h (last_timestamp emitted) id }
 last_shown-prefix h emitted sound start id =
-    let number = found_id (reverse (flat_map sides emitted)) id in
-    let held : (last_shown (flat_map sides emitted) id).balances ≡ as_of h (last_timestamp emitted) id =
-    found_sums (seen id emitted) id ∙ (ap (λ o. unwrap_or o no_balances) (sym (balances_in-book_of emitted id))
-    ∙ holds-balances h emitted sound start id) in
-    ap₂ (λ (n : ℕ) (b : Balances). record { id = n; balances = b }) number held
+    ap₂ (λ (n : ℕ) (b : Balances). record { id = n; balances = b }) (found_id (reverse (flat_map sides emitted)) id)
+    (found_sums (seen id emitted) id
+    ∙ ap (λ o. unwrap_or o no_balances) (sym (balances_in-book_of emitted id))
+    ∙ holds-balances h emitted sound start id)
 
 -- the whole book of a prefix of a ledger's events: the accounts of these events, in the order of their first
 -- appearance, each with the ledger's balances as of the last of these events

@@ -1,10 +1,8 @@
 -- A connector keeps to its ledger's history, whatever step it takes.
-use Rattle.std.proofs.Common.{◌≡◌, ℕ, ◌+◌, ◌-◌, ◌<◌, ◌≤◌, ◌⊎◌, Bool, true, false, List, [], ◌∷◌, ◌++◌, length, take, refl, sym, ap, ap₂, ◌∙◌, subst, inl, inr, append_assoc, append-nil, arith}
-use Rattle.std.specs.Prelude.{◌==◌, ◌&&◌, not, nat_le, nat_lt, Contains, Option, Some, None, Result, Ok, Err, slice_get, if◌then◌else◌}
-use Rattle.std.specs.List.{list_all}
+use Rattle.std.proofs.Common.{◌≡◌, ℕ, ◌+◌, ◌-◌, ◌<◌, ◌≤◌, ◌⊎◌, true, List, [], ◌∷◌, ◌++◌, length, take, refl, sym, ap, ap₂, ◌∙◌, subst, inl, inr, append_assoc, append-nil, arith}
+use Rattle.std.specs.Prelude.{◌==◌, ◌&&◌, not, nat_lt, Contains, Option, Some, None, Ok, slice_get}
 use Rattle.std.specs.Option.{option_map}
-use Rattle.std.proofs.lemmas.Bool.{and_parts, cases_Bool, eqb-false, eqb-true}
-use Rattle.std.proofs.lemmas.Bool.Decides.{nat_tests}
+use Rattle.std.proofs.lemmas.Bool.{and_parts, cases_Bool, eqb-false, eqb-true, leb-true}
 use Rattle.std.proofs.lemmas.List.{length-take}
 use Rattle.std.proofs.lemmas.List.Elements.{Contains-append_left, Contains-append_right, Contains-push}
 use Rattle.std.proofs.lemmas.Option.{cond_some, none-some, same_Some, slice_get_within}
@@ -12,7 +10,7 @@ use Rattle.cdc_ledger.specs.Events.{events}
 use Rattle.cdc_ledger.specs.History.{History}
 use Rattle.cdc_laws.specs.Arrivals.{AreAmong}
 use Rattle.cdc_laws.specs.ConnectorRuns.{AreConfirmed, AreSessions, IsBase, IsConfirmed, IsConfirmedTo, IsConnectorRun, Shown, packets_of, publishes_from, sent_by}
-use Rattle.cdc_laws.specs.Connectors.{ConnectorState, IsLive, KeepsTo, SendsInTurn, StandsLast, after_confirm, held_number, held_start, held_timestamp, shown_of}
+use Rattle.cdc_laws.specs.Connectors.{ConnectorState, IsLive, KeepsTo, SendsInTurn, after_confirm, held_number, held_start, held_timestamp, shown_of}
 use Rattle.cdc_laws.specs.GoingOn.{GoesOn}
 use Rattle.cdc_laws.specs.Line.{emitted}
 use Rattle.cdc_laws.proofs.Bases.{prefix_has, emitted_at}
@@ -25,15 +23,13 @@ use Rattle.cdc_log.specs.Log.{events_after}
 use Rattle.cdc_message.specs.declared.items.Item.{Item}
 use Rattle.cdc_message.specs.declared.items.Item.TheVariants.{Event as OfEvent, EndMark}
 use Rattle.cdc_message.specs.declared.packets.Answer.{Answer}
-use Rattle.cdc_message.specs.declared.packets.Answer.TheVariants.{Connected, Confirmed, Ignored, Broken}
+use Rattle.cdc_message.specs.declared.packets.Answer.TheVariants.{Confirmed}
 use Rattle.cdc_message.specs.declared.packets.Confirm.{Confirm}
 use Rattle.cdc_message.specs.declared.packets.Packet.{Packet}
 use Rattle.cdc_message.specs.declared.packets.Packet.TheVariants.{Connect, Publish}
 use Rattle.cdc_message.specs.Replays.{IsPrefix}
-use Rattle.cdc_progress.specs.Records.{Saved}
-use Rattle.cdc_publisher.specs.Courses.{Course, after_answer, begun, confirmed_timestamp, first_saved, is_confirmed, is_sent, last_session, may_end, new_course, next_packet, numbers_from, progress_of, publish_packet, tags_sent, takes_confirm, with_confirm, with_sent}
-use Rattle.cdc_publisher.specs.declared.errors.StartError.{StartError}
-use Rattle.cdc_publisher.specs.declared.errors.StartError.TheVariants.{SessionsExhausted}
+use Rattle.cdc_publisher.specs.Records.{Saved}
+use Rattle.cdc_publisher.specs.Courses.{Course, after_answer, begun, confirmed_timestamp, first_saved, is_confirmed, is_sent, last_session, may_end, new_course, next_packet, progress_of, publish_packet, tags_sent, takes_confirm, with_confirm, with_sent}
 use Rattle.cdc_types.specs.declared.events.Event.{Event}
 
 -- a connector keeps to a history by the packets that it has sent and the confirms that it has received
@@ -79,42 +75,21 @@ record Begins (held : Option Saved) (saved : Saved) : Type 0 where
   from : ((held ≡ None) × (saved.timestamp ≡ saved.start))
       ⊎ ((saved.timestamp ≡ held_timestamp held) × (saved.start ≡ held_start held))
 
--- what is saved is one thing
-same_Ok : (x y : Saved) (answer : Result Saved StartError) → answer ≡ Ok x → answer ≡ Ok y → x ≡ y
-same_Ok x y answer is also = cc
-
 begun_parts : (held : Option Saved) (at : Option ℕ) (saved : Saved) → begun held at ≡ Ok saved → Begins held saved
 begun_parts None at saved is =
-    let same : first_saved at ≡ saved = same_Ok (first_saved at) saved (begun None at) refl is in
+    let same : first_saved at ≡ saved = cc in
     subst (Begins None) same (record { number = omega arith; from = inl (refl, refl) })
 begun_parts (Some held) (Some time) saved is = cc
-begun_parts (Some held) None saved is = either (held.session == last_session) is
-  where
-    next : Saved
-    next = record held { session = held.session + 1 }
+begun_parts (Some held) None saved is =
+    elim (cases_Bool (held.session == last_session)) [
+      | inl last ↦ let none = rw last at is in cc
+      | inr more ↦
+          let next = rw more at is in
+          let same : record held { session = held.session + 1 } ≡ saved = cc in
+          subst (Begins (Some held)) same (record { number = omega arith; from = inr (refl, refl) })
+    ]
 
-    either : (b : Bool) → (if b then Err SessionsExhausted else Ok next) ≡ Ok saved → Begins (Some held) saved
-    either true is = cc
-    either false is =
-        subst (Begins (Some held)) (same_Ok next saved (Ok next) refl is)
-        (record { number = omega arith; from = inr (refl, refl) })
-
--- a session that begins so is live
-IsLive-new : (h : History) (confirms : List Confirm) (sessions : List Shown) (saved : Saved) (window : ℕ)
-    → IsBase saved.start confirms sessions saved.timestamp
-    → ((s : Shown) → Contains sessions s → s.number < saved.session)
-    → IsLive h saved.start confirms sessions saved.session (new_course saved window)
-IsLive-new h confirms sessions saved window base above = record {
-  its = refl;
-  starts = refl;
-  offered = record { rest = events_after saved.timestamp (events h); whole = refl };
-  complete = λ is. cc;
-  confirmed = λ tag is. cc;
-  in_turn = inl (omega arith);
-  last = inl (refl, base, above);
-}
-
--- so a connector keeps to its history, whether or not sessions came before this one
+-- a session that begins so is live, so a connector keeps to its history, whether or not sessions came before it
 KeepsTo-new : (h : History) (c : ConnectorState) (saved : Saved) (window : ℕ) (sessions : List Shown)
     → sent_by sessions ≡ c.sent → AreSessions h saved.start c.confirms sessions
     → IsBase saved.start c.confirms sessions saved.timestamp
@@ -128,8 +103,16 @@ KeepsTo-new h c saved window sessions makes each base above = record {
   none_yet = λ nothing. absurd (none-some saved (sym nothing));
   base = base;
   live = λ course there.
-      subst (IsLive h saved.start c.confirms sessions saved.session) (same_Some (new_course saved window) course there)
-      (IsLive-new h c.confirms sessions saved window base above);
+      rw (← same_Some (new_course saved window) course there)
+      (record {
+        its = refl;
+        starts = refl;
+        offered = record { rest = events_after saved.timestamp (events h); whole = refl };
+        complete = λ is. cc;
+        confirmed = λ tag is. cc;
+        in_turn = inl (omega arith);
+        last = inl (refl, base, above);
+      });
 }
 
 -- the new number is held, and its session comes to be or not
@@ -137,25 +120,21 @@ pub KeepsTo-start : (h : History) (c : ConnectorState) (at : Option ℕ) (saved 
     → begun c.held at ≡ Ok saved
     → KeepsTo h (record c { held = Some saved; session = Some (new_course saved window) })
 KeepsTo-start h c at saved window keeps new =
-    let begins : Begins c.held saved = begun_parts c.held at saved new in
+    let begins = begun_parts c.held at saved new in
     elim begins.from [
       | inl first ↦
           KeepsTo-new h c saved window [] (ap sent_by (sym (keeps.none_yet first.0).0) ∙ keeps.makes) tt (inl first.1)
           (λ s there. absurd (none_there s there))
       | inr goes_on ↦
-          KeepsTo-new h c saved window keeps.sessions keeps.makes
-          (subst (λ start. AreSessions h start c.confirms keeps.sessions) (sym goes_on.1) keeps.each)
-          (subst (λ t. IsBase saved.start c.confirms keeps.sessions t) (sym goes_on.0)
-          (subst (λ start. IsBase start c.confirms keeps.sessions (held_timestamp c.held)) (sym goes_on.1) keeps.base))
+          KeepsTo-new h c saved window keeps.sessions keeps.makes (rw goes_on.1 keeps.each)
+          (rw (goes_on.0, goes_on.1) keeps.base)
           (λ s there. let low = keeps.numbers s there in omega (arith, low, begins.number))
     ]
 
 -- if saving fails, the new number may be held without a session
 pub KeepsTo-half_started : (h : History) (c : ConnectorState) (at : Option ℕ) (saved : Saved) → KeepsTo h c
     → begun c.held at ≡ Ok saved → KeepsTo h (record c { held = Some saved; session = None })
-KeepsTo-half_started h c at saved keeps new =
-    KeepsTo-end h (record c { held = Some saved; session = Some (new_course saved 1) })
-    (KeepsTo-start h c at saved 1 keeps new)
+KeepsTo-half_started h c at saved keeps new = KeepsTo-end h _ (KeepsTo-start h c at saved 1 keeps new)
 
 -- ---- it sends a packet
 
@@ -166,34 +145,27 @@ IsBase-older start confirms sessions s t (inl none) = inl none
 IsBase-older start confirms sessions s t (inr (other, among, which)) =
     inr (other, Contains-append_right (s ∷ []) sessions other among, which)
 
--- and when the latest publishes one more item
-IsBase-longer : (start : ℕ) (confirms : List Confirm) (earlier : List Shown) (s longer : Shown) (t : ℕ)
-    → longer.number ≡ s.number → longer.base ≡ s.base
-    → ((k : ℕ) (item : Item) → slice_get s.items k ≡ Some item → slice_get longer.items k ≡ Some item)
-    → IsBase start confirms (s ∷ earlier) t → IsBase start confirms (longer ∷ earlier) t
-IsBase-longer start confirms earlier s longer t number base kept (inl none) = inl none
-IsBase-longer start confirms earlier s longer t number base kept (inr (other, among, which)) =
+-- and when the latest publishes more items
+IsBase-longer : (start : ℕ) (confirms : List Confirm) (earlier : List Shown) (s : Shown) (more : List Item) (t : ℕ)
+    → IsBase start confirms (s ∷ earlier) t → IsBase start confirms (record s { items = s.items ++ more } ∷ earlier) t
+IsBase-longer start confirms earlier s more t (inl none) = inl none
+IsBase-longer start confirms earlier s more t (inr (other, among, which)) =
     elim (Contains-cons_cases s earlier other among) [
       | inl is ↦
           elim which [
-            | inl same ↦
-                inr (longer, (0, omega arith, refl), inl (base ∙ ap (λ (x : Shown). x.base) is ∙ same))
+            | inl same ↦ inr (_, (0, omega arith, refl), inl (ap (λ (x : Shown). x.base) is ∙ same))
             | inr to ↦
-                let own : IsConfirmedTo confirms s t = subst (λ x. IsConfirmedTo confirms x t) (sym is) to in
-                inr (
-                  longer,
-                  (0, omega arith, refl),
-                  inr
-                      (record {
-                        place = own.place;
-                        event = own.event;
-                        published = kept own.place (OfEvent own.event) own.published;
-                        at = own.at;
-                        confirmed = subst (λ n. AreConfirmed confirms n (own.place + 1)) (sym number) own.confirmed;
-                      }),
-                )
+                let own : IsConfirmedTo confirms s t = rw is to in
+                let longer : IsConfirmedTo confirms (record s { items = s.items ++ more }) t = record {
+                  place = own.place;
+                  event = own.event;
+                  published = slice_get-append s.items more own.place (OfEvent own.event) own.published;
+                  at = own.at;
+                  confirmed = own.confirmed;
+                } in
+                inr (_, (0, omega arith, refl), inr longer)
           ]
-      | inr old ↦ inr (other, Contains-append_right (longer ∷ []) earlier other old, which)
+      | inr old ↦ inr (other, Contains-append_right (_ ∷ []) earlier other old, which)
     ]
 
 -- if a session runs, something is held
@@ -207,51 +179,53 @@ module _ (h : History) (c : ConnectorState) (keeps : KeepsTo h c) (course : Cour
   abbrev on : Course
   on = record course { sent = course.sent + 1 }
 
-  -- it connects
-  KeepsTo-connect : course.sent ≡ 0
-      → KeepsTo h (record c { session = Some on; sent = c.sent ++ Connect course.number ∷ [] })
-  KeepsTo-connect first =
-      let start : ℕ = held_start c.held in
-      let live : IsLive h start c.confirms keeps.sessions (held_number c.held) course = keeps.live course runs in
-      let nothing : tags_sent on ≡ 0 = omega (arith, first) in
-      let none : (shown_of on).items ≡ [] = ap (λ n. take n (emitted course.offered true)) nothing in
-      let in_turn : SendsInTurn c.confirms on = inl (omega (arith, first)) in
-      let last : IsBase start c.confirms keeps.sessions course.base
-      × ((s : Shown) → Contains keeps.sessions s → s.number < course.number) =
-      elim live.last [
-        | inl new ↦ (new.1, new.2)
-        | inr old ↦ absurd (omega (arith, first, old.0))
-      ] in
+  -- one more packet is sent in turn, if the session may follow those before it
+  KeepsTo-on : (packet : Packet) (earlier : List Shown) → sent_by (shown_of on ∷ earlier) ≡ c.sent ++ packet ∷ []
+      → AreSessions h (held_start c.held) c.confirms earlier
+      → ((s : Shown) → Contains earlier s → s.number < course.number)
+      → IsBase (held_start c.held) c.confirms earlier course.base → SendsInTurn c.confirms on
+      → IsBase (held_start c.held) c.confirms (shown_of on ∷ earlier) (held_timestamp c.held)
+      → KeepsTo h (record c { session = Some on; sent = c.sent ++ packet ∷ [] })
+  KeepsTo-on packet earlier makes each above first in_turn base =
+      let live = keeps.live course runs in
       record {
-        sessions = shown_of on ∷ keeps.sessions;
-        makes = ap₂ (λ ps items. ps ++ Connect course.number ∷ publishes_from course.number 1 items) keeps.makes none;
-        each = (
-          MayFollow-course h c.confirms on live.offered live.complete start keeps.sessions last.1 last.0 in_turn,
-          keeps.each,
-        );
+        sessions = shown_of on ∷ earlier;
+        makes = makes;
+        each = (MayFollow-course h c.confirms on live.offered live.complete _ earlier above first in_turn, each);
         numbers = λ s there.
-            elim (Contains-cons_cases (shown_of on) keeps.sessions s there) [
-              | inl is ↦
-                  let number : course.number ≡ s.number = ap (λ (x : Shown). x.number) is in
-                  omega (arith, number, live.its)
-              | inr old ↦ keeps.numbers s old
+            elim (Contains-cons_cases (shown_of on) earlier s there) [
+              | inl is ↦ let number = ap (λ (x : Shown). x.number) is in omega (arith, number, live.its)
+              | inr old ↦ let low = above s old in omega (arith, low, live.its)
             ];
         none_yet = λ nothing. absurd (none_held h c keeps nothing course runs);
-        base = IsBase-older start c.confirms keeps.sessions (shown_of on) (held_timestamp c.held) keeps.base;
+        base = base;
         live = λ other there.
-            subst (IsLive h start c.confirms (shown_of on ∷ keeps.sessions) (held_number c.held))
-            (same_Some on other there)
+            rw (← same_Some on other there)
             (record {
               its = live.its;
               starts = live.starts;
               offered = live.offered;
               complete = live.complete;
-              confirmed = λ tag is.
-                  let was = live.confirmed tag is in (omega (arith, was.0), was.1);
+              confirmed = λ tag is. let was = live.confirmed tag is in (omega (arith, was.0), was.1);
               in_turn = in_turn;
-              last = inr (omega arith, (keeps.sessions, refl));
+              last = inr (omega arith, (earlier, refl));
             });
       }
+
+  -- it connects
+  KeepsTo-connect : course.sent ≡ 0
+      → KeepsTo h (record c { session = Some on; sent = c.sent ++ Connect course.number ∷ [] })
+  KeepsTo-connect first =
+      let nothing : tags_sent on ≡ 0 = omega (arith, first) in
+      let none : (shown_of on).items ≡ [] = ap (λ n. take n (emitted course.offered true)) nothing in
+      elim (keeps.live course runs).last [
+        | inl new ↦
+            KeepsTo-on (Connect course.number) keeps.sessions
+            (ap₂ (λ ps items. ps ++ Connect course.number ∷ publishes_from course.number 1 items) keeps.makes none)
+            keeps.each new.2 new.1 (inl (omega (arith, first)))
+            (IsBase-older _ c.confirms keeps.sessions (shown_of on) (held_timestamp c.held) keeps.base)
+        | inr old ↦ absurd (omega (arith, first, old.0))
+      ]
 
   -- it publishes the item that comes next
   KeepsTo-publish : (item : Item) → 0 < course.sent
@@ -262,65 +236,25 @@ module _ (h : History) (c : ConnectorState) (keeps : KeepsTo h c) (course : Cour
       elim (keeps.live course runs).last [
         | inl new ↦ absurd (omega (arith, some, new.0))
         | inr (_, (earlier, is)) ↦
-            let start : ℕ = held_start c.held in
-            let live : IsLive h start c.confirms keeps.sessions (held_number c.held) course = keeps.live course runs in
             let all : List Item = emitted course.offered true in
-            let each : AreSessions h start c.confirms (shown_of course ∷ earlier) =
-            subst (AreSessions h start c.confirms) is keeps.each in
+            let each : AreSessions h (held_start c.held) c.confirms (shown_of course ∷ earlier) = rw is at keeps.each in
             let items : (shown_of on).items ≡ (shown_of course).items ++ item ∷ [] =
             ap (λ n. take n all) (omega (arith, some)) ∙ take_one (tags_sent course) all item here in
-            let within : tags_sent course < length all = slice_get_within all (tags_sent course) item here in
+            let within = slice_get_within all (tags_sent course) item here in
             let tag : 1 + length (shown_of course).items ≡ course.sent =
             omega (arith, length-take (tags_sent course) all, within, some) in
-            let packets : packets_of (shown_of on)
-            ≡ packets_of (shown_of course) ++ Publish course.number course.sent item ∷ [] =
-            ap (λ (xs : List Item). Connect course.number ∷ publishes_from course.number 1 xs) items
-            ∙ ap (λ ps. Connect course.number ∷ ps)
-            (publishes_from-push course.number 1 (shown_of course).items item
+            let packets : publishes_from course.number 1 (shown_of on).items
+            ≡ publishes_from course.number 1 (shown_of course).items ++ Publish course.number course.sent item ∷ [] =
+            ap (publishes_from course.number 1) items
+            ∙ publishes_from-push course.number 1 (shown_of course).items item
             ∙ ap (λ n. publishes_from course.number 1 (shown_of course).items ++ Publish course.number n item ∷ [])
-            tag) in
-            record {
-              sessions = shown_of on ∷ earlier;
-              makes = ap (λ ps. sent_by earlier ++ ps) packets
-                  ∙ sym (append_assoc (sent_by earlier) (packets_of (shown_of course))
-                  (Publish course.number course.sent item ∷ []))
-                  ∙ ap (λ ps. ps ++ Publish course.number course.sent item ∷ [])
-                  (ap sent_by (sym is) ∙ keeps.makes);
-              each = (
-                MayFollow-course h c.confirms on live.offered live.complete start earlier each.0.above each.0.base
-                    in_turn,
-                each.1,
-              );
-              numbers = λ s there.
-                  elim (Contains-cons_cases (shown_of on) earlier s there) [
-                    | inl same ↦
-                        let number : course.number ≡ s.number = ap (λ (x : Shown). x.number) same in
-                        omega (arith, number, live.its)
-                    | inr old ↦
-                        keeps.numbers s
-                        (subst (λ xs. Contains xs s) (sym is)
-                        (Contains-append_right (shown_of course ∷ []) earlier s old))
-                  ];
-              none_yet = λ nothing. absurd (none_held h c keeps nothing course runs);
-              base = IsBase-longer start c.confirms earlier (shown_of course) (shown_of on) (held_timestamp c.held) refl
-                  refl
-                  (λ k x at. subst (λ (xs : List Item). slice_get xs k ≡ Some x) (sym items)
-                  (slice_get-append (shown_of course).items (item ∷ []) k x at))
-                  (subst (λ xs. IsBase start c.confirms xs (held_timestamp c.held)) is keeps.base);
-              live = λ other there.
-                  subst (IsLive h start c.confirms (shown_of on ∷ earlier) (held_number c.held))
-                  (same_Some on other there)
-                  (record {
-                    its = live.its;
-                    starts = live.starts;
-                    offered = live.offered;
-                    complete = live.complete;
-                    confirmed = λ tag is.
-                        let was = live.confirmed tag is in (omega (arith, was.0), was.1);
-                    in_turn = in_turn;
-                    last = inr (omega arith, (earlier, refl));
-                  });
-            }
+            tag in
+            KeepsTo-on (Publish course.number course.sent item) earlier
+            (ap (λ ps. sent_by earlier ++ Connect course.number ∷ ps) packets
+            ∙ sym (append_assoc (sent_by earlier) (packets_of (shown_of course)) _)
+            ∙ ap (λ ps. ps ++ Publish course.number course.sent item ∷ []) (ap sent_by (sym is) ∙ keeps.makes))
+            each.1 each.0.above each.0.base in_turn
+            (rw items (IsBase-longer _ c.confirms earlier (shown_of course) (item ∷ []) _ (rw is at keeps.base)))
       ]
 
   -- an event, or the end mark once each tag before it was confirmed
@@ -328,29 +262,23 @@ module _ (h : History) (c : ConnectorState) (keeps : KeepsTo h c) (course : Cour
       → slice_get course.offered (tags_sent course) ≡ event → publish_packet course event ≡ Some packet
       → KeepsTo h (record c { session = Some on; sent = c.sent ++ packet ∷ [] })
   KeepsTo-next (Some event) packet some there is =
-      let below : tags_sent course < length course.offered =
-      slice_get_within course.offered (tags_sent course) event there in
-      subst (λ p. KeepsTo h (record c { session = Some on; sent = c.sent ++ p ∷ [] }))
-      (same_Some (Publish course.number course.sent (OfEvent event)) packet is)
+      let below = slice_get_within course.offered (tags_sent course) event there in
+      rw (← same_Some (Publish course.number course.sent (OfEvent event)) packet is)
       (KeepsTo-publish (OfEvent event) some (emitted_at course.offered true (tags_sent course) event there)
       (inl (omega (arith, below, some))))
   KeepsTo-next None packet some there is =
       let ends =
       cond_some (may_end course && (tags_sent course == length course.offered))
       (Publish course.number course.sent EndMark) packet is in
-      let tests = and_parts (may_end course) (tags_sent course == length course.offered) ends.0 in
-      let parts =
-      and_parts course.complete (list_all (is_confirmed course) (numbers_from 1 (length course.offered))) tests.0 in
-      let place : tags_sent course ≡ length course.offered =
-      eqb-true (tags_sent course) (length course.offered) tests.1 in
+      let tests = and_parts (may_end course) _ ends.0 in
+      let parts = and_parts course.complete _ tests.0 in
       let confirmed : AreConfirmed c.confirms course.number (length course.offered) =
       λ tag above low.
       ((keeps.live course runs).confirmed tag
-      (each_number (is_confirmed course) 1 (length course.offered) tag parts.1 (omega (arith, above))
-      (omega (arith, low)))).1 in
-      subst (λ p. KeepsTo h (record c { session = Some on; sent = c.sent ++ p ∷ [] })) ends.1
+      (each_number (is_confirmed course) 1 _ tag parts.1 (omega (arith, above)) (omega (arith, low)))).1 in
+      rw (← ends.1)
       (KeepsTo-publish EndMark some
-      (ap (slice_get (emitted course.offered true)) place ∙ end_at course.offered)
+      (ap (slice_get (emitted course.offered true)) (eqb-true (tags_sent course) _ tests.1) ∙ end_at course.offered)
       (inr (parts.0, confirmed)))
 
   -- so a connector keeps to its history when its session sends its next packet
@@ -359,9 +287,7 @@ module _ (h : History) (c : ConnectorState) (keeps : KeepsTo h c) (course : Cour
   KeepsTo-sent packet is =
       elim (cases_Bool (course.sent == 0)) [
         | inl first ↦
-            let connects : Connect course.number ≡ packet =
-            same_Some (Connect course.number) packet (rw first at is) in
-            subst (λ p. KeepsTo h (record c { session = Some on; sent = c.sent ++ p ∷ [] })) connects
+            rw (← same_Some (Connect course.number) packet (rw first at is))
             (KeepsTo-connect (eqb-true course.sent 0 first))
         | inr later ↦
             let some : 0 < course.sent = omega (arith, eqb-false course.sent 0 later) in
@@ -370,35 +296,7 @@ module _ (h : History) (c : ConnectorState) (keeps : KeepsTo h c) (course : Cour
 
 -- ---- a confirm comes
 
--- a tag that was sent isn't after the last one
-is_sent-most : (course : Course) (tag : ℕ) → is_sent course tag ≡ true → tag ≤ tags_sent course
-is_sent-most course tag sent =
-    let parts = and_parts (nat_lt 0 tag) (nat_le tag (tags_sent course)) sent in
-    up_to tag (tags_sent course) parts.1
-  where
-    up_to : (n m : ℕ) → nat_le n m ≡ true → n ≤ m
-    up_to n m is = grind (arith, nat_tests)
-
--- an element before the end of a prefix is within the prefix
-in_take : {X : Type 0} (n : ℕ) (xs : List X) (k : ℕ) (x : X) → k < n → slice_get xs k ≡ Some x
-    → k < length (take n xs)
-in_take n xs k x below there =
-    let within : k < length xs = slice_get_within xs k x there in omega (arith, below, within, length-take n xs)
-
--- more confirms, of this session or earlier ones, change nothing of what was sent
-StandsLast-more : (start : ℕ) (confirms more : List Confirm) → AreAmong confirms more → (sessions : List Shown)
-    (course : Course) → StandsLast start confirms sessions course → StandsLast start more sessions course
-StandsLast-more start confirms more kept sessions course (inl new) =
-    inl (new.0, IsBase-more confirms more kept start sessions course.base new.1, new.2)
-StandsLast-more start confirms more kept sessions course (inr old) = inr old
-
--- nor of the turn in which it is sent
-SendsInTurn-more : (confirms more : List Confirm) → AreAmong confirms more → (course : Course)
-    → SendsInTurn confirms course → SendsInTurn more course
-SendsInTurn-more confirms more kept course (inl within) = inl within
-SendsInTurn-more confirms more kept course (inr ends) =
-    inr (ends.0, AreConfirmed-more confirms more kept course.number (length course.offered) ends.1)
-
+-- more confirms, of this session or earlier ones, change nothing of what was sent, nor of the turn in which it is sent,
 -- so a session stays live
 IsLive-more : (h : History) (start : ℕ) (confirms more : List Confirm) → AreAmong confirms more
     → (sessions : List Shown) (number : ℕ) (course : Course) → IsLive h start confirms sessions number course
@@ -409,8 +307,14 @@ IsLive-more h start confirms more kept sessions number course live = record {
   offered = live.offered;
   complete = live.complete;
   confirmed = λ tag is. let was = live.confirmed tag is in (was.0, kept _ was.1);
-  in_turn = SendsInTurn-more confirms more kept course live.in_turn;
-  last = StandsLast-more start confirms more kept sessions course live.last;
+  in_turn = elim live.in_turn [
+    | inl within ↦ inl within
+    | inr ends ↦ inr (ends.0, AreConfirmed-more confirms more kept course.number _ ends.1)
+  ];
+  last = elim live.last [
+    | inl new ↦ inl (new.0, IsBase-more confirms more kept start sessions course.base new.1, new.2)
+    | inr old ↦ inr old
+  ];
 }
 
 -- and one that counts a confirm that came for it does too
@@ -421,11 +325,10 @@ IsLive-confirmed h start confirms sessions number session tag course live there 
     elim (cases_Bool (takes_confirm course session tag)) [
       | inr not ↦ rw not live
       | inl takes ↦
-          let tests =
-          and_parts (session == course.number) (is_sent course tag && not (is_confirmed course tag)) takes in
-          let own : session ≡ course.number = eqb-true session course.number tests.0 in
-          let sent = (and_parts (is_sent course tag) (not (is_confirmed course tag)) tests.1).0 in
-          let low : tag ≤ tags_sent course = is_sent-most course tag sent in
+          let tests = and_parts (session == course.number) _ takes in
+          let own = eqb-true session course.number tests.0 in
+          let sent = (and_parts (is_sent course tag) _ tests.1).0 in
+          let low = leb-true tag (tags_sent course) (and_parts (nat_lt 0 tag) _ sent).1 in
           rw takes
           (record {
             its = live.its;
@@ -435,11 +338,7 @@ IsLive-confirmed h start confirms sessions number session tag course live there 
             confirmed = λ other is.
                 elim (confirmed_cases course tag other is) [
                   | inl old ↦ live.confirmed other old
-                  | inr same ↦ (
-                    subst (λ n. n ≤ tags_sent course) same low,
-                    subst (IsConfirmed confirms course.number) same
-                        (subst (λ n. IsConfirmed confirms n tag) own there),
-                  )
+                  | inr same ↦ (omega (arith, low, same), rw (own, same) at there)
                 ];
             in_turn = live.in_turn;
             last = live.last;
@@ -458,9 +357,7 @@ IsLive-answered h start confirms sessions number confirm course live there = by_
     by_answer (Confirmed tag) is =
         IsLive-confirmed h start confirms sessions number confirm.session tag course live
         (subst (λ (a : Answer). Contains confirms (record { session = confirm.session; answer = a })) (sym is) there)
-    by_answer Connected is = live
-    by_answer Ignored is = live
-    by_answer Broken is = live
+    by_answer other is = live
 
 -- a session after an answer is one that was there before
 mapped : (f : Course → Course) (session : Option Course) (course : Course) → option_map f session ≡ Some course
@@ -498,46 +395,36 @@ KeepsTo-confirm h c confirm keeps =
 saved_base : (h : History) (c : ConnectorState) (keeps : KeepsTo h c) (course : Course) → c.session ≡ Some course
     → IsBase (held_start c.held) c.confirms keeps.sessions (confirmed_timestamp course)
 saved_base h c keeps course runs =
-    let start : ℕ = held_start c.held in
-    let live : IsLive h start c.confirms keeps.sessions (held_number c.held) course = keeps.live course runs in
+    let live = keeps.live course runs in
     elim (reaches course 1 course.base course.offered) [
       | inl same ↦
-          subst (IsBase start c.confirms keeps.sessions) (sym same)
+          rw same
           (elim live.last [
             | inl new ↦ new.1
-            | inr (_, (earlier, is)) ↦
-                let among : Contains keeps.sessions (shown_of course) =
-                subst (λ xs. Contains xs (shown_of course)) (sym is) (0, omega arith, refl) in
-                inr (shown_of course, among, inl refl)
+            | inr (_, (earlier, is)) ↦ inr (shown_of course, rw is (0, omega arith, refl), inl refl)
           ])
       | inr at ↦
           let tags : (tag : ℕ) → 0 < tag → tag ≤ at.place + 1 → is_confirmed course tag ≡ true =
           λ tag above low.
           let this : 1 + (tag - 1) ≡ tag = omega (arith, above) in
-          subst (λ n. is_confirmed course n ≡ true) this (at.all (tag - 1) (omega (arith, low, above))) in
+          rw this at (at.all (tag - 1) (omega (arith, low, above))) in
           let last = live.confirmed (at.place + 1) (tags (at.place + 1) (omega arith) (omega arith)) in
           elim live.last [
             | inl new ↦ absurd (omega (arith, new.0, last.0))
             | inr (_, (earlier, is)) ↦
                 let all : List Item = emitted course.offered true in
-                let here : slice_get (shown_of course).items at.place ≡ Some (OfEvent at.event) =
-                prefix_has (shown_of course).items all at.place (OfEvent at.event)
-                (IsPrefix-take (tags_sent course) all)
-                (in_take (tags_sent course) all at.place (OfEvent at.event) (omega (arith, last.0))
-                (emitted_at course.offered true at.place at.event at.here))
-                (emitted_at course.offered true at.place at.event at.here) in
-                inr (
-                  shown_of course,
-                  subst (λ xs. Contains xs (shown_of course)) (sym is) (0, omega arith, refl),
-                  inr
-                      (record {
-                        place = at.place;
-                        event = at.event;
-                        published = here;
-                        at = at.at;
-                        confirmed = λ tag above low. (live.confirmed tag (tags tag above low)).1;
-                      }),
-                )
+                let here = emitted_at course.offered true at.place at.event at.here in
+                let within = slice_get_within all at.place (OfEvent at.event) here in
+                let to : IsConfirmedTo c.confirms (shown_of course) (confirmed_timestamp course) = record {
+                  place = at.place;
+                  event = at.event;
+                  published = prefix_has (shown_of course).items all at.place (OfEvent at.event)
+                      (IsPrefix-take (tags_sent course) all)
+                      (omega (arith, last.0, within, length-take (tags_sent course) all)) here;
+                  at = at.at;
+                  confirmed = λ tag above low. (live.confirmed tag (tags tag above low)).1;
+                } in
+                inr (shown_of course, rw is (0, omega arith, refl), inr to)
           ]
     ]
 
@@ -546,20 +433,14 @@ pub KeepsTo-save : (h : History) (c : ConnectorState) (course : Course) → Keep
     → KeepsTo h (record c { held = Some (progress_of course) })
 KeepsTo-save h c course keeps runs =
     let live = keeps.live course runs in
-    let number : course.number ≡ held_number c.held = live.its in
-    let start : course.start ≡ held_start c.held = live.starts in
     record {
       sessions = keeps.sessions;
       makes = keeps.makes;
-      each = subst (λ t. AreSessions h t c.confirms keeps.sessions) (sym start) keeps.each;
-      numbers = λ s there. let low = keeps.numbers s there in omega (arith, low, number);
+      each = rw live.starts keeps.each;
+      numbers = λ s there. let low = keeps.numbers s there in omega (arith, low, live.its);
       none_yet = λ nothing. absurd (none-some (progress_of course) (sym nothing));
-      base = subst (λ t. IsBase t c.confirms keeps.sessions (confirmed_timestamp course)) (sym start)
-          (saved_base h c keeps course runs);
-      live = λ other there.
-          subst (λ n. IsLive h course.start c.confirms keeps.sessions n other) (sym number)
-          (subst (λ t. IsLive h t c.confirms keeps.sessions (held_number c.held) other) (sym start)
-          (keeps.live other there));
+      base = rw live.starts (saved_base h c keeps course runs);
+      live = λ other there. rw (live.its, live.starts) (keeps.live other there);
     }
 
 -- ---- the ledger goes on

@@ -1,16 +1,17 @@
 -- A session's course, and the session as it shows.
 use Rattle.std.proofs.Common.{◌≡◌, ◌⊎◌, ℕ, zero, suc, ◌+◌, ◌-◌, ◌<◌, ◌≤◌, Bool, true, false, List, [], ◌∷◌, ◌++◌, length, map, take, drop, refl, sym, ap, ap₂, ◌∙◌, subst, inl, inr, append_assoc, arith}
-use Rattle.std.specs.Prelude.{◌==◌, ◌||◌, Contains, Some, slice_get, if◌then◌else◌}
-use Rattle.std.specs.List.{list_all, list_any}
-use Rattle.std.proofs.lemmas.Bool.{and_parts, cases_lt, eqb-true}
+use Rattle.std.specs.Prelude.{◌==◌, Contains, Some, slice_get}
+use Rattle.std.specs.List.{list_all}
+use Rattle.std.proofs.lemmas.Bool.{and_parts, cases_Bool, cases_lt, eqb-true, or_cases}
+use Rattle.std.proofs.lemmas.List.Folds.{list_any-append}
 use Rattle.std.proofs.lemmas.List.{length-map, length-take, map-append, take-append-drop, take-append-le, take_more}
 use Rattle.std.proofs.lemmas.Option.{get_or_from_slice_get, slice_get_within}
 use Rattle.cdc_ledger.specs.Events.{events}
 use Rattle.cdc_ledger.specs.History.{History}
-use Rattle.cdc_laws.specs.ConnectorRuns.{AreConfirmed, IsBase, MayFollow, Shown, publishes_from}
+use Rattle.cdc_laws.specs.ConnectorRuns.{IsBase, MayFollow, Shown, publishes_from}
 use Rattle.cdc_laws.specs.Connectors.{SendsInTurn, shown_of}
 use Rattle.cdc_laws.specs.Line.{end_mark_if, line_after, emitted}
-use Rattle.cdc_laws.proofs.ListElements.{slice_get-append}
+use Rattle.cdc_laws.proofs.Bases.{prefix_at}
 use Rattle.cdc_laws.proofs.LongerRuns.{IsPrefix-longer}
 use Rattle.cdc_log.specs.Log.{events_after}
 use Rattle.cdc_message.specs.declared.items.Item.{Item}
@@ -23,16 +24,6 @@ use Rattle.cdc_types.specs.declared.events.Event.{Event}
 
 -- ---- places
 
--- an element of a prefix is in the list at the same place, before the prefix's end
-pub of_take : {X : Type 0} (n : ℕ) (xs : List X) (k : ℕ) (x : X) → slice_get (take n xs) k ≡ Some x
-    → (k < n) × (slice_get xs k ≡ Some x)
-of_take {X} n xs k x there =
-    let within : k < length (take n xs) = slice_get_within (take n xs) k x there in (
-      omega (arith, within, length-take n xs),
-      subst (λ (ys : List X). slice_get ys k ≡ Some x) (take-append-drop n xs)
-          (slice_get-append (take n xs) (drop n xs) k x there),
-    )
-
 -- a prefix with one more element
 pub take_one : {X : Type 0} (n : ℕ) (xs : List X) (x : X) → slice_get xs n ≡ Some x
     → take (n + 1) xs ≡ take n xs ++ x ∷ []
@@ -43,6 +34,13 @@ take_one n xs x there =
 -- the first n elements are a prefix
 pub IsPrefix-take : {X : Type 0} (n : ℕ) (xs : List X) → IsPrefix (take n xs) xs
 IsPrefix-take n xs = record { rest = drop n xs; whole = take-append-drop n xs }
+
+-- an element of a prefix is in the list at the same place, before the prefix's end
+pub of_take : {X : Type 0} (n : ℕ) (xs : List X) (k : ℕ) (x : X) → slice_get (take n xs) k ≡ Some x
+    → (k < n) × (slice_get xs k ≡ Some x)
+of_take n xs k x there =
+    let within = slice_get_within (take n xs) k x there in
+    (omega (arith, within, length-take n xs), prefix_at (take n xs) xs k x (IsPrefix-take n xs) there)
 
 -- the end mark comes after the events
 pub end_place : (es : List Event) (closed : Bool) (k : ℕ) → slice_get (emitted es closed) k ≡ Some EndMark
@@ -66,9 +64,8 @@ pub publishes_from-push : (session first : ℕ) (items : List Item) (item : Item
     ≡ publishes_from session first items ++ Publish session (first + length items) item ∷ []
 publishes_from-push session first [] item = ap (λ n. Publish session n item ∷ []) (omega arith)
 publishes_from-push session first (x ∷ items) item =
-    ap (λ ps. Publish session first x ∷ ps)
-    (publishes_from-push session (first + 1) items item
-    ∙ ap (λ n. publishes_from session (first + 1) items ++ Publish session n item ∷ []) (omega arith))
+    let count : first + length (x ∷ items) ≡ (first + 1) + length items = omega arith in
+    rw count (ap (λ ps. Publish session first x ∷ ps) (publishes_from-push session (first + 1) items item))
 
 module _ (h : History) (confirms : List Confirm) (course : Course)
     (offered : IsPrefix course.offered (events_after course.base (events h)))
@@ -87,16 +84,12 @@ module _ (h : History) (confirms : List Confirm) (course : Course)
       → IsPrefix (take n (emitted course.offered true)) (line_after h course.base)
   items_front n (inl within) =
       let es : List Item = map OfEvent course.offered in
-      let size : length es ≡ length course.offered = length-map course.offered OfEvent in
-      subst (λ items. IsPrefix items (line_after h course.base))
-      (sym (take-append-le n es (EndMark ∷ []) (omega (arith, within, size))))
-      (subst (IsPrefix (take n es)) (sym line_offered)
-      (IsPrefix-longer (take n es) es (map OfEvent offered.rest ++ end_mark_if h.closed) (IsPrefix-take n es)))
+      let size = length-map course.offered OfEvent in
+      rw (take-append-le n es (EndMark ∷ []) (omega (arith, within, size)), line_offered)
+      (IsPrefix-longer (take n es) es (map OfEvent offered.rest ++ end_mark_if h.closed) (IsPrefix-take n es))
   items_front n (inr is) =
       let all = complete is in
-      let same : emitted course.offered true ≡ line_after h course.base =
-      ap₂ emitted all.1 (sym all.0) in
-      subst (IsPrefix (take n (emitted course.offered true))) same (IsPrefix-take n (emitted course.offered true))
+      subst (IsPrefix (take n (emitted course.offered true))) (ap₂ emitted all.1 (sym all.0)) (IsPrefix-take n _)
 
   -- a session that sends in turn may follow whatever it might follow before
   pub MayFollow-course : (start : ℕ) (earlier : List Shown)
@@ -109,11 +102,8 @@ module _ (h : History) (confirms : List Confirm) (course : Course)
     items = items_front (tags_sent course) (elim in_turn [ inl within ↦ inl within | inr ends ↦ inr ends.0 ]);
     end = λ place there.
         let parts = of_take (tags_sent course) (emitted course.offered true) place EndMark there in
-        let last : place ≡ length course.offered = end_place course.offered true place parts.1 in
-        elim in_turn [
-          | inl within ↦ absurd (omega (arith, within, last, parts.0))
-          | inr ends ↦ subst (AreConfirmed confirms course.number) (sym last) ends.1
-        ];
+        let last = end_place course.offered true place parts.1 in
+        elim in_turn [ inl within ↦ absurd (omega (arith, within, last, parts.0)) | inr ends ↦ rw last ends.1 ];
   }
 
 -- ---- tests over numbers
@@ -123,39 +113,22 @@ pub each_number : (p : ℕ → Bool) (first count k : ℕ) → list_all p (numbe
     → k < first + count → p k ≡ true
 each_number p first zero k all from below = absurd (omega (arith, from, below))
 each_number p first (suc count) k all from below =
-    let parts = and_parts (p first) (list_all p (numbers_from (first + 1) count)) all in
+    let parts = and_parts (p first) _ all in
     elim (cases_lt first k) [
       | inl later ↦ each_number p (first + 1) count k parts.1 (omega (arith, later)) (omega (arith, below))
-      | inr not ↦ let same : first ≡ k = omega (arith, not, from) in subst (λ n. p n ≡ true) same parts.0
+      | inr not ↦ let same : first ≡ k = omega (arith, not, from) in rw same at parts.0
     ]
 
 -- a tag that is confirmed is the one that was added, or it was confirmed before
 pub confirmed_cases : (course : Course) (tag other : ℕ)
     → is_confirmed (record course { confirmed = course.confirmed ++ tag ∷ [] }) other ≡ true
     → (is_confirmed course other ≡ true) ⊎ (tag ≡ other)
-confirmed_cases course tag other is = from course.confirmed is
-  where
-    or_cases : (b c : Bool) → (b || c) ≡ true → (b ≡ true) ⊎ (c ≡ true)
-    or_cases true c h = inl refl
-    or_cases false c h = inr h
-
-    from : (tags : List ℕ) → list_any (λ n. n == other) (tags ++ tag ∷ []) ≡ true
-        → (list_any (λ n. n == other) tags ≡ true) ⊎ (tag ≡ other)
-    from [] h =
-        elim (or_cases (tag == other) false h) [ inl same ↦ inr (eqb-true tag other same) | inr none ↦ cc ]
-    from (x ∷ tags) h =
-        elim (or_cases (x == other) (list_any (λ n. n == other) (tags ++ tag ∷ [])) h) [
-          | inl first ↦ inl (ap (λ b. b || list_any (λ n. n == other) tags) first)
-          | inr rest ↦
-              elim (from tags rest) [
-                | inl old ↦ inl (later (x == other) (list_any (λ n. n == other) tags) old)
-                | inr new ↦ inr new
-              ]
-        ]
-      where
-        later : (b c : Bool) → c ≡ true → (b || c) ≡ true
-        later true c h = refl
-        later false c h = h
+confirmed_cases course tag other is =
+    let parts = rw (list_any-append (λ n. n == other) course.confirmed (tag ∷ [])) at is in
+    elim (or_cases (is_confirmed course other) _ parts) [
+      | inl old ↦ inl old
+      | inr new ↦ elim (or_cases (tag == other) false new) [ inl same ↦ inr (eqb-true tag other same) | inr none ↦ cc ]
+    ]
 
 -- ---- how far a session is confirmed
 
@@ -172,37 +145,28 @@ pub reaches : (course : Course) (tag time : ℕ) (es : List Event)
     → (confirmed_from course time tag es ≡ time) ⊎ Reaches course tag es (confirmed_from course time tag es)
 reaches course tag time [] = inl refl
 reaches course tag time (e ∷ es) =
-    by_test (is_confirmed course tag) refl (reaches course (tag + 1) e.timestamp es)
-  where
-    by_test : (b : Bool) → is_confirmed course tag ≡ b
-        → ((confirmed_from course e.timestamp (tag + 1) es ≡ e.timestamp)
-        ⊎ Reaches course (tag + 1) es (confirmed_from course e.timestamp (tag + 1) es))
-        → ((if b then confirmed_from course e.timestamp (tag + 1) es else time) ≡ time)
-        ⊎ Reaches course tag (e ∷ es) (if b then confirmed_from course e.timestamp (tag + 1) es else time)
-    by_test false is rest = inl refl
-    by_test true is (inl same) =
-        inr
-        (record {
-          place = 0;
-          event = e;
-          here = refl;
-          at = sym same;
-          all = λ i low.
-              let this : tag ≡ tag + i = omega (arith, low) in subst (λ n. is_confirmed course n ≡ true) this is;
-        })
-    by_test true is (inr rest) =
-        inr
-        (record {
-          place = suc rest.place;
-          event = rest.event;
-          here = rest.here;
-          at = rest.at;
-          all = λ i low.
-              elim (cases_lt 0 i) [
-                | inl above ↦
-                    let this : tag + 1 + (i - 1) ≡ tag + i = omega (arith, above) in
-                    subst (λ n. is_confirmed course n ≡ true) this (rest.all (i - 1) (omega (arith, low, above)))
-                | inr none ↦
-                    let this : tag ≡ tag + i = omega (arith, none) in subst (λ n. is_confirmed course n ≡ true) this is
-              ];
-        })
+    elim (cases_Bool (is_confirmed course tag)) [
+      | inr not ↦ rw not (inl refl)
+      | inl is ↦
+          let first : (i : ℕ) → i ≤ 0 → is_confirmed course (tag + i) ≡ true =
+          λ i low. let this : tag + i ≡ tag = omega (arith, low) in rw this is in
+          rw is
+          (elim (reaches course (tag + 1) e.timestamp es) [
+            | inl same ↦ inr (record { place = 0; event = e; here = refl; at = sym same; all = first })
+            | inr rest ↦
+                inr
+                (record {
+                  place = suc rest.place;
+                  event = rest.event;
+                  here = rest.here;
+                  at = rest.at;
+                  all = λ i low.
+                      elim (cases_lt 0 i) [
+                        | inl above ↦
+                            let this : tag + i ≡ tag + 1 + (i - 1) = omega (arith, above) in
+                            rw this (rest.all (i - 1) (omega (arith, low, above)))
+                        | inr none ↦ first i none
+                      ];
+                })
+          ])
+    ]

@@ -1,23 +1,17 @@
 -- Laws of the deliveries of a queue.
-use Rattle.std.proofs.Common.{◌≡◌, ℕ, zero, suc, ◌+◌, ◌<◌, Some, List, [], ◌∷◌, ◌++◌, length, get_or, refl, ap, ap₂, ◌∙◌, arith}
+use Rattle.std.proofs.Common.{◌≡◌, ℕ, zero, suc, ◌+◌, ◌<◌, Some, List, [], ◌∷◌, ◌++◌, length, get_or, refl, sym, ap, ap₂, ◌∙◌, arith}
 use Rattle.std.specs.Prelude.{slice_get}
+use Rattle.std.proofs.lemmas.List.{length-map}
+use Rattle.std.proofs.lemmas.Option.{get_or_from_slice_get, slice_get-get_or}
 use Rattle.cdc_message.specs.declared.items.Delivery.{Delivery}
 use Rattle.cdc_message.specs.declared.items.Item.{Item}
+use Rattle.cdc_message.specs.declared.items.Item.TheVariants.{EndMark}
 use Rattle.cdc_message.specs.Replays.{HasNoneTwice}
 use Rattle.cdc_laws.specs.Deliveries.{deliveries, deliveries_from, items_in}
 
 -- a delivery of this position
 abbrev pub delivery_at : ℕ → Item → Delivery
 delivery_at position item = record { position = position; item = item }
-
--- each item has one delivery, from whatever position on
-length_from : (p : ℕ) (items : List Item) → length (deliveries_from p items) ≡ length items
-length_from p [] = refl
-length_from p (item ∷ items) = ap suc (length_from (p + 1) items)
-
--- a queue gives out as many positions as it has items
-pub length-deliveries : (items : List Item) → length (deliveries items) ≡ length items
-length-deliveries items = length_from 1 items
 
 -- deliveries have the items that they were made of, from whatever position on
 items_from : (p : ℕ) (items : List Item) → items_in (deliveries_from p items) ≡ items
@@ -27,6 +21,12 @@ items_from p (item ∷ items) = ap (λ more. item ∷ more) (items_from (p + 1) 
 -- so the items of all deliveries of a queue are the queue
 pub items_in-deliveries : (items : List Item) → items_in (deliveries items) ≡ items
 items_in-deliveries items = items_from 1 items
+
+-- a queue gives out as many positions as it has items
+pub length-deliveries : (items : List Item) → length (deliveries items) ≡ length items
+length-deliveries items =
+    sym (length-map (deliveries items) (λ (d : Delivery). d.item))
+    ∙ ap (λ (x : List Item). length x) (items_from 1 items)
 
 -- further items continue with the position after the last one
 append_from : (p : ℕ) (items more : List Item)
@@ -56,17 +56,12 @@ pub slice_get-deliveries : (items : List Item) (k : ℕ) (item : Item) → slice
 slice_get-deliveries items k item found =
     found_from 1 k items item found ∙ ap (λ n. Some (delivery_at n item)) (omega arith)
 
--- the same for whatever delivery is at a place
-position_from : (p k : ℕ) (items : List Item) (d : Delivery) → k < length items
-    → (get_or (deliveries_from p items) k d).position ≡ p + k
-position_from p k [] d below = absurd (omega arith)
-position_from p zero (x ∷ items) d below = omega arith
-position_from p (suc k) (x ∷ items) d below = position_from (p + 1) k items d (omega arith) ∙ omega arith
-
 -- the position of a delivery
 pub position-deliveries : (items : List Item) (k : ℕ) (d : Delivery) → k < length items
     → (get_or (deliveries items) k d).position ≡ k + 1
-position-deliveries items k d below = position_from 1 k items d below ∙ omega arith
+position-deliveries items k d below =
+    let there = slice_get-deliveries items k _ (slice_get-get_or items k EndMark below) in
+    ap (λ (x : Delivery). x.position) (get_or_from_slice_get (deliveries items) k _ d there)
 
 -- no two are the same
 pub HasNoneTwice-deliveries : (items : List Item) → HasNoneTwice (deliveries items)

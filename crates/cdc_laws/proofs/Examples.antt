@@ -1,6 +1,6 @@
 -- Examples: what a small ledger has to publish, and what subscribers that received some of it have applied.
 use Rattle.std.specs.Prelude.{ℕ, ◌≡◌, ◌<◌, true, false, Some, List, [], ◌∷◌, length, map, get_or, slice_get, Contains}
-use Rattle.std.proofs.Common.{zero, suc, inl, inr, refl, ap, subst, arith}
+use Rattle.std.proofs.Common.{zero, suc, inl, inr, refl, ap, arith}
 use Rattle.std.proofs.lemmas.Bool.{cases_lt}
 use Rattle.cdc_types.specs.declared.accounts.NewAccount.{NewAccount}
 use Rattle.cdc_types.specs.declared.batches.Batch.TheVariants as batch
@@ -12,7 +12,7 @@ use Rattle.cdc_ledger.specs.History.{History, empty_history}
 use Rattle.cdc_ledger.specs.Submit.{after_batches, closed_if}
 use Rattle.cdc_broker.specs.Packets.{items_of}
 use Rattle.cdc_laws.specs.Arrivals.{taken_of}
-use Rattle.cdc_laws.specs.ConnectorRuns.{AreConfirmed, IsConfirmed, IsConnectorRun, Shown, packets_of, sent_by}
+use Rattle.cdc_laws.specs.ConnectorRuns.{AreConfirmed, IsConnectorRun, Shown, packets_of, sent_by}
 use Rattle.cdc_laws.specs.Deliveries.{deliveries, positions_in}
 use Rattle.cdc_laws.specs.Faithful.{HoldsAccounts, IsFaithful, accounts_emitted, applied, balances_held, no_balances}
 use Rattle.cdc_laws.specs.Line.{feed_after, feed_of, line, line_after}
@@ -137,22 +137,16 @@ ended_at_end = refl
 timestamp_at : ℕ → List Event → ℕ
 timestamp_at k es = get_or (times es) k 0
 
--- these two timestamps differ
-apart : ◌≡◌ {A = ℕ} 2002 2001 → ⊥
-apart same = omega (arith, same)
-
 -- one that missed the second event isn't faithful, though the timestamps of what it has applied rise
 misses_one : IsFaithful history 0 every_event (receiving (emitted_at 0 ∷ emitted_at 2 ∷ [])) → ⊥
 unfolding timestamp_at
-misses_one faithful = apart (ap (timestamp_at 1) faithful.prefix.whole)
-
--- a number isn't another
-short : ◌≡◌ {A = ℕ} 2 3 → ⊥
-short same = omega (arith, same)
+misses_one faithful =
+    let same : ◌≡◌ {A = ℕ} 2002 2001 = ap (timestamp_at 1) faithful.prefix.whole in omega (arith, same)
 
 -- one that received the end mark without the event before it isn't, although what it has applied is a prefix
 ends_early : IsFaithful history 0 every_event (receiving (emitted_at 0 ∷ emitted_at 1 ∷ EndMark ∷ [])) → ⊥
-ends_early faithful = short (ap (λ (es : List Event). length es) (faithful.whole refl).1)
+ends_early faithful =
+    let same : ◌≡◌ {A = ℕ} 2 3 = ap (λ (es : List Event). length es) (faithful.whole refl).1 in omega (arith, same)
 
 -- ---- deliveries
 
@@ -189,26 +183,20 @@ sent_in_turn = refl
 both_confirmed : AreConfirmed confirms 2 2
 both_confirmed tag above low =
     elim (cases_lt tag 2) [
-      | inl one ↦
-          let this : 1 ≡ tag = omega (arith, above, one) in
-          subst (IsConfirmed confirms 2) this (1, omega arith, refl)
-      | inr two ↦
-          let this : 2 ≡ tag = omega (arith, low, two) in subst (IsConfirmed confirms 2) this (2, omega arith, refl)
+      | inl one ↦ let this : tag ≡ 1 = omega (arith, above, one) in rw this (1, omega arith, refl)
+      | inr two ↦ let this : tag ≡ 2 = omega (arith, low, two) in rw this (2, omega arith, refl)
     ]
 
 -- the second session has the end mark after two events whose tags were confirmed
 ends_after_confirms : (place : ℕ) → slice_get second_session.items place ≡ Some EndMark
     → AreConfirmed confirms 2 place
-ends_after_confirms zero there = cc
-ends_after_confirms (suc zero) there = cc
 ends_after_confirms (suc (suc zero)) there = both_confirmed
-ends_after_confirms (suc (suc (suc place))) there = cc
+ends_after_confirms place there = cc
 
 -- the first session has no end mark
 never_ends : (place : ℕ) → slice_get first_session.items place ≡ Some EndMark → AreConfirmed confirms 1 place
-never_ends zero there = cc
 never_ends (suc zero) there = cc
-never_ends (suc (suc place)) there = cc
+never_ends place there = cc
 
 -- only the first session is before the second
 only_first : (other : Shown) → Contains (first_session ∷ []) other → other.number < 2
@@ -236,8 +224,7 @@ two_sessions = record {
               published = refl;
               at = refl;
               confirmed = λ tag above low.
-                  let this : 1 ≡ tag = omega (arith, above, low) in
-                  subst (IsConfirmed confirms 1) this (0, omega arith, refl);
+                  let this : tag ≡ 1 = omega (arith, above, low) in rw this (0, omega arith, refl);
             }),
       );
       items = record { rest = []; whole = refl };
@@ -273,12 +260,10 @@ taken_twice = refl
 first_of_each : firsts same_item (items_of (taken_of sent)) ≡ line history
 first_of_each = refl
 
--- the first two timestamps differ
-other_timestamp : ◌≡◌ {A = ℕ} 2001 2000 → ⊥
-other_timestamp same = omega (arith, same)
-
 -- if confirms come for a session of which nothing arrived, there is a hole: so a law can't leave out that each
 -- confirm is for a publish that was taken
 hole : IsPrefix (firsts same_item (items_of (taken_of (packets_of second_session)))) (line history) → ⊥
 unfolding timestamp_at
-hole front = other_timestamp (ap (λ (items : List Item). timestamp_at 0 (events_of items)) front.whole)
+hole front =
+    let same : ◌≡◌ {A = ℕ} 2001 2000 = ap (λ (items : List Item). timestamp_at 0 (events_of items)) front.whole in
+    omega (arith, same)

@@ -1,11 +1,9 @@
 -- A subscriber is faithful if it received a replay of the queue of a replay of what the ledger has to publish.
-use Rattle.std.proofs.Common.{◌≡◌, ℕ, ◌-◌, ◌^◌, min, Bool, true, false, List, [], ◌∷◌, ◌++◌, length, take, refl, sym, ap, subst, ◌∙◌, append_assoc}
-use Rattle.std.specs.Prelude.{◌||◌, fold, if◌then◌else◌}
+use Rattle.std.proofs.Common.{◌≡◌, ℕ, true, false, List, [], ◌∷◌, ◌++◌, take, refl, ap, ◌∙◌, append_assoc}
+use Rattle.std.specs.Prelude.{fold}
 use Rattle.std.specs.List.{list_any}
 use Rattle.std.proofs.lemmas.List.Folds.{list_any-append}
 use Rattle.cdc_types.specs.declared.events.Event.{Event}
-use Rattle.cdc_types.specs.Timestamps.{last_timestamp}
-use Rattle.cdc_ledger.specs.Events.{events}
 use Rattle.cdc_ledger.specs.History.{History}
 use Rattle.cdc_ledger.specs.Sound.{IsSound}
 use Rattle.cdc_laws.specs.Deliveries.{deliveries, items_in}
@@ -18,70 +16,54 @@ use Rattle.cdc_laws.proofs.LateBooks.{holds-accounts}
 use Rattle.cdc_laws.proofs.Lines.{all_after_zero}
 use Rattle.cdc_laws.proofs.Replays.{IsReplay-map, IsReplay-same}
 use Rattle.cdc_laws.proofs.Rising.{TimestampsRise-prefix, feed_after_rises}
-use Rattle.cdc_log.specs.Log.{events_after}
 use Rattle.cdc_match.specs.Arguments.{Arguments}
 use Rattle.cdc_match.specs.Queue.{queue, takes_item}
 use Rattle.cdc_match.proofs.FilterLaws.{IsReplay-filter}
 use Rattle.cdc_message.specs.declared.items.Delivery.{Delivery}
 use Rattle.cdc_message.specs.declared.items.Item.{Item}
-use Rattle.cdc_message.specs.declared.items.Item.TheVariants.{Event as OfEvent, EndMark}
-use Rattle.cdc_message.specs.Replays.{IsPrefix, IsReplay}
+use Rattle.cdc_message.specs.declared.items.Item.TheVariants.{Event as OfEvent}
+use Rattle.cdc_message.specs.Replays.{IsReplay}
 use Rattle.cdc_message.proofs.ReplayLaws.{IsReplay-take, IsReplay-trans}
-use Rattle.cdc_subscriber.specs.Book.{book_of}
-use Rattle.cdc_subscriber.specs.Reception.{Reception, applied_of, has_ended, is_end, kept_of, next, nothing}
-use Rattle.cdc_subscriber.specs.SubscriberState.{SubscriberState}
+use Rattle.cdc_subscriber.specs.Reception.{Reception, has_ended, is_end, kept_of, next, nothing}
 
 -- the items of the first n deliveries of a replay of a queue are a replay of the queue
 pub IsReplay-reception : (items : List Item) (ds : List Delivery) (n : ℕ) → IsReplay ds (deliveries items)
     → IsReplay (items_in (take n ds)) items
 IsReplay-reception items ds n replay =
-    let some : IsReplay (take n ds) (deliveries items) = IsReplay-take n ds (deliveries items) replay in
-    rw (items_in-deliveries items) at (IsReplay-map (λ (d : Delivery). d.item) (take n ds) (deliveries items) some)
+    rw (items_in-deliveries items) at
+    (IsReplay-map (λ (d : Delivery). d.item) (take n ds) (deliveries items) (IsReplay-take n ds _ replay))
 
 module _ (h : History) (start : ℕ) (binding : Arguments) (reception : Reception) (is : IsSound h) where
   -- if it received a replay of the queue of all that the ledger has to publish after the start, it is faithful
   pub IsFaithful-line : IsReplay reception.items (queue (line_after h start) binding)
       → IsFaithful h start binding reception
   IsFaithful-line replay =
-      let receives : IsReplay reception.items (emitted (feed_after h start binding) h.closed) =
-      subst (IsReplay reception.items) (queue-line_after h start binding) replay in
+      let feed : List Event = feed_after h start binding in
+      let receives = rw (queue-line_after h start binding) at replay in
       let rise = feed_after_rises h start binding is in
-      let front : IsPrefix (applied reception) (feed_after h start binding) =
-      IsPrefix-emitted (feed_after h start binding) rise h.closed reception.items receives in
+      let front = IsPrefix-emitted feed rise h.closed reception.items receives in
       record {
         prefix = front;
-        rising = TimestampsRise-prefix (applied reception) (feed_after h start binding) rise front;
-        whole = whole-emitted (feed_after h start binding) rise h.closed reception.items receives;
-        balances = λ all. holds-accounts h start (applied reception) is
-            (subst (IsPrefix (applied reception)) all front);
+        rising = TimestampsRise-prefix (applied reception) feed rise front;
+        whole = whole-emitted feed rise h.closed reception.items receives;
+        balances = λ all. holds-accounts h start (applied reception) is (rw all at front);
         every = λ zero all.
-            holds-balances h (applied reception) is
-            (subst (IsPrefix (applied reception))
-            (all ∙ ap (λ t. events_after t (events h)) zero ∙ all_after_zero h is) front);
+            holds-balances h (applied reception) is (rw (all, zero, all_after_zero h is) at front);
       }
 
   -- and its state is determined by what it has applied
   pub kept_of-line : IsReplay reception.items (queue (line_after h start) binding)
       → kept_of reception ≡ kept_from reception
   kept_of-line replay =
-      let same : applied reception ≡ applied_of reception =
-      rises-emitted (feed_after h start binding) (feed_after_rises h start binding is) h.closed reception.items
-      (subst (IsReplay reception.items) (queue-line_after h start binding) replay) in
-      let kept : List Event → SubscriberState = λ es. record {
-        book = book_of es;
-        last = last_timestamp es;
-        applied = min (length es) (2 ^ 64 - 1);
-        ended = has_ended reception;
-        closed = reception.closed;
-      } in
-      ap kept (sym same)
+      rw (rises-emitted (feed_after h start binding) (feed_after_rises h start binding is) h.closed reception.items
+      (rw (queue-line_after h start binding) at replay)) refl
 
   module _ (taken : List Item) (took : IsReplay taken (line_after h start)) where
     -- a replay of the queue of what a broker took is one of the queue of all that there is to publish
     IsReplay-queue : IsReplay reception.items (queue taken binding)
         → IsReplay reception.items (queue (line_after h start) binding)
     IsReplay-queue receives =
-        IsReplay-trans reception.items (queue taken binding) (queue (line_after h start) binding) receives
+        IsReplay-trans reception.items (queue taken binding) _ receives
         (IsReplay-filter (takes_item binding) taken (line_after h start) took)
 
     -- so a subscriber of a broker that took a replay of the line is faithful
@@ -103,18 +85,14 @@ ends-emitted (e ∷ es) = ends-emitted es
 receives-behind : (before : List Item) (es : List Event) → list_any is_end before ≡ false
     → fold next (record { items = before; closed = false }) (emitted es true)
     ≡ record { items = before ++ emitted es true; closed = false }
-receives-behind before [] none =
-    ap (λ (b : Bool). if b then record { items = before; closed = false }
-    else record { items = before ++ EndMark ∷ []; closed = false }) none
+receives-behind before [] none = rw none refl
 receives-behind before (e ∷ es) none =
     let more : List Item = before ++ OfEvent e ∷ [] in
-    let listens : list_any is_end more ≡ false =
-    list_any-append is_end before (OfEvent e ∷ []) ∙ ap (λ b. b || false) none in
-    ap (λ (b : Bool). fold next (if b then record { items = before; closed = false }
-    else record { items = more; closed = false }) (emitted es true)) none
-    ∙ receives-behind more es listens
-    ∙ ap (λ (items : List Item). record { items = items; closed = false })
-    (append_assoc before (OfEvent e ∷ []) (emitted es true))
+    let listens : list_any is_end more ≡ false = rw (list_any-append is_end before (OfEvent e ∷ []), none) refl in
+    let heard : next (record { items = before; closed = false }) (OfEvent e) ≡ record { items = more; closed = false } =
+    rw none refl in
+    ap (λ r. fold next r (emitted es true)) heard
+    ∙ rw (append_assoc before (OfEvent e ∷ []) (emitted es true)) at (receives-behind more es listens)
 
 -- and so by a new subscriber
 pub receives-emitted : (es : List Event)
@@ -126,18 +104,14 @@ pub receives-all : (h : History) (start : ℕ) (binding : Arguments) (reception 
     → reception.items ≡ queue (line_after h start) binding
     → (has_ended reception ≡ true) × IsFaithful h start binding reception
 receives-all h start binding reception is shut all =
-    let es : List Event = feed_after h start binding in
     let whole : List Item = queue (line_after h start) binding in
-    let items : reception.items ≡ emitted es true = all ∙ queue-line_after h start binding ∙ ap (emitted es) shut in (
-      ap (list_any is_end) items ∙ ends-emitted es,
-      IsFaithful-line h start binding reception is
-          (subst (λ items. IsReplay items whole) (sym all) (IsReplay-same whole)),
+    let items = all ∙ queue-line_after h start binding ∙ ap (emitted (feed_after h start binding)) shut in (
+      ap (list_any is_end) items ∙ ends-emitted (feed_after h start binding),
+      IsFaithful-line h start binding reception is (rw all (IsReplay-same whole)),
     )
 
 -- ---- a closed subscriber
 
 -- a closed subscriber doesn't receive what is delivered to it
 pub receives-nothing : (reception : Reception) (item : Item) → reception.closed ≡ true → next reception item ≡ reception
-receives-nothing reception item shut =
-    ap (λ (b : Bool). if b || has_ended reception then reception
-    else record { items = reception.items ++ item ∷ []; closed = reception.closed }) shut
+receives-nothing reception item shut = rw shut refl

@@ -1,5 +1,5 @@
 -- The queue of all that a ledger has to publish, and what a replay of it holds.
-use Rattle.std.proofs.Common.{◌≡◌, ℕ, Bool, true, false, List, [], ◌∷◌, ◌++◌, map, refl, sym, ap, ◌∙◌, arith}
+use Rattle.std.proofs.Common.{◌≡◌, ℕ, Bool, true, false, List, [], ◌∷◌, ◌++◌, map, refl, ap, ◌∙◌, arith}
 use Rattle.std.specs.Prelude.{Contains, filter}
 use Rattle.std.specs.List.{list_any}
 use Rattle.std.proofs.lemmas.List.{append-nil}
@@ -35,9 +35,8 @@ queue_end binding false = refl
 queue-emitted : (es : List Event) (closed : Bool) (binding : Arguments)
     → queue (emitted es closed) binding ≡ emitted (feed es binding) closed
 queue-emitted es closed binding =
-    filter-append (takes_item binding) (map OfEvent es) (end_mark_if closed)
-    ∙ ap (λ items. items ++ filter (takes_item binding) (end_mark_if closed)) (queue-map_messages es binding)
-    ∙ ap (λ items. map OfEvent (feed es binding) ++ items) (queue_end binding closed)
+    rw (filter-append (takes_item binding) (map OfEvent es) (end_mark_if closed), queue_end binding closed)
+    (ap (λ items. items ++ end_mark_if closed) (queue-map_messages es binding))
 
 -- so the queue of the whole line has the feed, and the end mark
 pub queue-line : (h : History) (binding : Arguments)
@@ -65,9 +64,8 @@ none_ends (e ∷ es) = none_ends es
 -- none does among events alone
 no_end_there : (es : List Event) → Contains (map OfEvent es ++ []) EndMark → ⊥
 no_end_there es there =
-    let some : list_any is_end (map OfEvent es ++ []) ≡ true =
-    list_any_at is_end (map OfEvent es ++ []) there.0 EndMark there.1 (ap is_end there.2) in
-    let never : true ≡ false = sym some ∙ none_ends es in
+    let some = list_any_at is_end (map OfEvent es ++ []) there.0 EndMark there.1 (ap is_end there.2) in
+    let none = none_ends es in
     cc
 
 module _ (es : List Event) (rise : TimestampsRise es) where
@@ -85,12 +83,10 @@ module _ (es : List Event) (rise : TimestampsRise es) where
   pub IsPrefix-emitted : (closed : Bool) (w : List Item) → IsReplay w (emitted es closed)
       → IsPrefix (events_of (firsts same_item w)) es
   IsPrefix-emitted closed w replay =
-      let f : List Item = emitted es closed in
-      let front = IsPrefix-firsts same_item Decides-same_item w f (apart closed) replay in
+      let front = IsPrefix-firsts same_item Decides-same_item w (emitted es closed) (apart closed) replay in
       record {
         rest = events_of front.rest;
-        whole = sym (events_of-append (firsts same_item w) front.rest) ∙ ap events_of front.whole
-            ∙ events_emitted closed;
+        whole = rw (← events_of-append (firsts same_item w) front.rest, front.whole) (events_emitted closed);
       }
 
   -- if an end mark has come, there is one, and they are all the events

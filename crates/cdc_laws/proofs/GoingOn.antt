@@ -42,11 +42,11 @@ record Adds (h g : History) : Type 0 where
   last : h.last ≤ g.last
 
 -- what leaves the events as they are adds none, and only time goes on
-Adds-none : (h g : History) → events g ≡ events h → h.last ≤ g.last → Adds h g
+abbrev Adds-none : (h g : History) → events g ≡ events h → h.last ≤ g.last → Adds h g
 Adds-none h g same last = record { new = []; whole = same ∙ sym (append-nil (events h)); later = tt; last = last }
 
 -- what is added first precedes what is added then, so requests may be taken one by one
-Adds-trans : (h g k : History) → Adds h g → Adds g k → Adds h k
+abbrev Adds-trans : (h g k : History) → Adds h g → Adds g k → Adds h k
 Adds-trans h g k first second = record {
   new = first.new ++ second.new;
   whole = second.whole ∙ ap (λ es. es ++ second.new) first.whole ∙ append_assoc (events h) first.new second.new;
@@ -59,19 +59,9 @@ Adds-trans h g k first second = record {
 -- ---- a single request
 
 -- entries up to the last timestamp are up to any later one
-past-later : (h : History) (t : ℕ) → IsRegular h → h.last ≤ t → AllByRecursion (λ e. e.timestamp ≤ t) h.entries
-past-later h t is before =
-    AllByRecursion-weaker (λ e. e.timestamp ≤ h.last) (λ e. e.timestamp ≤ t) (λ e past. omega (arith, past))
-    h.entries is.past
-
--- a refused request takes its timestamp and adds no event
-Adds-timed : (h : History) (t : ℕ) → h.last < t → Adds h (timed h t)
-Adds-timed h t later = Adds-none h (timed h t) refl (omega (arith, later))
-
--- an account that is opened has no event, and leaves those that there are
-Adds-with_account : (h : History) (o : Opened) → IsRegular h → h.last < o.timestamp → Adds h (with_account h o)
-Adds-with_account h o is later =
-    Adds-none h (with_account h o) (events-with_account h o is.known) (omega (arith, later))
+past-later : (h : History) (t : ℕ) → AllByRecursion (λ e. e.timestamp ≤ h.last) h.entries → h.last ≤ t
+    → AllByRecursion (λ e. e.timestamp ≤ t) h.entries
+past-later h t past before = AllByRecursion-weaker _ (λ e. e.timestamp ≤ t) (λ e early. omega arith) h.entries past
 
 -- an accepted transfer and an expiry each add their own event, later than all before
 Adds-pushed : (h : History) (e : Entry) → AllByRecursion (λ x. x.timestamp ≤ h.last) h.entries → h.last < e.timestamp
@@ -83,25 +73,11 @@ Adds-pushed h e past later = record {
   last = omega (arith, later);
 }
 
--- what stays so
-IsRegular-timed : (h : History) (t : ℕ) → IsRegular h → h.last < t → IsRegular (timed h t)
-IsRegular-timed h t is later = record { past = past-later h t is (omega (arith, later)); known = is.known }
-
--- an account that is opened takes none away, so both accounts of each entry are still there
-IsRegular-with_account : (h : History) (o : Opened) → IsRegular h → h.last < o.timestamp → IsRegular (with_account h o)
-IsRegular-with_account h o is later = record {
-  past = past-later h o.timestamp is (omega (arith, later));
-  known = AllByRecursion-weaker (HasAccounts h) (HasAccounts (with_account h o)) (HasAccounts-with_account h o)
-      h.entries is.known;
-}
-
 -- a new entry is the last one, and the next request begins after it
 past-pushed : (h : History) (e : Entry) → AllByRecursion (λ x. x.timestamp ≤ h.last) h.entries → h.last < e.timestamp
     → AllByRecursion (λ x. x.timestamp ≤ e.timestamp) (h.entries ++ e ∷ [])
 past-pushed h e past later =
-    AllByRecursion_push (λ x. x.timestamp ≤ e.timestamp) h.entries e
-    (AllByRecursion-weaker (λ x. x.timestamp ≤ h.last) (λ x. x.timestamp ≤ e.timestamp)
-    (λ x early. omega (arith, early, later)) h.entries past)
+    AllByRecursion_push (λ x. x.timestamp ≤ e.timestamp) h.entries e (past-later h _ past (omega (arith, later)))
     (omega arith)
 
 -- ---- the requests of a batch
@@ -110,18 +86,22 @@ past-pushed h e past later =
 Adds-accounts_from : (h : History) (t : ℕ) (rs : List NewAccount) → IsRegular h → h.last < t
     → Adds h (accounts_from h t rs).1
 Adds-accounts_from h t rs is later =
-    let found : IsRegular (accounts_from h t rs).1 × Adds h (accounts_from h t rs).1 =
-    items_from-keeps account_rules (λ g. IsRegular g × Adds h g) (λ n. Unit {0})
-    (λ g a n so_far before fits none. (
-      IsRegular-with_account g (opened_by a n) so_far.0 before,
-      Adds-trans h g (with_account g (opened_by a n)) so_far.1 (Adds-with_account g (opened_by a n) so_far.0 before),
+    (items_from-keeps account_rules (λ g. IsRegular g × Adds h g) (λ n. Unit {0})
+    (λ g a n so_far before fits none.
+    let o : Opened = opened_by a n in (
+      record {
+        past = past-later g n so_far.0.past (omega (arith, before));
+        known = AllByRecursion-weaker (HasAccounts g) (HasAccounts (with_account g o)) (HasAccounts-with_account g o)
+            g.entries so_far.0.known;
+      },
+      Adds-trans h g (with_account g o) so_far.1
+          (Adds-none g _ (events-with_account g o so_far.0.known) (omega (arith, before))),
     ))
     (λ g n so_far before fits. (
-      IsRegular-timed g n so_far.0 before,
-      Adds-trans h g (timed g n) so_far.1 (Adds-timed g n before),
+      record { past = past-later g n so_far.0.past (omega (arith, before)); known = so_far.0.known },
+      Adds-trans h g (timed g n) so_far.1 (Adds-none g _ refl (omega (arith, before))),
     ))
-    (λ g a n. refl) h t rs (is, Adds-none h h refl (omega arith)) later (λ n from below. tt) in
-    found.1
+    (λ g a n. refl) h t rs (is, Adds-none h h refl (omega arith)) later (λ n from below. tt)).1
 
 -- no entry is past the last timestamp
 abbrev IsPast : History → Type 0
@@ -133,29 +113,25 @@ Adds-transfers_from : (h : History) (t : ℕ) (rs : List NewTransfer)
     → AllByRecursion (λ e. e.timestamp ≤ h.last) h.entries → h.last < t
     → Adds h (transfers_from h t rs).1
 Adds-transfers_from h t rs past later =
-    let found : IsPast (transfers_from h t rs).1 × Adds h (transfers_from h t rs).1 =
-    items_from-keeps transfer_rules (λ g. IsPast g × Adds h g) (λ n. Unit {0})
+    (items_from-keeps transfer_rules (λ g. IsPast g × Adds h g) (λ n. Unit {0})
     (λ g r n so_far before fits none. (
       past-pushed g (entry_of g r n) so_far.0 before,
       Adds-trans h g (pushed g (entry_of g r n)) so_far.1 (Adds-pushed g (entry_of g r n) so_far.0 before),
     ))
     (λ g n so_far before fits. (
-      AllByRecursion-weaker (λ e. e.timestamp ≤ g.last) (λ e. e.timestamp ≤ n)
-          (λ e early. omega (arith, early, before)) g.entries so_far.0,
-      Adds-trans h g (timed g n) so_far.1 (Adds-timed g n before),
+      past-later g n so_far.0 (omega (arith, before)),
+      Adds-trans h g (timed g n) so_far.1 (Adds-none g _ refl (omega (arith, before))),
     ))
-    (λ g r n. refl) h t rs (past, Adds-none h h refl (omega arith)) later (λ n from below. tt) in
-    found.1
+    (λ g r n. refl) h t rs (past, Adds-none h h refl (omega arith)) later (λ n from below. tt)).1
 
 -- so does a pulse, with an expiry for each transfer that is due
 Adds-expiries_from : (h : History) (t : ℕ) (ps : List Transfer) → AllByRecursion (λ e. e.timestamp ≤ h.last) h.entries
     → h.last < t → Adds h (expiries_from h t ps)
 Adds-expiries_from h t [] past later = Adds-none h h refl (omega arith)
 Adds-expiries_from h t (p ∷ ps) past later =
-    let more : Adds (pushed h (expiry p t)) (expiries_from (pushed h (expiry p t)) (t + 1) ps) =
-    Adds-expiries_from (pushed h (expiry p t)) (t + 1) ps (past-pushed h (expiry p t) past later) (omega arith) in
-    Adds-trans h (pushed h (expiry p t)) (expiries_from (pushed h (expiry p t)) (t + 1) ps)
-    (Adds-pushed h (expiry p t) past later) more
+    let g : History = pushed h (expiry p t) in
+    Adds-trans h g (expiries_from g (t + 1) ps) (Adds-pushed h (expiry p t) past later)
+    (Adds-expiries_from g (t + 1) ps (past-pushed h (expiry p t) past later) (omega arith))
 
 -- ---- a batch
 
@@ -173,57 +149,39 @@ answered_is : (refusal : Option BatchError) (answer found : BatchResults × Hist
 answered_is None answer found e = cc
 answered_is (Some error) answer found e = cc
 
+-- a history goes on to what adds to it, if that adds nothing to a closed one
+GoesOn-adds : (h g : History) (adds : Adds h g) → (h.closed ≡ true → (g.closed ≡ true) × (adds.new ≡ [])) → GoesOn h g
+GoesOn-adds h g adds shut =
+    record { new = adds.new; whole = adds.whole; later = adds.later; last = adds.last; shut = shut }
+
 -- what a batch makes of a ledger goes on from what it was
 pub GoesOn-submit : (h : History) (b : Batch) (answer : BatchResults × History) → IsSound h → submit h b ≡ Ok answer
     → GoesOn h answer.1
 GoesOn-submit h b answer sound e =
-    let not_closed : h.closed ≡ false = submit_open h b answer e in
-    let is : taken h b ≡ answer = answered_is (refusal_of h b) (taken h b) answer e in
-    let adds : Adds h answer.1 = subst (λ (a : BatchResults × History). Adds h a.1) is (Adds-taken h b sound) in
-    record {
-      new = adds.new;
-      whole = adds.whole;
-      later = adds.later;
-      last = adds.last;
-      shut = λ closed. let no : true ≡ false = sym closed ∙ not_closed in cc;
-    }
+    let not_closed = submit_open h b answer e in
+    let is = answered_is (refusal_of h b) (taken h b) answer e in
+    GoesOn-adds h answer.1 (subst (λ (a : BatchResults × History). Adds h a.1) is (Adds-taken h b sound)) (λ closed. cc)
 
 -- so does a ledger that closes
 pub GoesOn-closed : (h : History) → GoesOn h (record h { closed = true })
-GoesOn-closed h = record {
-  new = [];
-  whole = sym (append-nil (events h));
-  later = tt;
-  last = omega arith;
-  shut = λ closed. (refl, refl);
-}
+GoesOn-closed h = GoesOn-adds h _ (Adds-none h _ refl (omega arith)) (λ closed. (refl, refl))
 
 -- ---- whole histories
 
 -- a history goes on to itself
 pub GoesOn-same : (h : History) → GoesOn h h
-GoesOn-same h = record {
-  new = [];
-  whole = sym (append-nil (events h));
-  later = tt;
-  last = omega arith;
-  shut = λ closed. (closed, refl);
-}
+GoesOn-same h = GoesOn-adds h h (Adds-none h h refl (omega arith)) (λ closed. (closed, refl))
 
 -- what goes on from a history that goes on from another goes on from that
 pub GoesOn-trans : (h g k : History) → GoesOn h g → GoesOn g k → GoesOn h k
-GoesOn-trans h g k first second = record {
-  new = first.new ++ second.new;
-  whole = second.whole ∙ ap (λ es. es ++ second.new) first.whole ∙ append_assoc (events h) first.new second.new;
-  later = AllByRecursion-append (λ e. h.last < e.timestamp) first.new second.new first.later
-      (AllByRecursion-weaker (λ e. g.last < e.timestamp) (λ e. h.last < e.timestamp)
-      (λ e later. omega (arith, first.last, later)) second.new second.later);
-  last = omega (arith, first.last, second.last);
-  shut = λ closed.
-      let before = first.shut closed in
-      let after = second.shut before.0 in
-      (after.0, ap₂ (λ xs ys. xs ++ ys) before.1 after.1);
-}
+GoesOn-trans h g k first second =
+    let adds : (x y : History) → GoesOn x y → Adds x y = λ x y on.
+    record { new = on.new; whole = on.whole; later = on.later; last = on.last } in
+    GoesOn-adds h k (Adds-trans h g k (adds h g first) (adds g k second))
+    (λ closed.
+    let before = first.shut closed in
+    let after = second.shut before.0 in
+    (after.0, ap₂ (λ xs ys. xs ++ ys) before.1 after.1))
 
 -- so batches go on, refused ones among them
 GoesOn-batch : (h : History) (answer : Result (BatchResults × History) BatchError)
@@ -243,9 +201,8 @@ GoesOn-batches h (b ∷ bs) sound =
 pub GoesOn-extends : (g h : History) → IsSound h → Extends g h → GoesOn h g × IsSound g
 GoesOn-extends g h sound extends =
     let k : History = after_batches h extends.batches in
-    let is : IsSound k = IsSound-after_batches h extends.batches sound in
-    let on : GoesOn h k = GoesOn-batches h extends.batches sound in
-    subst (λ (x : History). GoesOn h x × IsSound x) (sym extends.made) (closes extends.close k is on)
+    rw extends.made
+    (closes extends.close k (IsSound-after_batches h extends.batches sound) (GoesOn-batches h extends.batches sound))
   where
     closes : (close : Bool) (k : History) → IsSound k → GoesOn h k
         → GoesOn h (closed_if close k) × IsSound (closed_if close k)

@@ -1,6 +1,7 @@
 -- The book of events after a start: it has just their accounts, with the ledger's balances, whatever moved before.
-use Rattle.std.proofs.Common.{◌≡◌, ℕ, ◌<◌, ◌≤◌, Bool, true, false, cond, List, [], ◌∷◌, ◌++◌, map, refl, sym, subst, ap, ap₂, ◌∙◌, append_assoc, append-nil, inl, inr, arith}
-use Rattle.std.proofs.lemmas.Bool.Decides.{eqb_tells, nat_tests}
+use Rattle.std.proofs.Common.{◌≡◌, ℕ, ◌<◌, ◌≤◌, cond, List, [], ◌∷◌, ◌++◌, map, refl, sym, ap, ap₂, ◌∙◌, append_assoc, append-nil, inl, inr}
+use Rattle.std.proofs.lemmas.Bool.{cond_both, le-leb, lt-leb}
+use Rattle.std.proofs.lemmas.Bool.Decides.{eqb_tells}
 use Rattle.std.proofs.lemmas.Grind.{flat_map-append}
 use Rattle.std.proofs.lemmas.List.{reverse-append}
 use Rattle.std.proofs.lemmas.List.Elements.{filter-append}
@@ -18,7 +19,7 @@ use Rattle.cdc_ledger.proofs.Elements.{AllByRecursion_push, AllByRecursion-weake
 use Rattle.cdc_laws.specs.Faithful.{HoldsAccounts, accounts_emitted, events_until}
 use Rattle.cdc_laws.proofs.Books.{last_shown-prefix}
 use Rattle.cdc_laws.proofs.Lines.{split_events}
-use Rattle.cdc_laws.proofs.Rising.{RiseFrom-filter, all_later, events_rise}
+use Rattle.cdc_laws.proofs.Rising.{RiseFrom-filter, all_later, events_rise, last_behind, last_late}
 use Rattle.cdc_log.specs.Log.{events_after}
 use Rattle.cdc_message.specs.Replays.{IsPrefix}
 use Rattle.cdc_subscriber.specs.declared.book.BookEntry.{BookEntry}
@@ -26,12 +27,7 @@ use Rattle.cdc_subscriber.specs.Book.{accounts_of, is_among, last_shown, sides, 
 
 -- ---- the events up to the last of the first ones are the first ones
 
--- the last event isn't before the timestamp that a list rises from
-last_late : (t : ℕ) (es : List Event) → RiseFrom t es → t ≤ last_timestamp_from t es
-last_late t [] rise = omega arith
-last_late t (e ∷ es) rise = omega (arith, rise.0, last_late e.timestamp es rise.1)
-
--- so none is past it
+-- the last event isn't before any other, so none is past it
 up_to_last : (t : ℕ) (es : List Event) → RiseFrom t es
     → AllByRecursion (λ e. e.timestamp ≤ last_timestamp_from t es) es
 up_to_last t [] rise = tt
@@ -47,27 +43,19 @@ rise_before : (t : ℕ) (xs ys : List Event) → RiseFrom t (xs ++ ys) → RiseF
 rise_before t [] ys rise = tt
 rise_before t (x ∷ xs) ys rise = (rise.0, rise_before x.timestamp xs ys rise.1)
 
--- the tests of events up to a timestamp
-is_up_to : (n t : ℕ) → n ≤ t → nat_le n t ≡ true
-is_up_to n t low = grind (arith, nat_tests)
-
-isnt_up_to : (n t : ℕ) → t < n → nat_le n t ≡ false
-isnt_up_to n t late = grind (arith, nat_tests)
-
 -- if none is past it, all stay
 until-all : (t : ℕ) (es : List Event) → AllByRecursion (λ e. e.timestamp ≤ t) es → events_until t es ≡ es
 until-all t [] low = refl
 until-all t (e ∷ es) low =
-    ap (λ b. cond b (e ∷ events_until t es) (events_until t es)) (is_up_to e.timestamp t low.0)
-    ∙ ap (λ more. e ∷ more) (until-all t es low.1)
+    ap₂ (λ b more. cond b (e ∷ more) more) (le-leb e.timestamp t low.0) (until-all t es low.1)
 
 -- if all are past it, none does
 until-none : (t : ℕ) (es : List Event) → AllByRecursion (λ e. t < e.timestamp) es → events_until t es ≡ []
 until-none t [] late = refl
 until-none t (e ∷ es) late =
-    ap (λ b. cond b (e ∷ events_until t es) (events_until t es)) (isnt_up_to e.timestamp t late.0)
-    ∙ until-none t es late.1
+    ap (λ b. cond b (e ∷ events_until t es) (events_until t es)) (lt-leb e.timestamp t late.0) ∙ until-none t es late.1
 
+-- so those up to the last one of the front are the front
 until-front : (xs ys : List Event) → RiseFrom 0 (xs ++ ys) → events_until (last_timestamp xs) (xs ++ ys) ≡ xs
 until-front xs ys rise =
     let last : ℕ = last_timestamp xs in
@@ -83,10 +71,6 @@ abbrev found : ℕ → List BookEntry → Option BookEntry
 found id entries = find (λ entry. entry.id == id) (reverse entries)
 
 -- one more entry before them changes nothing if they show it
-still_found : (o p : Option BookEntry) → IsSome o → IsSome (option_or o p)
-still_found None p is = cc
-still_found (Some entry) p is = is
-
 same_found : (o p : Option BookEntry) → IsSome o → option_or o p ≡ o
 same_found None p is = cc
 same_found (Some entry) p is = refl
@@ -112,10 +96,9 @@ each_found : (entries : List BookEntry)
     → AllByRecursion (λ id. IsSome (found id entries)) (map (λ entry. entry.id) entries)
 each_found [] = tt
 each_found (entry ∷ entries) = (
-  subst IsSome (sym (found-append entry.id (entry ∷ []) entries)) (shows_itself entry (found entry.id entries)),
+  rw (found-append entry.id (entry ∷ []) entries) (shows_itself entry (found entry.id entries)),
   AllByRecursion-weaker (λ id. IsSome (found id entries)) (λ id. IsSome (found id (entry ∷ entries)))
-      (λ id is. subst IsSome (sym (found-append id (entry ∷ []) entries))
-      (still_found (found id entries) (found id (entry ∷ [])) is))
+      (λ id is. rw (found-append id (entry ∷ []) entries, same_found (found id entries) _ is) is)
       (map (λ (e : BookEntry). e.id) entries) (each_found entries),
 )
 
@@ -128,13 +111,9 @@ appear_have : (P : ℕ → Type 0) (ids seen : List ℕ) → AllByRecursion P id
     → AllByRecursion P (fold appeared seen ids)
 appear_have P [] seen all have = have
 appear_have P (id ∷ ids) seen all have =
-    by (is_among id seen) (appear_have P ids seen all.1 have)
-    (appear_have P ids (seen ++ id ∷ []) all.1 (AllByRecursion_push P seen id have all.0))
-  where
-    by : (b : Bool) → AllByRecursion P (fold appeared seen ids) → AllByRecursion P (fold appeared (seen ++ id ∷ []) ids)
-        → AllByRecursion P (fold appeared (if b then seen else (seen ++ id ∷ [])) ids)
-    by true stays joins = stays
-    by false stays joins = joins
+    cond_both (is_among id seen) seen (seen ++ id ∷ []) (λ now. AllByRecursion P (fold appeared now ids))
+    (λ stays. appear_have P ids seen all.1 have)
+    (λ joins. appear_have P ids (seen ++ id ∷ []) all.1 (AllByRecursion_push P seen id have all.0))
 
 -- so each account of events is shown by them
 accounts_shown : (es : List Event) → AllByRecursion (λ id. IsSome (found id (flat_map sides es))) (accounts_of es)
@@ -152,12 +131,6 @@ last_shown-behind skipped es id is =
     ∙ same_found (found id (flat_map sides es)) (found id (flat_map sides skipped)) is))
 
 -- ---- the book
-
--- the last event is the last of all
-last_behind : (t : ℕ) (xs : List Event) (e : Event) (es : List Event)
-    → last_timestamp_from t (xs ++ e ∷ es) ≡ last_timestamp_from e.timestamp es
-last_behind t [] e es = refl
-last_behind t (x ∷ xs) e es = last_behind x.timestamp xs e es
 
 -- each account that appears was shown last with the ledger's balances
 each_shown : (h : History) → IsSound h → (skipped emitted : List Event) → IsPrefix (skipped ++ emitted) (events h)
@@ -179,14 +152,12 @@ each_shown h sound skipped (e ∷ es) front =
 pub holds-accounts : (h : History) (start : ℕ) (emitted : List Event) → IsSound h
     → IsPrefix emitted (events_after start (events h)) → HoldsAccounts h start emitted
 holds-accounts h start emitted sound front =
-    let after : List Event = events_after start (events h) in
     let cut = split_events h start sound in
     let rise : RiseFrom 0 (emitted ++ front.rest) =
-    subst (RiseFrom 0) (sym front.whole)
-    (RiseFrom-filter (λ (e : Event). nat_lt start e.timestamp) 0 (events h) (events_rise h sound)) in
+    rw front.whole (RiseFrom-filter (λ (e : Event). nat_lt start e.timestamp) 0 (events h) (events_rise h sound)) in
     let accounts : accounts_emitted h start (last_timestamp emitted) ≡ accounts_of emitted =
-    ap accounts_of
-    (ap (events_until (last_timestamp emitted)) (sym front.whole) ∙ until-front emitted front.rest rise) in
+    ap (λ es. accounts_of (events_until (last_timestamp emitted) es)) (sym front.whole)
+    ∙ ap accounts_of (until-front emitted front.rest rise) in
     let all : IsPrefix (cut.0 ++ emitted) (events h) = record {
       rest = front.rest;
       whole = append_assoc cut.0 emitted front.rest ∙ ap (λ es. cut.0 ++ es) front.whole ∙ sym cut.1.whole;

@@ -1,5 +1,5 @@
 -- The line of a ledger: what it has to publish after a timestamp, and how it gets longer.
-use Rattle.std.proofs.Common.{◌≡◌, ℕ, ◌≤◌, Bool, true, false, List, [], ◌∷◌, ◌++◌, map, refl, sym, ap, ap₂, ◌∙◌, subst, append_assoc, append-nil}
+use Rattle.std.proofs.Common.{◌≡◌, ℕ, ◌≤◌, Bool, true, false, List, [], ◌∷◌, ◌++◌, map, refl, ap, ◌∙◌, append_assoc, append-nil}
 use Rattle.std.specs.Prelude.{nat_lt}
 use Rattle.std.specs.List.{AllByRecursion}
 use Rattle.std.proofs.lemmas.List.{map-append}
@@ -37,10 +37,8 @@ pub line_splits : (h : History) (start t : ℕ) (front : List Event)
     → SplitsAt (events_after start (events h)) t front (events_after t (events h))
     → line_after h start ≡ map OfEvent front ++ line_after h t
 line_splits h start t front cut =
-    ap (λ es. emitted es h.closed) cut.whole
-    ∙ ap (λ items. items ++ end_mark_if h.closed)
-    (map-append OfEvent front (events_after t (events h)))
-    ∙ append_assoc (map OfEvent front) (map OfEvent (events_after t (events h))) (end_mark_if h.closed)
+    rw (cut.whole, map-append OfEvent front (events_after t (events h)))
+    (append_assoc (map OfEvent front) (map OfEvent (events_after t (events h))) (end_mark_if h.closed))
 
 -- a ledger's events can be cut at any timestamp, such as the base of a session or the timestamp that it saves
 pub split_events : (h : History) (t : ℕ) → sound.IsSound h
@@ -53,7 +51,7 @@ pub split_after : (h : History) (start t : ℕ) → sound.IsSound h → start �
 split_after h start t is early =
     let es : List Event = events_after start (events h) in
     let cut = split_at t start es (split_events h start is).1.rise in
-    (cut.0, subst (SplitsAt es t cut.0) (events_after-later start t early (events h)) cut.1)
+    (cut.0, rw (events_after-later start t early (events h)) at cut.1)
 
 -- no event is at 0, so all come after it
 pub all_after_zero : (h : History) → sound.IsSound h → events_after 0 (events h) ≡ events h
@@ -69,19 +67,12 @@ line_after-zero h is = ap (λ es. emitted es h.closed) (all_after_zero h is)
 emitted_more : (es new : List Event) (b c : Bool) → (b ≡ true → (c ≡ true) × (new ≡ []))
     → (more : List Item) × (emitted (es ++ new) c ≡ emitted es b ++ more)
 emitted_more es new true c shut =
-    let same = shut refl in (
-      [],
-      ap₂ (λ xs d. emitted (es ++ xs) d) same.1 same.0
-          ∙ ap (λ xs. emitted xs true) (append-nil es)
-          ∙ sym (append-nil (emitted es true)),
-    )
-emitted_more es new false c shut =
-    let rest : List Item = end_mark_if c in (
-      map OfEvent new ++ rest,
-      ap (λ items. items ++ rest) (map-append OfEvent es new)
-          ∙ append_assoc (map OfEvent es) (map OfEvent new) rest
-          ∙ ap (λ items. items ++ (map OfEvent new ++ rest)) (sym (append-nil (map OfEvent es))),
-    )
+    let same = shut refl in ([], rw (same.0, same.1, append-nil es, append-nil (emitted es true)) refl)
+emitted_more es new false c shut = (
+  map OfEvent new ++ end_mark_if c,
+  rw (map-append OfEvent es new, append-nil (map OfEvent es))
+      (append_assoc (map OfEvent es) (map OfEvent new) (end_mark_if c)),
+)
 
 -- the later events join those that were there
 pub events_after-goes_on : (h g : History) (t : ℕ) (on : GoesOn h g)

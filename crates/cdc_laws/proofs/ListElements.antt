@@ -2,7 +2,7 @@
 use Rattle.std.proofs.Common.{◌≡◌, ℕ, zero, suc, ◌-◌, ◌<◌, ◌≤◌, List, [], ◌∷◌, ◌++◌, length, refl, ap, ◌∙◌, inl, inr, arith}
 use Rattle.std.specs.Prelude.{◌⊎◌, Some, Contains, slice_get}
 use Rattle.std.specs.List.{AllByRecursion}
-use Rattle.std.proofs.lemmas.List.Elements.{Contains-append_cases, Contains-append_right, Contains-push_cases}
+use Rattle.std.proofs.lemmas.List.Elements.{Contains-append_right}
 use Rattle.std.proofs.lemmas.Option.{slice_get_within, get_or_from_slice_get, none-some}
 
 -- ---- places
@@ -40,21 +40,14 @@ none_there x h = omega (arith, h.1)
 
 -- an element of a list that isn't empty is its first or one of the others
 pub Contains-cons_cases : {X : Type 0} (x : X) (xs : List X) (y : X) → Contains (x ∷ xs) y → (x ≡ y) ⊎ Contains xs y
-Contains-cons_cases x xs y h =
-    elim (Contains-append_cases (x ∷ []) xs y h) [
-      | inl here ↦
-          elim (Contains-push_cases [] x y here) [ inl nowhere ↦ absurd (none_there y nowhere) | inr is ↦ inl is ]
-      | inr later ↦ inr later
-    ]
+Contains-cons_cases x xs y (zero, below, is) = inl is
+Contains-cons_cases x xs y (suc k, below, is) = inr (k, omega arith, is)
 
 -- what holds of each element
 pub each_has : {X : Type 0} (P : X → Type 0) (xs : List X) (x : X) → AllByRecursion P xs → Contains xs x → P x
 each_has P [] x all there = absurd (none_there x there)
-each_has P (y ∷ xs) x all there =
-    elim (Contains-cons_cases y xs x there) [
-      | inl is ↦ rw is at all.0
-      | inr later ↦ each_has P xs x all.1 later
-    ]
+each_has P (y ∷ xs) x all (zero, below, is) = rw is at all.0
+each_has P (y ∷ xs) x all (suc k, below, is) = each_has P xs x all.1 (k, omega arith, is)
 
 -- and what holds for whatever a list contains holds for each element in turn
 pub each_from : {X : Type 0} (P : X → Type 0) (xs : List X) → ((x : X) → Contains xs x → P x) → AllByRecursion P xs

@@ -1,5 +1,5 @@
 -- A connector run stays one if more is confirmed, and on every longer line.
-use Rattle.std.proofs.Common.{◌≡◌, ℕ, ◌<◌, ◌≤◌, List, [], ◌∷◌, ◌++◌, sym, ap, ◌∙◌, subst, inl, inr, append_assoc, arith}
+use Rattle.std.proofs.Common.{◌≡◌, ℕ, ◌<◌, ◌≤◌, List, [], ◌∷◌, ◌++◌, sym, ap, ◌∙◌, inl, inr, append_assoc, arith}
 use Rattle.std.specs.Prelude.{Contains, Some, slice_get}
 use Rattle.cdc_ledger.specs.Events.{events}
 use Rattle.cdc_ledger.specs.History.{History}
@@ -42,8 +42,7 @@ module _ (h : History) (sound : IsSound h) (start : ℕ) (confirms : List Confir
       → slice_get s.items place ≡ Some (OfEvent e) → s.base < e.timestamp
   event_late s place e front here =
       let es : List Event = events_after s.base (events h) in
-      let at : slice_get es place ≡ Some e =
-      event_at es h.closed place e (prefix_at s.items (line_after h s.base) place (OfEvent e) front here) in
+      let at = event_at es h.closed place e (prefix_at s.items (line_after h s.base) place (OfEvent e) front here) in
       each_has (λ x. s.base < x.timestamp) es e (all_later s.base es (split_events h s.base sound).1.rise)
       (Contains_slice_get es place e at)
 
@@ -56,13 +55,11 @@ module _ (h : History) (sound : IsSound h) (start : ℕ) (confirms : List Confir
       elim (Contains-cons_cases x earlier s among) [
         | inl is ↦
             let late = base_late earlier each.1 x.base each.0.base in
-            let base : x.base ≡ s.base = ap (λ (y : Shown). y.base) is in
+            let base = ap (λ (y : Shown). y.base) is in
             elim which [
               | inl same ↦ omega (arith, late, base, same)
               | inr to ↦
-                  let front : IsPrefix s.items (line_after h s.base) =
-                  subst (λ (y : Shown). IsPrefix y.items (line_after h y.base)) is each.0.items in
-                  let later = event_late s to.place to.event front to.published in
+                  let later = event_late s to.place to.event (rw is at each.0.items) to.published in
                   omega (arith, late, base, later, to.at)
             ]
         | inr old ↦ base_late earlier each.1 t (inr (s, old, which))
@@ -74,7 +71,7 @@ module _ (h : History) (sound : IsSound h) (start : ℕ) (confirms : List Confir
   each_late [] each s among = absurd (none_there s among)
   each_late (x ∷ earlier) each s among =
       elim (Contains-cons_cases x earlier s among) [
-        | inl is ↦ subst (λ (y : Shown). start ≤ y.base) is (base_late earlier each.1 x.base each.0.base)
+        | inl is ↦ rw (← is) (base_late earlier each.1 x.base each.0.base)
         | inr old ↦ each_late earlier each.1 s old
       ]
 
@@ -87,8 +84,7 @@ AreSessions-goes_on h g start confirms on (s ∷ earlier) each =
       record {
         above = each.0.above;
         base = each.0.base;
-        items = subst (IsPrefix s.items) (sym more.1)
-            (IsPrefix-longer s.items (line_after h s.base) more.0 each.0.items);
+        items = rw more.1 (IsPrefix-longer s.items (line_after h s.base) more.0 each.0.items);
         end = each.0.end;
       },
       AreSessions-goes_on h g start confirms on earlier each.1,

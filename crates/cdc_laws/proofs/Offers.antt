@@ -1,22 +1,21 @@
 -- A session is offered the events that a reading of its ledger has.
-use Rattle.std.proofs.Common.{◌≡◌, ℕ, ◌≤◌, Bool, true, List, [], ◌∷◌, ◌++◌, length, map, take, drop, refl, sym, ap, ap₂, ◌∙◌, subst, inl, inr, append_assoc, append-nil, arith}
+use Rattle.std.proofs.Common.{◌≡◌, ℕ, ◌≤◌, Bool, true, List, [], ◌∷◌, ◌++◌, length, map, take, drop, refl, sym, ap, ap₂, ◌∙◌, inl, inr, append_assoc, append-nil, arith}
 use Rattle.std.specs.Prelude.{◌&&◌, nat_le, Some}
-use Rattle.std.proofs.lemmas.Bool.{and_parts}
-use Rattle.std.proofs.lemmas.Bool.Decides.{nat_tests}
+use Rattle.std.proofs.lemmas.Bool.{and_parts, le-leb, leb-true}
 use Rattle.std.proofs.lemmas.List.{length-append, length-map, map-append, take-append-drop, take-append-le, take_all}
 use Rattle.std.proofs.lemmas.Option.{same_Some}
 use Rattle.cdc_ledger.specs.Events.{events}
 use Rattle.cdc_ledger.specs.History.{History}
 use Rattle.cdc_ledger.specs.Sound.{IsSound}
 use Rattle.cdc_laws.specs.ConnectorRuns.{Shown}
-use Rattle.cdc_laws.specs.Connectors.{ConnectorState, IsLive, KeepsTo, StandsLast, held_number, held_start, shown_of}
+use Rattle.cdc_laws.specs.Connectors.{ConnectorState, IsLive, KeepsTo, SendsInTurn, StandsLast, shown_of}
 use Rattle.cdc_laws.specs.GoingOn.{GoesOn}
 use Rattle.cdc_laws.specs.Line.{emitted}
 use Rattle.cdc_laws.specs.Readings.{AreReadings, IsOf, KeepsToReadings, Reading}
 use Rattle.cdc_laws.proofs.Connectors.{KeepsTo-goes_on, none_held}
 use Rattle.cdc_laws.proofs.GoingOn.{GoesOn-trans}
 use Rattle.cdc_laws.proofs.Lines.{split_events}
-use Rattle.cdc_laws.proofs.Splits.{SplitsAt, SplitsAt-later, events_after-split}
+use Rattle.cdc_laws.proofs.Splits.{SplitsAt-later, events_after-split}
 use Rattle.cdc_log.specs.Log.{events_after}
 use Rattle.cdc_message.specs.declared.items.Item.{Item}
 use Rattle.cdc_message.specs.declared.items.Item.TheVariants.{Event as OfEvent, EndMark}
@@ -30,27 +29,17 @@ use Rattle.cdc_types.specs.Timestamps.{last_timestamp_from}
 take_emitted : (n : ℕ) (es more : List Event) → n ≤ length es
     → take n (emitted (es ++ more) true) ≡ take n (emitted es true)
 take_emitted n es more within =
-    let size : length (map OfEvent es) ≡ length es = length-map es OfEvent in
-    ap (λ (items : List Item). take n (items ++ EndMark ∷ [])) (map-append OfEvent es more)
-    ∙ ap (take n) (append_assoc (map OfEvent es) (map OfEvent more) (EndMark ∷ []))
-    ∙ take-append-le n (map OfEvent es) (map OfEvent more ++ EndMark ∷ []) (omega (arith, within, size))
-    ∙ sym (take-append-le n (map OfEvent es) (EndMark ∷ []) (omega (arith, within, size)))
+    let size = length-map es OfEvent in
+    rw (map-append OfEvent es more, append_assoc (map OfEvent es) (map OfEvent more) (EndMark ∷ []))
+    (take-append-le n (map OfEvent es) _ (omega (arith, within, size))
+    ∙ sym (take-append-le n (map OfEvent es) (EndMark ∷ []) (omega (arith, within, size))))
 
 -- nothing follows a list that is all
 none_left : (xs rest all : List Event) → xs ++ rest ≡ all → xs ≡ all → rest ≡ []
 none_left xs [] all whole same = refl
 none_left xs (x ∷ rest) all whole same =
-    let longer : length (xs ++ x ∷ rest) ≡ length all = ap (λ (es : List Event). length es) whole in
-    let equal : length xs ≡ length all = ap (λ (es : List Event). length es) same in
-    absurd (omega (arith, longer, equal, length-append xs (x ∷ rest)))
-
--- a number isn't below 0
-zero_first : (n : ℕ) → nat_le 0 n ≡ true
-zero_first n = grind (arith, nat_tests)
-
--- what these tests mean
-up_to : (n m : ℕ) → nat_le n m ≡ true → n ≤ m
-up_to n m is = grind (arith, nat_tests)
+    let equal = ap (λ (es : List Event). length es) (whole ∙ sym same) in
+    absurd (omega (arith, equal, length-append xs (x ∷ rest)))
 
 module _ (h : History) (sound : IsSound h) (start : ℕ) (confirms : List Confirm) (sessions : List Shown) (number : ℕ)
     (course : Course) (live : IsLive h start confirms sessions number course) where
@@ -58,11 +47,8 @@ module _ (h : History) (sound : IsSound h) (start : ℕ) (confirms : List Confir
   rest_is : events_after (last_timestamp_from course.base course.offered) (events h) ≡ live.offered.rest
   rest_is =
       let cut = split_events h course.base sound in
-      let back : SplitsAt (events h) course.base cut.0 (course.offered ++ live.offered.rest) =
-      subst (SplitsAt (events h) course.base cut.0) (sym live.offered.whole) cut.1 in
-      events_after-split (events h) (last_timestamp_from course.base course.offered) (cut.0 ++ course.offered)
-      live.offered.rest
-      (SplitsAt-later (events h) course.base cut.0 course.offered live.offered.rest back)
+      events_after-split (events h) _ (cut.0 ++ course.offered) live.offered.rest
+      (SplitsAt-later (events h) course.base cut.0 course.offered live.offered.rest (rw live.offered.whole cut.1))
 
   -- a session that has sent all that it had keeps its place after an offer
   last_so : (es : List Event) (b : Bool) → shown_of course ≡ shown_of (with_offer es b course)
@@ -74,74 +60,53 @@ module _ (h : History) (sound : IsSound h) (start : ℕ) (confirms : List Confir
   pub IsLive-offer : (r : Reading) → IsOf h r → r.after ≡ last_timestamp_from course.base course.offered
       → IsLive h start confirms sessions number (with_offer r.events r.complete course)
   IsLive-offer r of after =
-      let later : events_after r.after (events h) ≡ live.offered.rest =
-      ap (λ t. events_after t (events h)) after ∙ rest_is in
-      let given : r.events ≡ take r.limit live.offered.rest = of.events_are ∙ ap (take r.limit) later in
-      let states : r.complete ≡ (h.closed && nat_le (length live.offered.rest) r.limit) =
-      of.complete_is
-      ∙ ap (λ (es : List Event). h.closed && nat_le (length es) r.limit) later in
+      let rest : List Event = live.offered.rest in
+      let later : events_after r.after (events h) ≡ rest = ap (λ t. events_after t (events h)) after ∙ rest_is in
+      let given : r.events ≡ take r.limit rest = of.events_are ∙ ap (take r.limit) later in
+      let states : r.complete ≡ (h.closed && nat_le (length rest) r.limit) =
+      of.complete_is ∙ ap (λ (es : List Event). h.closed && nat_le (length es) r.limit) later in
       let next : Course = with_offer r.events r.complete course in
-      let front : course.offered ++ (take r.limit live.offered.rest ++ drop r.limit live.offered.rest)
-      ≡ events_after course.base (events h) =
-      ap (λ es. course.offered ++ es) (take-append-drop r.limit live.offered.rest) ∙ live.offered.whole in
       let offered : IsPrefix next.offered (events_after course.base (events h)) = record {
-        rest = drop r.limit live.offered.rest;
-        whole = ap (λ (es : List Event). (course.offered ++ es) ++ drop r.limit live.offered.rest) given
-            ∙ append_assoc course.offered (take r.limit live.offered.rest) (drop r.limit live.offered.rest)
-            ∙ front;
+        rest = drop r.limit rest;
+        whole = ap (λ (es : List Event). (course.offered ++ es) ++ drop r.limit rest) given
+            ∙ append_assoc course.offered (take r.limit rest) (drop r.limit rest)
+            ∙ ap (λ es. course.offered ++ es) (take-append-drop r.limit rest)
+            ∙ live.offered.whole;
       } in
       let complete : r.complete ≡ true
       → (h.closed ≡ true) × (next.offered ≡ events_after course.base (events h)) =
       λ none.
-      let parts = and_parts h.closed (nat_le (length live.offered.rest) r.limit) (sym states ∙ none) in
-      let all : take r.limit live.offered.rest ≡ live.offered.rest =
-      take_all r.limit live.offered.rest (up_to (length live.offered.rest) r.limit parts.1) in (
-        parts.0,
-        ap (λ es. course.offered ++ es) (given ∙ all) ∙ live.offered.whole,
-      ) in
+      let parts = and_parts h.closed _ (sym states ∙ none) in
+      let all = given ∙ take_all r.limit rest (leb-true (length rest) r.limit parts.1) in
+      (parts.0, ap (λ es. course.offered ++ es) all ∙ live.offered.whole) in
+      let stays : SendsInTurn confirms next → shown_of course ≡ shown_of next
+      → IsLive h start confirms sessions number next =
+      λ in_turn same. record {
+        its = live.its;
+        starts = live.starts;
+        offered = offered;
+        complete = complete;
+        confirmed = live.confirmed;
+        in_turn = in_turn;
+        last = last_so r.events r.complete same live.last;
+      } in
       elim live.in_turn [
         | inl within ↦
-            let same : shown_of course ≡ shown_of next =
-            ap (λ (items : List Item). record { number = course.number; base = course.base; items = items })
-            (sym (take_emitted (tags_sent course) course.offered r.events within)) in
-            record {
-              its = live.its;
-              starts = live.starts;
-              offered = offered;
-              complete = complete;
-              confirmed = live.confirmed;
-              in_turn = inl (omega (arith, within, length-append course.offered r.events));
-              last = last_so r.events r.complete same live.last;
-            }
+            stays (inl (omega (arith, within, length-append course.offered r.events)))
+            (ap (λ (items : List Item). record { number = course.number; base = course.base; items = items })
+            (sym (take_emitted (tags_sent course) course.offered r.events within)))
         | inr ends ↦
             let all = live.complete ends.0 in
-            let none : live.offered.rest ≡ [] =
-            none_left course.offered live.offered.rest (events_after course.base (events h)) live.offered.whole all.1 in
-            let size : length live.offered.rest ≡ 0 = ap (λ (es : List Event). length es) none in
-            let nothing : r.events ≡ [] = given ∙ take_all r.limit live.offered.rest (omega (arith, size)) ∙ none in
-            let stays : next.offered ≡ course.offered =
+            let none = none_left course.offered rest _ live.offered.whole all.1 in
+            let nothing : r.events ≡ [] = given ∙ ap (take r.limit) none ∙ take_all r.limit [] (omega arith) in
+            let same : next.offered ≡ course.offered =
             ap (λ es. course.offered ++ es) nothing ∙ append-nil course.offered in
             let done : r.complete ≡ true =
             states
             ∙ ap₂ (λ (b : Bool) (es : List Event). b && nat_le (length es) r.limit) all.0 none
-            ∙ zero_first r.limit in
-            let same : shown_of course ≡ shown_of next =
-            ap (λ (es : List Event). shown_of (record course { offered = es })) (sym stays) in
-            record {
-              its = live.its;
-              starts = live.starts;
-              offered = offered;
-              complete = complete;
-              confirmed = live.confirmed;
-              in_turn = inr (
-                done,
-                λ tag above low.
-                    let short : length next.offered ≡ length course.offered =
-                    ap (λ (es : List Event). length es) stays in
-                    ends.1 tag above (omega (arith, low, short)),
-              );
-              last = last_so r.events r.complete same live.last;
-            }
+            ∙ le-leb 0 r.limit (omega arith) in
+            stays (inr (done, rw same ends.1))
+            (ap (λ (es : List Event). shown_of (record course { offered = es })) (sym same))
       ]
 
 -- so a connector keeps to its history when its session is offered the events of a reading of it, after the last one
@@ -157,10 +122,8 @@ KeepsTo-offer h c course r sound keeps runs of after = record {
   none_yet = λ nothing. absurd (none_held h c keeps nothing course runs);
   base = keeps.base;
   live = λ other there.
-      subst (IsLive h (held_start c.held) c.confirms keeps.sessions (held_number c.held))
-      (same_Some (with_offer r.events r.complete course) other there)
-      (IsLive-offer h sound (held_start c.held) c.confirms keeps.sessions (held_number c.held) course
-      (keeps.live course runs) r of after);
+      rw (← same_Some (with_offer r.events r.complete course) other there)
+      (IsLive-offer h sound _ c.confirms keeps.sessions _ course (keeps.live course runs) r of after);
 }
 
 -- ---- readings
@@ -183,9 +146,8 @@ pub KeepsToReadings-offer : (readings : List Reading) (c : ConnectorState) (cour
     → r.after ≡ last_timestamp_from course.base course.offered
     → KeepsToReadings (r ∷ readings) (record c { session = Some (with_offer r.events r.complete course) })
 KeepsToReadings-offer readings c course r keeps runs after h (is, (g, (of, before, on))) =
-    let sound : IsSound g = readings_sound readings g before in
-    KeepsTo-goes_on g h (record c { session = Some (with_offer r.events r.complete course) }) on
-    (KeepsTo-offer g c course r sound (keeps g before) runs of after)
+    KeepsTo-goes_on g h _ on
+    (KeepsTo-offer g c course r (readings_sound readings g before) (keeps g before) runs of after)
 
 -- and it does when an answer comes that it doesn't use
 pub KeepsToReadings-unused : (readings : List Reading) (c : ConnectorState) (r : Reading) → KeepsToReadings readings c

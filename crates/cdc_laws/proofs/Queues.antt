@@ -1,13 +1,12 @@
 -- What a queue has delivered stays a replay of it, whatever it does next.
-use Rattle.std.proofs.Common.{◌≡◌, ℕ, ◌+◌, ◌-◌, ◌<◌, ◌≤◌, max, Bool, true, false, Some, None, List, [], ◌∷◌, ◌++◌, length, take, refl, ap, ◌∙◌, subst, inl, inr, arith}
-use Rattle.std.specs.Prelude.{Contains, Option, ◌==◌, ◌||◌, nat_lt, slice_get, if◌then◌else◌}
+use Rattle.std.proofs.Common.{◌≡◌, ℕ, ◌+◌, ◌-◌, ◌≤◌, max, false, Some, None, List, [], ◌∷◌, ◌++◌, length, take, refl, ◌∙◌, inl, inr, arith}
+use Rattle.std.specs.Prelude.{Contains, Option, ◌==◌, slice_get}
 use Rattle.std.specs.Option.{option_map}
-use Rattle.std.proofs.lemmas.Bool.{cases_lt}
-use Rattle.std.proofs.lemmas.Bool.Decides.{nat_tests}
+use Rattle.std.proofs.lemmas.Bool.{cases_Bool, cases_lt, ltb-false, or_parts}
 use Rattle.std.proofs.lemmas.List.{length-append, take-append-le}
 use Rattle.std.proofs.lemmas.List.Elements.{Contains-append_left, Contains-push, Contains-push_cases}
 use Rattle.std.proofs.lemmas.Option.{none-some, same_Some, slice_get_within}
-use Rattle.cdc_broker.specs.Queues.{QueueState, acknowledged, empty_queue, is_unknown, next_delivery, queued, rewound_queue, with_delivery, with_item}
+use Rattle.cdc_broker.specs.Queues.{QueueState, acknowledged, empty_queue, is_unknown, next_delivery, queued, rewound_queue, with_delivery}
 use Rattle.cdc_laws.specs.Brokers.{HasDelivered}
 use Rattle.cdc_laws.specs.Deliveries.{deliveries, deliveries_from}
 use Rattle.cdc_laws.proofs.Courses.{take_one}
@@ -35,28 +34,25 @@ pub HasDelivered-longer : (q : QueueState) (out : List Delivery) (more : List It
 HasDelivered-longer q out more has =
     let longer = deliveries-append q.items more in
     let rest : List Delivery = deliveries_from (1 + length q.items) more in
-    let front : take q.delivered (deliveries q.items ++ rest) ≡ take q.delivered (deliveries q.items) =
-    take-append-le q.delivered (deliveries q.items) rest (omega (arith, length-deliveries q.items, has.there)) in
+    let within : q.delivered ≤ length (deliveries q.items) = omega (arith, length-deliveries q.items, has.there) in
+    let front = take-append-le q.delivered (deliveries q.items) rest within in
     record {
       replay = rw longer (IsReplay-longer out (deliveries q.items) rest has.replay);
-      all = λ d there. has.all d (subst (λ ds. Contains ds d) (ap (take q.delivered) longer ∙ front) there);
+      all = λ d there. has.all d (rw (longer, front) at there);
       there = omega (arith, length-append q.items more, has.there);
       from_one = has.from_one;
       next_at_most = has.next_at_most;
       acked_delivered = has.acked_delivered;
     }
 
--- so does one item, if there is one
-HasDelivered-item : (q : QueueState) (out : List Delivery) (item : Option Item) → HasDelivered q out
-    → HasDelivered (with_item item q) out
-HasDelivered-item q out None has = has
-HasDelivered-item q out (Some item) has = HasDelivered-longer q out (item ∷ []) has
-
 -- so it is when the broker accepts one more item, whether or not it belongs to the queue
 pub HasDelivered-queued : (q : QueueState) (out : List Delivery) (item : Item) → HasDelivered q out
     → HasDelivered (queued item q) out
 HasDelivered-queued q out item has =
-    HasDelivered-item q out (if takes_item q.binding item then Some item else None) has
+    elim (cases_Bool (takes_item q.binding item)) [
+      | inl takes ↦ rw takes (HasDelivered-longer q out (item ∷ []) has)
+      | inr passes ↦ rw passes has
+    ]
 
 -- the item at the cursor
 at_cursor : (found : Option Item) (next : ℕ) (d : Delivery)
@@ -73,33 +69,24 @@ HasDelivered-next q out d has found =
     let item = at_cursor (slice_get q.items place) q.cursor.next d found in
     let at : place + 1 ≡ q.cursor.next = omega (arith, has.from_one) in
     let here : slice_get (deliveries q.items) place ≡ Some d =
-    slice_get-deliveries q.items place item.0 item.1.0
-    ∙ ap (λ n. Some (delivery_at n item.0)) at
-    ∙ ap (λ x. Some x) item.1.1 in
-    let within : place < length q.items = slice_get_within q.items place item.0 item.1.0 in
+    slice_get-deliveries q.items place item.0 item.1.0 ∙ rw (at, item.1.1) refl in
+    let within = slice_get_within q.items place item.0 item.1.0 in
     let before : (y : Delivery) → Contains (take place (deliveries q.items)) y → Contains out y =
     λ y there.
-    has.all y
-    (Contains-take_longer place q.delivered (deliveries q.items) y (omega (arith, has.next_at_most, has.from_one))
-    there) in
+    has.all y (Contains-take_longer place q.delivered _ y (omega (arith, has.next_at_most, has.from_one)) there) in
     record {
       replay = IsReplay-in_turn out (deliveries q.items) d place has.replay here before;
       all = λ y there.
           elim (cases_lt q.delivered q.cursor.next) [
             | inl new ↦
                 let most : max q.delivered q.cursor.next ≡ place + 1 = omega (arith, new, at) in
-                let next_is : take (max q.delivered q.cursor.next) (deliveries q.items)
-                ≡ take place (deliveries q.items) ++ d ∷ [] =
-                ap (λ n. take n (deliveries q.items)) most ∙ take_one place (deliveries q.items) d here in
-                elim (Contains-push_cases (take place (deliveries q.items)) d y
-                (subst (λ ds. Contains ds y) next_is there)) [
+                elim (Contains-push_cases _ d y (rw (most, take_one place (deliveries q.items) d here) at there)) [
                   | inl old ↦ Contains-append_left out (d ∷ []) y (before y old)
-                  | inr is ↦ subst (Contains (out ++ d ∷ [])) is (Contains-push out d)
+                  | inr is ↦ rw (← is) (Contains-push out d)
                 ]
             | inr again ↦
                 let most : max q.delivered q.cursor.next ≡ q.delivered = omega (arith, again) in
-                Contains-append_left out (d ∷ []) y
-                (has.all y (subst (λ n. Contains (take n (deliveries q.items)) y) most there))
+                Contains-append_left out (d ∷ []) y (has.all y (rw most at there))
           ];
       there = omega (arith, has.there, within, at);
       from_one = omega (arith, has.from_one);
@@ -107,22 +94,11 @@ HasDelivered-next q out d has found =
       acked_delivered = omega (arith, has.acked_delivered);
     }
 
--- a position that was delivered is no further on than the greatest
-known_position : (q : QueueState) (position : ℕ) → is_unknown q position ≡ false → position ≤ q.delivered
-known_position q position known = by_tests (position == 0) known
-  where
-    not_below : (n m : ℕ) → nat_lt n m ≡ false → m ≤ n
-    not_below n m is = grind (arith, nat_tests)
-
-    by_tests : (b : Bool) → (b || nat_lt q.delivered position) ≡ false → position ≤ q.delivered
-    by_tests true is = cc
-    by_tests false is = not_below q.delivered position is
-
 -- an acknowledgement of what was delivered moves the cursor past nothing else
 pub HasDelivered-ack : (q : QueueState) (out : List Delivery) (position : ℕ) → HasDelivered q out
     → is_unknown q position ≡ false → HasDelivered (acknowledged position q) out
 HasDelivered-ack q out position has known =
-    let low : position ≤ q.delivered = known_position q position known in
+    let low = ltb-false q.delivered position (or_parts (position == 0) _ known).1 in
     record {
       replay = has.replay;
       all = has.all;

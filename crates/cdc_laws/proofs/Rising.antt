@@ -1,11 +1,13 @@
 -- The events of a ledger rise, and so do those that a binding takes.
-use Rattle.std.proofs.Common.{ℕ, zero, suc, ◌<◌, ◌≤◌, Bool, true, false, List, [], ◌∷◌, ◌++◌, get_or, map, arith}
-use Rattle.std.specs.Prelude.{All, AllPairs, filter, nat_lt, if◌then◌else◌}
+use Rattle.std.proofs.Common.{◌≡◌, ℕ, zero, suc, ◌<◌, ◌≤◌, Bool, List, [], ◌∷◌, ◌++◌, get_or, map, refl, arith}
+use Rattle.std.specs.Prelude.{All, AllPairs, filter, nat_lt}
 use Rattle.std.specs.List.{AllByRecursion}
+use Rattle.std.proofs.lemmas.Bool.{cond_both}
 use Rattle.std.proofs.lemmas.List.{get_or_append_left, length-append}
 use Rattle.std.proofs.lemmas.List.Elements.{Contains-get_or}
 use Rattle.cdc_types.specs.declared.events.Entry.{Entry}
 use Rattle.cdc_types.specs.declared.events.Event.{Event}
+use Rattle.cdc_types.specs.Timestamps.{last_timestamp_from}
 use Rattle.cdc_ledger.specs.Events.{event_of, events}
 use Rattle.cdc_ledger.specs.History.{History}
 use Rattle.cdc_ledger.specs.Sound as sound
@@ -27,12 +29,10 @@ RiseFrom-earlier s t (e ∷ es) before rise = (omega (arith, rise.0), rise.1)
 -- so rising events of which some are left out still rise
 pub RiseFrom-filter : (p : Event → Bool) (t : ℕ) (es : List Event) → RiseFrom t es → RiseFrom t (filter p es)
 RiseFrom-filter p t [] rise = tt
-RiseFrom-filter p t (e ∷ es) rise = kept_or_not (p e) (RiseFrom-filter p e.timestamp es rise.1)
-  where
-    kept_or_not : (b : Bool) → RiseFrom e.timestamp (filter p es)
-        → RiseFrom t (if b then e ∷ filter p es else filter p es)
-    kept_or_not true rest = (rise.0, rest)
-    kept_or_not false rest = RiseFrom-earlier t e.timestamp (filter p es) (omega (arith, rise.0)) rest
+RiseFrom-filter p t (e ∷ es) rise =
+    let rest = RiseFrom-filter p e.timestamp es rise.1 in
+    cond_both (p e) (e ∷ filter p es) (filter p es) (RiseFrom t) (λ keeps. (rise.0, rest))
+    (λ drops. RiseFrom-earlier t e.timestamp (filter p es) (omega (arith, rise.0)) rest)
 
 -- each event of a rising list is later than the timestamp that the list rises from
 pub all_later : (t : ℕ) (es : List Event) → RiseFrom t es → AllByRecursion (λ e. t < e.timestamp) es
@@ -47,9 +47,8 @@ later_at t es rise k d below =
 -- and it is later than every event before it, not only than the one next to it
 in_turn : (t : ℕ) (es : List Event) → RiseFrom t es → AllPairs (λ earlier later. earlier.timestamp < later.timestamp) es
 in_turn t [] rise i j d before below = absurd (omega arith)
-in_turn t (e ∷ es) rise zero zero d before below = absurd (omega arith)
+in_turn t (e ∷ es) rise i zero d before below = absurd (omega arith)
 in_turn t (e ∷ es) rise zero (suc j) d before below = later_at e.timestamp es rise.1 j d (omega arith)
-in_turn t (e ∷ es) rise (suc i) zero d before below = absurd (omega arith)
 in_turn t (e ∷ es) rise (suc i) (suc j) d before below = in_turn e.timestamp es rise.1 i j d (omega arith) (omega arith)
 
 -- so events that rise as a log has them rise as the laws of subscribers ask
@@ -65,10 +64,8 @@ TimestampsRise-prefix some es rise front =
       above_zero = λ k d below.
           rw (get_or_append_left some front.rest d k below) at (all.above_zero k d (omega (arith, longer)));
       rising = λ i j d before below.
-          rw (
-            get_or_append_left some front.rest d i (omega arith),
-            get_or_append_left some front.rest d j below,
-          ) at (all.rising i j d before (omega (arith, longer)));
+          rw (get_or_append_left some front.rest d i (omega arith), get_or_append_left some front.rest d j below) at
+          (all.rising i j d before (omega (arith, longer)));
     }
 
 -- ---- the events of a ledger
@@ -95,3 +92,14 @@ feed_after_rises h start binding is =
     TimestampsRise-from (feed_after h start binding)
     (RiseFrom-filter (takes_event binding) 0 (events_after start (events h))
     (RiseFrom-filter (λ (e : Event). nat_lt start e.timestamp) 0 (events h) (events_rise h is)))
+
+-- the last event isn't before the timestamp that a list rises from
+pub last_late : (t : ℕ) (es : List Event) → RiseFrom t es → t ≤ last_timestamp_from t es
+last_late t [] rise = omega arith
+last_late t (e ∷ es) rise = omega (arith, rise.0, last_late e.timestamp es rise.1)
+
+-- the last event is the last of all
+pub last_behind : (t : ℕ) (xs : List Event) (e : Event) (es : List Event)
+    → last_timestamp_from t (xs ++ e ∷ es) ≡ last_timestamp_from e.timestamp es
+last_behind t [] e es = refl
+last_behind t (x ∷ xs) e es = last_behind x.timestamp xs e es

@@ -1,5 +1,5 @@
 -- Sessions of a connector, and the packets that they have sent.
-use Rattle.std.proofs.Common.{◌≡◌, ℕ, suc, ◌+◌, ◌<◌, List, [], ◌∷◌, refl, sym, ap, ◌∙◌, subst, inl, inr, arith}
+use Rattle.std.proofs.Common.{◌≡◌, ℕ, suc, ◌+◌, List, [], ◌∷◌, refl, sym, ap, ◌∙◌, inl, inr, arith}
 use Rattle.std.specs.Prelude.{Contains, Some, slice_get}
 use Rattle.std.proofs.lemmas.List.Elements.{Contains-append_cases, Contains-append_right}
 use Rattle.cdc_ledger.specs.History.{History}
@@ -25,15 +25,13 @@ pub record IsPublished (sessions : List Shown) (number tag : ℕ) (item : Item) 
 pub publish_place : (session first : ℕ) (items : List Item) (number tag : ℕ) (item : Item)
     → Contains (publishes_from session first items) (Publish number tag item)
     → (session ≡ number) × ((k : ℕ) × (tag ≡ first + k) × (slice_get items k ≡ Some item))
-publish_place session first [] number tag item there = absurd (none_there (Publish number tag item) there)
+publish_place session first [] number tag item there = absurd (none_there _ there)
 publish_place session first (x ∷ items) number tag item there =
-    elim (Contains-cons_cases (Publish session first x) (publishes_from session (first + 1) items)
-    (Publish number tag item) there) [
+    elim (Contains-cons_cases (Publish session first x) (publishes_from session (first + 1) items) _ there) [
       | inl is ↦
-          let its : session ≡ number = cc in
           let tagged : first ≡ tag = cc in
           let same : x ≡ item = cc in
-          (its, (0, omega (arith, tagged), ap (λ y. Some y) same))
+          (cc, (0, omega (arith, tagged), ap (λ y. Some y) same))
       | inr later ↦
           let rest = publish_place session (first + 1) items number tag item later in
           (rest.0, (suc rest.1.0, omega (arith, rest.1.1), rest.1.2))
@@ -42,9 +40,9 @@ publish_place session first (x ∷ items) number tag item there =
 -- so whatever publish was sent, a session has published it
 pub IsPublished-sent : (sessions : List Shown) (number tag : ℕ) (item : Item)
     → Contains (sent_by sessions) (Publish number tag item) → IsPublished sessions number tag item
-IsPublished-sent [] number tag item there = absurd (none_there (Publish number tag item) there)
+IsPublished-sent [] number tag item there = absurd (none_there _ there)
 IsPublished-sent (s ∷ earlier) number tag item there =
-    elim (Contains-append_cases (sent_by earlier) (packets_of s) (Publish number tag item) there) [
+    elim (Contains-append_cases (sent_by earlier) (packets_of s) _ there) [
       | inl before ↦
           let old = IsPublished-sent earlier number tag item before in
           record {
@@ -56,8 +54,7 @@ IsPublished-sent (s ∷ earlier) number tag item there =
             here = old.here;
           }
       | inr own ↦
-          elim (Contains-cons_cases (Connect s.number) (publishes_from s.number 1 s.items) (Publish number tag item)
-          own) [
+          elim (Contains-cons_cases (Connect s.number) (publishes_from s.number 1 s.items) _ own) [
             | inl is ↦ cc
             | inr publish ↦
                 let found = publish_place s.number 1 s.items number tag item publish in
@@ -85,7 +82,7 @@ pub follows : (h : History) (start : ℕ) (confirms : List Confirm) (sessions : 
 follows h start confirms [] s each there = absurd (none_there s there)
 follows h start confirms (x ∷ earlier) s each there =
     elim (Contains-cons_cases x earlier s there) [
-      | inl is ↦ record { earlier = earlier; may = subst (MayFollow h start confirms earlier) is each.0 }
+      | inl is ↦ record { earlier = earlier; may = rw is at each.0 }
       | inr old ↦
           let rest = follows h start confirms earlier s each.1 old in
           record { earlier = rest.earlier; may = rest.may }
@@ -96,21 +93,19 @@ pub one_session : (h : History) (start : ℕ) (confirms : List Confirm) (session
     → AreSessions h start confirms sessions → Contains sessions s → Contains sessions t → s.number ≡ t.number → s ≡ t
 one_session h start confirms [] s t each there here same = absurd (none_there s there)
 one_session h start confirms (x ∷ earlier) s t each there here same =
+    let apart : (y z : Shown) → x ≡ y → Contains earlier z → y.number ≡ z.number → ⊥ = λ y z is old equal.
+    let below = each.0.above z old in
+    let number = ap (λ (w : Shown). w.number) is in
+    omega (arith, below, number, equal) in
     elim (Contains-cons_cases x earlier s there) [
       | inl s_first ↦
           elim (Contains-cons_cases x earlier t here) [
             | inl t_first ↦ sym s_first ∙ t_first
-            | inr t_old ↦
-                let below : t.number < x.number = each.0.above t t_old in
-                let number : x.number ≡ s.number = ap (λ (y : Shown). y.number) s_first in
-                absurd (omega (arith, below, number, same))
+            | inr t_old ↦ absurd (apart s t s_first t_old same)
           ]
       | inr s_old ↦
           elim (Contains-cons_cases x earlier t here) [
-            | inl t_first ↦
-                let below : s.number < x.number = each.0.above s s_old in
-                let number : x.number ≡ t.number = ap (λ (y : Shown). y.number) t_first in
-                absurd (omega (arith, below, number, same))
+            | inl t_first ↦ absurd (apart t s t_first s_old (sym same))
             | inr t_old ↦ one_session h start confirms earlier s t each.1 s_old t_old same
           ]
     ]

@@ -1,8 +1,7 @@
 -- What a broker's taking of a packet does to its session, its tag and its items.
-use Rattle.std.proofs.Common.{◌≡◌, ◌⊎◌, ℕ, ◌+◌, ◌<◌, ◌≤◌, Bool, true, false, List, [], ◌∷◌, ◌++◌, sym, ap, subst, inl, inr, arith}
-use Rattle.std.specs.Prelude.{◌==◌, nat_lt, Option, Some, None, Contains, fold, if◌then◌else◌}
-use Rattle.std.proofs.lemmas.Bool.{and_parts, cases_Bool, eqb-true}
-use Rattle.std.proofs.lemmas.Bool.Decides.{nat_tests}
+use Rattle.std.proofs.Common.{◌≡◌, ◌⊎◌, ℕ, ◌+◌, ◌≤◌, true, false, List, [], ◌∷◌, ◌++◌, refl, sym, ap, inl, inr, arith}
+use Rattle.std.specs.Prelude.{◌==◌, nat_lt, Option, Some, None, Contains, fold}
+use Rattle.std.proofs.lemmas.Bool.{and_parts, cases_Bool, eqb-true, ltb-true}
 use Rattle.std.proofs.lemmas.List.Elements.{Contains-append_right, Contains-push_cases, filter_map-append}
 use Rattle.std.proofs.lemmas.List.Sums.{fold-append}
 use Rattle.std.proofs.lemmas.Option.{cond_some}
@@ -59,19 +58,13 @@ item_taken (Publish c t x ∷ packets) session tag item there =
 
 -- ---- the current session only rises
 
--- what this test of two numbers means
-below_from : (t n : ℕ) → nat_lt t n ≡ true → t < n
-below_from t n is = grind (arith, nat_tests)
-
 -- a packet that is taken is of the current session or, if it connects, of a later one
 taken_number : (taken : List Packet) (packet : Packet) → is_taken taken packet ≡ true
     → current_session taken ≤ session_of packet
 taken_number taken (Connect session) takes =
-    let above = below_from (current_session taken) session takes in omega (arith, above)
+    let above = ltb-true (current_session taken) session takes in omega (arith, above)
 taken_number taken (Publish session tag item) takes =
-    let parts = and_parts (session == current_session taken) (is_tag (expected_tag taken) tag) takes in
-    let same = eqb-true session (current_session taken) parts.0 in
-    omega (arith, same)
+    let same = eqb-true session _ (and_parts (session == current_session taken) _ takes).0 in omega (arith, same)
 
 -- so the current session doesn't fall
 current_rises : (taken : List Packet) (packet : Packet) → is_taken taken packet ≡ true
@@ -82,11 +75,11 @@ current_rises taken (Publish session tag item) takes = omega arith
 -- a packet is taken or ignored
 pub taken_after-true : (taken : List Packet) (packet : Packet) → is_taken taken packet ≡ true
     → taken_after taken packet ≡ taken ++ packet ∷ []
-taken_after-true taken packet takes = ap (λ (b : Bool). if b then taken ++ packet ∷ [] else taken) takes
+taken_after-true taken packet takes = rw takes refl
 
 pub taken_after-false : (taken : List Packet) (packet : Packet) → is_taken taken packet ≡ false
     → taken_after taken packet ≡ taken
-taken_after-false taken packet passes = ap (λ (b : Bool). if b then taken ++ packet ∷ [] else taken) passes
+taken_after-false taken packet passes = rw passes refl
 
 -- whatever is taken from now on is of the session that is current now, or of a later one
 pub later_numbers : (taken rest : List Packet) (packet : Packet) → Contains (fold taken_after taken rest) packet
@@ -95,19 +88,14 @@ later_numbers taken [] packet there = inl there
 later_numbers taken (first ∷ rest) packet there =
     elim (cases_Bool (is_taken taken first)) [
       | inl takes ↦
-          let now : Contains (fold taken_after (taken ++ first ∷ []) rest) packet =
-          subst (λ ps. Contains (fold taken_after ps rest) packet) (taken_after-true taken first takes) there in
+          let now = rw (taken_after-true taken first takes) at there in
           elim (later_numbers (taken ++ first ∷ []) rest packet now) [
             | inl so_far ↦
                 elim (Contains-push_cases taken first packet so_far) [
                   | inl old ↦ inl old
-                  | inr is ↦ inr (subst (λ p. current_session taken ≤ session_of p) is (taken_number taken first takes))
+                  | inr is ↦ inr (rw (← is) (taken_number taken first takes))
                 ]
-            | inr late ↦
-                inr
-                (omega (arith, late, current_session-push taken first, current_rises taken first takes))
+            | inr late ↦ inr (omega (arith, late, current_session-push taken first, current_rises taken first takes))
           ]
-      | inr passes ↦
-          later_numbers taken rest packet
-          (subst (λ ps. Contains (fold taken_after ps rest) packet) (taken_after-false taken first passes) there)
+      | inr passes ↦ later_numbers taken rest packet (rw (taken_after-false taken first passes) at there)
     ]

@@ -9,7 +9,7 @@ use Rattle.cdc_log.specs.Log.{events_after}
 use Rattle.cdc_message.specs.declared.packets.Confirm.{Confirm}
 use Rattle.cdc_message.specs.declared.packets.Packet.{Packet}
 use Rattle.cdc_message.specs.Replays.{IsPrefix}
-use Rattle.cdc_progress.specs.Records.{Saved}
+use Rattle.cdc_publisher.specs.Records.{Saved}
 use Rattle.cdc_publisher.specs.Courses.{Course, after_answer, is_confirmed, tags_sent}
 
 -- a connector: what its store holds; its session, or none if it is down; the packets that it has sent; and the

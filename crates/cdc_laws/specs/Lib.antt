@@ -12,3 +12,17 @@ pub mod Readings
 pub mod RunLaws
 pub mod StepLaws
 pub mod Takings
+pub use Rattle.cdc_broker.specs.Broker
+pub use Rattle.cdc_broker.specs.Packets
+pub use Rattle.cdc_broker.specs.Queues
+pub use Rattle.cdc_ledger.specs.Balances
+pub use Rattle.cdc_ledger.specs.Events
+pub use Rattle.cdc_ledger.specs.History
+pub use Rattle.cdc_ledger.specs.Sound
+pub use Rattle.cdc_log.specs.Log
+pub use Rattle.cdc_match.specs.Arguments
+pub use Rattle.cdc_match.specs.Queue
+pub use Rattle.cdc_publisher.specs.Courses
+pub use Rattle.cdc_subscriber.specs.Book
+pub use Rattle.cdc_subscriber.specs.Reception
+pub use Rattle.cdc_subscriber.specs.SubscriberState

@@ -18,7 +18,7 @@ use Rattle.cdc_message.specs.declared.packets.Answer.TheVariants.{Confirmed}
 use Rattle.cdc_message.specs.declared.packets.Confirm.{Confirm}
 use Rattle.cdc_message.specs.declared.packets.Packet.{Packet}
 use Rattle.cdc_message.specs.declared.packets.Packet.TheVariants.{Publish}
-use Rattle.cdc_progress.specs.Records.{Saved}
+use Rattle.cdc_publisher.specs.Records.{Saved}
 use Rattle.cdc_publisher.specs.Courses.{Course, begun, new_course, next_packet, progress_of, with_offer, with_sent}
 use Rattle.cdc_subscriber.specs.Reception.{Reception, next, nothing}
 use Rattle.cdc_types.specs.Timestamps.{last_timestamp_from}

@@ -6,3 +6,4 @@ pub mod Matching
 pub mod Parsing
 pub mod Parts
 pub mod Queue
+pub use Rattle.cdc_types.specs.Widths

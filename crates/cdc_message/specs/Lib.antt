@@ -16,3 +16,4 @@ pub mod Sending
 pub mod Unordered
 pub mod Values
 pub mod Widths
+pub use Rattle.cdc_types.specs.declared.events.Event

@@ -1,25 +1,12 @@
--- What was read of a file, piece by piece, and the record in its bytes, if as many were read as a record can have,
--- and one more.
-use Rattle.std.proofs.Common.{◌≡◌, ℕ, ◌+◌, ◌<◌, ◌≤◌, List, [], ◌∷◌, ◌++◌, Option, Some, None, length, take, drop, sym, ap, ◌∙◌, subst, inl, inr, le_refl, drop_at, length-take-le, arith, length-append}
+-- The record in a file's bytes, if as many were read as a record can have, and one more.
+use Rattle.std.proofs.Common.{◌≡◌, ℕ, ◌<◌, ◌≤◌, List, [], ◌∷◌, ◌++◌, Option, Some, None, length, sym, ap, ◌∙◌, subst, inl, inr, arith, length-append}
 use Rattle.std.specs.Prelude.{IfSome, codes, decimal, Err}
 use Rattle.std.specs.Io.KnownBytes.{Consumes, IsAtEnd}
 use Rattle.std.proofs.lemmas.Fmt.{length-decimal-le}
 use Rattle.std.proofs.lemmas.List.{append-nil}
-use Rattle.std.proofs.lemmas.Slice.{take-put_mid_below}
-use borrow.Rule.Slice.PartMut.{post_of, put_mid}
-use lib.Seq.{take-add, take-append-le}
 use Rattle.cdc_progress.specs.Records.{Fits, IsTextOf, Saved, first_text_of, numbers_text, text_of}
 use Rattle.cdc_progress.specs.Stores.{ReadsAs}
-use Rattle.cdc_progress.specs.declared.errors.StoreError.TheVariants.{BadRecord}
-
--- n bytes more were read into a buffer from place a on
-pub filled_more : (a k n : ℕ) (xs ys : List ℕ) → a ≤ length xs → n ≤ length ys
-    → take (a + n) (put_mid a k xs ys) ≡ take a xs ++ take n ys
-filled_more a k n xs ys within fits =
-    take-add a n (put_mid a k xs ys)
-    ∙ ap (λ l. l ++ take n (drop a (put_mid a k xs ys))) (take-put_mid_below a k xs ys a (le_refl a) within)
-    ∙ ap (λ l. take a xs ++ take n l) (drop_at (take a xs) (ys ++ post_of a k xs) a (length-take-le a xs within))
-    ∙ ap (λ l. take a xs ++ l) (take-append-le n ys (post_of a k xs) fits)
+use Rattle.cdc_files.specs.declared.errors.StoreError.TheVariants.{BadRecord}
 
 -- a record's text is short
 line_is_short : (saved : Saved) → Fits saved → length (text_of saved) ≤ 128

@@ -1,3 +1,3 @@
 mod Examples
 pub mod FileBytes
-pub mod Numbers
+pub mod TextLemmas

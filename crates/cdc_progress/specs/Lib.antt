@@ -1,5 +1,4 @@
-pub mod Errors
-pub mod Leftovers
 pub mod Memory
 pub mod Records
 pub mod Stores
+pub use Rattle.cdc_files.specs.declared.errors.StoreError

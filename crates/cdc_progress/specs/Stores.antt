@@ -2,8 +2,8 @@
 use Rattle.std.specs.Prelude.{◌≡◌, ◌⊎◌, ℕ, ◌<◌, Bool, false, IsTrue, Option, Some, None, Result, Ok, Err, List}
 use Rattle.cdc_types.specs.Widths.{max_64}
 use Rattle.cdc_progress.specs.Records.{Fits, IsTextOf, Saved}
-use Rattle.cdc_progress.specs.declared.errors.StoreError.{StoreError}
-use Rattle.cdc_progress.specs.declared.errors.StoreError.TheVariants.{ReadFault, WriteFault, BadRecord, OutOfMemory}
+use Rattle.cdc_files.specs.declared.errors.StoreError.{StoreError}
+use Rattle.cdc_files.specs.declared.errors.StoreError.TheVariants.{ReadFault, WriteFault, BadRecord, OutOfMemory}
 
 -- what calls make of a store: whether it is honest; what it holds, before and after; and how often a read or a write
 -- had failed before, and has failed after

@@ -1,19 +1,18 @@
 //! Progress in a file.
 
-ghost use Rattle.std.specs.Prelude.{◌≡◌, ◌<◌, ◌≤◌, ◌++◌, length, take, codes, IfOk, IfErr, IfSome, OnOk, Some, is_none, true, string_bytes};
-ghost use Rattle.std.specs.Io.KnownBytes.{Appends, Consumes, IsAtEnd};
-ghost use Rattle.cdc_progress.specs.Leftovers.{is_leftover as may_be_left};
+ghost use Rattle.std.specs.Prelude.{◌≡◌, ◌≤◌, IfErr, IfSome, Some, is_none, true};
 ghost use Rattle.cdc_progress.specs.Stores.{IsCounted, IsLoadFault, ReadsAs, known_of, unread_of};
 
-use crate::errors::StoreError;
 use crate::progress::Progress;
 use crate::stores::ProgressStore;
 use crate::texts::{parse, print};
+use cdc_files::{
+    Leftover, Replaced, StoreError, fill, open_locked, open_plain, path_of_new, target_of,
+};
 use cdc_types::Limits;
-use std::alloc::{AllocError, Global};
-use std::fs::{File, Files, OpenFile, Permissions, TryLockError};
-use std::io::{ErrorKind, Read, Write};
-use std::{fs, io};
+use std::fs::{File, Files};
+use std::io;
+use std::io::{ErrorKind, Read};
 
 /// A store in a file. A save creates the file `PATH.new`, syncs it to the disk and renames it to PATH, so an
 /// interrupted save leaves the old record. If PATH is a link, both names refer to the link's target, and the link
@@ -122,26 +121,6 @@ const RECORD_BYTES: usize = Limits::PROGRESS_BYTES;
 // The first bytes of each record, whatever its version.
 const MARK: &[u8] = b"tb-cdc ";
 
-// Reads until the buffer is full or the file ends, and returns the number of bytes read.
-fn fill<F: Read>(file: &mut F, buffer: &mut [u8]) -> io::Result<usize>
-    ensures count { IfOk result (λ filled. filled ≤ length buffer.new) }
-    ensures size { length buffer.new ≡ length buffer.old }
-    ensures text { IfOk result (λ filled. Consumes (F.remaining file.old) (F.remaining file.new)
-        (take filled buffer.new)) }
-    ensures whole { IfOk result (λ filled. filled < length buffer.new
-        → IsAtEnd (F.remaining file.new)) }
-{
-    let mut filled = 0;
-    while filled < buffer.len() {
-        let count = file.read(&mut buffer[filled..])?;
-        if count == 0 {
-            return Ok(filled);
-        }
-        filled += count;
-    }
-    Ok(filled)
-}
-
 // Reads a whole file as a record.
 fn record_in<F: Read>(file: &mut F) -> Result<Progress, StoreError>
     ensures record { IfSome (F.remaining file.old) (λ bytes. ReadsAs bytes result) }
@@ -164,51 +143,14 @@ struct Found {
     file: File,
 }
 
-// Locks a file that isn't locked here, and returns whether another holder has it locked already. On a system without
-// locks it returns false.
-fn is_taken(file: &File) -> bool {
-    match file.try_lock() {
-        Err(TryLockError::WouldBlock) => true,
-        Err(TryLockError::Error(_)) | Ok(()) => false,
-    }
-}
-
-// Opens a file; `None` if there is no file. Anything but a plain file, such as a folder or a pipe, isn't opened, since
-// that might block.
-fn open_plain<R: Files<File = File>>(rt: &R, path: &str) -> Result<Option<File>, StoreError>
-    ensures { IfErr result (λ error. error ≡ StoreError.ReadFault) }
-{
-    match fs::metadata(rt, path) {
-        Ok(metadata) if metadata.is_file() => {}
-        Err(error) if error.kind() == ErrorKind::NotFound => return Ok(None),
-        _ => return Err(StoreError::ReadFault),
-    }
-    match File::open(rt, path) {
-        Ok(file) => Ok(Some(file)),
-        Err(_) => Err(StoreError::ReadFault),
-    }
-}
-
-// Opens a file as `open_plain` does, and locks it.
-fn open_locked<R: Files<File = File>>(rt: &R, path: &str) -> Result<Option<File>, StoreError>
-    ensures { IfErr result (λ error. error ≡ StoreError.ReadFault) }
-{
-    let Some(file) = open_plain(rt, path)? else {
-        return Ok(None);
-    };
-    if is_taken(&file) {
-        return Err(StoreError::ReadFault);
-    }
-    Ok(Some(file))
-}
-
 // Reads the record of a file without a lock; `None` if there is no file.
 fn first_record<R: Files<File = File>>(rt: &R, path: &str) -> Result<Option<Progress>, StoreError>
     ensures { IfErr result IsLoadFault }
 {
-    match open_plain(rt, path)? {
-        Some(mut file) => Ok(Some(record_in(&mut file)?)),
-        None => Ok(None),
+    match open_plain(rt, path) {
+        Ok(Some(mut file)) => Ok(Some(record_in(&mut file)?)),
+        Ok(None) => Ok(None),
+        Err(_) => Err(StoreError::ReadFault),
     }
 }
 
@@ -216,129 +158,22 @@ fn first_record<R: Files<File = File>>(rt: &R, path: &str) -> Result<Option<Prog
 fn read_record<R: Files<File = File>>(rt: &R, path: &str) -> Result<Option<Found>, StoreError>
     ensures { IfErr result IsLoadFault }
 {
-    let Some(mut file) = open_locked(rt, path)? else {
-        return Ok(None);
-    };
-    let progress = record_in(&mut file)?;
-    Ok(Some(Found { progress, file }))
-}
-
-fn write_text<W: Write>(writer: &mut W, text: &str) -> io::Result<()>
-    ensures { OnOk result (Appends (W.contents writer.old) (W.contents writer.new) text.now) }
-{
-    writer.write_all(text.as_bytes())
-}
-
-// Writes the whole text, sets this mode, if one is given, and syncs the file to the disk.
-fn write_whole(file: &mut File, mode: Option<Permissions>, text: &str) -> io::Result<()> {
-    if let Some(mode) = mode {
-        file.set_permissions(mode)?;
-    }
-    write_text(file, text)?;
-    file.sync_all()
-}
-
-// The path of the file that a save writes first.
-fn path_of_new(alloc: Global, path: &str) -> Result<String, AllocError>
-    ensures { IfOk result (λ text. string_bytes text ≡ path.now ++ codes ".new") }
-{
-    let mut text = String::new(alloc);
-    text.push_str(path)?;
-    text.push_str(".new")?;
-    Ok(text)
-}
-
-// The path of the file that a path refers to, with links resolved. If there is no file, it is the path itself; a link
-// without a target is an error.
-fn target_of<R: Files<File = File> + AllocGlobal>(
-    rt: &R,
-    path: &str,
-) -> Result<String, StoreError> {
-    match fs::canonicalize(rt, path) {
-        Ok(target) => Ok(target.into_string()),
-        Err(error) if error.kind() == ErrorKind::OutOfMemory => Err(StoreError::OutOfMemory),
-        Err(error) if error.kind() == ErrorKind::NotFound => {
-            if fs::symlink_metadata(rt, path).is_ok() {
-                return Err(StoreError::WriteFault);
-            }
-            Ok(String::from_str(rt.alloc(), path)?)
+    match open_locked(rt, path) {
+        Ok(Some(mut file)) => {
+            let progress = record_in(&mut file)?;
+            Ok(Some(Found { progress, file }))
         }
-        Err(_) => Err(StoreError::WriteFault),
+        Ok(None) => Ok(None),
+        Err(_) => Err(StoreError::ReadFault),
     }
 }
 
-// Whether a file with these bytes can be the leftover of an interrupted save: it is no longer than a record, and it
-// begins like one, as far as it goes.
-fn is_leftover(bytes: &[u8]) -> bool
-    ensures { result ≡ may_be_left bytes.now }
-{
-    bytes.len() <= RECORD_BYTES && (bytes.starts_with(MARK) || MARK.starts_with(bytes))
-}
-
-// Removes the leftover of an interrupted save, and fails if the file can't be one.
-fn clear_leftover<R: Files<File = File>>(rt: &R, path: &str) -> io::Result<()> {
-    let in_the_way = io::Error::from(ErrorKind::AlreadyExists);
-    if !fs::symlink_metadata(rt, path)?.is_file() {
-        return Err(in_the_way);
+// The store's error if a file can't be replaced.
+fn replace_error(error: io::Error) -> StoreError {
+    match error.kind() {
+        ErrorKind::OutOfMemory => StoreError::OutOfMemory,
+        _ => StoreError::WriteFault,
     }
-    let mut file = File::open(rt, path)?;
-    if is_taken(&file) {
-        return Err(in_the_way);
-    }
-    let mut start = [0; RECORD_BYTES + 1];
-    let count = fill(&mut file, &mut start)?;
-    if !is_leftover(&start[..count]) {
-        return Err(in_the_way);
-    }
-    fs::remove_file(rt, path)
-}
-
-// Creates a new file and locks it, in place of the leftover of an interrupted save, if there is one.
-fn make_new<R: Files<File = File>>(rt: &R, path: &str) -> io::Result<File> {
-    let file = match File::create_new(rt, path) {
-        Err(error) if error.kind() == ErrorKind::AlreadyExists => {
-            clear_leftover(rt, path)?;
-            File::create_new(rt, path)?
-        }
-        made => made?,
-    };
-    if is_taken(&file) {
-        return Err(io::Error::from(ErrorKind::WouldBlock));
-    }
-    Ok(file)
-}
-
-// The mode of the file that is replaced, if there is one. A file that nobody may write is an error.
-fn mode_to_keep(old: &Option<Found>) -> io::Result<Option<Permissions>> {
-    let Some(found) = old else {
-        return Ok(None);
-    };
-    let mode = found.file.metadata()?.permissions();
-    if mode.readonly() {
-        return Err(io::Error::from(ErrorKind::PermissionDenied));
-    }
-    Ok(Some(mode))
-}
-
-// Writes a text to the file `new_path`, and then renames it to `path`.
-fn put<R: Files<File = File>>(
-    rt: &R,
-    path: &str,
-    new_path: &str,
-    old: &Option<Found>,
-    text: &str,
-) -> io::Result<File> {
-    let mode = mode_to_keep(old)?;
-    let mut file = make_new(rt, new_path)?;
-    let written = match write_whole(&mut file, mode, text) {
-        Ok(()) => fs::rename(rt, new_path, path),
-        Err(error) => Err(error),
-    };
-    if let Err(error) = written {
-        let _ = fs::remove_file(rt, new_path);
-        return Err(error);
-    }
-    Ok(file)
 }
 
 // Replaces a file's content, if the file doesn't exist or holds what is expected. All allocations come first.
@@ -348,7 +183,7 @@ fn replace<R: Files<File = File> + AllocGlobal>(
     expected: Option<Option<Progress>>,
     text: &str,
 ) -> Result<File, StoreError> {
-    let target = target_of(rt, path)?;
+    let target = target_of(rt, path).map_err(replace_error)?;
     let new_path = path_of_new(rt.alloc(), target.as_str())?;
     let old = read_record(rt, target.as_str())?;
     if let (Some(expected), Some(found)) = (expected, &old) {
@@ -356,10 +191,17 @@ fn replace<R: Files<File = File> + AllocGlobal>(
             return Err(StoreError::WriteFault);
         }
     }
-    match put(rt, target.as_str(), new_path.as_str(), &old, text) {
-        Ok(file) => Ok(file),
-        Err(_) => Err(StoreError::WriteFault),
-    }
+    let file = Replaced {
+        path: target.as_str(),
+        new_path: new_path.as_str(),
+        leftover: Leftover::Short(RECORD_BYTES),
+        mark: MARK,
+    };
+    let current = match &old {
+        Some(found) => Some(&found.file),
+        None => None,
+    };
+    cdc_files::replace(rt, file, current, text.as_bytes()).or(Err(StoreError::WriteFault))
 }
 
 impl<'a, R: Files<File = File> + AllocGlobal> ProgressStore for FileStore<'a, R> {

@@ -1,14 +1,13 @@
 //! The progress record of a connector, its text, and the stores that hold it across restarts.
 #![tactic(auto)]
 
-pub mod errors;
 mod files;
 mod memory;
 mod progress;
 mod stores;
 mod texts;
 
-pub use errors::StoreError;
+pub use cdc_files::StoreError;
 pub use files::FileStore;
 pub use memory::MemoryStore;
 pub use progress::Progress;

@@ -3,9 +3,9 @@
 ghost use Rattle.std.specs.Prelude.{◌≡◌, ◌<◌, ◌-◌, ◌^◌, None, Ok, Err, true, false, if◌then◌else◌};
 ghost use Rattle.cdc_progress.specs.Memory.{Memory, HasBounds, fails_next, failures_of, called, after_save, risks_of};
 
-use crate::errors::StoreError;
 use crate::progress::Progress;
 use crate::stores::ProgressStore;
+use cdc_files::StoreError;
 use std::marker::Model;
 
 /// A store in memory, one call of which may be made to fail. Contracts see what it holds, how many calls there were

@@ -4,8 +4,8 @@ ghost use Rattle.std.specs.Prelude.{◌≡◌, ◌⊎◌, ℕ, Bool, Option, Som
 ghost use Rattle.cdc_progress.specs.Records.{Saved};
 ghost use Rattle.cdc_progress.specs.Stores.{IsRisked, MayRefuseLoad, MayRefuseSave, Risks};
 
-use crate::errors::StoreError;
 use crate::progress::Progress;
+use cdc_files::StoreError;
 
 /// Holds the progress record of a connector across the connector's restarts.
 pub trait ProgressStore {

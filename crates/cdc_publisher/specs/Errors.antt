@@ -1,7 +1,7 @@
 -- The numbers and names of why a session doesn't start.
 use Rattle.std.specs.Prelude.{ℕ, List, codes}
-use Rattle.cdc_progress.specs.declared.errors.StoreError.{StoreError}
-use Rattle.cdc_progress.specs.declared.errors.StoreError.TheVariants as store
+use Rattle.cdc_progress.specs.StoreError.{StoreError}
+use Rattle.cdc_progress.specs.StoreError.TheVariants as store
 use Rattle.cdc_publisher.specs.declared.errors.StartError.{StartError}
 use Rattle.cdc_publisher.specs.declared.errors.StartError.TheVariants.{Store, SessionsExhausted, OutOfMemory, StartNotAllowed}
 

@@ -7,3 +7,5 @@ pub mod Stands
 pub mod Starts
 pub mod Turns
 pub mod Views
+pub use Rattle.cdc_message.specs.declared.packets.Packet
+pub use Rattle.cdc_progress.specs.Records

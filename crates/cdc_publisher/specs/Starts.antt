@@ -2,7 +2,7 @@
 use Rattle.std.specs.Prelude.{◌≡◌, ◌⊎◌, ℕ, IsTrue, Option, Some, Ok, Err}
 use Rattle.cdc_progress.specs.Records.{Saved}
 use Rattle.cdc_progress.specs.Stores.{IsCounted, IsRisked, Risks, StoreChange}
-use Rattle.cdc_progress.specs.declared.errors.StoreError.TheVariants as error
+use Rattle.cdc_progress.specs.StoreError.TheVariants as error
 use Rattle.cdc_publisher.specs.declared.errors.StartError.{StartError}
 use Rattle.cdc_publisher.specs.declared.errors.StartError.TheVariants.{Store, SessionsExhausted, OutOfMemory, StartNotAllowed}
 use Rattle.cdc_publisher.specs.Courses.{begun, new_course}

@@ -14,7 +14,7 @@ use Rattle.cdc_follow.specs.declared.errors.LineError.TheVariants.{PreviousOutOf
 use Rattle.cdc_follow.specs.Entries.{Read, ◌>>=◌, as_event, content_from, is_true, line_entry, other_content, previous_in, is_ignored, up_to_64, value_entry}
 use Rattle.cdc_follow.specs.LineErrors.{decoding_error}
 use Rattle.cdc_follow.proofs.EntryLemmas.{line-value}
-use Rattle.cdc_queues.specs.Reading.{IsLine, ReadsAsEnd, ReadsAsMessage}
+use Rattle.cdc_queue_lines.specs.Reading.{IsLine, ReadsAsEnd, ReadsAsMessage}
 
 -- an entry of a chained stream
 abbrev pub chained : Content → ℕ → Entry

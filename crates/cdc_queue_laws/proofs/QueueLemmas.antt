@@ -18,8 +18,8 @@ use Rattle.cdc_follow.specs.Streams.{stream_of_lines, stream_with}
 use Rattle.cdc_follow.proofs.FoldLemmas.{followed_keep_a_prefix}
 use Rattle.cdc_follow.proofs.LineLemmas.{lines_of-feed, lines_of-none}
 use Rattle.cdc_follow.proofs.QueueLemmas.{keeps_a_prefix}
-use Rattle.cdc_queues.specs.Lines.{end_line, ended, lines_after, message_line, queue_text}
-use Rattle.cdc_queues.proofs.Values.{ends_read, messages_read}
+use Rattle.cdc_queue_lines.specs.Lines.{end_line, ended, lines_after, message_line, queue_text}
+use Rattle.cdc_queue_lines.proofs.Values.{ends_read, messages_read}
 use Rattle.cdc_queue_laws.specs.Laws.{IsLineOfQueue, QueueTextsAreOfQueues, WhateverArrivesIsAPrefix, WhateverArrivesLaterToo}
 use Rattle.cdc_queue_laws.proofs.EntryLemmas.{chained, end_entry, message_entry}
 

@@ -12,7 +12,7 @@ use Rattle.cdc_follow.specs.Following.{FollowState}
 use Rattle.cdc_follow.specs.Laws.{IsOfQueue, KeepsPrefix, begins, taken_by}
 use Rattle.cdc_follow.specs.Lines.{lines_of}
 use Rattle.cdc_follow.specs.Stops.{bytes_followed}
-use Rattle.cdc_queues.specs.Lines.{queue_text}
+use Rattle.cdc_queue_lines.specs.Lines.{queue_text}
 
 -- a line of a chained stream that is an entry of this queue
 abbrev pub IsLineOfQueue : List Event → List ℕ → Type 0

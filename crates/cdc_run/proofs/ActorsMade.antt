@@ -2,8 +2,8 @@
 use Rattle.std.proofs.Common.{◌≡◌, ℕ, suc, ◌+◌, List, [], ◌∷◌, ◌++◌, sym, ap, ◌∙◌, subst, arith, map, length}
 use Rattle.std.specs.Prelude.{Option, None}
 use Rattle.std.proofs.lemmas.List.{length-map, length_push, map_push}
-use Rattle.cdc_actors.specs.Client.{first_client, ClientCore}
-use Rattle.cdc_actors.specs.Subscriber.{first_subscriber, SubscriberCore}
+use Rattle.cdc_ledger_actors.specs.Client.{first_client, ClientCore}
+use Rattle.cdc_broker_actors.specs.Subscriber.{first_subscriber, SubscriberCore}
 use Rattle.cdc_actors.specs.Ends.{ActorState}
 use Rattle.cdc_links.specs.Links.{Incoming, LinkId, Outgoing, fresh_endpoint}
 use Rattle.cdc_traffic.specs.declared.messages.ToBroker.{ToBroker}

@@ -5,7 +5,7 @@ use Rattle.std.proofs.lemmas.Bool.{cases_lt, eqb-false, eqb-true}
 use Rattle.std.proofs.lemmas.List.{length-append, map-append}
 use Rattle.std.proofs.lemmas.List.Elements.{All-cons, All-head, All-nil, All-tail}
 use Rattle.std.proofs.lemmas.Simd.{map-map}
-use Rattle.cdc_actors.specs.Orders.{batches_by, batches_in, past_of, reply_after, named_replies_from, named_replies_to}
+use Rattle.cdc_ledger_actors.specs.Orders.{batches_by, batches_in, past_of, reply_after, named_replies_from, named_replies_to}
 use Rattle.cdc_ledger.specs.declared.errors.BatchError.{BatchError}
 use Rattle.cdc_ledger.specs.History.{History, empty_history}
 use Rattle.cdc_ledger.specs.Submit.{after_batches, history_or, submit}
@@ -18,7 +18,7 @@ use Rattle.cdc_types.specs.declared.batches.Batch.{Batch}
 use Rattle.cdc_types.specs.declared.batches.BatchResults.{BatchResults}
 use Rattle.cdc_run.specs.Books.{AreReplied}
 use Rattle.cdc_run.specs.Determined.{HaveNone, LoneClientsAreServedAlone, answers_from}
-use Rattle.cdc_run.specs.Settling.{IsOfClients, IsReplied}
+use Rattle.cdc_run.specs.ClientReplies.{IsOfClients, IsReplied}
 
 -- all batches are this client's
 abbrev AllOwn : ℕ → List (ℕ × Batch) → Type 0

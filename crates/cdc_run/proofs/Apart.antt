@@ -3,7 +3,7 @@ use Rattle.std.proofs.Common.{◌≡◌, ℕ, zero, suc, ◌+◌, ◌<◌, Bool,
 use Rattle.std.specs.Prelude.{Some, slice_get}
 use Rattle.std.proofs.lemmas.Option.{slice_get_read}
 use Rattle.cdc_actors.specs.Ends.{ActorState, has_finished}
-use Rattle.cdc_run.specs.Parted.{AreActorsOf, AreLeftOf, works_of}
+use Rattle.cdc_run.specs.Parts.{AreActorsOf, AreLeftOf, works_of}
 
 module _ {W : Type 0} (number_of : W → ℕ) (keeps : W → Type 0) (is_over : W → Bool) where
   -- one more of them

@@ -2,26 +2,28 @@
 use Rattle.std.proofs.Common.{◌≡◌, ℕ, ◌+◌, List, [], ◌∷◌, ◌++◌, Option, Some, None, Result, Ok, Err, refl, sym, ap, ◌∙◌, subst, arith, length, map, inl, inr, true, false}
 use Rattle.std.specs.Prelude.{Bool, IfSome, if◌then◌else◌}
 use Rattle.std.specs.List.{AllByRecursion, AllZip}
-use Rattle.cdc_actors.specs.Broker.{BrokerCore}
-use Rattle.cdc_actors.specs.Client.{ClientCore}
-use Rattle.cdc_actors.specs.Connector.{ConnectorCore}
-use Rattle.cdc_actors.specs.Connector.SoFar.{IsFaultOf as IsMetByConnector}
+use Rattle.cdc_broker_actors.specs.Broker.{BrokerCore}
+use Rattle.cdc_ledger_actors.specs.Client.{ClientCore}
+use Rattle.cdc_connector_actor.specs.Connector.{ConnectorCore}
+use Rattle.cdc_connector_actor.specs.Connector.SoFar.{IsFaultOf as IsMetByConnector}
 use Rattle.cdc_actors.specs.Ends.{ActorState}
-use Rattle.cdc_actors.specs.Faults.{IsTurnFault}
-use Rattle.cdc_actors.specs.Ledger.{LedgerCore}
-use Rattle.cdc_actors.specs.Seats.{ClientSeat, ConnectorSeat, SubscriberSeat, connector_seat}
+use Rattle.cdc_actor_work.specs.Faults.{IsTurnFault}
+use Rattle.cdc_ledger_actors.specs.Ledger.{LedgerCore}
+use Rattle.cdc_ledger_actors.specs.Seats.{ClientSeat}
+use Rattle.cdc_connector_actor.specs.Seats.{ConnectorSeat, connector_seat}
+use Rattle.cdc_broker_actors.specs.Seats.{SubscriberSeat}
 use Rattle.cdc_actors.specs.Stops.{StopState}
-use Rattle.cdc_actors.specs.Subscriber.{SubscriberCore}
-use Rattle.cdc_actors.specs.declared.faults.RunFault.{RunFault}
-use Rattle.cdc_actors.specs.declared.faults.RunFault.TheVariants.{PeerGone, OutOfMemory, Store, SessionsExhausted, NotOneSystem, StartNotAllowed}
+use Rattle.cdc_broker_actors.specs.Subscriber.{SubscriberCore}
+use Rattle.cdc_actor_work.specs.declared.faults.RunFault.{RunFault}
+use Rattle.cdc_actor_work.specs.declared.faults.RunFault.TheVariants.{PeerGone, OutOfMemory, Store, SessionsExhausted, NotOneSystem, StartNotAllowed}
 use Rattle.cdc_actors.specs.declared.met.Met.{Met}
 use Rattle.cdc_actors.specs.declared.met.Met.TheVariants.{Fault, Unstarted}
-use Rattle.cdc_actors.specs.declared.places.Place.{Place}
-use Rattle.cdc_actors.specs.declared.places.Place.TheVariants as place
+use Rattle.cdc_actor_work.specs.declared.places.Place.{Place}
+use Rattle.cdc_actor_work.specs.declared.places.Place.TheVariants as place
 use Rattle.cdc_links.specs.Links.{LinkId}
 use Rattle.cdc_progress.specs.Records.{Saved}
 use Rattle.cdc_progress.specs.Stores.{Risks}
-use Rattle.cdc_progress.specs.declared.errors.StoreError.TheVariants as store
+use Rattle.cdc_progress.specs.StoreError.TheVariants as store
 use Rattle.cdc_run.specs.SettledLinks.{IsRefused}
 use Rattle.cdc_run.specs.Jobs.{ComesTo}
 use Rattle.cdc_run.specs.Made.{AreMade, made_clients, made_subscribers}
@@ -35,8 +37,8 @@ use Rattle.cdc_run.specs.declared.configs.Config.{Config}
 use Rattle.cdc_run.specs.declared.ends.Ends.{Ends}
 use Rattle.cdc_run.specs.declared.failures.Failure.{Failure}
 use Rattle.cdc_run.specs.declared.failures.Failure.TheVariants as failure
-use Rattle.cdc_run.specs.declared.placed.Task.{Task}
-use Rattle.cdc_run.specs.declared.placed.Task.TheVariants as task
+use Rattle.cdc_run.specs.declared.tasks.Task.{Task}
+use Rattle.cdc_run.specs.declared.tasks.Task.TheVariants as task
 use Rattle.cdc_run.specs.declared.plans.Faults.{Faults}
 use Rattle.cdc_traffic.specs.declared.messages.ToBroker.{ToBroker}
 use Rattle.cdc_traffic.specs.declared.messages.ToLedger.{ToLedger}

@@ -3,8 +3,8 @@
 use denote.Param.Send.{IsSend, sendable}
 use Rattle.std.proofs.Crossing.{crosses}
 use Rattle.cdc_broker.specs.contracts.broker.Broker as Broker
-use Rattle.cdc_actors.specs.contracts.broker.cores.BrokerCore as BrokerCore
-use Rattle.cdc_actors.proofs.broker.consumers.Consumer.TheSendSync as consumer
+use Rattle.cdc_broker_actors.specs.contracts.broker.cores.BrokerCore as BrokerCore
+use Rattle.cdc_broker_actors.proofs.broker.consumers.Consumer.TheSendSync as consumer
 use Rattle.cdc_links.proofs.ends.LinkIn.TheSendSync as incoming
 use Rattle.cdc_links.proofs.ends.LinkOut.TheSendSync as outgoing
 use Rattle.cdc_traffic.proofs.messages.ToBroker.TheSendSync as to_broker

@@ -3,14 +3,15 @@ use Rattle.std.proofs.Common.{◌≡◌, ℕ, suc, ◌+◌, List, [], ◌∷◌,
 use Rattle.std.specs.Prelude.{Bool, Option}
 use Rattle.std.specs.List.{AllZip}
 use Rattle.std.proofs.lemmas.List.{length-map}
-use Rattle.cdc_actors.specs.Broker.{BrokerCore}
-use Rattle.cdc_actors.specs.Client.{ClientCore}
-use Rattle.cdc_actors.specs.Connector.{ConnectorCore}
+use Rattle.cdc_broker_actors.specs.Broker.{BrokerCore}
+use Rattle.cdc_ledger_actors.specs.Client.{ClientCore}
+use Rattle.cdc_connector_actor.specs.Connector.{ConnectorCore}
 use Rattle.cdc_actors.specs.Ends.{ActorState}
-use Rattle.cdc_actors.specs.Ledger.{LedgerCore}
-use Rattle.cdc_actors.specs.Seats.{ClientSeat, SubscriberSeat}
-use Rattle.cdc_actors.specs.Subscriber.{SubscriberCore}
-use Rattle.cdc_actors.specs.declared.broker.consumers.Consumer.{Consumer}
+use Rattle.cdc_ledger_actors.specs.Ledger.{LedgerCore}
+use Rattle.cdc_ledger_actors.specs.Seats.{ClientSeat}
+use Rattle.cdc_broker_actors.specs.Seats.{SubscriberSeat}
+use Rattle.cdc_broker_actors.specs.Subscriber.{SubscriberCore}
+use Rattle.cdc_broker_actors.specs.declared.broker.consumers.Consumer.{Consumer}
 use Rattle.cdc_links.specs.Links.{LinkId, Outgoing}
 use Rattle.cdc_progress.specs.Records.{Saved}
 use Rattle.cdc_progress.specs.Stores.{Risks}

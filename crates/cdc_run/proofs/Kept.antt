@@ -1,7 +1,7 @@
 -- What a subscriber keeps that has ended and was never closed.
 use Rattle.std.proofs.Common.{◌≡◌, ℕ, ◌+◌, Bool, true, false, List, [], ◌∷◌, Option, Some, None, refl, sym, ap, ap₂, ◌∙◌, subst}
 use Rattle.std.specs.Prelude.{fold, length, min}
-use Rattle.cdc_actors.specs.Subscriber.{is_asked}
+use Rattle.cdc_broker_actors.specs.Subscriber.{is_asked}
 use Rattle.cdc_laws.specs.Faithful.{IsFaithful}
 use Rattle.cdc_laws.specs.Line.{feed_after, line_after, emitted}
 use Rattle.cdc_laws.proofs.Faithful.{ends-emitted, receives-emitted}

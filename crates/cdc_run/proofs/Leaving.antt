@@ -2,11 +2,11 @@
 use Rattle.std.proofs.Common.{◌≡◌, Bool, List, [], ◌∷◌, ◌++◌, refl, sym, ap, ap₂, ◌∙◌, subst, map}
 use Rattle.std.specs.Prelude.{Option}
 use Rattle.std.specs.List.{AllZip}
-use Rattle.cdc_actors.specs.Broker.{BrokerCore}
-use Rattle.cdc_actors.specs.Client.{ClientCore}
-use Rattle.cdc_actors.specs.Connector.{ConnectorCore}
-use Rattle.cdc_actors.specs.Ledger.{LedgerCore}
-use Rattle.cdc_actors.specs.Subscriber.{SubscriberCore}
+use Rattle.cdc_broker_actors.specs.Broker.{BrokerCore}
+use Rattle.cdc_ledger_actors.specs.Client.{ClientCore}
+use Rattle.cdc_connector_actor.specs.Connector.{ConnectorCore}
+use Rattle.cdc_ledger_actors.specs.Ledger.{LedgerCore}
+use Rattle.cdc_broker_actors.specs.Subscriber.{SubscriberCore}
 use Rattle.cdc_actors.specs.Ends.{ActorState}
 use Rattle.cdc_progress.specs.Records.{Saved}
 use Rattle.cdc_progress.specs.Stores.{Risks}
@@ -17,8 +17,8 @@ use Rattle.cdc_run.specs.declared.configs.Config.{Config}
 use Rattle.cdc_run.specs.declared.ends.Ends.{Ends}
 use Rattle.cdc_run.specs.declared.actors.Actor.{Actor}
 use Rattle.cdc_run.specs.declared.actors.Actor.TheVariants as actor
-use Rattle.cdc_run.specs.declared.placed.Task.{Task}
-use Rattle.cdc_run.specs.declared.placed.Task.TheVariants as task
+use Rattle.cdc_run.specs.declared.tasks.Task.{Task}
+use Rattle.cdc_run.specs.declared.tasks.Task.TheVariants as task
 use Rattle.cdc_run.specs.declared.plans.Faults.{Faults}
 use Rattle.cdc_types.specs.declared.batches.Batch.{Batch}
 

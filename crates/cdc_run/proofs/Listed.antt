@@ -2,14 +2,14 @@
 use Rattle.std.proofs.Common.{◌≡◌, ◌∙◌, List, [], ◌∷◌, ◌++◌, refl, sym, ap, map, map-id, Vec, Global}
 use Rattle.std.specs.List.{zip}
 use Rattle.std.proofs.lemmas.List.{append_assoc, map_push}
-use Rattle.cdc_actors.specs.Client.{ClientCore}
-use Rattle.cdc_actors.specs.Ledger.{LedgerCore}
-use Rattle.cdc_actors.specs.Subscriber.{SubscriberCore}
+use Rattle.cdc_ledger_actors.specs.Client.{ClientCore}
+use Rattle.cdc_ledger_actors.specs.Ledger.{LedgerCore}
+use Rattle.cdc_broker_actors.specs.Subscriber.{SubscriberCore}
 use Rattle.cdc_actors.specs.Ends.{ActorState}
 use Rattle.cdc_run.specs.Scripted.{ScriptedState}
 use Rattle.cdc_run.specs.Tasks.{Placed, tasks_at, with_scripts}
-use Rattle.cdc_run.specs.declared.placed.Task.{Task}
-use Rattle.cdc_run.specs.declared.placed.Task.TheVariants as task
+use Rattle.cdc_run.specs.declared.tasks.Task.{Task}
+use Rattle.cdc_run.specs.declared.tasks.Task.TheVariants as task
 use Rattle.cdc_types.specs.declared.batches.Batch.{Batch}
 
 module _ (S : Type 0) where

@@ -7,10 +7,11 @@ use Rattle.std.proofs.lemmas.Option.{slice_get_within, unwrap_or-slice_get}
 use Rattle.std.proofs.lemmas.Simd.{map-map}
 use Rattle.cdc_broker.specs.Broker.{BrokerState, nobody, queue_of}
 use Rattle.cdc_broker.specs.Queues.{QueueState, empty_queue}
-use Rattle.cdc_actors.specs.Broker.{ArrivedWasReceived, as_confirm, as_sent, dealings_of, deliveries_in, stop_sent_if}
-use Rattle.cdc_actors.specs.Connector.{FinishedConnectorsAreDone, IsDone, confirm_in, confirms_in, origin_of, packet_in, packets_in}
-use Rattle.cdc_actors.specs.Ledger.{past_of_inbox}
-use Rattle.cdc_actors.specs.Subscriber.{received_by, stop_if, taken_by}
+use Rattle.cdc_broker_actors.specs.Broker.{ArrivedWasReceived, as_confirm, as_sent, dealings_of, deliveries_in, stop_sent_if}
+use Rattle.cdc_actor_work.specs.Packets.{packet_in, packets_in}
+use Rattle.cdc_connector_actor.specs.Connector.{FinishedConnectorsAreDone, IsDone, confirm_in, confirms_in, origin_of}
+use Rattle.cdc_ledger_actors.specs.Ledger.{past_of_inbox}
+use Rattle.cdc_broker_actors.specs.Subscriber.{received_by, stop_if, taken_by}
 use Rattle.cdc_laws.specs.Arrivals.{AreAmong}
 use Rattle.cdc_laws.specs.Brokers.{HasDelivered}
 use Rattle.cdc_laws.specs.Connectors.{held_start}

@@ -5,11 +5,12 @@ use Rattle.std.proofs.lemmas.Bool.{and_parts}
 use Rattle.std.specs.List.{AllZip}
 use Rattle.std.proofs.lemmas.List.Elements.{All-cons}
 use Rattle.cdc_broker.specs.Queues.{QueueState, empty_queue}
-use Rattle.cdc_actors.specs.Client.{ClientCore, first_client}
-use Rattle.cdc_actors.specs.Connector.{ConnectorCore, FinishedConnectorsAreDone, IsDone, IsUnplanned, RestartsAsPlanned, confirms_in, first_origin, packets_in}
-use Rattle.cdc_actors.specs.Ledger.{order_of}
-use Rattle.cdc_actors.specs.Subscriber.{SubscriberCore}
-use Rattle.cdc_actors.specs.declared.broker.plans.BrokerPlan.{BrokerPlan}
+use Rattle.cdc_ledger_actors.specs.Client.{ClientCore, first_client}
+use Rattle.cdc_actor_work.specs.Packets.{packets_in}
+use Rattle.cdc_connector_actor.specs.Connector.{ConnectorCore, FinishedConnectorsAreDone, IsDone, IsUnplanned, RestartsAsPlanned, confirms_in, first_origin}
+use Rattle.cdc_ledger_actors.specs.Ledger.{order_of}
+use Rattle.cdc_broker_actors.specs.Subscriber.{SubscriberCore}
+use Rattle.cdc_broker_actors.specs.declared.broker.plans.BrokerPlan.{BrokerPlan}
 use Rattle.cdc_laws.specs.Connectors.{held_start, held_timestamp}
 use Rattle.cdc_links.specs.Links.{LinkId, fresh_endpoint, of_sender}
 use Rattle.cdc_match.specs.declared.binding.Binding.{Binding}
@@ -21,9 +22,10 @@ use Rattle.cdc_run.specs.Counts.{IsCountOf, MayCount}
 use Rattle.cdc_run.specs.Ran.{RanFrom}
 use Rattle.cdc_run.specs.Made.{AreMade, fresh_inbox, made_broker, made_clients, made_subscribers, plan_of}
 use Rattle.cdc_run.specs.Reports.{AreSubscribed, HasRun, IsReportOf}
-use Rattle.cdc_actors.specs.Seats.{BrokerSeat, ConnectorSeat, SubscriberSeat, at_start, broker_seat, connector_seat, origin_if}
+use Rattle.cdc_connector_actor.specs.Seats.{ConnectorSeat, at_start, connector_seat, origin_if}
+use Rattle.cdc_broker_actors.specs.Seats.{BrokerSeat, SubscriberSeat, broker_seat}
 use Rattle.cdc_actors.specs.Ends.{ActorState}
-use Rattle.cdc_actors.specs.Broker.{BrokerCore}
+use Rattle.cdc_broker_actors.specs.Broker.{BrokerCore}
 use Rattle.cdc_run.specs.Tasks.{AreLeft, ClientLeaves, SubscriberLeaves, places_of, with_scripts}
 use Rattle.cdc_run.specs.declared.configs.Config.{Config}
 use Rattle.cdc_run.specs.declared.ends.Ends.{Ends}

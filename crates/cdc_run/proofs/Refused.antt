@@ -1,7 +1,7 @@
 -- When actors are refused that were to be put together.
 use Rattle.std.proofs.Common.{◌≡◌, inl, inr, sym, subst}
 use Rattle.std.specs.Prelude.{IfErr, IsErrAnd, Result, Ok, Err}
-use Rattle.cdc_actors.specs.declared.faults.RunFault.{RunFault}
+use Rattle.cdc_actor_work.specs.declared.faults.RunFault.{RunFault}
 use Rattle.cdc_run.specs.SettledLinks.{IsRefused}
 
 -- refused actors are also refused if more is required of them

@@ -7,9 +7,9 @@ use Rattle.std.proofs.lemmas.List.Elements.{All-head}
 use Rattle.std.proofs.lemmas.List.Filters.{length-filter_both}
 use Rattle.std.proofs.lemmas.List.Sums.{sum_by-cons}
 use Rattle.std.proofs.lemmas.Simd.{map-map}
-use Rattle.cdc_actors.specs.Client.{done_if, requests_from}
-use Rattle.cdc_actors.specs.Ledger.{batch_in, is_done, order_of}
-use Rattle.cdc_actors.specs.Orders.{RepliesHaveTheirBatches, batches_by, named_replies_to}
+use Rattle.cdc_ledger_actors.specs.Client.{done_if, requests_from}
+use Rattle.cdc_ledger_actors.specs.Ledger.{batch_in, is_done, order_of}
+use Rattle.cdc_ledger_actors.specs.Orders.{RepliesHaveTheirBatches, batches_by, named_replies_to}
 use Rattle.cdc_links.specs.Links.{CanSend, IsAccount, Incoming, Outgoing, of_sender}
 use Rattle.cdc_links.proofs.Entries.{of_sender-append, of_sender-other, of_sender-own}
 use Rattle.cdc_traffic.specs.Following.{FollowsToLedger, ends_to_ledger, has_ended}
@@ -19,7 +19,7 @@ use Rattle.cdc_traffic.specs.declared.messages.ToLedger.TheVariants as to_ledger
 use Rattle.cdc_traffic.specs.declared.pasts.Past.{Past}
 use Rattle.cdc_traffic.specs.declared.requests.Reply.{Reply}
 use Rattle.cdc_types.specs.declared.batches.Batch.{Batch}
-use Rattle.cdc_run.specs.Settling.{ClientsAreReplied, LedgerMail}
+use Rattle.cdc_run.specs.ClientReplies.{ClientsAreReplied, LedgerMail}
 
 -- ---- the last message
 

@@ -4,15 +4,15 @@ use Rattle.std.specs.Prelude.{IfSome, Option, None, Some, is_none, slice_get, un
 use Rattle.std.proofs.lemmas.Bool.{and_parts}
 use Rattle.cdc_broker.specs.Broker.{nobody, queue_of}
 use Rattle.cdc_broker.specs.Queues.{QueueState, empty_queue}
-use Rattle.cdc_actors.specs.Broker.{BrokerCore}
-use Rattle.cdc_actors.specs.Connector.{IsAtRest, IsAtStart, IsConnectorActor, Origin, origin_of, ConnectorCore}
-use Rattle.cdc_actors.specs.Ledger.{LedgerCore, IsLedgerActor}
-use Rattle.cdc_actors.specs.Subscriber.{SubscriberCore}
-use Rattle.cdc_publisher.specs.Courses.{Course}
+use Rattle.cdc_broker_actors.specs.Broker.{BrokerCore}
+use Rattle.cdc_connector_actor.specs.Connector.{IsAtRest, IsAtStart, IsConnectorActor, Origin, origin_of, ConnectorCore}
+use Rattle.cdc_ledger_actors.specs.Ledger.{LedgerCore, IsLedgerActor}
+use Rattle.cdc_broker_actors.specs.Subscriber.{SubscriberCore}
+use Rattle.cdc_laws.specs.Courses.{Course}
 use Rattle.cdc_run.specs.ClientMail.{HasFinishedWith as LedgerHasFinishedWith}
-use Rattle.cdc_run.specs.Parted.{works_of}
+use Rattle.cdc_run.specs.Parts.{works_of}
 use Rattle.cdc_run.specs.Reports.{AreFinished, AreSubscribed}
-use Rattle.cdc_actors.specs.Seats.{at_start, connector_seat, origin_if}
+use Rattle.cdc_connector_actor.specs.Seats.{at_start, connector_seat, origin_if}
 use Rattle.cdc_actors.specs.Ends.{ActorState, has_finished}
 use Rattle.cdc_run.specs.Streams.{AllCome, AreLeftBy, Middle}
 use Rattle.cdc_run.specs.SubscriberMail.{HasFinishedWith as BrokerHasFinishedWith}

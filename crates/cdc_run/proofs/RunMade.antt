@@ -4,11 +4,11 @@ use Rattle.std.specs.Prelude.{Option, None, All}
 use Rattle.std.proofs.lemmas.List.{length-map}
 use Rattle.std.proofs.lemmas.List.Elements.{All-cons, All-nil}
 use Rattle.cdc_broker.specs.Broker.{empty_broker}
-use Rattle.cdc_actors.specs.Broker.{BrokerCore}
-use Rattle.cdc_actors.specs.Broker.Turns.{first_broker}
-use Rattle.cdc_actors.specs.Connector.{first_connector, ConnectorCore}
-use Rattle.cdc_actors.specs.Ledger.{first_ledger, LedgerCore}
-use Rattle.cdc_actors.specs.declared.broker.plans.BrokerPlan.{BrokerPlan}
+use Rattle.cdc_broker_actors.specs.Broker.{BrokerCore}
+use Rattle.cdc_broker_actors.specs.Broker.Turns.{first_broker}
+use Rattle.cdc_connector_actor.specs.Connector.{first_connector, ConnectorCore}
+use Rattle.cdc_ledger_actors.specs.Ledger.{first_ledger, LedgerCore}
+use Rattle.cdc_broker_actors.specs.declared.broker.plans.BrokerPlan.{BrokerPlan}
 use Rattle.cdc_actors.specs.Ends.{ActorState}
 use Rattle.cdc_links.specs.Links.{Incoming, LinkId, Outgoing, fresh_endpoint}
 use Rattle.cdc_match.specs.declared.binding.Binding.{Binding}

@@ -8,12 +8,12 @@ use Rattle.std.proofs.lemmas.List.{append_assoc, length-map, length_push}
 use Rattle.std.proofs.lemmas.List.Elements.{All-cons, All-head, All-nil, All-tail}
 use Rattle.std.proofs.lemmas.Option.{slice_get-map}
 use Rattle.std.proofs.lemmas.Simd.{map-map}
-use Rattle.cdc_actors.specs.Broker.Turns.{first_consumer}
-use Rattle.cdc_actors.specs.Client.{ClientCore}
-use Rattle.cdc_actors.specs.Connector.{IsConnectorActor, ConnectorCore}
-use Rattle.cdc_actors.specs.Ledger.{links_of, LedgerCore}
-use Rattle.cdc_actors.specs.Subscriber.{SubscriberCore}
-use Rattle.cdc_actors.specs.declared.broker.consumers.Consumer.{Consumer}
+use Rattle.cdc_broker_actors.specs.Broker.Turns.{first_consumer}
+use Rattle.cdc_ledger_actors.specs.Client.{ClientCore}
+use Rattle.cdc_connector_actor.specs.Connector.{IsConnectorActor, ConnectorCore}
+use Rattle.cdc_ledger_actors.specs.Ledger.{links_of, LedgerCore}
+use Rattle.cdc_broker_actors.specs.Subscriber.{SubscriberCore}
+use Rattle.cdc_broker_actors.specs.declared.broker.consumers.Consumer.{Consumer}
 use Rattle.cdc_laws.proofs.ListElements.{slice_get-behind}
 use Rattle.cdc_links.specs.Links.{Incoming, LinkId, Outgoing, fresh_endpoint}
 use Rattle.cdc_progress.specs.Records.{Saved}
@@ -28,10 +28,12 @@ use Rattle.cdc_types.specs.declared.batches.Batch.{Batch}
 use Rattle.cdc_run.specs.SettledLinks.{IsOnlySender}
 use Rattle.cdc_run.specs.ClientMail.{AreClientsOf, ArePollsTo, AreWiredTo}
 use Rattle.cdc_run.specs.Made.{AreMade, made_clients, made_subscribers}
-use Rattle.cdc_run.specs.Parted.{works_of}
-use Rattle.cdc_actors.specs.Seats.{broker_seat, client_seat, connector_seat, ledger_seat, subscriber_seat}
+use Rattle.cdc_run.specs.Parts.{works_of}
+use Rattle.cdc_ledger_actors.specs.Seats.{client_seat, ledger_seat}
+use Rattle.cdc_connector_actor.specs.Seats.{connector_seat}
+use Rattle.cdc_broker_actors.specs.Seats.{broker_seat, subscriber_seat}
 use Rattle.cdc_actors.specs.Ends.{ActorState}
-use Rattle.cdc_actors.specs.Broker.{BrokerCore}
+use Rattle.cdc_broker_actors.specs.Broker.{BrokerCore}
 use Rattle.cdc_run.specs.Streams.{AreJoined, Middle}
 use Rattle.cdc_run.specs.SubscriberMail.{AreSubscribersOf}
 use Rattle.cdc_run.specs.Tasks.{AreLeft, ClientLeaves, SubscriberLeaves, places_of, with_scripts}

@@ -4,9 +4,9 @@ use Rattle.std.specs.Prelude.{All}
 use Rattle.std.specs.List.{AllZip}
 use Rattle.std.proofs.lemmas.List.{length-map}
 use Rattle.std.proofs.lemmas.List.Elements.{All-head, All-tail}
-use Rattle.cdc_actors.specs.Client.{ClientCore}
-use Rattle.cdc_actors.specs.Ledger.{ReceiveReplies, FinishedLedgersAreClosed, IsClosed, is_done, order_of}
-use Rattle.cdc_actors.specs.Orders.{named_replies_to}
+use Rattle.cdc_ledger_actors.specs.Client.{ClientCore}
+use Rattle.cdc_ledger_actors.specs.Ledger.{ReceiveReplies, FinishedLedgersAreClosed, IsClosed, is_done, order_of}
+use Rattle.cdc_ledger_actors.specs.Orders.{named_replies_to}
 use Rattle.cdc_links.specs.Links.{CanSend, Outgoing, of_sender}
 use Rattle.cdc_traffic.specs.Following.{FollowsToLedger}
 use Rattle.cdc_traffic.specs.declared.messages.ToLedger.{ToLedger}
@@ -15,7 +15,7 @@ use Rattle.cdc_traffic.specs.declared.requests.Reply.{Reply}
 use Rattle.cdc_types.specs.declared.batches.Batch.{Batch}
 use Rattle.cdc_run.specs.SettledLinks.{IsAccounted}
 use Rattle.cdc_run.specs.Books.{AreReplied, BooksSettle, HaveFinished}
-use Rattle.cdc_run.specs.Settling.{AreNumbered, ClientsAreReplied, HasSettled, IsOfClients, IsReplied, LedgerMail, OrdersAreOfClients}
+use Rattle.cdc_run.specs.ClientReplies.{AreNumbered, ClientsAreReplied, HasSettled, IsOfClients, IsReplied, LedgerMail, OrdersAreOfClients}
 
 -- senders' endpoints with their clients' numbers
 numbered : (number : ℕ) (clients : List ClientCore) → HaveFinished number clients

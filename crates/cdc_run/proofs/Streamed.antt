@@ -4,11 +4,11 @@ use Rattle.std.specs.Prelude.{All, Option, Some, is_none, slice_get}
 use Rattle.std.proofs.lemmas.Bool.{and_parts}
 use Rattle.std.specs.List.{AllZip}
 use Rattle.std.proofs.lemmas.List.Elements.{All-head, All-tail}
-use Rattle.cdc_actors.specs.Broker.{BrokerCore, IsBrokerActor}
-use Rattle.cdc_actors.specs.Connector.{ConnectorCore, origin_of}
-use Rattle.cdc_actors.specs.Ledger.{LedgerCore}
-use Rattle.cdc_actors.specs.Subscriber.{SubscriberCore}
-use Rattle.cdc_actors.specs.declared.broker.consumers.Consumer.{Consumer}
+use Rattle.cdc_broker_actors.specs.Broker.{BrokerCore, IsBrokerActor}
+use Rattle.cdc_connector_actor.specs.Connector.{ConnectorCore, origin_of}
+use Rattle.cdc_ledger_actors.specs.Ledger.{LedgerCore}
+use Rattle.cdc_broker_actors.specs.Subscriber.{SubscriberCore}
+use Rattle.cdc_broker_actors.specs.declared.broker.consumers.Consumer.{Consumer}
 use Rattle.cdc_actors.specs.Ends.{ActorState}
 use Rattle.cdc_links.specs.Links.{CanSend, Incoming, IsAccount, Outgoing, of_sender}
 use Rattle.cdc_traffic.specs.Following.{FollowsToConnector}
@@ -17,7 +17,7 @@ use Rattle.cdc_traffic.specs.declared.messages.ToConnector.{ToConnector}
 use Rattle.cdc_traffic.specs.declared.pasts.Past.{Past}
 use Rattle.cdc_run.specs.SettledLinks.{IsAccounted}
 use Rattle.cdc_run.specs.Passing.{AreThrough, EndsCome}
-use Rattle.cdc_run.specs.Parted.{works_of}
+use Rattle.cdc_run.specs.Parts.{works_of}
 use Rattle.cdc_run.specs.Streams.{AllCome, AreLeftBy, Middle}
 use Rattle.cdc_run.specs.SubscriberMail.{AreSubscribersOf}
 

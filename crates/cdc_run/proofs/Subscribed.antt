@@ -9,7 +9,7 @@ use Rattle.std.proofs.lemmas.List.Elements.{Contains-append_right, Contains-push
 use Rattle.cdc_broker.specs.Broker.{BrokerState, HasAccepted}
 use Rattle.cdc_broker.specs.Packets.{is_taken, items_of}
 use Rattle.cdc_broker.specs.Queues.{QueueState}
-use Rattle.cdc_actors.specs.Subscriber.{AskedClose, ClosesAfter, DeliveriesAreReceived, UnaskedStayOpen, received_by}
+use Rattle.cdc_broker_actors.specs.Subscriber.{AskedClose, ClosesAfter, DeliveriesAreReceived, UnaskedStayOpen, received_by}
 use Rattle.cdc_laws.specs.Arrivals.{taken_after, taken_of}
 use Rattle.cdc_laws.specs.Brokers.{HasDelivered}
 use Rattle.cdc_laws.specs.ConnectorRuns.{Shown}
@@ -40,7 +40,7 @@ use Rattle.cdc_message.specs.declared.packets.Packet.{Packet}
 use Rattle.cdc_message.specs.declared.packets.Packet.TheVariants.{Publish}
 use Rattle.cdc_message.specs.Replays.{IsReplay}
 use Rattle.cdc_message.proofs.ReplayLaws.{IsReplay-trans}
-use Rattle.cdc_publisher.specs.Courses.{is_confirmed, tags_sent}
+use Rattle.cdc_laws.specs.Courses.{is_confirmed, tags_sent}
 use Rattle.cdc_subscriber.specs.Reception.{Reception, applied_of, has_ended, is_end}
 use Rattle.cdc_traffic.specs.Following.{FollowsToConnector, last_named}
 use Rattle.cdc_traffic.specs.Laws.{PastsGoOn, PollRepliesAreReadings}

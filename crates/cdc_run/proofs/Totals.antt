@@ -6,11 +6,12 @@ use Rattle.std.proofs.lemmas.Bool.{and_parts}
 use Rattle.std.proofs.lemmas.List.Elements.{All-head, All-tail}
 use Rattle.cdc_broker.specs.Broker.{nobody, queue_of}
 use Rattle.cdc_broker.specs.Queues.{QueueState, empty_queue}
-use Rattle.cdc_actors.specs.Broker.{BrokerCore, IsBrokerActor, dealings}
-use Rattle.cdc_actors.specs.Connector.{ConnectorCore, IsConnectorActor, finish_if, packets_in}
+use Rattle.cdc_broker_actors.specs.Broker.{BrokerCore, IsBrokerActor, dealings}
+use Rattle.cdc_actor_work.specs.Packets.{packets_in}
+use Rattle.cdc_connector_actor.specs.Connector.{ConnectorCore, IsConnectorActor, finish_if}
 use Rattle.cdc_actors.specs.Ends.{ActorState}
-use Rattle.cdc_actors.specs.Seats.{broker_seat}
-use Rattle.cdc_actors.specs.declared.broker.consumers.Consumer.{Consumer}
+use Rattle.cdc_broker_actors.specs.Seats.{broker_seat}
+use Rattle.cdc_broker_actors.specs.declared.broker.consumers.Consumer.{Consumer}
 use Rattle.cdc_links.specs.Links.{of_sender}
 use Rattle.cdc_links.proofs.Entries.{of_sender-append}
 use Rattle.cdc_match.specs.Queue.{queue}

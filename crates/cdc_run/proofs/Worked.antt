@@ -5,7 +5,7 @@ use Rattle.std.specs.List.{AllZip}
 use Rattle.std.proofs.lemmas.List.{append-nil}
 use Rattle.cdc_actors.specs.Stops.{StopState}
 use Rattle.cdc_actors.specs.declared.met.Met.{Met}
-use Rattle.cdc_actors.specs.declared.places.Place.{Place}
+use Rattle.cdc_actor_work.specs.declared.places.Place.{Place}
 use Rattle.cdc_run.specs.Jobs.{ComesTo}
 use Rattle.cdc_run.specs.Outcomes.{finished_in, first_of, first_stop, is_gone}
 

@@ -1,9 +1,9 @@
 -- The ledger and the replies of a run, once the ledger actor and the client actors have finished.
 use Rattle.std.specs.Prelude.{◌≡◌, ℕ, ◌+◌, true, List, [], ◌∷◌, All, length, map}
 use Rattle.std.specs.List.{AllZip}
-use Rattle.cdc_actors.specs.Client.{IsClient, ClientCore}
-use Rattle.cdc_actors.specs.Ledger.{LedgerCore, IsLedgerActor, is_over, order_of}
-use Rattle.cdc_actors.specs.Orders.{batches_in}
+use Rattle.cdc_ledger_actors.specs.Client.{IsClient, ClientCore}
+use Rattle.cdc_ledger_actors.specs.Ledger.{LedgerCore, IsLedgerActor, is_over, order_of}
+use Rattle.cdc_ledger_actors.specs.Orders.{batches_in}
 use Rattle.cdc_ledger.specs.History.{History}
 use Rattle.cdc_links.specs.Links.{CanSend, IsAccount, Outgoing}
 use Rattle.cdc_traffic.specs.Following.{FollowsToLedger}
@@ -12,7 +12,7 @@ use Rattle.cdc_traffic.specs.declared.messages.ToLedger.{ToLedger}
 use Rattle.cdc_traffic.specs.declared.requests.Reply.{Reply}
 use Rattle.cdc_types.specs.declared.batches.Batch.{Batch}
 use Rattle.cdc_run.specs.SettledLinks.{IsAccounted}
-use Rattle.cdc_run.specs.Settling.{IsOfClients, IsReplied}
+use Rattle.cdc_run.specs.ClientReplies.{IsOfClients, IsReplied}
 
 -- clients that have finished, with these numbers one after another
 abbrev pub HaveFinished : ℕ → List ClientCore → Type 0

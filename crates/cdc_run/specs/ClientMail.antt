@@ -1,14 +1,14 @@
 -- What the clients of a run leave behind, once they have finished.
 use Rattle.std.specs.Prelude.{◌≡◌, ℕ, true, List, [], ◌∷◌, ◌++◌, All, length, map}
 use Rattle.std.specs.List.{AllZip}
-use Rattle.cdc_actors.specs.Client.{IsClient, ClientCore}
-use Rattle.cdc_actors.specs.Ledger.{LedgerCore, is_over}
-use Rattle.cdc_actors.specs.declared.client.cores.ClientParts.{ClientParts}
+use Rattle.cdc_ledger_actors.specs.Client.{IsClient, ClientCore}
+use Rattle.cdc_ledger_actors.specs.Ledger.{LedgerCore, is_over}
+use Rattle.cdc_ledger_actors.specs.declared.client.cores.ClientParts.{ClientParts}
 use Rattle.cdc_actors.specs.Ends.{ActorState, has_finished}
 use Rattle.cdc_links.specs.Links.{Outgoing}
 use Rattle.cdc_traffic.specs.declared.messages.ToLedger.{ToLedger}
 use Rattle.cdc_run.specs.SettledLinks.{IsOnlySender}
-use Rattle.cdc_run.specs.Parted.{AreActorsOf, works_of}
+use Rattle.cdc_run.specs.Parts.{AreActorsOf, works_of}
 use Rattle.cdc_run.specs.declared.books.ClientMail.{ClientMail}
 
 -- clients of a system that have finished and have met no fault, with these numbers one after another

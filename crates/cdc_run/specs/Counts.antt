@@ -1,10 +1,10 @@
 -- How far a run came in what its plan of faults counts.
 use Rattle.std.specs.Prelude.{◌≡◌, List, filter, length, map}
 use Rattle.cdc_broker.specs.Packets.{items_of}
-use Rattle.cdc_actors.specs.Broker.{BrokerCore, dealings}
-use Rattle.cdc_actors.specs.Connector.{ConnectorCore, is_publish}
+use Rattle.cdc_broker_actors.specs.Broker.{BrokerCore, dealings}
+use Rattle.cdc_connector_actor.specs.Connector.{ConnectorCore, is_publish}
 use Rattle.cdc_actors.specs.Ends.{ActorState}
-use Rattle.cdc_actors.specs.declared.broker.plans.BrokerPlan.{BrokerPlan}
+use Rattle.cdc_broker_actors.specs.declared.broker.plans.BrokerPlan.{BrokerPlan}
 use Rattle.cdc_laws.specs.Arrivals.{taken_of}
 use Rattle.cdc_match.specs.Arguments.{Arguments}
 use Rattle.cdc_match.specs.Queue.{queue}

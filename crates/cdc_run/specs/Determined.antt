@@ -1,6 +1,6 @@
 -- What of a run is the same in whatever order its threads came.
 use Rattle.std.specs.Prelude.{◌≡◌, ℕ, true, false, Option, Result, List, [], ◌∷◌, ◌++◌, All, fold, map}
-use Rattle.cdc_actors.specs.Subscriber.{is_asked}
+use Rattle.cdc_broker_actors.specs.Subscriber.{is_asked}
 use Rattle.cdc_laws.specs.Line.{line_after}
 use Rattle.cdc_ledger.specs.declared.errors.BatchError.{BatchError}
 use Rattle.cdc_ledger.specs.History.{History, empty_history}

@@ -1,5 +1,6 @@
 pub mod Books
 pub mod ClientMail
+pub mod ClientReplies
 pub mod Configs
 pub mod Counts
 pub mod Determined
@@ -8,14 +9,13 @@ pub mod Jobs
 pub mod Made
 pub mod Meeting
 pub mod Outcomes
-pub mod Parted
+pub mod Parts
 pub mod Passing
 pub mod Plans
 pub mod Ran
 pub mod Reports
 pub mod Scripted
 pub mod SettledLinks
-pub mod Settling
 pub mod Streams
 pub mod SubscriberMail
 pub mod Subscribing
@@ -23,3 +23,12 @@ pub mod Tasks
 pub mod Wires
 pub mod Wirings
 pub mod Worked
+pub use Rattle.cdc_actors.specs.Ends
+pub use Rattle.cdc_broker_actors.specs.Subscriber
+pub use Rattle.cdc_broker_actors.specs.declared.broker.plans.BrokerPlan
+pub use Rattle.cdc_broker_actors.specs.declared.subscriber.arrivals.Arrival
+pub use Rattle.cdc_connector_actor.specs.Seats
+pub use Rattle.cdc_links.specs.Links
+pub use Rattle.cdc_traffic.specs.declared.messages.ToBroker
+pub use Rattle.cdc_traffic.specs.declared.messages.ToSubscriber
+pub use Rattle.cdc_types.specs.declared.batches.Batch

@@ -1,13 +1,13 @@
 -- The actors of a run before their first turns.
 use Rattle.std.specs.Prelude.{◌≡◌, ℕ, ◌+◌, Bool, Option, None, List, [], ◌∷◌, length, map}
 use Rattle.cdc_broker.specs.Broker.{empty_broker}
-use Rattle.cdc_actors.specs.Broker.{BrokerCore}
-use Rattle.cdc_actors.specs.Broker.Turns.{first_broker}
-use Rattle.cdc_actors.specs.Client.{first_client, ClientCore}
-use Rattle.cdc_actors.specs.Connector.{first_connector, ConnectorCore}
-use Rattle.cdc_actors.specs.Ledger.{first_ledger, LedgerCore}
-use Rattle.cdc_actors.specs.Subscriber.{first_subscriber, SubscriberCore}
-use Rattle.cdc_actors.specs.declared.broker.plans.BrokerPlan.{BrokerPlan}
+use Rattle.cdc_broker_actors.specs.Broker.{BrokerCore}
+use Rattle.cdc_broker_actors.specs.Broker.Turns.{first_broker}
+use Rattle.cdc_ledger_actors.specs.Client.{first_client, ClientCore}
+use Rattle.cdc_connector_actor.specs.Connector.{first_connector, ConnectorCore}
+use Rattle.cdc_ledger_actors.specs.Ledger.{first_ledger, LedgerCore}
+use Rattle.cdc_broker_actors.specs.Subscriber.{first_subscriber, SubscriberCore}
+use Rattle.cdc_broker_actors.specs.declared.broker.plans.BrokerPlan.{BrokerPlan}
 use Rattle.cdc_actors.specs.Ends.{ActorState}
 use Rattle.cdc_links.specs.Links.{Incoming, LinkId, fresh_endpoint}
 use Rattle.cdc_progress.specs.Records.{Saved}

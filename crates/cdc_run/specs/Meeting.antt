@@ -1,22 +1,22 @@
 -- Why a run has no report: what each of its actors came to, and which fault is answered.
 use Rattle.std.specs.Prelude.{◌≡◌, ℕ, zero, suc, ◌+◌, Bool, true, IsTrue, Some, Result, Ok, Err, List, [], ◌∷◌, ◌++◌}
 use Rattle.std.specs.List.{AllZip}
-use Rattle.cdc_actors.specs.Broker.{BrokerCore}
-use Rattle.cdc_actors.specs.Client.{ClientCore}
-use Rattle.cdc_actors.specs.Connector.{ConnectorCore}
+use Rattle.cdc_broker_actors.specs.Broker.{BrokerCore}
+use Rattle.cdc_ledger_actors.specs.Client.{ClientCore}
+use Rattle.cdc_connector_actor.specs.Connector.{ConnectorCore}
 use Rattle.cdc_actors.specs.Ends.{has_finished}
-use Rattle.cdc_actors.specs.Faults.{IsTurnFault}
-use Rattle.cdc_actors.specs.Ledger.{is_over}
+use Rattle.cdc_actor_work.specs.Faults.{IsTurnFault}
+use Rattle.cdc_ledger_actors.specs.Ledger.{is_over}
 use Rattle.cdc_actors.specs.Stops.{StopState}
-use Rattle.cdc_actors.specs.Subscriber.{SubscriberCore}
-use Rattle.cdc_actors.specs.declared.faults.RunFault.{RunFault}
-use Rattle.cdc_actors.specs.declared.faults.RunFault.TheVariants.{PeerGone, OutOfMemory, Store, SessionsExhausted, NotOneSystem, StartNotAllowed}
+use Rattle.cdc_broker_actors.specs.Subscriber.{SubscriberCore}
+use Rattle.cdc_actor_work.specs.declared.faults.RunFault.{RunFault}
+use Rattle.cdc_actor_work.specs.declared.faults.RunFault.TheVariants.{PeerGone, OutOfMemory, Store, SessionsExhausted, NotOneSystem, StartNotAllowed}
 use Rattle.cdc_actors.specs.declared.met.Met.{Met}
 use Rattle.cdc_actors.specs.declared.met.Met.TheVariants.{Fault, Unstarted}
-use Rattle.cdc_actors.specs.declared.places.Place.{Place}
-use Rattle.cdc_actors.specs.declared.places.Place.TheVariants as place
+use Rattle.cdc_actor_work.specs.declared.places.Place.{Place}
+use Rattle.cdc_actor_work.specs.declared.places.Place.TheVariants as place
 use Rattle.cdc_progress.specs.Stores.{Risks}
-use Rattle.cdc_progress.specs.declared.errors.StoreError.TheVariants as store
+use Rattle.cdc_progress.specs.StoreError.TheVariants as store
 use Rattle.cdc_run.specs.Outcomes.{first_stop}
 use Rattle.cdc_run.specs.declared.actors.Actor.{Actor}
 use Rattle.cdc_run.specs.declared.actors.Actor.TheVariants as actor

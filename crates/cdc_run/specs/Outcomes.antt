@@ -1,11 +1,11 @@
 -- What several actors of a run came to, and which of their faults counts.
 use Rattle.std.specs.Prelude.{Bool, true, false, Option, Some, None, Result, Ok, Err, List, [], ◌∷◌, if◌then◌else◌}
 use Rattle.cdc_actors.specs.Stops.{StopState}
-use Rattle.cdc_actors.specs.declared.faults.RunFault.{RunFault}
-use Rattle.cdc_actors.specs.declared.faults.RunFault.TheVariants.{PeerGone, OutOfMemory, Store, SessionsExhausted, NotOneSystem, StartNotAllowed}
+use Rattle.cdc_actor_work.specs.declared.faults.RunFault.{RunFault}
+use Rattle.cdc_actor_work.specs.declared.faults.RunFault.TheVariants.{PeerGone, OutOfMemory, Store, SessionsExhausted, NotOneSystem, StartNotAllowed}
 use Rattle.cdc_actors.specs.declared.met.Met.{Met}
 use Rattle.cdc_actors.specs.declared.met.Met.TheVariants.{Fault, Unstarted}
-use Rattle.cdc_actors.specs.declared.places.Place.{Place}
+use Rattle.cdc_actor_work.specs.declared.places.Place.{Place}
 
 -- the fault is that a peer is gone, which happens if the peer met a fault of its own
 abbrev pub is_peer_gone : RunFault → Bool

@@ -2,13 +2,13 @@
 -- was settled.
 use Rattle.std.specs.Prelude.{◌≡◌, ℕ, ◌+◌, true, Option, Some, List, ◌++◌, slice_get}
 use Rattle.cdc_broker.specs.Broker.{queue_of}
-use Rattle.cdc_actors.specs.Broker.{BrokerCore, IsBrokerActor, dealings_of}
-use Rattle.cdc_actors.specs.Connector.{IsAtStart, IsConnectorActor, ConnectorCore, connector_of, origin_of}
-use Rattle.cdc_actors.specs.Ledger.{LedgerCore, IsLedgerActor, past_of_inbox}
-use Rattle.cdc_actors.specs.Subscriber.{SubscriberCore, IsSubscriberActor}
-use Rattle.cdc_actors.specs.declared.broker.consumers.Consumer.{Consumer}
+use Rattle.cdc_broker_actors.specs.Broker.{BrokerCore, IsBrokerActor, dealings_of}
+use Rattle.cdc_connector_actor.specs.Connector.{IsAtStart, IsConnectorActor, ConnectorCore, connector_of, origin_of}
+use Rattle.cdc_ledger_actors.specs.Ledger.{LedgerCore, IsLedgerActor, past_of_inbox}
+use Rattle.cdc_broker_actors.specs.Subscriber.{SubscriberCore, IsSubscriberActor}
+use Rattle.cdc_broker_actors.specs.declared.broker.consumers.Consumer.{Consumer}
 use Rattle.cdc_links.specs.Links.{CanSend, of_sender}
-use Rattle.cdc_publisher.specs.Courses.{Course}
+use Rattle.cdc_laws.specs.Courses.{Course}
 use Rattle.cdc_subscriber.specs.Reception.{Reception, kept_of}
 use Rattle.cdc_traffic.specs.Following.{FollowsToConnector}
 use Rattle.cdc_traffic.specs.declared.messages.ToBroker.{ToBroker}

@@ -1,6 +1,7 @@
 -- How the run was made that a report is of.
 use Rattle.std.specs.Prelude.{Bool, Option, List}
-use Rattle.cdc_actors.specs.Connector.{IsUnplanned, RestartsAsPlanned, confirms_in, packets_in}
+use Rattle.cdc_actor_work.specs.Packets.{packets_in}
+use Rattle.cdc_connector_actor.specs.Connector.{IsUnplanned, RestartsAsPlanned, confirms_in}
 use Rattle.cdc_links.specs.Links.{of_sender}
 use Rattle.cdc_progress.specs.Records.{Saved}
 use Rattle.cdc_progress.specs.Stores.{Risks}

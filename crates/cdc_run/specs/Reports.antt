@@ -1,10 +1,10 @@
 -- What is reported of a run once all its actors have finished.
 use Rattle.std.specs.Prelude.{◌≡◌, ℕ, Option, Some, List, [], ◌∷◌, length, map, true}
 use Rattle.std.specs.List.{AllZip}
-use Rattle.cdc_actors.specs.Ledger.{order_of, is_over}
-use Rattle.cdc_actors.specs.declared.faults.RunFault.{RunFault}
-use Rattle.cdc_actors.specs.declared.subscriber.arrivals.Arrival.{Arrival}
-use Rattle.cdc_actors.specs.Orders.{clients_in}
+use Rattle.cdc_ledger_actors.specs.Ledger.{order_of, is_over}
+use Rattle.cdc_actor_work.specs.declared.faults.RunFault.{RunFault}
+use Rattle.cdc_broker_actors.specs.declared.subscriber.arrivals.Arrival.{Arrival}
+use Rattle.cdc_ledger_actors.specs.Orders.{clients_in}
 use Rattle.cdc_laws.specs.Faithful.{kept_from}
 use Rattle.cdc_ledger.specs.History.{History}
 use Rattle.cdc_match.specs.declared.binding.Binding.{Binding}
@@ -12,15 +12,17 @@ use Rattle.cdc_subscriber.specs.Reception.{Reception}
 use Rattle.cdc_subscriber.specs.SubscriberState.{SubscriberState}
 use Rattle.cdc_traffic.specs.declared.requests.Reply.{Reply}
 use Rattle.cdc_types.specs.declared.batches.Batch.{Batch}
-use Rattle.cdc_run.specs.Parted.{works_of}
+use Rattle.cdc_run.specs.Parts.{works_of}
 use Rattle.cdc_run.specs.SettledLinks.{IsAccounted, IsRefused}
 use Rattle.cdc_run.specs.Books.{AreBooks}
 use Rattle.cdc_run.specs.ClientMail.{AreClientsOf}
 use Rattle.cdc_run.specs.Counts.{IsCountOf}
-use Rattle.cdc_actors.specs.Seats.{at_start, broker_seat, connector_seat}
+use Rattle.cdc_connector_actor.specs.Seats.{at_start, connector_seat}
+use Rattle.cdc_broker_actors.specs.Seats.{broker_seat}
 use Rattle.cdc_actors.specs.Ends.{has_finished}
-use Rattle.cdc_actors.specs.Broker.{BrokerCore}
-use Rattle.cdc_actors.specs.Connector.{ConnectorCore, packets_in}
+use Rattle.cdc_broker_actors.specs.Broker.{BrokerCore}
+use Rattle.cdc_actor_work.specs.Packets.{packets_in}
+use Rattle.cdc_connector_actor.specs.Connector.{ConnectorCore}
 use Rattle.cdc_run.specs.SubscriberMail.{AreSubscribersOf}
 use Rattle.cdc_run.specs.Subscribing.{HasCome}
 use Rattle.cdc_run.specs.declared.ends.Ends.{Ends}

@@ -1,8 +1,8 @@
 -- The two endpoints of a link with one sender, and what is known of them once they are put together. And when actors
 -- that were to be put together are refused.
 use Rattle.std.specs.Prelude.{◌⊎◌, ◌≡◌, ℕ, List, [], ◌∷◌}
-use Rattle.cdc_actors.specs.declared.faults.RunFault.{RunFault}
-use Rattle.cdc_actors.specs.declared.faults.RunFault.TheVariants.{NotOneSystem, OutOfMemory}
+use Rattle.cdc_actor_work.specs.declared.faults.RunFault.{RunFault}
+use Rattle.cdc_actor_work.specs.declared.faults.RunFault.TheVariants.{NotOneSystem, OutOfMemory}
 use Rattle.cdc_links.specs.Links.{IsAccount, Incoming, Outgoing}
 
 module _ {M N : Type 0} where

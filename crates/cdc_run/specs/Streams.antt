@@ -1,10 +1,10 @@
 -- What goes from the ledger to the subscribers of a run, put together once all have finished.
 use Rattle.std.specs.Prelude.{◌≡◌, ℕ, ◌+◌, true, Option, List, [], ◌∷◌, ◌++◌, All, length, map}
 use Rattle.std.specs.List.{AllZip}
-use Rattle.cdc_actors.specs.Broker.{BrokerCore}
-use Rattle.cdc_actors.specs.Connector.{IsAtStart, IsConnectorActor, ConnectorCore, origin_of}
-use Rattle.cdc_actors.specs.Ledger.{LedgerCore, IsLedgerActor}
-use Rattle.cdc_actors.specs.Subscriber.{SubscriberCore}
+use Rattle.cdc_broker_actors.specs.Broker.{BrokerCore}
+use Rattle.cdc_connector_actor.specs.Connector.{IsAtStart, IsConnectorActor, ConnectorCore, origin_of}
+use Rattle.cdc_ledger_actors.specs.Ledger.{LedgerCore, IsLedgerActor}
+use Rattle.cdc_broker_actors.specs.Subscriber.{SubscriberCore}
 use Rattle.cdc_actors.specs.Ends.{ActorState}
 use Rattle.cdc_links.specs.Links.{Incoming, Outgoing, of_sender}
 use Rattle.cdc_traffic.specs.declared.messages.ToBroker.{ToBroker}
@@ -12,7 +12,7 @@ use Rattle.cdc_traffic.specs.declared.messages.ToConnector.{ToConnector}
 use Rattle.cdc_traffic.specs.declared.pasts.Past.{Past}
 use Rattle.cdc_run.specs.SettledLinks.{IsOnlySender}
 use Rattle.cdc_run.specs.Passing.{ComesOf}
-use Rattle.cdc_run.specs.Parted.{works_of}
+use Rattle.cdc_run.specs.Parts.{works_of}
 
 -- the endpoints of a connector's links
 pub record Middle : Type 0 where

@@ -1,10 +1,10 @@
 -- What the subscribers of a run leave behind, once they have finished.
 use Rattle.std.specs.Prelude.{◌≡◌, ℕ, true, List, [], ◌∷◌, ◌++◌, length, map}
-use Rattle.cdc_actors.specs.Broker.{BrokerCore}
-use Rattle.cdc_actors.specs.Subscriber.{SubscriberCore, IsSubscriberActor}
-use Rattle.cdc_actors.specs.declared.subscriber.parts.SubscriberParts.{SubscriberParts}
+use Rattle.cdc_broker_actors.specs.Broker.{BrokerCore}
+use Rattle.cdc_broker_actors.specs.Subscriber.{SubscriberCore, IsSubscriberActor}
+use Rattle.cdc_broker_actors.specs.declared.subscriber.parts.SubscriberParts.{SubscriberParts}
 use Rattle.cdc_actors.specs.Ends.{ActorState, has_finished}
-use Rattle.cdc_run.specs.Parted.{AreActorsOf, works_of}
+use Rattle.cdc_run.specs.Parts.{AreActorsOf, works_of}
 use Rattle.cdc_run.specs.declared.subscribers.SubscriberMail.{SubscriberMail}
 
 -- subscribers of a system that have finished and have met no fault, with these numbers one after another

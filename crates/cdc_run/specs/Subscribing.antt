@@ -2,7 +2,7 @@
 use Rattle.std.specs.Prelude.{◌≡◌, ℕ, ◌<◌, ◌≤◌, true, false, Option, Some, List, Contains, length}
 use Rattle.cdc_broker.specs.Broker.{BrokerState}
 use Rattle.cdc_broker.specs.Queues.{QueueState}
-use Rattle.cdc_actors.specs.Subscriber.{received_by, is_asked}
+use Rattle.cdc_broker_actors.specs.Subscriber.{received_by, is_asked}
 use Rattle.cdc_laws.specs.Arrivals.{AreAmong}
 use Rattle.cdc_laws.specs.Brokers.{HasArrived, HasDelivered}
 use Rattle.cdc_laws.specs.Connectors.{ConnectorState, held_start}
@@ -16,7 +16,7 @@ use Rattle.cdc_message.specs.declared.items.Delivery.{Delivery}
 use Rattle.cdc_message.specs.declared.packets.Confirm.{Confirm}
 use Rattle.cdc_message.specs.declared.packets.Packet.{Packet}
 use Rattle.cdc_message.specs.Replays.{IsPrefix}
-use Rattle.cdc_publisher.specs.Courses.{Course, is_done}
+use Rattle.cdc_laws.specs.Courses.{Course, is_done}
 use Rattle.cdc_subscriber.specs.Reception.{Reception, has_ended}
 use Rattle.cdc_traffic.specs.Following.{FollowsToConnector, last_named}
 use Rattle.cdc_traffic.specs.Laws.{readings_of}

@@ -1,27 +1,29 @@
 -- What each actor of a run leaves once it has worked, and how it may have stopped before that.
 use Rattle.std.specs.Prelude.{◌≡◌, Bool, true, Some, List, [], ◌∷◌, ◌++◌, map}
 use Rattle.std.specs.List.{AllZip}
-use Rattle.cdc_actors.specs.Broker.{BrokerCore, IsBrokerActor}
-use Rattle.cdc_actors.specs.Client.{IsClient, ClientCore}
-use Rattle.cdc_actors.specs.Connector.{IsConnectorActor, ConnectorCore}
-use Rattle.cdc_actors.specs.Connector.SoFar.{IsFaultOf}
-use Rattle.cdc_actors.specs.Ledger.{LedgerCore, IsLedgerActor, is_over}
-use Rattle.cdc_actors.specs.Subscriber.{SubscriberCore, IsSubscriberActor}
+use Rattle.cdc_broker_actors.specs.Broker.{BrokerCore, IsBrokerActor}
+use Rattle.cdc_ledger_actors.specs.Client.{IsClient, ClientCore}
+use Rattle.cdc_connector_actor.specs.Connector.{IsConnectorActor, ConnectorCore}
+use Rattle.cdc_connector_actor.specs.Connector.SoFar.{IsFaultOf}
+use Rattle.cdc_ledger_actors.specs.Ledger.{LedgerCore, IsLedgerActor, is_over}
+use Rattle.cdc_broker_actors.specs.Subscriber.{SubscriberCore, IsSubscriberActor}
 use Rattle.cdc_actors.specs.Stops.{StopState}
-use Rattle.cdc_actors.specs.declared.faults.RunFault.{RunFault}
+use Rattle.cdc_actor_work.specs.declared.faults.RunFault.{RunFault}
 use Rattle.cdc_actors.specs.declared.met.Met.{Met}
 use Rattle.cdc_actors.specs.declared.met.Met.TheVariants.{Fault, Unstarted}
-use Rattle.cdc_actors.specs.declared.places.Place.{Place}
-use Rattle.cdc_actors.specs.declared.places.Place.TheVariants as place
+use Rattle.cdc_actor_work.specs.declared.places.Place.{Place}
+use Rattle.cdc_actor_work.specs.declared.places.Place.TheVariants as place
 use Rattle.cdc_run.specs.Scripted.{ScriptedState}
-use Rattle.cdc_actors.specs.Seats.{broker_seat, client_seat, connector_seat, ledger_seat, subscriber_seat}
+use Rattle.cdc_ledger_actors.specs.Seats.{client_seat, ledger_seat}
+use Rattle.cdc_connector_actor.specs.Seats.{connector_seat}
+use Rattle.cdc_broker_actors.specs.Seats.{broker_seat, subscriber_seat}
 use Rattle.cdc_actors.specs.Ends.{ActorState, has_finished}
-use Rattle.cdc_actors.specs.Faults.{IsTurnFault}
+use Rattle.cdc_actor_work.specs.Faults.{IsTurnFault}
 use Rattle.cdc_run.specs.declared.ends.Ends.{Ends}
 use Rattle.cdc_run.specs.declared.actors.Actor.{Actor}
 use Rattle.cdc_run.specs.declared.actors.Actor.TheVariants as actor
-use Rattle.cdc_run.specs.declared.placed.Task.{Task}
-use Rattle.cdc_run.specs.declared.placed.Task.TheVariants as task
+use Rattle.cdc_run.specs.declared.tasks.Task.{Task}
+use Rattle.cdc_run.specs.declared.tasks.Task.TheVariants as task
 use Rattle.cdc_types.specs.declared.batches.Batch.{Batch}
 
 -- ---- their places

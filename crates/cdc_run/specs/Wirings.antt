@@ -1,7 +1,9 @@
 -- Which links each actor of a run is wired to.
 use Rattle.std.specs.Prelude.{◌≡◌, ℕ, ◌-◌, Some, List, All, slice_get}
 use Rattle.cdc_links.specs.Links.{LinkId}
-use Rattle.cdc_actors.specs.Seats.{BrokerSeat, ClientSeat, ConnectorSeat, LedgerSeat, SubscriberSeat, broker_seat, client_seat, connector_seat, ledger_seat, subscriber_seat}
+use Rattle.cdc_ledger_actors.specs.Seats.{ClientSeat, LedgerSeat, client_seat, ledger_seat}
+use Rattle.cdc_connector_actor.specs.Seats.{ConnectorSeat, connector_seat}
+use Rattle.cdc_broker_actors.specs.Seats.{BrokerSeat, SubscriberSeat, broker_seat, subscriber_seat}
 use Rattle.cdc_run.specs.declared.ends.Ends.{Ends}
 use Rattle.cdc_traffic.specs.declared.messages.ToBroker.{ToBroker}
 use Rattle.cdc_traffic.specs.declared.messages.ToConnector.{ToConnector}

@@ -6,7 +6,7 @@ use Rattle.cdc_run.specs.Outcomes.{first_stop}
 use Rattle.cdc_run.specs.Tasks.{Leaves, Stops}
 use Rattle.cdc_run.specs.declared.failures.Failure.{Failure}
 use Rattle.cdc_run.specs.declared.failures.Failure.TheVariants.{OutOfMemory, Stopped}
-use Rattle.cdc_run.specs.declared.placed.Task.{Task}
+use Rattle.cdc_run.specs.declared.tasks.Task.{Task}
 
 -- these are their outcomes, and that is the stop that counts among them; or there was no memory for a list of them
 abbrev pub HaveStopped : {S : Type 0} → List (Task S) → Failure S → Type 0

@@ -1,15 +1,15 @@
 //! The ledger and the clients of a run, put together once they have finished.
 
 ghost use Rattle.std.specs.Prelude.{◌≡◌, ◌++◌, ◌∷◌, [], All, IfErr, IfOk, OnOk, length, map};
-ghost use Rattle.cdc_actors.specs.Ledger.{IsLedgerActor, order_of};
-ghost use Rattle.cdc_actors.specs.Orders.{clients_in};
+ghost use Rattle.cdc_ledger_actors.specs.Ledger.{IsLedgerActor, order_of};
+ghost use Rattle.cdc_ledger_actors.specs.Orders.{clients_in};
 ghost use Rattle.cdc_run.specs.SettledLinks.{IsRefused};
 ghost use Rattle.cdc_run.specs.Books.{AreBooks};
 ghost use Rattle.cdc_run.specs.ClientMail.{AreClientsOf, ArePollsTo, AreWiredTo, HasAllOf, HasFinishedWith, IsMailOf, IsMoreMail};
 
-use crate::parting::part_actors;
+use crate::laws::settle_laws;
+use crate::parts::parts_of;
 use crate::settled_links::{settle_each, settle_link};
-use crate::settling::settle_laws;
 use cdc_actors::{ClientEnd, ClientParts, LedgerEnd, RunFault};
 use cdc_ledger::Ledger;
 use cdc_links::{LinkIn, LinkOut};
@@ -66,7 +66,7 @@ impl ClientMail {
 
 /// Takes the client actors of a system apart, all of which must have finished. `NotOneSystem`: one is of another
 /// system, doesn't have its place's number, isn't finished, or has met a fault.
-pub(crate) fn part_clients(
+pub(crate) fn mail_of_clients(
     alloc: Global,
     system: u64,
     clients: Vec<ClientEnd>,
@@ -75,7 +75,7 @@ pub(crate) fn part_clients(
     ensures mail { IfOk result (λ mail. IsMailOf clients.items mail) }
     ensures refused { IfErr result (IsRefused (AreClientsOf system 1 clients.items)) }
 {
-    let parts = part_actors(alloc, system, clients)?;
+    let parts = parts_of(alloc, system, clients)?;
     let mail = ClientMail::of(alloc, parts)?;
     Ok(mail)
 }
@@ -124,7 +124,7 @@ pub(crate) fn settle_books(
     if clients.len() != parts.clients.len() {
         return Err(RunFault::NotOneSystem);
     }
-    let mail = part_clients(alloc, system, clients)?;
+    let mail = mail_of_clients(alloc, system, clients)?;
     settle_laws();
     settle_link(alloc, parts.inbox, polls, mail.requests)?;
     settle_each(alloc, mail.answers, parts.clients)?;

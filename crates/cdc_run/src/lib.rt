@@ -11,9 +11,9 @@ pub mod ends;
 pub mod failures;
 pub mod gates;
 mod jobs;
+mod laws;
 mod outcomes;
-mod parting;
-mod placed;
+mod parts;
 pub mod plans;
 pub mod reports;
 mod runs;
@@ -21,24 +21,28 @@ mod scopes;
 mod scripted;
 mod scripts;
 mod settled_links;
-mod settling;
 mod streams;
 mod subscribers;
+mod task_jobs;
 mod tasks;
-mod turning;
+mod turn_loop;
 mod wires;
 mod wiring;
 
 pub use actors::Actor;
-pub use cdc_actors::{Arrival, Met, Place};
+pub use cdc_actors::{
+    Arrival, BrokerEnd, ClientEnd, ConnectorEnd, LedgerEnd, Met, Place, Repeats, RunFault, Stop,
+    Story, SubscriberEnd, Turn,
+};
+pub use cdc_traffic::Reply;
 pub use configs::Config;
 pub use counts::Counts;
 pub use determined::determined_laws;
 pub use ends::Ends;
 pub use failures::Failure;
 pub use gates::{Gate, OpenGate};
+pub use laws::{passing_laws, settle_laws};
 pub use plans::Faults;
 pub use reports::{Report, settle};
-pub use runs::run;
-pub use settling::{passing_laws, settle_laws};
+pub use runs::{run, run_explained};
 pub use wiring::wire_up;

@@ -2,10 +2,11 @@
 
 ghost use Rattle.std.specs.Prelude.{◌≡◌, All, Option, IfErr, IfOk, List, ℕ, false, length, map, true, vec_len};
 ghost use Rattle.std.specs.List.{AllZip};
-ghost use Rattle.cdc_actors.specs.Connector.{first_origin};
+ghost use Rattle.cdc_connector_actor.specs.Connector.{first_origin};
 ghost use Rattle.cdc_laws.specs.Connectors.{held_start, held_timestamp};
 ghost use Rattle.cdc_run.specs.Configs.{Fits};
 ghost use Rattle.cdc_run.specs.Counts.{MayCount};
+ghost use Rattle.cdc_run.specs.Failures.{fault_answered, unexplained};
 ghost use Rattle.cdc_run.specs.Made.{AreCloses, plan_of};
 ghost use Rattle.cdc_run.specs.Meeting.{IsRunFailure};
 ghost use Rattle.cdc_run.specs.Ran.{RanFrom};
@@ -19,11 +20,11 @@ use crate::ends::Ends;
 use crate::failures::Failure;
 use crate::gates::Gate;
 use crate::outcomes::{earliest, finished};
-use crate::placed::Task;
 use crate::plans::Faults;
 use crate::reports::{Report, settle};
 use crate::scopes::run_jobs;
 use crate::scripted::Scripted;
+use crate::tasks::Task;
 use crate::wiring::wire_up;
 use cdc_actors::{RunFault, connector_actor_laws};
 use cdc_progress::ProgressStore;
@@ -128,13 +129,10 @@ fn out_of_memory<S: ProgressStore>(fault: RunFault) -> Failure<S>
     Failure::OutOfMemory
 }
 
-/// Runs a ledger, its clients, a connector, a broker and its subscribers, each on a thread of its own, until all have
-/// finished, and reports what they come to. Each client submits its script, in its order. The gate is called before
-/// each turn. A timestamp to start after applies to the first session only. If actors stop before they have finished,
-/// the result is the first of them in the order of the places that met another fault than `PeerGone`, or the first of
-/// all if none did, with the outcome of each actor. A thread that can't be started is `OutOfMemory` at its actor's
-/// place.
-pub fn run<S: ProgressStore + Send + Drop, R: Threads + Wait + Sync, G: Gate + Sync>(
+/// As `run`, but a run that fails also returns which actor stopped, why, and the outcome of each actor. If several
+/// stopped, it is the first of them in the order of the places that met another fault than `PeerGone`, or the first of
+/// all if none did. A thread that can't be started is `OutOfMemory` at its actor's place.
+pub fn run_explained<S: ProgressStore + Send + Drop, R: Threads + Wait + Sync, G: Gate + Sync>(
     rt: &R,
     alloc: Global,
     config: Config,
@@ -168,4 +166,46 @@ pub fn run<S: ProgressStore + Send + Drop, R: Threads + Wait + Sync, G: Gate + S
         Ok(report) => Ok(report),
         Err(fault) => Err(out_of_memory(fault)),
     }
+}
+
+// The result of a run, of whose failure only the fault is kept.
+fn without_explanation<S: ProgressStore + Drop>(
+    explained: Result<Report, Failure<S>>,
+) -> Result<Report, RunFault>
+    ensures { result ≡ unexplained explained }
+{
+    match explained {
+        Ok(report) => Ok(report),
+        Err(failure) => Err(failure.fault()),
+    }
+}
+
+/// Runs a ledger, its clients, a connector, a broker and its subscribers, each on a thread of its own, until all have
+/// finished, and reports what they come to. Each client submits its script, in its order. The gate is called before
+/// each turn. A timestamp to start after applies to the first session only. If actors stop before they have finished,
+/// the result is the fault of the first of them in the order of the places that met another fault than `PeerGone`, and
+/// `PeerGone` only if none did. A thread that can't be started is `OutOfMemory`.
+pub fn run<S: ProgressStore + Send + Drop, R: Threads + Wait + Sync, G: Gate + Sync>(
+    rt: &R,
+    alloc: Global,
+    config: Config,
+    scripts: Vec<Vec<Batch>>,
+    faults: Faults,
+    store: S,
+    gate: &G,
+) -> Result<Report, RunFault>
+    requires fits { Fits config }
+    requires scripts { vec_len scripts ≡ config.clients }
+    ensures report { IfOk result (HasRun (map (λ s. s.items) scripts.items)) }
+    ensures ran { IfOk result (RanFrom config faults (S.held store) (S.is_honest store) (S.risks store)
+        (map (λ s. s.items) scripts.items)) }
+    ensures counts { IfOk result (λ report. MayCount (plan_of faults) config.bindings.items report.counts) }
+    ensures failure { IfErr result (λ fault. (failure : Failure S) × IsRunFailure config.system (S.is_honest store)
+        (S.risks store) config.clients (length config.bindings.items) failure × (fault ≡ fault_answered failure)) }
+    ensures subscribers { IfOk result (λ report. held_timestamp (S.held store) ≡ held_start (S.held store)
+        → (closes : List (Option ℕ)) × AreCloses 1 faults.close.items closes
+        × AreSubscribed report.ledger (first_origin config.start (S.held store)).start config.bindings.items closes
+        report.subscribers.items) }
+{
+    without_explanation(run_explained(rt, alloc, config, scripts, faults, store, gate))
 }

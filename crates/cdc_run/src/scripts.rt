@@ -1,8 +1,8 @@
 //! A client's script: its batches, one after another, and then the report that it is done.
 
 ghost use Rattle.std.specs.Prelude.{◌≡◌, IfErr, IfOk, false};
-ghost use Rattle.cdc_actors.specs.Faults.{IsTurnFault};
-ghost use Rattle.cdc_actors.specs.Seats.{client_seat};
+ghost use Rattle.cdc_actor_work.specs.Faults.{IsTurnFault};
+ghost use Rattle.cdc_ledger_actors.specs.Seats.{client_seat};
 ghost use Rattle.cdc_run.specs.Tasks.{ClientLeaves, HasStopped, client_place};
 
 use crate::gates::Gate;

@@ -2,17 +2,17 @@
 
 ghost use Rattle.std.specs.Prelude.{◌≡◌, IfErr, IfOk, map};
 ghost use Rattle.std.specs.List.{AllZip};
-ghost use Rattle.cdc_actors.specs.Broker.{IsBrokerActor};
-ghost use Rattle.cdc_actors.specs.Connector.{ConnectorCore, origin_of};
-ghost use Rattle.cdc_actors.specs.Ledger.{LedgerCore};
+ghost use Rattle.cdc_broker_actors.specs.Broker.{IsBrokerActor};
+ghost use Rattle.cdc_connector_actor.specs.Connector.{ConnectorCore, origin_of};
+ghost use Rattle.cdc_ledger_actors.specs.Ledger.{LedgerCore};
 ghost use Rattle.cdc_run.specs.SettledLinks.{IsAccounted, IsRefused};
-ghost use Rattle.cdc_run.specs.Parted.{works_of};
+ghost use Rattle.cdc_run.specs.Parts.{works_of};
 ghost use Rattle.cdc_run.specs.Streams.{AllCome, AreJoined, AreLeftBy, ArePacketsTo};
 ghost use Rattle.cdc_run.specs.SubscriberMail.{AreSubscribersOf, HasFinishedWith};
 
+use crate::laws::passing_laws;
 use crate::settled_links::{settle_each, settle_link, settle_pair};
-use crate::settling::passing_laws;
-use crate::subscribers::part_subscribers;
+use crate::subscribers::mail_of_subscribers;
 use cdc_actors::{Arrival, BrokerEnd, Consumer, RunFault, SubscriberEnd};
 use cdc_links::{LinkIn, LinkOut};
 use cdc_subscriber::Subscriber;
@@ -85,7 +85,7 @@ pub(crate) fn settle_streams(
     if subscribers.len() != parts.consumers.len() {
         return Err(RunFault::NotOneSystem);
     }
-    let mail = part_subscribers(alloc, system, subscribers)?;
+    let mail = mail_of_subscribers(alloc, system, subscribers)?;
     let links = links_of(alloc, parts.consumers)?;
     passing_laws();
     settle_pair(alloc, inbox, replies, parts.confirms)?;

@@ -4,7 +4,7 @@ ghost use Rattle.std.specs.Prelude.{[], IfErr, IfOk, OnOk};
 ghost use Rattle.cdc_run.specs.SettledLinks.{IsRefused};
 ghost use Rattle.cdc_run.specs.SubscriberMail.{AreSubscribersOf, HasAllOf, IsLeftBy, IsMoreLeft};
 
-use crate::parting::part_actors;
+use crate::parts::parts_of;
 use cdc_actors::{Arrival, RunFault, SubscriberEnd, SubscriberParts};
 use cdc_links::{LinkIn, LinkOut};
 use cdc_subscriber::Subscriber;
@@ -67,7 +67,7 @@ impl SubscriberMail {
 
 /// Takes the subscriber actors of a system apart, all of which must have finished. `NotOneSystem`: one is of another
 /// system, doesn't have its place's number, isn't finished, or has met a fault.
-pub(crate) fn part_subscribers(
+pub(crate) fn mail_of_subscribers(
     alloc: Global,
     system: u64,
     subscribers: Vec<SubscriberEnd>,
@@ -76,7 +76,7 @@ pub(crate) fn part_subscribers(
     ensures mail { IfOk result (λ mail. IsLeftBy subscribers.items mail) }
     ensures refused { IfErr result (IsRefused (AreSubscribersOf system 1 subscribers.items)) }
 {
-    let parts = part_actors(alloc, system, subscribers)?;
+    let parts = parts_of(alloc, system, subscribers)?;
     let mail = SubscriberMail::of(alloc, parts)?;
     Ok(mail)
 }

@@ -10,6 +10,21 @@ use cdc_links::{LinkIn, LinkOut, Message, link};
 use cdc_traffic::{Reply, ToBroker, ToConnector, ToLedger, ToSubscriber};
 use std::alloc::{AllocError, Global};
 
+/// In the link to the ledger: two polls and the connector's last message.
+const LEDGER_ROOM: usize = 3;
+
+/// In the link to a client: one reply.
+const CLIENT_ROOM: usize = 1;
+
+/// In the link to the connector: a confirm beyond the window, the replies to two polls, and one message more.
+const CONNECTOR_ROOM: usize = 4;
+
+/// In the link to the broker: a packet beyond the window, the connector's last message, and one message more.
+const BROKER_ROOM: usize = 3;
+
+/// In the link to a subscriber: the last message.
+const SUBSCRIBER_ROOM: usize = 1;
+
 /// All endpoints of a run's links. A list has one for each client or each subscriber, in the order of their numbers.
 #[derive(Drop)]
 pub(crate) struct Wires {
@@ -85,10 +100,10 @@ fn own<M: Message>(
 }
 
 /// The links of a run, each with room for all messages that its senders can have under way at once, so that none
-/// waits for room. To the ledger: a message of each client, two polls and the connector's last message. To the
-/// connector: `window` + 1 confirms and the replies to two polls. To the broker: `window` + 1 packets, the
-/// connector's last message and `prefetch` acknowledgements of each subscriber. To a client: one reply. To a
-/// subscriber: `prefetch` deliveries and the last message.
+/// waits for room. The room that doesn't depend on the configuration has a constant for each link. Besides that there
+/// is room in the link to the ledger for a message of each client, in that to the connector for `window` confirms, in
+/// that to the broker for `window` packets and `prefetch` acknowledgements of each subscriber, and in that to a
+/// subscriber for `prefetch` deliveries.
 pub(crate) fn make_wires(alloc: Global, config: &Config) -> Result<Wires, AllocError>
     requires { Fits config.now }
     ensures { IfOk result (λ all. AreWired config.now.clients (vec_len config.now.bindings) all) }
@@ -96,12 +111,12 @@ pub(crate) fn make_wires(alloc: Global, config: &Config) -> Result<Wires, AllocE
     let clients = config.clients as usize;
     let subscribers = config.bindings.len();
     let prefetch = config.prefetch as usize;
-    let in_flight = config.window + 3 + subscribers * prefetch;
-    let (polls, requests, to_ledger) = shared(alloc, clients + 3, clients)?;
-    let (poll_replies, confirms, to_connector) = pair(alloc, config.window + 4)?;
+    let in_flight = config.window + BROKER_ROOM + subscribers * prefetch;
+    let (polls, requests, to_ledger) = shared(alloc, clients + LEDGER_ROOM, clients)?;
+    let (poll_replies, confirms, to_connector) = pair(alloc, config.window + CONNECTOR_ROOM)?;
     let (packets, acks, to_broker) = shared(alloc, in_flight, subscribers)?;
-    let (replies, answers) = own(alloc, 1, clients)?;
-    let (deliveries, inboxes) = own(alloc, prefetch + 1, subscribers)?;
+    let (replies, answers) = own(alloc, CLIENT_ROOM, clients)?;
+    let (deliveries, inboxes) = own(alloc, prefetch + SUBSCRIBER_ROOM, subscribers)?;
     Ok(Wires {
         to_ledger,
         polls,

@@ -1,7 +1,7 @@
 //! The actors of a run, wired together before their first turns.
 
 ghost use Rattle.std.specs.Prelude.{◌≡◌, IfErr, IfOk, All, length, map};
-ghost use Rattle.cdc_actors.specs.declared.faults.RunFault.TheVariants.{OutOfMemory};
+ghost use Rattle.cdc_actor_work.specs.declared.faults.RunFault.TheVariants.{OutOfMemory};
 ghost use Rattle.cdc_links.specs.Links.{LinkId};
 ghost use Rattle.cdc_run.specs.Configs.{Fits};
 ghost use Rattle.cdc_run.specs.Made.{AreFreshSubscribers, AreMade, made_clients};

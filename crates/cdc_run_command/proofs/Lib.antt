@@ -1,4 +1,6 @@
+pub mod Arriving
 pub mod ClientLemmas
+pub mod Delivered
 pub mod LoneRuns
 pub mod ObjectLemmas
 pub mod ReplyLemmas

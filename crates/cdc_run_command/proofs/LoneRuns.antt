@@ -14,7 +14,7 @@ use Rattle.cdc_ledger.specs.Sound.{IsSound}
 use Rattle.cdc_ledger.proofs.KeptLaws.{IsSound-after_batches}
 use Rattle.cdc_ledger.proofs.SoundLaws.{IsSound-closed, IsSound-empty}
 use Rattle.cdc_ledger.specs.Submit.{after_batches, history_or, submit}
-use Rattle.cdc_match.specs.Arguments.{Arguments}
+use Rattle.cdc_script.specs.Arguments.{Arguments}
 use Rattle.cdc_progress.specs.Records.{Saved}
 use Rattle.cdc_run.specs.Books.{AreBooks}
 use Rattle.cdc_run.specs.Determined.{AllKeepTheLine, HaveNone, IsServedAlone, LoneClientsAreServedAlone, answers_from, kept_of_line}

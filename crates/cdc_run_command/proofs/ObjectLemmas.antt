@@ -3,8 +3,9 @@ use Rattle.std.proofs.Common.{◌≡◌, ℕ, ◌+◌, ◌≤◌, List, [], ◌�
 use Rattle.std.specs.List.{slice_get}
 use Rattle.std.proofs.lemmas.List.{drop_all}
 use Rattle.serde_json.specs.Data.{Data}
-use Rattle.cdc_commands.proofs.FoundElements.{drop_found}
-use Rattle.cdc_json.specs.Lines.{batch_value, json_line, json_lines}
+use Rattle.cdc_output.proofs.FoundElements.{drop_found}
+use Rattle.cdc_commands.specs.JsonValues.{batch_value}
+use Rattle.cdc_output.specs.Lines.{json_line, json_lines}
 use Rattle.cdc_run_command.specs.Private.Diagnostics.{numbered_values}
 use Rattle.cdc_run_command.specs.RunObjects.{reply_values}
 use Rattle.cdc_traffic.specs.declared.requests.Reply.{Reply}

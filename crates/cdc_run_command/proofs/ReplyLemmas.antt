@@ -9,7 +9,7 @@ use Rattle.cdc_run_command.specs.Private.Merging.{HasNext, TakesNext, numbered_l
 use Rattle.cdc_run_command.specs.ClientOrders.{IsOrderOf, times_in}
 use Rattle.cdc_commands.specs.Report.{batch_line}
 use Rattle.cdc_run_command.specs.Runs.{AreMerged, own_of, reply_lines}
-use Rattle.cdc_commands.proofs.FoundElements.{found_at, take_found}
+use Rattle.cdc_output.proofs.FoundElements.{found_at, take_found}
 use Rattle.cdc_run_command.proofs.ShareLemmas.{other_number, own_of-other, own_of-same, same_number, shares_are}
 
 -- ---- elements of lists

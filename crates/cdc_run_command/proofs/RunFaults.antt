@@ -1,11 +1,11 @@
 -- Why runs fail, as the program reports it.
 use Rattle.std.proofs.Common.{◌≡◌, ◌⊎◌, ℕ, Bool, List, Option, Some, None, inl, inr, refl, sym, ap, subst, ◌∙◌}
 use Rattle.cdc_actors.specs.declared.met.Met.{Met}
-use Rattle.cdc_actors.specs.declared.places.Place.{Place}
+use Rattle.cdc_actor_work.specs.declared.places.Place.{Place}
 use Rattle.cdc_commands.specs.Outcomes.{IsWriteFault, PrintsFailure}
 use Rattle.cdc_commands.specs.declared.endings.Ending.{Ending}
 use Rattle.cdc_commands.specs.declared.endings.Ending.TheVariants.{Failed}
-use Rattle.cdc_commands.specs.declared.faults.ProgramFault.{ProgramFault}
+use Rattle.cdc_output.specs.declared.faults.ProgramFault.{ProgramFault}
 use Rattle.cdc_progress.specs.Stores.{Risks}
 use Rattle.cdc_run.specs.Meeting.{IsRunFailure}
 use Rattle.cdc_run.specs.declared.failures.Failure.{Failure}

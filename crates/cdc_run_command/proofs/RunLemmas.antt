@@ -1,12 +1,12 @@
 -- A run of a script, and what is printed of it.
 use Rattle.std.proofs.Common.{◌≡◌, ◌∙◌, ℕ, ◌+◌, ◌≤◌, zero, suc, List, [], ◌∷◌, Some, None, Ok, Err, refl, sym, ap, subst, map, length, arith, inl, inr}
-use Rattle.std.specs.Prelude.{Bool, IfOk, IfSome, IsSomeAnd, Option, Result, fold, max, slice_get, slice_index_or}
+use Rattle.std.specs.Prelude.{Bool, IfOk, IfSome, Option, Result, fold, max, slice_get, slice_index_or}
 use Rattle.std.specs.Option.{option_map}
 use Rattle.std.proofs.lemmas.List.{length-map}
 use Rattle.std.proofs.lemmas.Option.{get_or_from_slice_get, slice_get-map}
-use Rattle.cdc_actors.specs.declared.broker.plans.BrokerPlan.{BrokerPlan}
+use Rattle.cdc_run.specs.BrokerPlan.{BrokerPlan}
 use Rattle.cdc_ledger.specs.History.{History}
-use Rattle.cdc_match.specs.Arguments.{Arguments}
+use Rattle.cdc_script.specs.Arguments.{Arguments}
 use Rattle.cdc_progress.specs.Records.{Saved}
 use Rattle.cdc_progress.specs.Stores.{Risks}
 use Rattle.cdc_run.specs.Counts.{MayCount}
@@ -25,7 +25,7 @@ use Rattle.cdc_types.specs.declared.batches.Batch.{Batch}
 use Rattle.cdc_types.specs.declared.bounds.TheConstants.Limits.{CLIENTS}
 use Rattle.cdc_commands.specs.declared.endings.Ending.{Ending}
 use Rattle.cdc_commands.specs.declared.endings.Ending.TheVariants.{Done, Failed, Refused, BadScript, BadSteps, BadWords}
-use Rattle.cdc_commands.specs.declared.faults.ProgramFault.{ProgramFault}
+use Rattle.cdc_output.specs.declared.faults.ProgramFault.{ProgramFault}
 use Rattle.cdc_commands.specs.FaultWords.{IsParsedAs}
 use Rattle.cdc_commands.specs.Outcomes.{IsPrinted, IsWriteFault, Outcome, PrintsFailure, Writes}
 use Rattle.cdc_run_command.specs.ClientOrders.{IsOrderOf, times_in}
@@ -34,9 +34,9 @@ use Rattle.cdc_run_command.specs.RunPrinted.{RunCommandPrints}
 use Rattle.cdc_run_command.specs.declared.failures.RunFailed.{RunFailed}
 use Rattle.cdc_run_command.specs.declared.reports.Ran.{Ran}
 use Rattle.cdc_run_command.specs.declared.run.RunOutput.{RunOutput}
-use Rattle.cdc_run_command.specs.Runs.{HasRunOf, IsRunOf, Setting, client_count, entries_of, own_of, owners_of, shares_from}
-use Rattle.cdc_commands.proofs.FoundElements.{found_at}
-use Rattle.cdc_commands.proofs.OutputLemmas.{at_same_word, same_fault}
+use Rattle.cdc_run_command.specs.Runs.{HasRunOf, IsPrintedOf, RunsTo, Setting, StatesScript, client_count, entries_of, own_of, owners_of, shares_from}
+use Rattle.cdc_output.proofs.FoundElements.{found_at}
+use Rattle.cdc_commands.proofs.OutputLemmas.{at_same_word, same_parsed}
 use Rattle.cdc_run_command.proofs.ShareLemmas.{length-own_of, length-shares_from, slice_get-shares_from}
 
 -- ---- how many clients there are
@@ -138,34 +138,68 @@ ran_same config faults held honest risks report these those same ran =
 -- ---- what is printed
 
 -- a script's text has the same meaning as all its bytes, so what is printed of it is printed of them
-all_bytes : (Prints : List ℕ → Report → List ℕ → Type 0) (PrintsFault : List ℕ → Ending → List ℕ → Type 0)
+stated_same : (Prints : Script → List ℕ → Type 0) (text : List ℕ) (bytes : Option (List ℕ)) (printed : List ℕ)
+    → IfSome bytes (IsParsedAs script_of text) → StatesScript Prints (Some text) printed
+    → StatesScript Prints bytes printed
+stated_same Prints text bytes printed same (script, (stated, prints)) =
+    (script, (same_parsed script_of text bytes (Ok script) same stated, prints))
+
+all_bytes : {X : Type 0} (Prints : Script → List ℕ → Report → List ℕ → Type 0) (Finds : Script → Option X → Type 0)
+    (PrintsFault : List ℕ → Ending → List ℕ → Type 0)
     (setting : Setting) (text : List ℕ) (bytes : Option (List ℕ)) (ending : Ending) (printed : List ℕ)
     → IfSome bytes (IsParsedAs script_of text)
-    → RunCommandPrints Prints PrintsFault setting (Some text) ending printed
-    → RunCommandPrints Prints PrintsFault setting bytes ending printed
-all_bytes Prints PrintsFault setting text None Done printed same prints = tt
-all_bytes Prints PrintsFault setting text (Some all) Done printed same prints =
-    record { script = prints.script; stated = sym same.0 ∙ prints.stated; runs = prints.runs }
-all_bytes Prints PrintsFault setting text bytes (BadScript at) printed same prints = (
+    → RunCommandPrints Prints Finds PrintsFault setting (Some text) ending printed
+    → RunCommandPrints Prints Finds PrintsFault setting bytes ending printed
+all_bytes Prints Finds PrintsFault setting text bytes Done printed same prints =
+    stated_same (λ script. RunsTo (Prints script) setting script) text bytes printed same prints
+all_bytes Prints Finds PrintsFault setting text bytes BadWords printed same prints =
+    stated_same (λ script none. Finds script None × (none ≡ [])) text bytes printed same prints
+all_bytes Prints Finds PrintsFault setting text bytes (BadScript at) printed same prints = (
   at_same_word (λ word. PrintsFault word (BadScript at)) script_of text bytes at printed same prints.1 prints.0,
-  same_fault script_of text bytes at same prints.1,
+  same_parsed script_of text bytes (Err at) same prints.1,
 )
-all_bytes Prints PrintsFault setting text bytes (Failed why) printed same prints = prints
-all_bytes Prints PrintsFault setting text bytes (Refused why) printed same prints = absurd prints
-all_bytes Prints PrintsFault setting text bytes (BadSteps at) printed same prints = absurd prints
-all_bytes Prints PrintsFault setting text bytes BadWords printed same prints = absurd prints
+all_bytes Prints Finds PrintsFault setting text bytes (Failed why) printed same prints = prints
+all_bytes Prints Finds PrintsFault setting text bytes (Refused why) printed same prints = absurd prints
+all_bytes Prints Finds PrintsFault setting text bytes (BadSteps at) printed same prints = absurd prints
+
+-- nothing is printed if what has to be found isn't in the script
+pub prints_none : {X : Type 0} (Prints : Script → List ℕ → Report → List ℕ → Type 0) (Finds : Script → Option X → Type 0)
+    (PrintsFault : List ℕ → Ending → List ℕ → Type 0) (setting : Setting) (bytes : Option (List ℕ)) (ending : Ending)
+    (printed : List ℕ) → ending ≡ BadWords → StatesScript (λ script text. Finds script None × (text ≡ [])) bytes printed
+    → RunCommandPrints Prints Finds PrintsFault setting bytes ending printed
+prints_none Prints Finds PrintsFault setting bytes ending printed is none =
+    subst (λ (e : Ending). RunCommandPrints Prints Finds PrintsFault setting bytes e printed) (sym is) none
 
 -- the same of what a command made of the text of a script
-pub run_of_script : (Prints : List ℕ → Report → List ℕ → Type 0) (PrintsFault : List ℕ → Ending → List ℕ → Type 0)
+pub run_of_script : {X : Type 0} (Prints : Script → List ℕ → Report → List ℕ → Type 0)
+    (Finds : Script → Option X → Type 0) (PrintsFault : List ℕ → Ending → List ℕ → Type 0)
     (setting : Setting) (text script : List ℕ) (bytes : Option (List ℕ)) (made : Result RunOutput RunFailed)
     → text ≡ script → IfSome bytes (IsParsedAs script_of script)
-    → IfOk made (λ m. RunCommandPrints Prints PrintsFault setting (Some text) m.output.ending m.output.text.items)
-    → IfOk made (λ m. RunCommandPrints Prints PrintsFault setting bytes m.output.ending m.output.text.items)
-run_of_script Prints PrintsFault setting text script bytes (Err why) is same prints = tt
-run_of_script Prints PrintsFault setting text script bytes (Ok m) is same prints =
-    all_bytes Prints PrintsFault setting script bytes m.output.ending m.output.text.items same
-    (subst (λ (xs : List ℕ). RunCommandPrints Prints PrintsFault setting (Some xs) m.output.ending m.output.text.items)
-    is prints)
+    → IfOk made (λ m. RunCommandPrints Prints Finds PrintsFault setting (Some text) m.output.ending m.output.text.items)
+    → IfOk made (λ m. RunCommandPrints Prints Finds PrintsFault setting bytes m.output.ending m.output.text.items)
+run_of_script Prints Finds PrintsFault setting text script bytes (Err why) is same prints = tt
+run_of_script Prints Finds PrintsFault setting text script bytes (Ok m) is same prints =
+    all_bytes Prints Finds PrintsFault setting script bytes m.output.ending m.output.text.items same
+    (subst (λ (xs : List ℕ).
+    RunCommandPrints Prints Finds PrintsFault setting (Some xs) m.output.ending m.output.text.items) is prints)
+
+-- and of the very run that it came to
+printed_of : (Prints : Script → List ℕ → Report → List ℕ → Type 0) (text : List ℕ) (bytes : Option (List ℕ))
+    (ran : Option Ran) (printed : List ℕ) → IfSome bytes (IsParsedAs script_of text)
+    → IsPrintedOf Prints (Some text) ran printed → IsPrintedOf Prints bytes ran printed
+printed_of Prints text bytes None printed same is = tt
+printed_of Prints text bytes (Some ran) printed same is =
+    stated_same (λ script. Prints script ran.owners.items ran.report) text bytes printed same is
+
+pub printed_of_bytes : (Prints : Script → List ℕ → Report → List ℕ → Type 0) (text script : List ℕ)
+    (bytes : Option (List ℕ)) (made : Result RunOutput RunFailed) → text ≡ script
+    → IfSome bytes (IsParsedAs script_of script)
+    → IfOk made (λ m. IsPrintedOf Prints (Some text) m.ran m.output.text.items)
+    → IfOk made (λ m. IsPrintedOf Prints bytes m.ran m.output.text.items)
+printed_of_bytes Prints text script bytes (Err why) is same prints = tt
+printed_of_bytes Prints text script bytes (Ok m) is same prints =
+    printed_of Prints script bytes m.ran m.output.text.items same
+    (subst (λ (xs : List ℕ). IsPrintedOf Prints (Some xs) m.ran m.output.text.items) is prints)
 
 -- a run of the script that a text writes is one of the script of all its bytes
 same_run : (setting : Setting) (text script : List ℕ) (bytes : Option (List ℕ)) (ending : Ending) (ran : Option Ran)
@@ -199,18 +233,6 @@ pub none_ran : (setting : Setting) (bytes old new : Option (List ℕ)) (PrintsFa
 none_ran setting bytes old new PrintsFault why ending printed =
     ran_printed setting bytes old new (record { text = printed.0; ending = Failed why }) ending None printed.1.1
     (λ done. let no : Failed why ≡ Done = done in cc)
-
--- a run of a script that was read is one of the script of its text
-pub ran_of_script : (setting : Setting) (bytes : List ℕ) (script : Script) (made : Result RunOutput RunFailed)
-    → script_of bytes ≡ Ok script → IfOk made (λ m. IsSomeAnd m.ran (IsRunOf setting script))
-    → IfOk made (λ m. HasRunOf setting (Some bytes) m.output.ending m.ran)
-ran_of_script setting bytes script (Ok m) reads has = go m.ran has
-  where
-    go : (ran : Option Ran) → IsSomeAnd ran (IsRunOf setting script)
-        → HasRunOf setting (Some bytes) m.output.ending ran
-    go None is = absurd is
-    go (Some ran) is = (script, (reads, is))
-ran_of_script setting bytes script (Err why) reads has = tt
 
 -- what a command prints is what it writes, unless a write failed
 pub writes_text : (prints : Ending → List ℕ → Type 0) (old new : Option (List ℕ)) (text : List ℕ)

@@ -1,14 +1,14 @@
 -- Why a run of a script has no report.
 use Rattle.std.specs.Prelude.{◌≡◌, ◌⊎◌, Bool, Option, Some, None, IfSome, MatchOption}
-use Rattle.cdc_commands.specs.Faults.{read_fault}
-use Rattle.cdc_commands.specs.declared.faults.ProgramFault.{ProgramFault}
-use Rattle.cdc_commands.specs.declared.faults.ProgramFault.TheVariants as program
+use Rattle.cdc_output.specs.Faults.{read_fault}
+use Rattle.cdc_output.specs.declared.faults.ProgramFault.{ProgramFault}
+use Rattle.cdc_output.specs.declared.faults.ProgramFault.TheVariants as program
 use Rattle.cdc_commands.specs.Outcomes.{IsWriteFault}
 use Rattle.cdc_commands.specs.declared.endings.Ending.{Ending}
 use Rattle.cdc_commands.specs.declared.endings.Ending.TheVariants.{Failed}
 use Rattle.cdc_actors.specs.Stops.{fault_met}
 use Rattle.cdc_actors.specs.declared.met.Met.{Met}
-use Rattle.cdc_actors.specs.declared.places.Place.{Place}
+use Rattle.cdc_actor_work.specs.declared.places.Place.{Place}
 use Rattle.cdc_progress.specs.Stores.{Risks}
 use Rattle.cdc_run.specs.Meeting.{MayStop}
 use Rattle.cdc_run.specs.declared.failures.Failure.{Failure}

@@ -1,8 +1,10 @@
+pub mod Arrived
 pub mod ClientOrders
 pub mod Failed
 pub mod LoneRuns
 pub mod Plans
 pub mod Private
+pub mod RunDeliveries
 pub mod RunObjects
 pub mod RunPrinted
 pub mod Runnable

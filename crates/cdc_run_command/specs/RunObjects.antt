@@ -5,7 +5,8 @@ use Rattle.cdc_run.specs.Reports.{replies_of}
 use Rattle.cdc_run.specs.declared.reports.Report.{Report}
 use Rattle.cdc_traffic.specs.declared.requests.Reply.{Reply}
 use Rattle.cdc_run_command.specs.Runs.{AreMerged}
-use Rattle.cdc_json.specs.Lines.{batch_value, json_lines, kept_values}
+use Rattle.cdc_commands.specs.JsonValues.{batch_value}
+use Rattle.cdc_output.specs.Lines.{json_lines, kept_values}
 
 -- the values of replies, the first of which is that to the batch of this number
 abbrev pub reply_values : ℕ → List (ℕ × Reply) → List Data

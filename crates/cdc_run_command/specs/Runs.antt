@@ -70,10 +70,16 @@ pub record PrintsReport (order : List ℕ) (report : Report) (printed : List ℕ
   pub merged : AreMerged order (replies_of report) replies
   pub prints : printed ≡ reply_lines 1 replies ++ kept_text 1 report.subscribers.items
 
--- if a run came to a report, this is printed of it, if reports are printed so
-abbrev pub IsPrintedOf : (List ℕ → Report → List ℕ → Type 0) → Option Ran → List ℕ → Type 0
-IsPrintedOf Prints None printed = Unit {0}
-IsPrintedOf Prints (Some ran) printed = Prints ran.owners.items ran.report printed
+-- a script, which is that of these bytes if they are known, is one of which this is printed
+abbrev pub StatesScript : (Script → List ℕ → Type 0) → Option (List ℕ) → List ℕ → Type 0
+StatesScript Prints bytes printed =
+    (script : Script) × (IfSome bytes (λ all. script_of all ≡ Ok script) × Prints script printed)
+
+-- if a run of the script of these bytes came to a report, this is printed of it, if reports are printed so
+abbrev pub IsPrintedOf : (Script → List ℕ → Report → List ℕ → Type 0) → Option (List ℕ) → Option Ran → List ℕ → Type 0
+IsPrintedOf Prints bytes None printed = Unit {0}
+IsPrintedOf Prints bytes (Some ran) printed =
+    StatesScript (λ script. Prints script ran.owners.items ran.report) bytes printed
 
 -- what a run is given besides its script: its plan, what its store holds, whether that is honest, and why it may refuse
 pub record Setting : Type 0 where

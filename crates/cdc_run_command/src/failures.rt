@@ -4,7 +4,7 @@ ghost use Rattle.std.specs.Prelude.{◌≡◌};
 ghost use Rattle.cdc_run_command.specs.Failed.{failed_of};
 
 use crate::faults::fault_of_run;
-use cdc_commands::ProgramFault;
+use cdc_output::ProgramFault;
 use cdc_progress::ProgressStore;
 use cdc_run::{Failure, Met, Place};
 use cdc_script::ReadError;

@@ -4,7 +4,7 @@ ghost use Rattle.std.specs.Prelude.{◌≡◌};
 ghost use Rattle.cdc_run_command.specs.Private.Faults.{run_fault};
 
 use cdc_actors::RunFault;
-use cdc_commands::ProgramFault;
+use cdc_output::ProgramFault;
 
 /// Why a run failed, as the fault of the program.
 pub fn fault_of_run(fault: RunFault) -> ProgramFault

@@ -1,21 +1,25 @@
 //! The command `run`, as text and with `--json`: a script's batches, submitted by clients on threads, and the books
-//! of its subscribers.
+//! of its subscribers, or the deliveries to one of them.
 #![tactic(auto)]
 
+mod arrivals;
 pub mod failures;
 mod faults;
 mod lone_runs;
 pub mod plans;
 pub mod reports;
 pub mod run;
+pub mod run_contents;
 pub mod run_forms;
 mod run_objects;
 mod run_report;
 mod shares;
 
+pub use arrivals::arrivals_of_run;
 pub use failures::RunFailed;
 pub use lone_runs::lone_run_laws;
 pub use plans::RunPlan;
 pub use reports::{Ran, report_of_run};
 pub use run::{RunEnded, RunOutput, run_command, run_of, tally_of};
+pub use run_contents::RunContent;
 pub use run_forms::RunForm;

@@ -12,7 +12,7 @@ use crate::failures::RunFailed;
 use crate::plans::RunPlan;
 use crate::shares::{Parted, part_batches};
 use cdc_progress::ProgressStore;
-use cdc_run::{Config, Gate, Report, run};
+use cdc_run::{Config, Gate, Report, run_explained};
 use cdc_script::{Script, ScriptLines};
 use std::alloc::Global;
 use std::sync::Wait;
@@ -75,7 +75,7 @@ pub fn report_of_run<T: Threads + Wait + Sync, S: ProgressStore + Send + Drop, G
         prefetch,
         start,
     };
-    match run(rt, alloc, config, scripts, faults, store, gate) {
+    match run_explained(rt, alloc, config, scripts, faults, store, gate) {
         Ok(report) => Ok(Ran {
             owners: order,
             lines,

@@ -8,8 +8,8 @@ ghost use Rattle.cdc_run_command.specs.ClientOrders.{IsOrderOf};
 use crate::reports::Ran;
 use crate::run_objects::print_run_objects;
 use crate::run_report::print_run;
-use cdc_commands::{Form, Text};
-use cdc_json::Json;
+use cdc_commands::Form;
+use cdc_output::{Json, Text};
 use std::alloc::{AllocError, Global};
 
 /// A form in which `run` can print its report.

@@ -1,7 +1,7 @@
 //! What `run` prints as JSON: an object for each batch in the order of the script, and then what each subscriber holds.
 
 ghost use Rattle.std.specs.Prelude.{◌≡◌, ◌++◌, IfOk, OnOk, map};
-ghost use Rattle.cdc_json.specs.Lines.{json_lines, kept_values};
+ghost use Rattle.cdc_output.specs.Lines.{json_lines, kept_values};
 ghost use Rattle.cdc_run.specs.Reports.{replies_of};
 ghost use Rattle.cdc_run_command.specs.ClientOrders.{IsOrderOf};
 ghost use Rattle.cdc_run_command.specs.Private.Diagnostics.{numbered_values};
@@ -9,7 +9,8 @@ ghost use Rattle.cdc_run_command.specs.RunObjects.{ReportsRun};
 
 use crate::reports::Ran;
 use crate::run_report::replies_in_order;
-use cdc_json::{Lines, push_batch, push_subscriber};
+use cdc_commands::json_form::push_batch;
+use cdc_output::{Lines, push_subscriber};
 use cdc_subscriber::Subscriber;
 use cdc_traffic::Reply;
 use std::alloc::{AllocError, Global};

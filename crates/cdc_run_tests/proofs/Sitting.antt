@@ -5,17 +5,19 @@ use Rattle.std.proofs.Math.ListN.{get_or-map}
 use Rattle.std.proofs.lemmas.List.{append_assoc, length_push, length-map}
 use Rattle.std.proofs.lemmas.List.Elements.{All-cons, All-nil, All-weaker}
 use Rattle.std.proofs.lemmas.Result.{IfOk-at_ok}
-use Rattle.cdc_actors.specs.Broker.{BrokerCore}
-use Rattle.cdc_actors.specs.Broker.Turns.{first_consumer}
+use Rattle.cdc_broker_actors.specs.Broker.{BrokerCore}
+use Rattle.cdc_broker_actors.specs.Broker.Turns.{first_consumer}
 use Rattle.cdc_actors.specs.Client.{ClientCore, finished_client}
 use Rattle.cdc_actors.specs.Connector.{ConnectorCore}
 use Rattle.cdc_actors.specs.Ledger.{LedgerCore, links_of}
-use Rattle.cdc_actors.specs.declared.faults.RunFault.{RunFault}
-use Rattle.cdc_links.specs.Links.{LinkId, fresh_endpoint, with_sent}
+use Rattle.cdc_actors.specs.RunFault.{RunFault}
+use Rattle.cdc_run.specs.Links.{LinkId, fresh_endpoint, with_sent}
 use Rattle.cdc_progress.specs.Records.{Saved}
 use Rattle.cdc_progress.specs.Stores.{Risks}
 use Rattle.cdc_run.specs.Made.{AreMade, made_clients, made_subscribers}
-use Rattle.cdc_actors.specs.Seats.{BrokerSeat, ClientSeat, ConnectorSeat, LedgerSeat, SubscriberSeat, broker_seat, client_seat, connector_seat, ledger_seat, subscriber_seat}
+use Rattle.cdc_actors.specs.Seats.{ClientSeat, LedgerSeat, client_seat, ledger_seat}
+use Rattle.cdc_run.specs.Seats.{ConnectorSeat, connector_seat}
+use Rattle.cdc_broker_actors.specs.Seats.{BrokerSeat, SubscriberSeat, broker_seat, subscriber_seat}
 use Rattle.cdc_actors.specs.Ends.{ActorState}
 use Rattle.cdc_run.specs.Wirings.{AreSeated, BrokerSits, ClientSits, ConnectorSits, LedgerSits, SubscriberSits, Wiring}
 use Rattle.cdc_run.specs.declared.configs.Config.{Config}

@@ -1,7 +1,9 @@
 -- Actors of one system, by their seats. Only the contracts of the settling tests' helpers use this.
 use Rattle.std.specs.Prelude.{◌≡◌, ℕ, List, All, map}
 use Rattle.cdc_actors.specs.Ends.{ActorState}
-use Rattle.cdc_actors.specs.Seats.{BrokerSeat, ClientSeat, ConnectorSeat, LedgerSeat, SubscriberSeat, broker_seat, client_seat, connector_seat, ledger_seat, subscriber_seat}
+use Rattle.cdc_actors.specs.Seats.{ClientSeat, LedgerSeat, client_seat, ledger_seat}
+use Rattle.cdc_run.specs.Seats.{ConnectorSeat, connector_seat}
+use Rattle.cdc_broker_actors.specs.Seats.{BrokerSeat, SubscriberSeat, broker_seat, subscriber_seat}
 use Rattle.cdc_run.specs.Wirings.{AreSeated, BrokerSits, ClientSits, ConnectorSits, LedgerSits, SubscriberSits, Wiring}
 use Rattle.cdc_run.specs.declared.ends.Ends.{Ends}
 

@@ -12,4 +12,6 @@ mod settle;
 #[cfg(test)]
 mod stores;
 #[cfg(test)]
+mod turns;
+#[cfg(test)]
 mod values;

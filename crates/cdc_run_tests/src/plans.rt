@@ -170,7 +170,7 @@ fn begin_late() -> Hold {
 }
 
 // The connector waits until the reply to its poll and the broker's answer to its connection have come, takes both in
-// one turn, and publishes. Then it waits. Meanwhile the broker takes as many publishes as the window lets through, and
+// two turns, and publishes. Then it waits. Meanwhile the broker takes as many publishes as the window lets through, and
 // confirms each. Then the subscriber has taken each of them, and asks for more.
 fn fill_window<R: Threads + Wait + Abort + Sync>(rt: &R, alloc: Global, window: u64) -> usize
     requires some { 1 ≤ window }
@@ -179,7 +179,7 @@ fn fill_window<R: Threads + Wait + Abort + Sync>(rt: &R, alloc: Global, window: 
     let config = config_of(one_of_all(rt, alloc), window as usize, 8);
     let replied = Hold::new((Place::Connector, 2), (Place::Ledger, 5), 1);
     let connected = Hold::new((Place::Connector, 2), (Place::Broker, 2), 1);
-    let published = Hold::new((Place::Connector, 3), (Place::Subscriber(1), window + 1), 1);
+    let published = Hold::new((Place::Connector, 4), (Place::Subscriber(1), window + 1), 1);
     let holds = [begin_late(), replied, connected, published];
     count_whole(rt, alloc, config, window + 1, &holds)
 }
@@ -194,9 +194,9 @@ fn a_window_of_64_is_published_before_any_confirm_comes(rt: HostRuntime) {
     assert_eq!(rt; fill_window(&rt, rt.alloc(), 64), 1);
 }
 
-// The broker waits until the connector has sent the connection and all publishes, and takes all of them in its first
-// turn. Then it waits until each subscriber has taken and acknowledged as many deliveries as the prefetch lets through,
-// and asks for more. So the broker's link has room for all these acknowledgements.
+// The broker waits until the connector has sent the connection and all 64 publishes, and takes one of them in each turn.
+// Then it waits until each subscriber has taken and acknowledged as many deliveries as the prefetch lets through, and
+// asks for more. So the broker's link has room for all these acknowledgements.
 fn fill_prefetch<R: Threads + Wait + Abort + Sync>(
     rt: &R,
     alloc: Global,
@@ -212,7 +212,7 @@ fn fill_prefetch<R: Threads + Wait + Abort + Sync>(
     let config = config_of(bindings, 64, prefetch);
     let all_sent = Hold::new((Place::Broker, 1), (Place::Connector, 3), 1);
     let delivered = Hold::new(
-        (Place::Broker, 2),
+        (Place::Broker, 66),
         (Place::Subscriber(0), prefetch + 1),
         subscribers,
     );

@@ -28,4 +28,5 @@ fn a_subscriber_closes_after_the_least_number_that_is_given(rt: HostRuntime) {
     assert_eq!(rt; faults.close_after(1), Some(2));
     assert_eq!(rt; faults.close_after(3), None);
     OpenGate.pass(Place::Subscriber(1), 1);
+    assert!(rt; OpenGate.is_open());
 }

@@ -3,7 +3,9 @@
 
 ghost use Rattle.std.specs.Prelude.{◌≡◌, map};
 ghost use Rattle.cdc_run.specs.Configs.{Fits};
-ghost use Rattle.cdc_actors.specs.Seats.{broker_seat, client_seat, connector_seat, ledger_seat, subscriber_seat};
+ghost use Rattle.cdc_actors.specs.Seats.{client_seat, ledger_seat};
+ghost use Rattle.cdc_run.specs.Seats.{connector_seat};
+ghost use Rattle.cdc_broker_actors.specs.Seats.{broker_seat, subscriber_seat};
 ghost use Rattle.cdc_run_tests.specs.Systems.{AreOfSystem, MayBeSettled, seats_of, sits_at};
 
 use cdc_actors::{BrokerEnd, ClientEnd, ConnectorEnd, LedgerEnd, RunFault, SubscriberEnd};
@@ -136,18 +138,20 @@ fn publish<R: Wait + Abort>(rt: &R, alloc: Global, ends: &mut Ends<MemoryStore>)
     turn_connector(rt, alloc, &mut ends.connector);
 }
 
-// The broker takes both messages that are ready in one turn, and the subscriber takes what it is sent.
+// The broker receives two messages, and the subscriber takes what it is sent.
 fn deliver<R: Wait + Abort>(rt: &R, alloc: Global, ends: &mut Ends<MemoryStore>)
     ensures { seats_of ends.new ≡ seats_of ends.old }
 {
     turn_broker(rt, alloc, &mut ends.broker);
+    turn_broker(rt, alloc, &mut ends.broker);
     turn_subscribers(rt, alloc, &mut ends.subscribers);
 }
 
-// The connector receives both answers of the broker in one turn, and has finished. Then the ledger has finished too.
+// The connector receives both answers of the broker, and has finished. Then the ledger has finished too.
 fn confirm<R: Wait + Abort>(rt: &R, alloc: Global, ends: &mut Ends<MemoryStore>)
     ensures { seats_of ends.new ≡ seats_of ends.old }
 {
+    turn_connector(rt, alloc, &mut ends.connector);
     turn_connector(rt, alloc, &mut ends.connector);
     turn_ledger(rt, alloc, &mut ends.ledger);
 }

@@ -7,7 +7,7 @@ ghost use Rattle.cdc_types.specs.Windows.{IsWindow};
 use crate::values::{accounts, transfer, two_of_all};
 use cdc_actors::RunFault;
 use cdc_progress::{MemoryStore, StoreError};
-use cdc_run::{Config, Failure, Faults, Met, OpenGate, Place, Report, run};
+use cdc_run::{Config, Failure, Faults, Met, OpenGate, Place, Report, run_explained};
 use cdc_types::Batch;
 use std::alloc::Global;
 use std::process::Abort;
@@ -70,7 +70,7 @@ fn run_over<R: Threads + Wait + Abort + Sync>(
     let config = config_of(rt, alloc, window);
     let scripts = scripts(rt, alloc);
     let store = MemoryStore::with_faults(None, call, false);
-    run(
+    run_explained(
         rt,
         alloc,
         config,

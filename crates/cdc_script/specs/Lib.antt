@@ -8,3 +8,4 @@ pub mod Scripts
 pub mod Statements
 pub mod StepFiles
 pub mod Words
+pub use Rattle.cdc_match.specs.Arguments

@@ -6,7 +6,7 @@ use Rattle.sqlite.specs.declared.error.Error.{Error}
 use Rattle.sqlite.specs.Effect.{Database}
 use Rattle.sqlite.specs.State.{State, Shows, KeepsCommit, ExecutesInside}
 use Rattle.sqlite.specs.Steps.{FailsToCommit}
-use Rattle.cdc_types.specs.declared.accounts.Balances.{Balances}
+use Rattle.cdc_subscriber.specs.Balances.{Balances}
 use Rattle.cdc_subscriber.specs.declared.book.BookEntry.{BookEntry}
 use Rattle.cdc_subscriber.specs.Book.{entry_for, id_and_balances}
 

@@ -5,9 +5,8 @@ ghost use Rattle.std.specs.Option.{option_map};
 
 use crate::books::{NO_BOOK, read_text, replace, text_in};
 use crate::new_file::{MAGIC, put_new};
-use cdc_files::{names, open_locked, target_of};
+use cdc_files::{StoreError, names, open_locked, target_of};
 use cdc_follow::read_book;
-use cdc_progress::StoreError;
 use cdc_subscriber::Subscriber;
 use sqlite::{Connection, Error, ErrorCode, File as DiskFile, FileStore, Files as DiskFiles};
 use sqlite_disk::{Disk, Unknown};

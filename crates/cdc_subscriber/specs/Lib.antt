@@ -5,3 +5,4 @@ pub mod SubscriberState
 pub mod Lines
 pub mod Steps
 pub mod TakeErrors
+pub use Rattle.cdc_types.specs.declared.accounts.Balances

@@ -1,20 +1,9 @@
 -- What a subscriber prints: lines of text, each with its line feed.
-use Rattle.std.specs.Prelude.{ℕ, Bool, List, ◌++◌, codes, decimal, if◌then◌else◌}
+use Rattle.std.specs.Prelude.{ℕ, List, ◌++◌, codes}
 use Rattle.std.specs.List.{flat_map}
+use Rattle.cdc_codec.specs.Texts.{flagged, named, spaced}
 use Rattle.cdc_subscriber.specs.declared.book.BookEntry.{BookEntry}
 use Rattle.cdc_subscriber.specs.SubscriberState.{SubscriberState}
-
--- a space and a number
-abbrev pub spaced : ℕ → List ℕ
-spaced n = codes " " ++ decimal n
-
--- a name, a space and a number
-abbrev pub named : List ℕ → ℕ → List ℕ
-named name n = name ++ spaced n
-
--- a name, a space, and yes or no
-abbrev pub flagged : List ℕ → Bool → List ℕ
-flagged name flag = name ++ (if flag then codes " yes" else codes " no")
 
 -- the line of an account of a book: its number and its four balances
 abbrev pub account_line : BookEntry → List ℕ

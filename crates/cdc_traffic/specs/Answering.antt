@@ -5,7 +5,7 @@ use Rattle.cdc_ledger.specs.Events.{events}
 use Rattle.cdc_ledger.specs.History.{History}
 use Rattle.cdc_ledger.specs.Submit.{submit}
 use Rattle.cdc_laws.specs.Readings.{none_follow}
-use Rattle.cdc_log.specs.Log.{events_after}
+use Rattle.cdc_laws.specs.Log.{events_after}
 use Rattle.cdc_traffic.specs.declared.polls.Poll.{Poll}
 use Rattle.cdc_traffic.specs.declared.polls.PollReply.{PollReply}
 use Rattle.cdc_traffic.specs.declared.requests.Reply.{Reply}

@@ -32,6 +32,18 @@ impl Limits {
     /// The maximum size of a progress file, in bytes.
     pub const PROGRESS_BYTES: usize = 128;
 
+    /// The maximum length of a line of a stream, in bytes, without its line feed.
+    pub const LINE_BYTES: usize = 65_536;
+
+    /// How many bytes of a stream are read at a time, at most.
+    pub const BUFFER_BYTES: usize = 65_536;
+
+    /// How many further messages that are ready a turn takes, at most, at an open gate.
+    pub const READY_MESSAGES: usize = 64;
+
+    /// The maximum number of random steps: a step file may have 1,048,576 bytes, and a line has fewer than 50.
+    pub const RANDOM_STEPS: u32 = 20_000;
+
     /// The greatest session number: 2^64-1.
     pub const SESSION: u64 = 18_446_744_073_709_551_615;
 }

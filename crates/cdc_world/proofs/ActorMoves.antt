@@ -18,13 +18,13 @@ use Rattle.cdc_laws.proofs.ListElements.{none_there}
 use Rattle.cdc_world.specs.declared.steps.Did.{Did}
 use Rattle.cdc_world.specs.declared.steps.Did.TheVariants.{Submitted, Done}
 use Rattle.cdc_world.specs.declared.steps.StepError.{StepError}
-use Rattle.cdc_world.specs.declared.steps.StepError.TheVariants.{NotEnabled, Refused, Store, SessionsExhausted, OutOfMemory, StartNotAllowed}
+use Rattle.cdc_world.specs.declared.steps.StepError.TheVariants.{NotEnabled, Store, OutOfMemory}
 use Rattle.cdc_world.specs.Moves.{IsStoreCounted, Moves, MovesBy}
 use Rattle.cdc_world.specs.Next.{IsStepRisked, IsTried, Next, next, takes_memory, with_batch, with_ledger_closed}
 use Rattle.cdc_world.specs.declared.subscriptions.Subscription.{Subscription as Kept_subscription}
 use Rattle.cdc_world.specs.Parts.{ActorParts, Parts, subscription_parts}
 use Rattle.cdc_world.specs.Stands.{ActorsStand, HaveDelivered, Stands, parts_of, queue_for, view_of}
-use Rattle.cdc_world.specs.Turns.{ActorsMove, IsNotOfStore, IsOfActors, empty_actors, empty_subscription}
+use Rattle.cdc_world.specs.Turns.{ActorsMove, IsOfActors, empty_actors, empty_subscription}
 use Rattle.cdc_world.specs.Worlds.{WorldState, new_subscription, new_world}
 
 -- ---- of every step
@@ -32,7 +32,7 @@ use Rattle.cdc_world.specs.Worlds.{WorldState, new_subscription, new_world}
 -- a step from what is kept as a call begins
 pub at_entry : {q a new : ActorParts} (step : Step) (answer : Result Did StepError) → q ≡ a
     → ActorsMove q step answer new → ActorsMove a step answer new
-at_entry {q} {a} {new} step answer same moves = subst (λ (r : ActorParts). ActorsMove r step answer new) same moves
+at_entry {q} {a} {new} step answer same moves = rw (← same) moves
 
 -- a refusal that an error was turned into
 pub refusal_is : (answer : Result Did StepError) (why : StepError) → IsErrAnd answer (λ e. e ≡ why) → answer ≡ Err why
@@ -43,15 +43,13 @@ refusal_is (Err e) why is = ap Err is
 pub at_entry_err : {q a new : ActorParts} (step : Step) (answer : Result Did StepError) (why : StepError)
     → IsErrAnd answer (λ e. e ≡ why) → q ≡ a → ActorsMove q step (Err why) new → ActorsMove a step answer new
 at_entry_err {q} {a} {new} step answer why is same moves =
-    subst (λ (r : Result Did StepError). ActorsMove a step r new) (sym (refusal_is answer why is))
-    (at_entry step (Err why) same moves)
+    rw (refusal_is answer why is) (at_entry step (Err why) same moves)
 
 -- the same of one that has changed nothing
 pub at_entry_unchanged : {q a : ActorParts} (step : Step) (answer : Result Did StepError) (why : StepError)
     → IsErrAnd answer (λ e. e ≡ why) → q ≡ a → ActorsMove q step (Err why) q → ActorsMove a step answer a
 at_entry_unchanged {q} {a} step answer why is same moves =
-    subst (λ (r : Result Did StepError). ActorsMove a step r a) (sym (refusal_is answer why is))
-    (subst (λ (r : ActorParts). ActorsMove r step (Err why) r) same moves)
+    rw (refusal_is answer why is, ← same) moves
 
 -- a step that has nothing to act on changes nothing
 pub unable : (a : ActorParts) (step : Step) → ((w : WorldState) → ActorsStand a w → next w step ≡ Err NotEnabled)
@@ -62,6 +60,12 @@ unable a step none = (tt, λ w st. (w, (st, ((none w st, refl), refl))))
 pub exhausted : (a : ActorParts) (step : Step) → IsTrue (takes_memory step)
     → ((w : WorldState) → ActorsStand a w → IsTried (next w step)) → ActorsMove a step (Err OutOfMemory) a
 exhausted a step takes tried = (tt, λ w st. (w, (st, ((takes, (tried w st, refl)), refl))))
+
+-- a step that is done, if what is kept represents the world after it, in which the store holds what it held
+pub done : {a' : ActorParts} (w w' : WorldState) (step : Step) (did : Did) → ActorsStand a' w'
+    → next w step ≡ Ok (did, w') → w'.held ≡ w.held
+    → (x : WorldState) × (ActorsStand a' x × (Next w step (Ok did) x × (x.held ≡ w.held)))
+done w w' step did st is held = (w', (st, (is, held)))
 
 -- a step that is done is tried
 pub tried : (w w' : WorldState) (step : Step) (did : Did) → next w step ≡ Ok (did, w') → IsTried (next w step)
@@ -78,8 +82,7 @@ moves_entry {q} {p} {new} step answer same moves = subst (λ (r : Parts). Moves 
 pub moves_entry_err : {q p new : Parts} (step : Step) (answer : Result Did StepError) (why : StepError)
     → IsErrAnd answer (λ e. e ≡ why) → q ≡ p → Moves q step (Err why) new → Moves p step answer new
 moves_entry_err {q} {p} {new} step answer why is same moves =
-    subst (λ (r : Result Did StepError). Moves p step r new) (sym (refusal_is answer why is))
-    (moves_entry step (Err why) same moves)
+    rw (refusal_is answer why is) (moves_entry step (Err why) same moves)
 
 -- a step that is answered as it may be over the risks that are kept
 pub Moves-risked : (p : Parts) (step : Step) (answer : Result Did StepError) (p' : Parts)
@@ -89,13 +92,8 @@ Moves-risked p step answer p' moves risked honest w st =
 
 -- whatever the actors answer is a risk of each store
 own_risked : (risks : Risks) (answer : Result Did StepError) → IsOfActors answer → IsStepRisked risks answer
-own_risked risks (Ok did) of = tt
-own_risked risks (Err NotEnabled) of = tt
-own_risked risks (Err (Refused why)) of = tt
 own_risked risks (Err (Store why)) of = absurd of
-own_risked risks (Err SessionsExhausted) of = tt
-own_risked risks (Err OutOfMemory) of = tt
-own_risked risks (Err StartNotAllowed) of = tt
+own_risked risks answer of = tt
 
 -- a step of the actors is one of the world
 pub Moves-actors : (p : Parts) (actors' : ActorParts) (step : Step) (answer : Result Did StepError)
@@ -109,19 +107,10 @@ Moves-actors p actors' step answer moves honest w st =
       ),
     )
 
--- a step of the actors that is refused leaves the store's count of failures
-refused_counted : (failed : ℕ) (why : StepError) → IsNotOfStore why → IsStoreCounted failed failed (Err why)
-refused_counted failed NotEnabled own = refl
-refused_counted failed (Refused why) own = refl
-refused_counted failed (Store why) own = absurd own
-refused_counted failed SessionsExhausted own = refl
-refused_counted failed OutOfMemory own = refl
-refused_counted failed StartNotAllowed own = refl
-
--- and so does each
+-- a step of the actors leaves the store's count of failures, also if it is refused
 actors_counted : (failed : ℕ) (answer : Result Did StepError) → IsOfActors answer → IsStoreCounted failed failed answer
-actors_counted failed (Ok did) own = refl
-actors_counted failed (Err why) own = refused_counted failed why own
+actors_counted failed (Err (Store why)) own = absurd own
+actors_counted failed answer own = refl
 
 -- the same from what is kept as a call begins
 pub counted_entry : {q p : Parts} (answer : Result Did StepError) → q ≡ p → IsOfActors answer
@@ -138,13 +127,9 @@ pub submit_done : (a : ActorParts) (b : Batch) (h' : History) (results : BatchRe
     → ActorsMove a (Submit b) (Ok (Submitted results)) (record a { history = h' })
 submit_done a b h' results is = (
   tt,
-  λ w st. (
-    record w { history = h' },
-    (
-      record { history = refl; connector = st.connector; broker = st.broker; subscribers = st.subscribers },
-      (ap (with_batch w) (ap (λ (h : History). submit h b) (sym st.history) ∙ is), refl),
-    ),
-  ),
+  λ w st. done w (record w { history = h' }) (Submit b) (Submitted results)
+      (record { history = refl; connector = st.connector; broker = st.broker; subscribers = st.subscribers })
+      (ap (with_batch w) (ap (λ (h : History). submit h b) (sym st.history) ∙ is)) refl,
 )
 
 -- the ledger closes
@@ -152,18 +137,13 @@ pub close_done : (a : ActorParts) (h' : History) → h' ≡ record a.history { c
     → ActorsMove a CloseLedger (Ok Done) (record a { history = h' })
 close_done a h' is = (
   tt,
-  λ w st. (
-    with_ledger_closed w,
-    (
-      record {
+  λ w st. done w (with_ledger_closed w) CloseLedger Done
+      (record {
         history = is ∙ ap (λ (h : History). record h { closed = true }) st.history;
         connector = st.connector;
         broker = st.broker;
         subscribers = st.subscribers;
-      },
-      (refl, refl),
-    ),
-  ),
+      }) refl refl,
 )
 
 -- ---- a new world
@@ -204,16 +184,15 @@ new_counts bindings count items b counted kept is =
 pub new_stands : (p : Parts) (bindings : List Arguments) (window : ℕ) (held : Option Saved)
     → p.actors ≡ empty_actors bindings window → p.held ≡ held → Stands p (new_world bindings window held)
 new_stands p bindings window held actors is = record {
-  actors = subst (λ a. ActorsStand a (new_world bindings window held)) (sym actors)
-      (record {
-        history = refl;
-        connector = record { window = refl; session = tt; packets = refl };
-        broker = refl;
-        subscribers = record {
-          queues = new_queues bindings;
-          subscriptions = new_parts bindings;
-          delivered = new_delivered bindings;
-        };
-      });
+  actors = rw actors (record {
+    history = refl;
+    connector = record { window = refl; session = tt; packets = refl };
+    broker = refl;
+    subscribers = record {
+      queues = new_queues bindings;
+      subscriptions = new_parts bindings;
+      delivered = new_delivered bindings;
+    };
+  });
   held = is;
 }

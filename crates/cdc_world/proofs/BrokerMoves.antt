@@ -1,5 +1,5 @@
 -- What is kept of the actors after a packet came to the broker.
-use Rattle.std.proofs.Common.{◌≡◌, ℕ, Bool, true, false, List, [], ◌∷◌, ◌++◌, Option, Some, Ok, Err, refl, sym, ap, ap₂, ◌∙◌, subst, map}
+use Rattle.std.proofs.Common.{◌≡◌, ℕ, Bool, true, false, List, [], ◌∷◌, ◌++◌, Option, Some, Ok, Err, refl, sym, ap, ap₂, ◌∙◌, map}
 use Rattle.std.specs.declared.alloc.AllocError.{AllocError}
 use Rattle.cdc_broker.specs.Broker.{BrokerState, after_packet, takes_packet}
 use Rattle.cdc_broker.specs.Packets.{expected_after, is_taken, is_taken_at, items_of, session_after}
@@ -10,13 +10,13 @@ use Rattle.cdc_message.specs.declared.packets.Packet.TheVariants.{Connect, Publi
 use Rattle.cdc_types.specs.declared.steps.Step.TheVariants.{Arrive}
 use Rattle.cdc_world.specs.declared.steps.Did.TheVariants.{Arrived}
 use Rattle.cdc_world.specs.declared.steps.StepError.TheVariants.{OutOfMemory}
-use Rattle.cdc_world.specs.Next.{◌>>=◌, arrival, confirms_of, next, with_arrival}
+use Rattle.cdc_world.specs.Next.{confirms_of, next, with_arrival}
 use Rattle.cdc_world.specs.Parts.{ActorParts}
 use Rattle.cdc_world.specs.Stands.{ActorsStand, BrokerSide, SubscribersStand, broker_of, broker_parts, queue_for}
 use Rattle.cdc_world.specs.Turns.{ActorsMove, ComesTo}
 use Rattle.cdc_world.specs.Worlds.{Subscription, WorldState, numbered}
 use Rattle.cdc_laws.proofs.Taking.{current_session-push, expected_tag-push}
-use Rattle.cdc_world.proofs.ActorMoves.{exhausted, tried}
+use Rattle.cdc_world.proofs.ActorMoves.{done, exhausted, tried}
 use Rattle.cdc_world.proofs.QueueViews.{delivered_after, items_of-connected, items_of-published, queues_after}
 
 -- whether the broker takes a packet
@@ -61,8 +61,7 @@ subscribers_after : (a : ActorParts) (accepted : List Packet) (packet : Packet) 
     → SubscribersStand (after_packet a.broker packet).queues a.subscriptions (items_of (accepted ++ packet ∷ []))
     subscriptions
 subscribers_after a accepted (Connect session) subscriptions st =
-    subst (λ (items : List Item). SubscribersStand a.broker.queues a.subscriptions items subscriptions)
-    (sym (items_of-connected accepted session)) st
+    rw (items_of-connected accepted session) st
 subscribers_after a accepted (Publish session tag item) subscriptions st = record {
   queues = queues_after item (items_of accepted) a.broker.queues subscriptions st.queues
       ∙ ap (λ (items : List Item). map (queue_for items) subscriptions) (sym
@@ -75,8 +74,7 @@ subscribers_after a accepted (Publish session tag item) subscriptions st = recor
 arrives : (w : WorldState) (k : ℕ) (packet : Packet) (taken : Bool) → numbered w.packets k ≡ Some packet
     → is_taken w.accepted packet ≡ taken → next w (Arrive k) ≡ Ok (Arrived taken, with_arrival w packet taken)
 arrives w k packet taken there is =
-    ap (λ (found : Option Packet). found >>= arrival w) there
-    ∙ ap (λ (b : Bool). Ok (Arrived b, with_arrival w packet b)) is
+    rw (there, is)
 
 -- the packet of this number, in the world as in what is kept
 packet_is : (a : ActorParts) (w : WorldState) (k : ℕ) (found : Option Packet) → ActorsStand a w
@@ -85,25 +83,17 @@ packet_is a w k found st there = ap (λ (ps : List Packet). numbered ps k) (sym 
 
 -- one that is taken
 arrive_taken : (a : ActorParts) (packet : Packet) (k : ℕ) → numbered a.packets k ≡ Some packet
-    → takes_packet a.broker packet ≡ true
-    → ActorsMove a (Arrive k) (Ok (Arrived true)) (with_packet_taken packet a)
+    → takes_packet a.broker packet ≡ true → ActorsMove a (Arrive k) (Ok (Arrived true)) (with_packet_taken packet a)
 arrive_taken a packet k there takes = (
   tt,
-  λ w st. (
-    with_arrival w packet true,
-    (
-      record {
+  λ w st. done w (with_arrival w packet true) (Arrive k) (Arrived true)
+      (record {
         history = st.history;
         connector = st.connector;
         broker = parts_after a packet ∙ ap (after_taken packet) st.broker ∙ sym (side_after w packet);
         subscribers = subscribers_after a w.accepted packet w.subscriptions st.subscribers;
-      },
-      (
-        arrives w k packet true (packet_is a w k (Some packet) st there) (sym (takes_is a w packet st) ∙ takes),
-        refl,
-      ),
-    ),
-  ),
+      })
+      (arrives w k packet true (packet_is a w k (Some packet) st there) (sym (takes_is a w packet st) ∙ takes)) refl,
 )
 
 -- one that is ignored: nothing changes
@@ -111,16 +101,8 @@ arrive_ignored : (a : ActorParts) (packet : Packet) (k : ℕ) → numbered a.pac
     → takes_packet a.broker packet ≡ false → ActorsMove a (Arrive k) (Ok (Arrived false)) a
 arrive_ignored a packet k there takes = (
   tt,
-  λ w st. (
-    w,
-    (
-      st,
-      (
-        arrives w k packet false (packet_is a w k (Some packet) st there) (sym (takes_is a w packet st) ∙ takes),
-        refl,
-      ),
-    ),
-  ),
+  λ w st. done w w (Arrive k) (Arrived false) st
+      (arrives w k packet false (packet_is a w k (Some packet) st there) (sym (takes_is a w packet st) ∙ takes)) refl,
 )
 
 -- one that memory ran out for: nothing changes
@@ -129,15 +111,8 @@ pub arrive_refused : (a : ActorParts) (packet : Packet) (k : ℕ) (why : AllocEr
     → numbered a.packets k ≡ Some packet → ComesTo a.broker a.confirms packet (Err why) b' confirms'
     → ActorsMove a (Arrive k) (Err OutOfMemory) (record a { broker = b'; confirms = confirms' })
 arrive_refused a packet k why b' confirms' there comes =
-    subst (λ (b : BrokerState). ActorsMove a (Arrive k) (Err OutOfMemory) (record a {
-      broker = b;
-      confirms = confirms';
-    })) (sym comes.0)
-    (subst (λ (cs : List Confirm). ActorsMove a (Arrive k) (Err OutOfMemory) (record a { confirms = cs }))
-    (sym comes.1)
-    (exhausted a (Arrive k) refl
-    (λ w st. tried w _ (Arrive k) _
-    (arrives w k packet (is_taken w.accepted packet) (packet_is a w k (Some packet) st there) refl))))
+    rw (comes.0, comes.1) (exhausted a (Arrive k) refl (λ w st. tried w _ (Arrive k) _
+    (arrives w k packet (is_taken w.accepted packet) (packet_is a w k (Some packet) st there) refl)))
 
 -- a packet comes to the broker
 pub arrive_done : (a : ActorParts) (packet : Packet) (k : ℕ) (taken : Bool) (b' : BrokerState)
@@ -145,20 +120,6 @@ pub arrive_done : (a : ActorParts) (packet : Packet) (k : ℕ) (taken : Bool) (b
     → numbered a.packets k ≡ Some packet → ComesTo a.broker a.confirms packet (Ok taken) b' confirms'
     → ActorsMove a (Arrive k) (Ok (Arrived taken)) (record a { broker = b'; confirms = confirms' })
 arrive_done a packet k true b' confirms' there comes =
-    subst (λ (b : BrokerState). ActorsMove a (Arrive k) (Ok (Arrived true)) (record a {
-      broker = b;
-      confirms = confirms';
-    })) (sym comes.1.0)
-    (subst (λ (cs : List Confirm). ActorsMove a (Arrive k) (Ok (Arrived true)) (record a {
-      broker = after_packet a.broker packet;
-      confirms = cs;
-    })) (sym comes.1.1)
-    (arrive_taken a packet k there comes.0))
+    rw (comes.1.0, comes.1.1) (arrive_taken a packet k there comes.0)
 arrive_done a packet k false b' confirms' there comes =
-    subst (λ (b : BrokerState). ActorsMove a (Arrive k) (Ok (Arrived false)) (record a {
-      broker = b;
-      confirms = confirms';
-    })) (sym comes.1.0)
-    (subst (λ (cs : List Confirm). ActorsMove a (Arrive k) (Ok (Arrived false)) (record a { confirms = cs }))
-    (sym comes.1.1)
-    (arrive_ignored a packet k there comes.0))
+    rw (comes.1.0, comes.1.1) (arrive_ignored a packet k there comes.0)

@@ -3,13 +3,13 @@ use Rattle.std.proofs.Common.{◌≡◌, ℕ, Bool, true, false, List, [], ◌�
 use Rattle.std.specs.Prelude.{◌⊎◌, ◌+◌, ◌==◌, IsTrue, is_some, option_map, if◌then◌else◌}
 use Rattle.cdc_ledger.specs.Events.{events}
 use Rattle.cdc_ledger.specs.History.{History}
-use Rattle.cdc_log.specs.Log.{events_after}
+use Rattle.cdc_laws.specs.Log.{events_after}
 use Rattle.cdc_message.specs.declared.packets.Confirm.{Confirm}
 use Rattle.cdc_message.specs.declared.packets.Packet.{Packet}
 use Rattle.cdc_progress.specs.Records.{Saved}
 use Rattle.cdc_progress.specs.Stores.{IsRisked, MayRefuseSave, Risks}
-use Rattle.cdc_progress.specs.declared.errors.StoreError.{StoreError}
-use Rattle.cdc_progress.specs.declared.errors.StoreError.TheVariants as store
+use Rattle.cdc_progress.specs.StoreError.{StoreError}
+use Rattle.cdc_progress.specs.StoreError.TheVariants as store
 use Rattle.cdc_publisher.specs.Courses.{Course, after_answer, begun, last_session, new_course, next_packet, next_poll, progress_of, with_offer, with_sent}
 use Rattle.cdc_publisher.specs.SessionState.{SessionState}
 use Rattle.cdc_publisher.specs.Stands.{StandsFor, SessionStands}
@@ -23,13 +23,13 @@ use Rattle.cdc_world.specs.declared.steps.Did.TheVariants.{Counted, Done}
 use Rattle.cdc_world.specs.declared.steps.StepError.TheVariants.{NotEnabled}
 use Rattle.cdc_world.specs.Moves.{Moves, MovesBy}
 use Rattle.cdc_laws.specs.Readings.{none_follow}
-use Rattle.cdc_world.specs.Next.{IsStepRisked, IsTried, Next, Outcome, ◌>>=◌, counts, loads, next, saved_in, saves, start_after, success, takes_memory, uses_store, with_answer, with_crash, with_packet, with_poll, with_progress, with_session, with_start}
+use Rattle.cdc_world.specs.Next.{IsStepRisked, IsTried, Next, Outcome, ◌>>=◌, counts, loads, next, saved_in, saves, start_after, success, takes_memory, uses_store, with_answer, with_crash, with_packet, with_poll, with_progress, with_session}
 use Rattle.cdc_world.specs.Parts.{ActorParts, Parts}
 use Rattle.cdc_world.specs.Refusals.{start_refusal, store_refusal}
 use Rattle.cdc_world.specs.Stands.{ActorsStand, Stands}
 use Rattle.cdc_world.specs.Turns.{ActorsMove, Offers, OffersAt, Sends, SendsAt}
 use Rattle.cdc_world.specs.Worlds.{WorldState, numbered}
-use Rattle.cdc_world.proofs.ActorMoves.{Moves-risked, unable}
+use Rattle.cdc_world.proofs.ActorMoves.{Moves-risked, done, unable}
 
 -- the course of a session that is there
 pub record IsCourse (kept : SessionState) (session : Option Course) : Type 0 where
@@ -64,6 +64,18 @@ pub none_of : {A : Type 0} (o : Option A) → is_some o ≡ false → o ≡ None
 none_of None is = refl
 none_of (Some x) is = cc
 
+-- if the connector changes, or what the store holds, all else is as it was
+connector_changes : (a : ActorParts) (w : WorldState) (held : Option Saved) (kept : Option SessionState)
+    (session : Option Course) (packets packets' : List Packet) → ActorsStand a w → SessionStands kept session
+    → packets ≡ packets' → ActorsStand (record a { session = kept; packets = packets })
+    (record w { held = held; session = session; packets = packets' })
+connector_changes a w held kept session packets packets' st stands same = record {
+  history = st.history;
+  connector = record { window = st.connector.window; session = stands; packets = same };
+  broker = st.broker;
+  subscribers = st.subscribers;
+}
+
 -- the events that a session was offered
 offered_found : (h : History) (kept kept' : SessionState) (course : Course) (found : Option Poll)
     → OffersAt h kept course found (Ok tt) kept'
@@ -81,29 +93,14 @@ poll_done a kept kept' is offers = (
   λ w st.
       let at = course_of a w kept st is in
       let found = offered_found a.history kept kept' at.course (next_poll at.course) (offers at.course at.stands) in
-      let poll = found.0 in (
-        with_poll w at.course poll,
-        (
-          record {
-            history = st.history;
-            connector = record {
-              window = st.connector.window;
-              session = subst (λ (h : History). StandsFor kept' (with_offer (take poll.limit (events_after poll.after
-                  (events h)))
-                  (none_follow h poll) at.course)) st.history found.1.1;
-              packets = st.connector.packets;
-            };
-            broker = st.broker;
-            subscribers = st.subscribers;
-          },
-          (
-            ap (λ (s : Option Course). s >>= (λ course. next_poll course >>= (λ poll. success
-                (with_poll w course poll)))) at.is
-                ∙ ap (λ (f : Option Poll). f >>= (λ poll. success (with_poll w at.course poll))) found.1.0,
-            refl,
-          ),
-        ),
-      ),
+      let stands =
+      subst (λ (h : History). StandsFor kept' (with_offer (take found.0.limit (events_after found.0.after (events h)))
+      (none_follow h found.0) at.course)) st.history found.1.1 in
+      done w (with_poll w at.course found.0) PollStep Done
+      (connector_changes a w w.held (Some kept') (with_poll w at.course found.0).session a.packets w.packets st stands
+      st.connector.packets) (ap (λ (s : Option Course). s >>= (λ course. next_poll course >>= (λ poll. success
+      (with_poll w course poll)))) at.is
+      ∙ ap (λ (f : Option Poll). f >>= (λ poll. success (with_poll w at.course poll))) found.1.0) refl,
 )
 
 -- the packet that a session sent
@@ -124,27 +121,13 @@ publish_done a kept kept' packets' is sends = (
       let at = course_of a w kept st is in
       let found = sent_found kept kept' a.packets packets' at.course (next_packet at.course)
       (sends at.course at.stands) in
-      let packet = found.0 in (
-        with_packet w at.course packet,
-        (
-          record {
-            history = st.history;
-            connector = record {
-              window = st.connector.window;
-              session = found.1.1.0;
-              packets = found.1.1.1 ∙ ap (λ (ps : List Packet). ps ++ packet ∷ []) st.connector.packets;
-            };
-            broker = st.broker;
-            subscribers = st.subscribers;
-          },
-          (
-            ap (λ (s : Option Course). s >>= (λ course. next_packet course >>= (λ packet. success
-                (with_packet w course packet)))) at.is
-                ∙ ap (λ (f : Option Packet). f >>= (λ packet. success (with_packet w at.course packet))) found.1.0,
-            refl,
-          ),
-        ),
-      ),
+      done w (with_packet w at.course found.0) PublishStep Done
+      (connector_changes a w w.held (Some kept') (with_packet w at.course found.0).session packets'
+      (w.packets ++ found.0 ∷ []) st found.1.1.0
+      (found.1.1.1 ∙ ap (λ (ps : List Packet). ps ++ found.0 ∷ []) st.connector.packets))
+      (ap (λ (s : Option Course). s >>= (λ course. next_packet course >>= (λ packet. success
+      (with_packet w course packet)))) at.is
+      ∙ ap (λ (f : Option Packet). f >>= (λ packet. success (with_packet w at.course packet))) found.1.0) refl,
 )
 
 -- something, if there is something
@@ -159,31 +142,12 @@ crash_done a up = (
   tt,
   λ w st.
       let kept = some_of a.session up in
-      let at = course_of a w kept.0 st kept.1 in (
-        with_crash w,
-        (
-          record {
-            history = st.history;
-            connector =
-                record { window = st.connector.window; session = tt; packets = st.connector.packets };
-            broker = st.broker;
-            subscribers = st.subscribers;
-          },
-          (ap (λ (s : Option Course). s >>= (λ course. success (with_crash w))) at.is, refl),
-        ),
-      ),
+      let at = course_of a w kept.0 st kept.1 in
+      done w (with_crash w) Crash Done
+      (connector_changes a w w.held None None a.packets w.packets st tt st.connector.packets) (rw (at.is)) refl,
 )
 
--- a confirm that is there comes to the session
-answers_next : (a : ActorParts) (w : WorldState) (k : ℕ) (course : Course) (found : Option Confirm) → ActorsStand a w
-    → w.session ≡ Some course → numbered a.confirms k ≡ found
-    → next w (Answer k) ≡ (found >>= with_answer w course)
-answers_next a w k course found st is there =
-    ap (λ (s : Option Course). s >>= (λ course. numbered w.confirms k >>= with_answer w course)) is
-    ∙ ap (λ (f : Option Confirm). f >>= with_answer w course)
-    (ap (λ b. numbered b.confirms k) (sym st.broker) ∙ there)
-
--- the session decides whether it counts
+-- a confirm that is there comes to the session, which decides whether it counts
 pub answer_done : (a : ActorParts) (kept kept' : SessionState) (k : ℕ) (confirm : Confirm) (counted : Bool)
     → a.session ≡ Some kept → numbered a.confirms k ≡ Some confirm
     → ((course : Course) → StandsFor kept course → counted ≡ counts course confirm.session confirm.answer)
@@ -193,27 +157,13 @@ answer_done a kept kept' k confirm counted is there answer stands = (
   tt,
   λ w st.
       let at = course_of a w kept st is in
-      let after : WorldState =
-      record w { session = Some (after_answer at.course confirm.session confirm.answer) } in (
-        after,
-        (
-          record {
-            history = st.history;
-            connector = record {
-              window = st.connector.window;
-              session = stands at.course at.stands;
-              packets = st.connector.packets;
-            };
-            broker = st.broker;
-            subscribers = st.subscribers;
-          },
-          (
-            answers_next a w k at.course (Some confirm) st at.is there
-                ∙ ap (λ (b : Bool). Ok (Counted b, after)) (sym (answer at.course at.stands)),
-            refl,
-          ),
-        ),
-      ),
+      let found : numbered w.confirms k ≡ Some confirm = ap (λ b. numbered b.confirms k) (sym st.broker) ∙ there in
+      let session = Some (after_answer at.course confirm.session confirm.answer) in
+      done w (record w { session = session }) (Answer k) (Counted counted)
+      (connector_changes a w w.held (Some kept') session a.packets w.packets st (stands at.course at.stands)
+      st.connector.packets) (ap (λ (s : Option Course). s >>= (λ course. numbered w.confirms k
+      >>= with_answer w course)) at.is ∙ ap (λ (f : Option Confirm). f >>= with_answer w at.course) found
+      ∙ ap (λ (b : Bool). Ok (Counted b, record w { session = session })) (sym (answer at.course at.stands))) refl,
 )
 
 -- a step of a session isn't enabled if the connector is down
@@ -225,23 +175,21 @@ down a step rest is none =
 
 -- ---- with the store
 
--- what is kept of the actors doesn't hang on what the store holds
-actors_held : (a : ActorParts) (w : WorldState) (held : Option Saved) → ActorsStand a w
-    → ActorsStand a (record w { held = held })
-actors_held a w held st =
-    record { history = st.history; connector = st.connector; broker = st.broker; subscribers = st.subscribers }
-
 -- the kept state if the store holds something else
 with_held : (p : Parts) (w : WorldState) (held : Option Saved) (honest : Bool) (risks : Risks) (failed' : ℕ)
     (held' : Option Saved) → Stands p w → held ≡ held'
     → Stands (record p { held = held; honest = honest; failed = failed'; risks = risks }) (record w { held = held' })
 with_held p w held honest risks failed' held' st same =
-    record { actors = actors_held p.actors w held' st.actors; held = same }
+    record {
+      actors = connector_changes p.actors w held' p.actors.session w.session p.actors.packets w.packets
+          st.actors st.actors.connector.session st.actors.connector.packets;
+      held = same;
+    }
 
 -- a save is done if there is a session, and its progress is held then
 saves_next : (w : WorldState) (course : Course) → w.session ≡ Some course
     → next w Save ≡ success (with_progress w course)
-saves_next w course is = ap (λ (s : Option Course). s >>= (λ course. success (with_progress w course))) is
+saves_next w course is = rw is
 
 -- the session saves
 pub save_done : (p : Parts) (kept : SessionState) (held : Option Saved) (honest : Bool) (risks : Risks) (failed' : ℕ)
@@ -263,8 +211,7 @@ save_tried w course is = subst IsTried (sym (saves_next w course is)) tt
 
 -- a save that fails
 pub save_failed : (p : Parts) (kept : SessionState) (held : Option Saved) (honest : Bool) (risks : Risks)
-    (why : StoreError)
-    (failed failed' : ℕ) → p.actors.session ≡ Some kept
+    (why : StoreError) (failed failed' : ℕ) → p.actors.session ≡ Some kept
     → ((course : Course) → StandsFor kept course → (held ≡ p.held) ⊎ (held ≡ Some (progress_of course)))
     → (why ≡ store.OutOfMemory → held ≡ p.held) → MayRefuseSave failed failed' why
     → MovesBy Next p Save (Err (store_refusal why))
@@ -311,17 +258,10 @@ save_failed p kept held honest' risks' store.WriteFault failed failed' is either
     ]
 
 -- a step that starts a session turns to the store: it loads, and may run out of memory before that
-loads_start : (at : Option ℕ) → IsTrue (loads (start_after at))
-loads_start None = refl
-loads_start (Some time) = refl
-
-uses_start : (at : Option ℕ) → IsTrue (uses_store (start_after at))
-uses_start None = refl
-uses_start (Some time) = refl
-
-room_start : (at : Option ℕ) → IsTrue (takes_memory (start_after at))
-room_start None = refl
-room_start (Some time) = refl
+loads_start : (at : Option ℕ) → IsTrue (loads (start_after at)) × IsTrue (uses_store (start_after at))
+    × IsTrue (takes_memory (start_after at))
+loads_start None = (refl, refl, refl)
+loads_start (Some time) = (refl, refl, refl)
 
 -- what it saves
 saves_start : (w : WorldState) (at : Option ℕ) (saved : Saved) → begun w.held at ≡ Ok saved
@@ -332,8 +272,8 @@ saves_start w (Some time) saved begins = ap saved_in begins
 -- a session starts if the connector is down, or what keeps it from that is answered
 starts_next : (w : WorldState) (at : Option ℕ) (answer : Result Saved StartError) → w.session ≡ None
     → begun w.held at ≡ answer → next w (start_after at) ≡ with_session w answer
-starts_next w None answer down begins = ap (with_start w None) down ∙ ap (with_session w) begins
-starts_next w (Some time) answer down begins = ap (with_start w (Some time)) down ∙ ap (with_session w) begins
+starts_next w None answer down begins = rw (down, begins)
+starts_next w (Some time) answer down begins = rw (down, begins)
 
 -- a session that is about to start is refused only if there is no further number for it, or because of the timestamp
 -- that is asked for
@@ -361,9 +301,7 @@ begins_held held loaded before at answer stands given begins =
 -- a session starts over an honest store: it represents a new course under the record that is now held
 pub start_done : (p : Parts) (at : Option ℕ) (actors' : ActorParts) (kept : SessionState) (held : Option Saved)
     (honest : Bool) (risks : Risks) (failed' window : ℕ) → p.actors.session ≡ None
-    → actors' ≡ record p.actors { session = Some kept }
-    → window ≡ p.actors.window
-    → HasStarted (record {
+    → actors' ≡ record p.actors { session = Some kept } → window ≡ p.actors.window → HasStarted (record {
       honest = p.honest;
       before = p.held;
       after = held;
@@ -374,23 +312,15 @@ pub start_done : (p : Parts) (at : Option ℕ) (actors' : ActorParts) (kept : Se
     (record { actors = actors'; held = held; honest = honest; failed = failed'; risks = risks })
 start_done p at actors' kept held honest' risks' failed' window down new waits has honest w st =
     let begins : begun w.held at ≡ Ok has.saved =
-    begins_held w.held has.loaded p.held at (Ok has.saved) st.held (has.given (honest (loads_start at))) has.begins in
+    begins_held w.held has.loaded p.held at (Ok has.saved) st.held (has.given (honest (loads_start at).0)) has.begins in
     let after : WorldState = record w { held = Some has.saved; session = Some (new_course has.saved w.window) } in (
       after,
       (
         record {
-          actors = subst (λ (a : ActorParts). ActorsStand a after) (sym new)
-              (record {
-                history = st.actors.history;
-                connector = record {
-                  window = st.actors.connector.window;
-                  session = subst (λ (n : ℕ). StandsFor kept (new_course has.saved n))
-                      (waits ∙ st.actors.connector.window) has.stands;
-                  packets = st.actors.connector.packets;
-                };
-                broker = st.actors.broker;
-                subscribers = st.actors.subscribers;
-              });
+          actors = rw new (connector_changes p.actors w (Some has.saved) (Some kept) after.session p.actors.packets
+              w.packets st.actors
+              (subst (λ (n : ℕ). StandsFor kept (new_course has.saved n)) (waits ∙ st.actors.connector.window)
+              has.stands) st.actors.connector.packets);
           held = has.held;
         },
         starts_next w at (Ok has.saved) (no_course p.actors w st.actors down) begins,
@@ -399,8 +329,7 @@ start_done p at actors' kept held honest' risks' failed' window down new waits h
 
 -- a session doesn't start
 pub start_failed : (p : Parts) (at : Option ℕ) (held : Option Saved) (honest : Bool) (risks : Risks) (why : StartError)
-    (failed failed' : ℕ) → p.actors.session ≡ None
-    → MayRefuseStart (record {
+    (failed failed' : ℕ) → p.actors.session ≡ None → MayRefuseStart (record {
       honest = p.honest;
       before = p.held;
       after = held;
@@ -413,15 +342,15 @@ start_failed p at held honest' risks' (start.Store store.ReadFault) failed faile
   w,
   (
     with_held p w held honest' risks' failed' w.held st (may.0 ∙ st.held),
-    (uses_start at, (start_tried w at (no_course p.actors w st.actors down), (loads_start at, refl))),
+    ((loads_start at).1, (start_tried w at (no_course p.actors w st.actors down), ((loads_start at).0, refl))),
   ),
 )
 start_failed p at held honest' risks' (start.Store store.BadRecord) failed failed' down may honest w st =
-    absurd (may.1.1 (honest (loads_start at)))
+    absurd (may.1.1 (honest (loads_start at).0))
 start_failed p at held honest' risks' (start.Store store.OutOfMemory) failed failed' down may honest w st = absurd may
 start_failed p at held honest' risks' (start.Store store.WriteFault) failed failed' down may honest w st =
     let half = may.0 in
-    let given = half.given (honest (loads_start at)) in
+    let given = half.given (honest (loads_start at).0) in
     let begins : begun w.held at ≡ Ok half.saved =
     begins_held w.held half.loaded p.held at (Ok half.saved) st.held given half.begins in
     let tried = start_tried w at (no_course p.actors w st.actors down) in
@@ -431,37 +360,37 @@ start_failed p at held honest' risks' (start.Store store.WriteFault) failed fail
         w,
         (
           with_held p w held honest' risks' failed' w.held st (same ∙ (given ∙ st.held)),
-          (uses_start at, (tried, (half.saved, saves, inl refl))),
+          ((loads_start at).1, (tried, (half.saved, saves, inl refl))),
         ),
       )
       | inr new ↦ (
         record w { held = Some half.saved },
         (
           with_held p w held honest' risks' failed' (Some half.saved) st new,
-          (uses_start at, (tried, (half.saved, saves, inr refl))),
+          ((loads_start at).1, (tried, (half.saved, saves, inr refl))),
         ),
       )
     ]
 start_failed p at held honest' risks' start.SessionsExhausted failed failed' down may honest w st =
-    let same = may.1.1 (honest (loads_start at)) ∙ st.held in (
+    let same = may.1.1 (honest (loads_start at).0) ∙ st.held in (
       w,
       (
         with_held p w held honest' risks' failed' w.held st same,
         (
           starts_next w at (Err start.SessionsExhausted) (no_course p.actors w st.actors down)
-              (ap (λ h. begun h at) (sym same) ∙ may.1.0),
+              (rw same at (may.1.0)),
           refl,
         ),
       ),
     )
 start_failed p at held honest' risks' start.StartNotAllowed failed failed' down may honest w st =
-    let same = may.1.1 (honest (loads_start at)) ∙ st.held in (
+    let same = may.1.1 (honest (loads_start at).0) ∙ st.held in (
       w,
       (
         with_held p w held honest' risks' failed' w.held st same,
         (
           starts_next w at (Err start.StartNotAllowed) (no_course p.actors w st.actors down)
-              (ap (λ h. begun h at) (sym same) ∙ may.1.0),
+              (rw same at (may.1.0)),
           refl,
         ),
       ),
@@ -469,8 +398,8 @@ start_failed p at held honest' risks' start.StartNotAllowed failed failed' down 
 start_failed p at held honest' risks' start.OutOfMemory failed failed' down may honest w st = (
   w,
   (
-    with_held p w held honest' risks' failed' w.held st (may.1 (honest (loads_start at)) ∙ st.held),
-    (room_start at, (start_tried w at (no_course p.actors w st.actors down), refl)),
+    with_held p w held honest' risks' failed' w.held st (may.1 (honest (loads_start at).0) ∙ st.held),
+    ((loads_start at).2, (start_tried w at (no_course p.actors w st.actors down), refl)),
   ),
 )
 
@@ -478,18 +407,14 @@ start_failed p at held honest' risks' start.OutOfMemory failed failed' down may 
 
 -- a save is refused as its store may be
 save_risked : (risks : Risks) (why : StoreError) → IsRisked risks why → IsStepRisked risks (Err (store_refusal why))
-save_risked risks store.ReadFault may = may
-save_risked risks store.WriteFault may = may
-save_risked risks store.BadRecord may = may
 save_risked risks store.OutOfMemory may = tt
+save_risked risks why may = may
 
 -- and so is a start
 start_risked : (risks : Risks) (why : StartError) → IsStartRisked risks why
     → IsStepRisked risks (Err (start_refusal why))
 start_risked risks (start.Store why) may = may
-start_risked risks start.SessionsExhausted may = tt
-start_risked risks start.OutOfMemory may = tt
-start_risked risks start.StartNotAllowed may = tt
+start_risked risks why may = tt
 
 -- so a save that fails
 pub save_refused : (p : Parts) (why : StoreError) (p' : Parts) → IsRisked p.risks why

@@ -8,7 +8,7 @@ use Rattle.cdc_ledger.specs.declared.errors.BatchError.TheVariants.{LedgerClosed
 use Rattle.cdc_match.specs.declared.pairs.Mode.TheVariants.{All}
 use Rattle.cdc_progress.specs.Records.{Saved, saved, saved_from}
 use Rattle.cdc_progress.specs.Stores.{Risks}
-use Rattle.cdc_progress.specs.declared.errors.StoreError.TheVariants.{WriteFault}
+use Rattle.cdc_progress.specs.StoreError.TheVariants.{WriteFault}
 use Rattle.cdc_publisher.specs.Courses.{new_course}
 use Rattle.cdc_subscriber.specs.declared.book.BookEntry.{BookEntry}
 use Rattle.cdc_subscriber.specs.Reception.{kept_of}
@@ -71,6 +71,11 @@ emitted packet confirm = taken packet ++ Answer confirm ∷ []
 abbrev shown : Run → (ℕ × Option StepError) × Option Saved × List SubscriberState
 shown run = (run.0, run.1.held, map (λ s. kept_of s.reception) run.1.subscriptions)
 
+-- it shows this for one subscriber, if something is held
+abbrev leaves : ℕ → Option StepError → Saved → SubscriberState → (ℕ × Option StepError) × Option Saved
+    × List SubscriberState
+leaves count refusal held kept = ((count, refusal), Some held, kept ∷ [])
+
 -- an account of a book
 abbrev entry : ℕ → ℕ → ℕ → BookEntry
 entry id debits credits = record {
@@ -88,19 +93,14 @@ empty_and_closed =
     CloseLedger ∷ Start ∷ Publish ∷ Arrive 1 ∷ emitted 2 1 ++ Send 1 ∷ Take 1 ∷ []
 
 -- the subscriber has ended with an empty book, and the first session is held with timestamp 0
-shows_the_end : shown (run_of start empty_and_closed) ≡ (
-  (10, None),
-  Some (saved 1 0),
-  record { book = []; last = 0; applied = 0; ended = true; closed = false } ∷ [],
-)
+shows_the_end : shown (run_of start empty_and_closed)
+    ≡ leaves 10 None (saved 1 0) (record { book = []; last = 0; applied = 0; ended = true; closed = false })
 shows_the_end = refl
 
 -- an empty ledger that is open has nothing to publish, not even its end mark
-shows_no_end : shown (run_of start (Start ∷ Publish ∷ Arrive 1 ∷ sent)) ≡ (
-  (4, Some NotEnabled),
-  Some (saved 1 0),
-  record { book = []; last = 0; applied = 0; ended = false; closed = false } ∷ [],
-)
+shows_no_end : shown (run_of start (Start ∷ Publish ∷ Arrive 1 ∷ sent))
+    ≡ leaves 4 (Some NotEnabled) (saved 1 0)
+    (record { book = []; last = 0; applied = 0; ended = false; closed = false })
 shows_no_end = refl
 
 -- two transfers without a fault: both are published, confirmed and saved, and then the end mark
@@ -114,11 +114,8 @@ whole_way =
     ++ Send 1 ∷ Send 1 ∷ Send 1 ∷ Take 1 ∷ Take 1 ∷ Take 1 ∷ []
 
 -- the book shows both amounts, the subscriber has ended, and the second event's timestamp is held
-shows_all : shown (run_of start whole_way) ≡ (
-  (25, None),
-  Some (saved 1 2001),
-  record { book = moved 12; last = 2001; applied = 2; ended = true; closed = false } ∷ [],
-)
+shows_all : shown (run_of start whole_way)
+    ≡ leaves 25 None (saved 1 2001) (record { book = moved 12; last = 2001; applied = 2; ended = true; closed = false })
 shows_all = refl
 
 -- why a step isn't done: a closed ledger refuses a batch; a session runs already, or there is no further number for
@@ -150,11 +147,9 @@ late_packets =
     ++ Send 1 ∷ Take 1 ∷ Send 1 ∷ []
 
 -- the event is in the queue once, as the second session sent it: there is nothing to deliver after it
-ignores_late : shown (run_of start late_packets) ≡ (
-  (18, Some NotEnabled),
-  Some (saved 2 0),
-  record { book = moved 100; last = 2000; applied = 1; ended = false; closed = false } ∷ [],
-)
+ignores_late : shown (run_of start late_packets)
+    ≡ leaves 18 (Some NotEnabled) (saved 2 0)
+    (record { book = moved 100; last = 2000; applied = 1; ended = false; closed = false })
 ignores_late = refl
 
 -- a session saves before what it has sent is confirmed, and crashes: the next one publishes it again
@@ -164,11 +159,9 @@ saved_early =
     ++ Save ∷ Send 1 ∷ Take 1 ∷ Send 1 ∷ Take 1 ∷ []
 
 -- the first save holds timestamp 0, so both events come from the second session; its own save has the last one
-saves_confirmed_alone : shown (run_of start saved_early) ≡ (
-  (25, None),
-  Some (saved 2 2001),
-  record { book = moved 12; last = 2001; applied = 2; ended = false; closed = false } ∷ [],
-)
+saves_confirmed_alone : shown (run_of start saved_early)
+    ≡ leaves 25 None (saved 2 2001)
+    (record { book = moved 12; last = 2001; applied = 2; ended = false; closed = false })
 saves_confirmed_alone = refl
 
 -- a queue that rewinds delivers again what isn't acknowledged, and the subscriber applies nothing twice
@@ -183,11 +176,8 @@ delivered_again =
     ∷ Take 1 ∷ Take 1 ∷ Take 1 ∷ Take 1 ∷ Take 1 ∷ Take 1 ∷ Take 1 ∷ []
 
 -- of the seven deliveries four are applied, and each amount is in the book once
-applies_once : shown (run_of start delivered_again) ≡ (
-  (36, None),
-  Some (saved 1 0),
-  record { book = moved 10; last = 2003; applied = 4; ended = false; closed = false } ∷ [],
-)
+applies_once : shown (run_of start delivered_again)
+    ≡ leaves 36 None (saved 1 0) (record { book = moved 10; last = 2003; applied = 4; ended = false; closed = false })
 applies_once = refl
 
 -- a session goes on after what was saved; a confirm of the session before comes late, and doesn't count though its tag
@@ -205,11 +195,8 @@ crashed_between =
     ++ sent ++ Answer 5 ∷ Save ∷ []
 
 -- the sixth event's timestamp is held, not the seventh's
-goes_on_from_saved : shown (run_of start crashed_between) ≡ (
-  (49, None),
-  Some (saved 2 2005),
-  record { book = []; last = 0; applied = 0; ended = false; closed = false } ∷ [],
-)
+goes_on_from_saved : shown (run_of start crashed_between)
+    ≡ leaves 49 None (saved 2 2005) (record { book = []; last = 0; applied = 0; ended = false; closed = false })
 goes_on_from_saved = refl
 
 -- a subscriber that closed applies nothing more, and still acknowledges what it takes
@@ -218,11 +205,8 @@ closed_between =
     connected two_transfers ++ emitted 2 1 ++ taken 3 ++ Send 1 ∷ Send 1 ∷ Take 1 ∷ Close 1 ∷ Take 1 ∷ Ack 1 2 ∷ []
 
 -- the second event is taken, but book, count and last timestamp are those of the first
-stays_closed : shown (run_of start closed_between) ≡ (
-  (18, None),
-  Some (saved 1 0),
-  record { book = moved 5; last = 2000; applied = 1; ended = false; closed = true } ∷ [],
-)
+stays_closed : shown (run_of start closed_between)
+    ≡ leaves 18 None (saved 1 0) (record { book = moved 5; last = 2000; applied = 1; ended = false; closed = true })
 stays_closed = refl
 
 -- what is on its way is lost and delivered again; an acknowledgement moves a cursor that rewound forward, and so
@@ -233,11 +217,9 @@ broken_off =
     ∷ Take 1 ∷ Take 1 ∷ Rewind 1 ∷ Ack 1 3 ∷ Send 1 ∷ []
 
 -- the last delivery isn't enabled, and of the three deliveries that were taken two are applied
-lifts_cursor : shown (run_of start broken_off) ≡ (
-  (23, Some NotEnabled),
-  Some (saved 1 0),
-  record { book = moved 12; last = 2001; applied = 2; ended = false; closed = false } ∷ [],
-)
+lifts_cursor : shown (run_of start broken_off)
+    ≡ leaves 23 (Some NotEnabled) (saved 1 0)
+    (record { book = moved 12; last = 2001; applied = 2; ended = false; closed = false })
 lifts_cursor = refl
 
 -- ---- a late start
@@ -250,27 +232,21 @@ joins_late =
 
 -- only the second event is published, and yet the book has both amounts, since the event carries the ledger's
 -- balances; the timestamp that was asked for is held as the one up to which all is confirmed, and as the start
-shows_what_follows : shown (run_of start (joins_late ++ Publish ∷ Arrive 1 ∷ taken 2 ++ Send 1 ∷ Take 1 ∷ [])) ≡ (
-  (10, None),
-  Some (saved_from 2000 1 2000),
-  record { book = moved 12; last = 2001; applied = 1; ended = false; closed = false } ∷ [],
-)
+shows_what_follows : shown (run_of start (joins_late ++ Publish ∷ Arrive 1 ∷ taken 2 ++ Send 1 ∷ Take 1 ∷ []))
+    ≡ leaves 10 None (saved_from 2000 1 2000)
+    (record { book = moved 12; last = 2001; applied = 1; ended = false; closed = false })
 shows_what_follows = refl
 
 -- once it is held, no other start may be asked for: nothing is saved then
-no_second_start : shown (run_of start (joins_late ++ Crash ∷ StartAt 5 ∷ [])) ≡ (
-  (4, Some StartNotAllowed),
-  Some (saved_from 2000 1 2000),
-  record { book = []; last = 0; applied = 0; ended = false; closed = false } ∷ [],
-)
+no_second_start : shown (run_of start (joins_late ++ Crash ∷ StartAt 5 ∷ []))
+    ≡ leaves 4 (Some StartNotAllowed) (saved_from 2000 1 2000)
+    (record { book = []; last = 0; applied = 0; ended = false; closed = false })
 no_second_start = refl
 
 -- a session that starts without asking continues from where the first one was, and every save keeps the start
-keeps_its_start : shown (run_of start (joins_late ++ Publish ∷ Arrive 1 ∷ emitted 2 1 ++ Save ∷ Crash ∷ Start ∷ [])) ≡ (
-  (12, None),
-  Some (saved_from 2000 2 2001),
-  record { book = []; last = 0; applied = 0; ended = false; closed = false } ∷ [],
-)
+keeps_its_start : shown (run_of start (joins_late ++ Publish ∷ Arrive 1 ∷ emitted 2 1 ++ Save ∷ Crash ∷ Start ∷ []))
+    ≡ leaves 12 None (saved_from 2000 2 2001)
+    (record { book = []; last = 0; applied = 0; ended = false; closed = false })
 keeps_its_start = refl
 
 -- if a session runs, the step isn't enabled, whatever it asks for

@@ -1,9 +1,9 @@
 -- Elements by their numbers, and by their places.
-use Rattle.std.proofs.Common.{◌≡◌, ℕ, ◌-◌, ◌<◌, ◌≤◌, ◌==◌, Bool, true, false, List, [], ◌∷◌, Some, None, zero, suc, refl, sym, ap, ◌∙◌, subst, length, map, get_or, inl, inr, arith}
+use Rattle.std.proofs.Common.{◌≡◌, ℕ, ◌-◌, ◌<◌, ◌==◌, Bool, true, false, List, [], ◌∷◌, Some, None, zero, suc, refl, sym, ap, ◌∙◌, subst, length, map, get_or, inl, inr, arith}
 use Rattle.std.specs.Prelude.{Contains, nat_lt, option_map, if◌then◌else◌}
 use Rattle.std.specs.List.{slice_get}
 use Rattle.std.proofs.lemmas.Bool.{cases_Bool, eqb-true, eqb-false}
-use Rattle.std.proofs.lemmas.Option.{none-some, slice_get-map, slice_get_read}
+use Rattle.std.proofs.lemmas.Option.{none-some, slice_get-map, slice_get_past, slice_get_read}
 use Rattle.cdc_laws.proofs.ListElements.{Contains_slice_get}
 use Rattle.cdc_world.specs.declared.subscriptions.Subscription.{Subscription}
 use Rattle.cdc_world.specs.Parts.{subscription_parts}
@@ -66,12 +66,6 @@ pub place_is : (i count place : ℕ) → place_in i count ≡ Some place → IsP
 place_is zero count place found = cc
 place_is (suc i) count place found =
     place_cases i count place (nat_lt (suc i - 1) count) refl (sym (place_above i count) ∙ found)
-
--- after a list's end there is nothing
-pub slice_get_past : {X : Type 0} (xs : List X) (k : ℕ) → length xs ≤ k → slice_get xs k ≡ None
-slice_get_past [] k past = refl
-slice_get_past (x ∷ xs) zero past = absurd (omega arith)
-slice_get_past (x ∷ xs) (suc k) past = slice_get_past xs k (omega arith)
 
 -- a number above 0 without a place names nothing
 unplaced : {X : Type 0} (xs : List X) (i : ℕ) (b : Bool) → nat_lt (suc i - 1) (length xs) ≡ b

@@ -25,7 +25,7 @@ use Rattle.cdc_laws.proofs.GoingOn.{GoesOn-closed, GoesOn-submit}
 use Rattle.cdc_laws.proofs.Offers.{KeepsTo-offer}
 use Rattle.cdc_laws.proofs.ListElements.{none_there}
 use Rattle.cdc_laws.proofs.Taking.{taken_after-true}
-use Rattle.cdc_log.specs.Log.{events_after}
+use Rattle.cdc_laws.specs.Log.{events_after}
 use Rattle.cdc_match.specs.Arguments.{Arguments}
 use Rattle.cdc_message.specs.declared.packets.Confirm.{Confirm}
 use Rattle.cdc_message.specs.declared.packets.Packet.{Packet}
@@ -67,40 +67,13 @@ IsOrderly-new bindings window held start = record {
 
 -- ---- when parts of the world change
 
--- the subscribers
-IsOrderly-subscriptions : (w : WorldState) (subscriptions : List Subscription) → IsOrderly w
-    → IsOrderly (record w { subscriptions = subscriptions })
-IsOrderly-subscriptions w subscriptions is = record {
-  sound = is.sound;
-  received = is.received;
-  answers = is.answers;
-  connector = is.connector;
-  arrived = is.arrived;
-  packets = is.packets;
-  accepted = is.accepted;
-  confirmed = is.confirmed;
-}
-
--- the ledger, which goes on
-IsOrderly-history : (w : WorldState) (g : History) → IsOrderly w → GoesOn w.history g → IsSound g
-    → IsOrderly (record w { history = g })
-IsOrderly-history w g is on sound = record {
+-- the ledger goes on, the session changes, or what the store holds, or the subscribers
+IsOrderly-with : (w : WorldState) (g : History) (held : Option Saved) (session : Option Course)
+    (subscriptions : List Subscription) (is : IsOrderly w) → IsSound g
+    → KeepsTo g (record (connector_in w is.received) { held = held; session = session })
+    → IsOrderly (record w { history = g; held = held; session = session; subscriptions = subscriptions })
+IsOrderly-with w g held session subscriptions is sound keeps = record {
   sound = sound;
-  received = is.received;
-  answers = is.answers;
-  connector = KeepsTo-goes_on w.history g (connector_in w is.received) on is.connector;
-  arrived = is.arrived;
-  packets = is.packets;
-  accepted = is.accepted;
-  confirmed = is.confirmed;
-}
-
--- the session, and what the store holds
-IsOrderly-session : (w : WorldState) (held : Option Saved) (session : Option Course) (is : IsOrderly w)
-    → KeepsTo w.history (record (connector_in w is.received) { held = held; session = session })
-    → IsOrderly (record w { held = held; session = session })
-IsOrderly-session w held session is keeps = record {
-  sound = is.sound;
   received = is.received;
   answers = is.answers;
   connector = keeps;
@@ -109,6 +82,26 @@ IsOrderly-session w held session is keeps = record {
   accepted = is.accepted;
   confirmed = is.confirmed;
 }
+
+-- the subscribers alone
+IsOrderly-subscriptions : (w : WorldState) (subscriptions : List Subscription) → IsOrderly w
+    → IsOrderly (record w { subscriptions = subscriptions })
+IsOrderly-subscriptions w subscriptions is =
+    IsOrderly-with w w.history w.held w.session subscriptions is is.sound is.connector
+
+-- the ledger, which goes on
+IsOrderly-history : (w : WorldState) (g : History) → IsOrderly w → GoesOn w.history g → IsSound g
+    → IsOrderly (record w { history = g })
+IsOrderly-history w g is on sound =
+    IsOrderly-with w g w.held w.session w.subscriptions is sound
+    (KeepsTo-goes_on w.history g (connector_in w is.received) on is.connector)
+
+-- the session, and what the store holds
+IsOrderly-session : (w : WorldState) (held : Option Saved) (session : Option Course) (is : IsOrderly w)
+    → KeepsTo w.history (record (connector_in w is.received) { held = held; session = session })
+    → IsOrderly (record w { held = held; session = session })
+IsOrderly-session w held session is keeps =
+    IsOrderly-with w w.history held session w.subscriptions is is.sound keeps
 
 -- ---- the connector
 
@@ -131,8 +124,7 @@ IsOrderly-polled : (w : WorldState) (course : Course) (poll : Poll) → IsOrderl
     → next_poll course ≡ Some poll → IsOrderly (with_poll w course poll)
 IsOrderly-polled w course poll is there wants =
     let asked =
-    cond_some (all_sent course && nat_lt (length (unconfirmed course)) course.window && not course.complete)
-    (record {
+    cond_some (all_sent course && nat_lt (length (unconfirmed course)) course.window && not course.complete) (record {
       after = last_timestamp_from course.base course.offered;
       limit = course.window - length (unconfirmed course);
     }) poll wants in
@@ -189,8 +181,7 @@ IsOrderly-answered w course confirm is there sent = record {
 confirms_taken : (confirms : List Confirm) (accepted : List Packet) (packet : Packet) → AreOfTaken confirms accepted
     → AreOfTaken (confirms ++ confirms_of packet) (accepted ++ packet ∷ [])
 confirms_taken confirms accepted (Connect session) are =
-    subst (λ cs. AreOfTaken cs (accepted ++ Connect session ∷ [])) (sym (append-nil confirms))
-    (AreOfTaken-taken confirms accepted (Connect session) are)
+    rw (append-nil confirms) (AreOfTaken-taken confirms accepted (Connect session) are)
 confirms_taken confirms accepted (Publish session tag item) are =
     AreOfTaken-confirmed confirms (accepted ++ Publish session tag item ∷ []) session tag item
     (AreOfTaken-taken confirms accepted (Publish session tag item) are)
@@ -212,8 +203,7 @@ IsOrderly-taken w packet is sent takes = record {
       ];
   accepted = ap (λ ps. ps ++ packet ∷ []) is.accepted
       ∙ sym (taken_of-push is.arrived packet
-      ∙ taken_after-true (taken_of is.arrived) packet
-      (ap (λ ps. is_taken ps packet) (sym is.accepted) ∙ takes));
+      ∙ taken_after-true (taken_of is.arrived) packet (ap (λ ps. is_taken ps packet) (sym is.accepted) ∙ takes));
   confirmed = confirms_taken w.confirms w.accepted packet is.confirmed;
 }
 
@@ -239,8 +229,7 @@ IsOrderly-submitted w (Err why) on is = tt
 -- one that is done
 IsOrderly-step : (w : WorldState) (s : Step) → IsOrderly w → Leaves IsOrderly (next w s)
 IsOrderly-step w (Submit batch) is =
-    IsOrderly-submitted w (submit w.history batch)
-    (λ found answers. (
+    IsOrderly-submitted w (submit w.history batch) (λ found answers. (
       GoesOn-submit w.history batch found is.sound answers,
       IsSound-submit w.history batch found is.sound answers,
     )) is
@@ -303,8 +292,7 @@ IsOrderly-start_written : (w : WorldState) (at : Option ℕ) → IsOrderly w →
     → IsTried (with_start w at w.session) → saved_in (begun w.held at) ≡ Some saved
     → IsOrderly (record w { held = Some saved })
 IsOrderly-start_written w at is saved tried saves =
-    IsOrderly-session w (Some saved) w.session is
-    (subst (λ session. KeepsTo w.history
+    IsOrderly-session w (Some saved) w.session is (subst (λ session. KeepsTo w.history
     (record (connector_in w is.received) { held = Some saved; session = session }))
     (sym (tried_down w at w.session tried))
     (KeepsTo-half_started w.history (connector_in w is.received) at saved is.connector
@@ -327,19 +315,7 @@ IsOrderly-written w Save is saved tried saves =
     IsOrderly-session w (Some saved) w.session is
     (subst (λ (s : Saved). KeepsTo w.history (record (connector_in w is.received) { held = Some s })) of.2
     (KeepsTo-save w.history (connector_in w is.received) of.0 is.connector of.1))
-IsOrderly-written w (Submit batch) is saved tried saves = absurd (none-some saved saves)
-IsOrderly-written w CloseLedger is saved tried saves = absurd (none-some saved saves)
-IsOrderly-written w Crash is saved tried saves = absurd (none-some saved saves)
-IsOrderly-written w PollStep is saved tried saves = absurd (none-some saved saves)
-IsOrderly-written w PublishStep is saved tried saves = absurd (none-some saved saves)
-IsOrderly-written w (Arrive k) is saved tried saves = absurd (none-some saved saves)
-IsOrderly-written w (Answer k) is saved tried saves = absurd (none-some saved saves)
-IsOrderly-written w (Send i) is saved tried saves = absurd (none-some saved saves)
-IsOrderly-written w (Rewind i) is saved tried saves = absurd (none-some saved saves)
-IsOrderly-written w (Break i) is saved tried saves = absurd (none-some saved saves)
-IsOrderly-written w (Take i) is saved tried saves = absurd (none-some saved saves)
-IsOrderly-written w (Ack i k) is saved tried saves = absurd (none-some saved saves)
-IsOrderly-written w (Close i) is saved tried saves = absurd (none-some saved saves)
+IsOrderly-written w s is saved tried saves = absurd (none-some saved saves)
 
 -- ---- every world that steps lead to
 

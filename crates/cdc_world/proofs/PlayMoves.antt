@@ -1,7 +1,8 @@
 -- Steps that are all done, one more at a time, and where they stop.
-use Rattle.std.proofs.Common.{◌≡◌, ℕ, Option, Result, ◌+◌, ◌<◌, ◌≤◌, IsTrue, List, [], ◌∷◌, ◌++◌, Some, None, Ok, Err, zero, suc, refl, sym, ap, ◌∙◌, subst, length, take, drop, get_or, arith}
+use Rattle.std.proofs.Common.{◌≡◌, ℕ, Option, Result, ◌+◌, ◌<◌, ◌≤◌, IsTrue, List, [], ◌∷◌, ◌++◌, Some, None, Ok, Err, refl, sym, ap, ◌∙◌, subst, length, take, drop, get_or, arith}
 use Rattle.std.specs.List.{list_any}
-use Rattle.std.proofs.lemmas.List.{take_more}
+use Rattle.std.proofs.lemmas.List.{drop_more, take_more}
+use Rattle.std.proofs.Math.Seq.{drop-length}
 use Rattle.std.proofs.lemmas.List.Folds.{list_any_at}
 use Rattle.cdc_world.specs.declared.steps.Did.{Did}
 use Rattle.cdc_progress.specs.Stores.{Risks}
@@ -11,7 +12,7 @@ use Rattle.cdc_world.specs.Next.{NextOver, loads}
 use Rattle.cdc_world.specs.Moves.{DoesAll, Going, MovesBy, Plays, PlaysBy, StopsAt}
 use Rattle.cdc_world.specs.Parts.{Parts}
 use Rattle.cdc_world.specs.Stands.{Stands}
-use Rattle.cdc_world.specs.Tries.{FailsTimes, NextPast}
+use Rattle.cdc_world.specs.Tries.{NextPast}
 use Rattle.cdc_world.specs.Worlds.{WorldState}
 
 -- so many of these steps are done
@@ -30,7 +31,7 @@ loads_one steps done step inside here reads = list_any_at loads steps done step 
 DoesAll_push : (Goes : Going) (w between w' : WorldState) (steps : List Step) (step : Step) (did : Did)
     → DoesAll Goes w steps between → Goes between step (Ok did) w' → DoesAll Goes w (steps ++ step ∷ []) w'
 DoesAll_push Goes w between w' [] step did does next =
-    (did, w', (subst (λ (x : WorldState). Goes x step (Ok did) w') does next, refl))
+    (did, w', (rw (← does) next, refl))
 DoesAll_push Goes w between w' (first ∷ steps) step did does next =
     (does.0, does.1, (does.2.0, DoesAll_push Goes does.1 between w' steps step did does.2.1 next))
 
@@ -57,13 +58,6 @@ HasDone-more Goes p p' p'' steps done step did inside here has moves honest' ris
       );
 }
 
--- the step at a place and those after it
-drop_here : {X : Type 0} (xs : List X) (i : ℕ) (x : X) → i < length xs → x ≡ get_or xs i x
-    → (rest : List X) × (drop i xs ≡ x ∷ rest)
-drop_here [] i x inside here = absurd (omega arith)
-drop_here (y ∷ ys) zero x inside here = (ys, ap (λ z. z ∷ ys) (sym here))
-drop_here (y ∷ ys) (suc i) x inside here = drop_here ys i x (omega arith) here
-
 -- a step that is refused ends a play
 pub Plays-stopped : (Goes : Going) (p p' p'' : Parts) (steps : List Step) (done : ℕ) (step : Step) (why : StepError)
     → done < length steps
@@ -73,7 +67,8 @@ Plays-stopped Goes p p' p'' steps done step why inside here has moves honest w s
     let before = has.leads honest w st in
     let after = moves (λ reads. has.honest ∙ honest (loads_one steps done step inside here reads))
     before.0 before.1.0 in
-    let rest = drop_here steps done step inside here in (
+    let rest : drop done steps ≡ step ∷ drop (done + 1) steps =
+    drop_more steps done step inside ∙ ap (λ (s : Step). s ∷ drop (done + 1) steps) (sym here) in (
       after.0,
       (
         after.1.0,
@@ -81,15 +76,10 @@ Plays-stopped Goes p p' p'' steps done step why inside here has moves honest w s
           count = omega arith;
           before = before.0;
           does = before.1.1;
-          stops = subst (λ (ss : List Step). StopsAt Goes before.0 ss (Some why) after.0) (sym rest.1) after.1.1;
+          stops = rw rest (after.1.1);
         },
       ),
     )
-
--- after a whole list there is nothing
-drop_length : {X : Type 0} (xs : List X) → drop (length xs) xs ≡ []
-drop_length [] = refl
-drop_length (x ∷ xs) = drop_length xs
 
 -- a play of which all steps are done
 pub Plays-ended : (Goes : Going) (p p' : Parts) (steps : List Step) (done : ℕ) → length steps ≤ done
@@ -104,7 +94,7 @@ Plays-ended Goes p p' steps done all within has honest w st =
           count = omega arith;
           before = before.0;
           does = subst (λ (n : ℕ). DoesAll Goes w (take n steps) before.0) same before.1.1;
-          stops = subst (λ (ss : List Step). StopsAt Goes before.0 ss None before.0) (sym (drop_length steps)) refl;
+          stops = rw (drop-length steps);
         },
       ),
     )
@@ -123,9 +113,7 @@ once : (risks : Risks) (w : WorldState) (step : Step) (answer : Result Did StepE
     → NextPast risks 0 w step answer w' → NextOver risks w step answer w'
 once risks w step answer w' next =
     let none : next.failed ≡ 0 = omega (arith, next.within) in
-    let same : next.before ≡ w =
-    subst (λ (n : ℕ). FailsTimes risks n w step next.before) none next.fails in
-    subst (λ (x : WorldState). NextOver risks x step answer w') same next.last
+    let same : next.before ≡ w = rw none at (next.fails) in rw (← same) (next.last)
 
 -- those that are done
 does_once : (risks : Risks) (w w' : WorldState) (steps : List Step) → DoesAll (NextPast risks 0) w steps w'
@@ -138,9 +126,8 @@ does_once risks w w' (step ∷ steps) (did, between, (here, rest)) =
 stops_once : (risks : Risks) (w w' : WorldState) (steps : List Step) (refusal : Option StepError)
     → StopsAt (NextPast risks 0) w steps refusal w' → StopsAt (NextOver risks) w steps refusal w'
 stops_once risks w w' [] None stops = stops
-stops_once risks w w' [] (Some why) stops = stops
-stops_once risks w w' (step ∷ steps) None stops = stops
 stops_once risks w w' (step ∷ steps) (Some why) stops = once risks w step (Err why) w' stops
+stops_once risks w w' steps refusal stops = stops
 
 -- so it is a play
 pub Plays-once : (p : Parts) (steps : List Step) (done : ℕ) (refusal : Option StepError) (p' : Parts)

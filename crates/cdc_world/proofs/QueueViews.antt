@@ -1,9 +1,10 @@
 -- The broker's queues as they represent the subscriptions: after an item was taken, and after one queue has changed.
 use Rattle.std.proofs.Common.{◌≡◌, ℕ, zero, suc, Bool, true, false, List, [], ◌∷◌, ◌++◌, Some, None, refl, sym, ap, ap₂, ◌∙◌, subst, map, append-nil}
-use Rattle.std.specs.Prelude.{Option, slice_get, slice_set, unwrap_or, if◌then◌else◌}
-use Rattle.std.proofs.lemmas.Option.{same_Some}
+use Rattle.std.specs.Prelude.{Option, ◌-◌, option_map, slice_get, slice_set, unwrap_or, if◌then◌else◌}
+use Rattle.std.proofs.lemmas.Option.{same_Some, slice_get-map}
+use Rattle.cdc_broker.specs.Broker.{BrokerState, nobody, queue_of}
 use Rattle.cdc_broker.specs.Packets.{items_of}
-use Rattle.cdc_broker.specs.Queues.{QueueState, queued, with_item, item_for}
+use Rattle.cdc_broker.specs.Queues.{QueueState, empty_queue, queued, with_item, item_for}
 use Rattle.cdc_broker.proofs.Accepted.{filter_push}
 use Rattle.cdc_laws.proofs.Taking.{items_of-push}
 use Rattle.cdc_match.specs.Queue.{takes_item}
@@ -12,6 +13,7 @@ use Rattle.cdc_message.specs.declared.packets.Packet.{Packet}
 use Rattle.cdc_message.specs.declared.packets.Packet.TheVariants.{Connect, Publish}
 use Rattle.cdc_world.specs.Stands.{WereDelivered, HaveDelivered, QueueView, queue_for, view_of}
 use Rattle.cdc_world.specs.Worlds.{Subscription}
+use Rattle.cdc_world.proofs.NumberedElements.{slice_get_made}
 
 -- ---- an item is taken
 
@@ -88,6 +90,16 @@ delivered_set zero (q ∷ queues) (t ∷ subscriptions) none q' s s' found step 
     (step (subst (WereDelivered q.delivered) (same_Some t s found) delivered.0), delivered.1)
 delivered_set (suc k) (q ∷ queues) (t ∷ subscriptions) none q' s s' found step delivered =
     (delivered.0, delivered_set k queues subscriptions none q' s s' found step delivered.1)
+
+-- the queue under a number is seen as its subscription's
+pub view_read : (b : BrokerState) (items : List Item) (ss : List Subscription) (i : ℕ) (s : Subscription)
+    → map view_of b.queues ≡ map (queue_for items) ss → slice_get ss (i - 1) ≡ Some s
+    → view_of (queue_of b i) ≡ queue_for items s
+view_read b items ss i s same there =
+    let found = slice_get_made view_of b.queues (i - 1) (queue_for items s)
+    (ap (λ (vs : List QueueView). slice_get vs (i - 1)) same
+    ∙ (slice_get-map (queue_for items) ss (i - 1) ∙ ap (option_map (queue_for items)) there)) in
+    ap (λ (q : Option QueueState). view_of (unwrap_or q (empty_queue nobody))) found.1.0 ∙ found.1.1
 
 -- what was delivered by the queue of one subscription, which is there since each subscription has a queue
 pub delivered_here : (k : ℕ) (queues : List QueueState) (subscriptions : List Subscription) (items : List Item)

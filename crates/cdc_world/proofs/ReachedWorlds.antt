@@ -21,8 +21,7 @@ IsReached-new bindings window held start =
 
 -- one more step at the end
 Leads-push : (w v w' : WorldState) (steps : List Step) (step : Step)
-    (answer : Result Did StepError) → Leads w steps v → Next v step answer w'
-    → Leads w (steps ++ step ∷ []) w'
+    (answer : Result Did StepError) → Leads w steps v → Next v step answer w' → Leads w (steps ++ step ∷ []) w'
 Leads-push w v w' [] step answer leads next =
     (answer, w', subst (λ (x : WorldState). Next x step answer w') leads next, refl)
 Leads-push w v w' (s ∷ steps) step answer (first, between, here, rest) next =

@@ -12,14 +12,14 @@ use Rattle.cdc_types.specs.declared.batches.BatchResults.{BatchResults}
 use Rattle.cdc_types.specs.declared.steps.Step.TheVariants.{Submit, CloseLedger, Start, StartAt, Crash, Poll as PollStep, Publish as PublishStep, Arrive, Answer, Save, Send, Rewind, Break, Take, Ack, Close}
 use Rattle.cdc_world.proofs.NumberedElements.{Contains_numbered}
 use Rattle.cdc_match.specs.Arguments.{Arguments}
-use Rattle.cdc_progress.specs.declared.errors.StoreError.TheVariants as store
+use Rattle.cdc_progress.specs.StoreError.TheVariants as store
 use Rattle.cdc_progress.specs.Records.{Saved}
 use Rattle.cdc_progress.specs.Stores.{Risks}
 use Rattle.cdc_publisher.specs.declared.errors.StartError.{StartError}
 use Rattle.cdc_types.specs.declared.steps.Step.{Step}
 use Rattle.cdc_world.specs.declared.steps.Did.{Did}
 use Rattle.cdc_world.specs.declared.steps.StepError.{StepError}
-use Rattle.cdc_world.specs.declared.steps.StepError.TheVariants.{NotEnabled, Refused, Store, SessionsExhausted, OutOfMemory, StartNotAllowed}
+use Rattle.cdc_world.specs.declared.steps.StepError.TheVariants.{Store, OutOfMemory}
 use Rattle.cdc_world.specs.Moves.{DoesAll, Going, IsPlayBy, StopsAt}
 use Rattle.cdc_world.specs.Next.{IsAtStart, IsReached, IsTried, Leads, Next, Outcome, first_flight, next, next_delivery, saves, with_ack, with_arrival, with_batch, with_break, with_close, with_delivery, with_rewind, with_session, with_start, with_subscription, with_taking, ◌>>=◌}
 use Rattle.cdc_world.specs.Tries.{FailsTimes, NextPast}
@@ -125,10 +125,6 @@ pub next_leaves : (P : WorldState → Type 0) (w : WorldState) (s : Step)
     → ((saved : Saved) → IsTried (next w s) → saves w s ≡ Some saved → P (record w { held = Some saved }))
     → Leaves P (next w s) → P w'
 next_leaves P w s (Ok did) w' is before held holds = Leaves_so P (next w s) did w' holds is
-next_leaves P w s (Err NotEnabled) w' is before held holds = subst P (sym is.1) before
-next_leaves P w s (Err (Refused why)) w' is before held holds = subst P (sym is.1) before
-next_leaves P w s (Err SessionsExhausted) w' is before held holds = subst P (sym is.1) before
-next_leaves P w s (Err StartNotAllowed) w' is before held holds = subst P (sym is.1) before
 next_leaves P w s (Err OutOfMemory) w' is before held holds = subst P (sym is.1.1) before
 next_leaves P w s (Err (Store store.ReadFault)) w' (uses, (tried, (loads, same))) before held holds =
     subst P (sym same) before
@@ -137,8 +133,8 @@ next_leaves P w s (Err (Store store.WriteFault)) w' (uses, (tried, (saved, is, e
       | inl same ↦ subst P (sym same) before
       | inr new ↦ subst P (sym new) (held saved tried is)
     ]
-next_leaves P w s (Err (Store store.BadRecord)) w' is before held holds = absurd is.1.1
-next_leaves P w s (Err (Store store.OutOfMemory)) w' is before held holds = absurd is.1.1
+next_leaves P w s (Err (Store why)) w' is before held holds = absurd is.1.1
+next_leaves P w s (Err why) w' is before held holds = subst P (sym is.1) before
 
 -- ---- steps in a row
 

@@ -13,7 +13,7 @@ use Rattle.cdc_broker.specs.Packets.{is_taken, items_of, packet_item}
 use Rattle.cdc_world.specs.Next.{IsReached, Next, next, with_ack, with_arrival, with_break, with_close, with_delivery, with_rewind, with_subscription, with_taking}
 use Rattle.cdc_world.specs.Served.{AreQueued, IsQueued, IsServed}
 use Rattle.cdc_world.specs.Worlds.{Subscription, WorldState, new_subscription, new_world, numbered, queue_in, with_numbered}
-use Rattle.cdc_world.proofs.NumberedElements.{numbered_from, numbered_parts}
+use Rattle.cdc_world.proofs.NumberedElements.{numbered_from, numbered_parts, slice_get_made}
 use Rattle.cdc_world.proofs.RelatedWorlds.{EachMove, Keeps, Leaves, Relates, next_leaves, reached_has, step_leaves}
 use Rattle.cdc_world.proofs.ServedSubscribers.{IsServed-ack, IsServed-broken, IsServed-close, IsServed-longer, IsServed-new, IsServed-rewound, IsServed-sending, IsServed-taking}
 
@@ -38,22 +38,15 @@ numbered-set xs k j y t found =
       | inr old ↦ inr (numbered_from xs j t there.0 old)
     ]
 
--- each subscription of a new world was made of a binding
-get_map : {X Y : Type 0} (f : X → Y) (xs : List X) (k : ℕ) (y : Y) → slice_get (map f xs) k ≡ Some y
-    → (x : X) × (f x ≡ y)
-get_map f [] k y found = cc
-get_map f (x ∷ xs) zero y found = (x, same_Some (f x) y found)
-get_map f (x ∷ xs) (suc k) y found = get_map f xs k y found
-
 -- ---- the start
 
 -- in a new world nothing was delivered to anyone, from queues that are empty
 pub AreQueued-new : (bindings : List Arguments) (window : ℕ) (held : Option Saved)
     → AreQueued (new_world bindings window held)
 AreQueued-new bindings window held i s found =
-    let made = get_map new_subscription bindings (i - 1) s
+    let made = slice_get_made new_subscription bindings (i - 1) s
     (numbered_parts (map new_subscription bindings) i s found).1 in
-    subst (IsServed []) made.1 (IsServed-new made.0)
+    subst (IsServed []) made.1.1 (IsServed-new made.0)
 
 -- ---- one subscriber changes
 

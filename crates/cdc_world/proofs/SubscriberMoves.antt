@@ -1,10 +1,10 @@
 -- What is kept of the actors after a step of a subscriber and its queue.
-use Rattle.std.proofs.Common.{◌≡◌, ℕ, zero, suc, ◌+◌, ◌-◌, ◌<◌, ◌==◌, max, Bool, true, false, List, [], ◌∷◌, ◌++◌, Option, Some, None, Result, Ok, Err, refl, sym, ap, ap₂, ◌∙◌, subst, map, length, drop, get_or, inl, inr, arith}
-use Rattle.std.specs.Prelude.{Contains, MatchResult, is_ok, nat_lt, ◌||◌, not, ok_or, option_map, slice_set, unwrap_or, if◌then◌else◌}
+use Rattle.std.proofs.Common.{◌≡◌, ℕ, suc, ◌+◌, ◌-◌, ◌<◌, ◌==◌, max, Bool, true, false, List, [], ◌∷◌, ◌++◌, Option, Some, None, Result, Ok, Err, refl, sym, ap, ap₂, ◌∙◌, subst, map, length, drop, get_or, inl, inr, arith}
+use Rattle.std.specs.Prelude.{Contains, MatchResult, is_ok, nat_lt, not, ok_or, option_map, slice_set, if◌then◌else◌}
 use Rattle.std.specs.List.{slice_get}
 use Rattle.std.proofs.lemmas.List.{length-map, map-set}
 use Rattle.std.proofs.lemmas.List.Elements.{Contains-push_cases}
-use Rattle.std.proofs.lemmas.Option.{same_Some, slice_get-map}
+use Rattle.std.proofs.lemmas.Option.{same_Some, slice_get-get_or}
 use Rattle.cdc_broker.specs.Broker.{BrokerState, nobody, queue_of, with_queue}
 use Rattle.cdc_broker.specs.Cursors.{Cursor, after_ack, after_delivery, delivery_at, rewound}
 use Rattle.cdc_broker.specs.Queues.{QueueState, acknowledged, empty_queue, is_unknown, next_delivery as next_of_queue, rewound_queue, with_delivery as with_delivery_of}
@@ -16,21 +16,19 @@ use Rattle.cdc_subscriber.specs.declared.errors.TakeError.{TakeError}
 use Rattle.cdc_subscriber.specs.declared.subscriber.Taking.{Taking}
 use Rattle.cdc_subscriber.specs.Reception.{Reception, kept_of, next as next_reception}
 use Rattle.cdc_subscriber.specs.SubscriberState.{SubscriberState}
-use Rattle.cdc_types.specs.declared.steps.Step.{Step}
 use Rattle.cdc_types.specs.declared.steps.Step.TheVariants.{Send, Rewind, Break, Take, Ack, Close}
-use Rattle.cdc_world.specs.declared.steps.Did.{Did}
 use Rattle.cdc_world.specs.declared.steps.Did.TheVariants.{Counted, Took, Done}
 use Rattle.cdc_world.specs.declared.steps.StepError.{StepError}
-use Rattle.cdc_world.specs.declared.steps.StepError.TheVariants.{NotEnabled, OutOfMemory}
+use Rattle.cdc_world.specs.declared.steps.StepError.TheVariants.{NotEnabled}
 use Rattle.cdc_world.specs.declared.subscriptions.Subscription.{Subscription as Kept_subscription}
-use Rattle.cdc_world.specs.Next.{Outcome, ◌>>=◌, acknowledgement, first_flight, next, next_delivery, success, taking, with_ack, with_break, with_close, with_delivery, with_rewind, with_subscription, with_taking}
+use Rattle.cdc_world.specs.Next.{◌>>=◌, acknowledgement, first_flight, next, next_delivery, success, taking, with_ack, with_break, with_close, with_delivery, with_rewind, with_subscription, with_taking}
 use Rattle.cdc_world.specs.Parts.{ActorParts, SubscriptionParts, subscription_parts}
 use Rattle.cdc_world.specs.Stands.{ActorsStand, WereDelivered, IsDelivered, QueueView, parts_of, queue_for, view_of}
-use Rattle.cdc_world.specs.Turns.{ActorsMove, DeliversAt, HasClosed, HasTakenFirst, TakesAt, place_in}
+use Rattle.cdc_world.specs.Turns.{ActorsMove, DeliversAt, HasClosed, HasTakenFirst, TakesAt, empty_subscription, place_in}
 use Rattle.cdc_world.specs.Worlds.{Subscription, WorldState, numbered, taken_items}
-use Rattle.cdc_world.proofs.NumberedElements.{Contains_numbered, IsPlace, numbered_place, place_is, slice_get_made, subscription_here}
-use Rattle.cdc_world.proofs.QueueViews.{delivered_here, delivered_set, set_found, set_same}
-use Rattle.cdc_world.proofs.ActorMoves.{exhausted, tried, unable}
+use Rattle.cdc_world.proofs.NumberedElements.{Contains_numbered, numbered_place, place_is, slice_get_made, subscription_here}
+use Rattle.cdc_world.proofs.QueueViews.{delivered_here, delivered_set, set_found, set_same, view_read}
+use Rattle.cdc_world.proofs.ActorMoves.{done, exhausted, tried, unable}
 
 -- ---- one subscription and its queue
 
@@ -54,80 +52,57 @@ of_number a w i kept st above here =
       parts = found.1.1;
     }
 
--- the queue under a number is seen as its subscription's
-queue_is : (a : ActorParts) (w : WorldState) (i : ℕ) (s : Subscription) → ActorsStand a w
-    → slice_get w.subscriptions (i - 1) ≡ Some s → view_of (queue_of a.broker i) ≡ queue_for (taken_items w) s
-queue_is a w i s st there =
-    let found = slice_get_made view_of a.broker.queues (i - 1) (queue_for (taken_items w) s)
-    (ap (λ (vs : List QueueView). slice_get vs (i - 1)) st.subscribers.queues
-    ∙ (slice_get-map (queue_for (taken_items w)) w.subscriptions (i - 1)
-    ∙ ap (option_map (queue_for (taken_items w))) there)) in
-    ap (λ (q : Option QueueState). view_of (unwrap_or q (empty_queue nobody))) found.1.0 ∙ found.1.1
+module _ (a : ActorParts) (w : WorldState) (i : ℕ) (s : Subscription) (st : ActorsStand a w)
+    (there : slice_get w.subscriptions (i - 1) ≡ Some s) where
+  -- the queue under a number is seen as its subscription's
+  queue_is : view_of (queue_of a.broker i) ≡ queue_for (taken_items w) s
+  queue_is = view_read a.broker (taken_items w) w.subscriptions i s st.subscribers.queues there
 
--- what its queue has delivered
-delivered_is : (a : ActorParts) (w : WorldState) (i : ℕ) (s : Subscription) → ActorsStand a w
-    → slice_get w.subscriptions (i - 1) ≡ Some s → WereDelivered (queue_of a.broker i).delivered s
-delivered_is a w i s st there =
-    delivered_here (i - 1) a.broker.queues w.subscriptions (taken_items w) (empty_queue nobody) s st.subscribers.queues
-    there st.subscribers.delivered
+  -- what its queue has delivered
+  delivered_is : WereDelivered (queue_of a.broker i).delivered s
+  delivered_is =
+      delivered_here (i - 1) a.broker.queues w.subscriptions (taken_items w) (empty_queue nobody) s
+      st.subscribers.queues there st.subscribers.delivered
 
--- if one subscription and its queue change together, the actors represent the world with the new one
-one_changes : (a : ActorParts) (w : WorldState) (i : ℕ) (s s' : Subscription) (q' : QueueState)
-    (kept' : SubscriptionParts) → ActorsStand a w → slice_get w.subscriptions (i - 1) ≡ Some s
-    → view_of q' ≡ queue_for (taken_items w) s' → kept' ≡ parts_of s'
-    → (WereDelivered (queue_of a.broker i).delivered s → WereDelivered q'.delivered s')
-    → ActorsStand
-    (record a { broker = with_queue i q' a.broker; subscriptions = slice_set a.subscriptions (i - 1) kept' })
-    (with_subscription i s' w)
-one_changes a w i s s' q' kept' st there seen same delivered = record {
-  history = st.history;
-  connector = st.connector;
-  broker = st.broker;
-  subscribers = record {
-    queues = map-set view_of a.broker.queues (i - 1) q'
-        ∙ ap₂ (λ (vs : List QueueView) (v : QueueView). slice_set vs (i - 1) v) st.subscribers.queues seen
-        ∙ sym (map-set (queue_for (taken_items w)) w.subscriptions (i - 1) s');
-    subscriptions = ap₂ (λ (ks : List SubscriptionParts) (k : SubscriptionParts). slice_set ks (i - 1)
-        k) st.subscribers.subscriptions same
-        ∙ sym (map-set parts_of w.subscriptions (i - 1) s');
-    delivered = delivered_set (i - 1) a.broker.queues w.subscriptions (empty_queue nobody) q' s s' there delivered
-        st.subscribers.delivered;
-  };
-}
+  -- if one subscription and its queue change together, the actors represent the world with the new one
+  one_changes : (s' : Subscription) (q' : QueueState) (kept' : SubscriptionParts)
+      → view_of q' ≡ queue_for (taken_items w) s' → kept' ≡ parts_of s'
+      → (WereDelivered (queue_of a.broker i).delivered s → WereDelivered q'.delivered s') → ActorsStand
+      (record a { broker = with_queue i q' a.broker; subscriptions = slice_set a.subscriptions (i - 1) kept' })
+      (with_subscription i s' w)
+  one_changes s' q' kept' seen same delivered = record {
+    history = st.history;
+    connector = st.connector;
+    broker = st.broker;
+    subscribers = record {
+      queues = map-set view_of a.broker.queues (i - 1) q'
+          ∙ ap₂ (λ vs v. slice_set vs (i - 1) v) st.subscribers.queues seen
+          ∙ sym (map-set (queue_for (taken_items w)) w.subscriptions (i - 1) s');
+      subscriptions = ap₂ (λ ks k. slice_set ks (i - 1) k) st.subscribers.subscriptions same
+          ∙ sym (map-set parts_of w.subscriptions (i - 1) s');
+      delivered = delivered_set (i - 1) a.broker.queues w.subscriptions (empty_queue nobody) q' s s' there delivered
+          st.subscribers.delivered;
+    };
+  }
 
--- the same of a subscription whose queue stays
-subscription_changes : (a : ActorParts) (w : WorldState) (i : ℕ) (s s' : Subscription) (kept' : SubscriptionParts)
-    → ActorsStand a w → slice_get w.subscriptions (i - 1) ≡ Some s
-    → queue_for (taken_items w) s ≡ queue_for (taken_items w) s' → kept' ≡ parts_of s'
-    → (WereDelivered (queue_of a.broker i).delivered s → WereDelivered (queue_of a.broker i).delivered s')
-    → ActorsStand (record a { subscriptions = slice_set a.subscriptions (i - 1) kept' }) (with_subscription i s' w)
-subscription_changes a w i s s' kept' st there seen same delivered =
-    subst (λ (queues : List QueueState). ActorsStand (record a {
-      broker = record a.broker { queues = queues };
-      subscriptions = slice_set a.subscriptions (i - 1) kept';
-    }) (with_subscription i s' w)) (set_same a.broker.queues (i - 1) (empty_queue nobody))
-    (one_changes a w i s s' (queue_of a.broker i) kept' st there (queue_is a w i s st there ∙ seen) same delivered)
+  -- the same of a subscription whose queue stays
+  subscription_changes : (s' : Subscription) (kept' : SubscriptionParts)
+      → queue_for (taken_items w) s ≡ queue_for (taken_items w) s' → kept' ≡ parts_of s'
+      → (WereDelivered (queue_of a.broker i).delivered s → WereDelivered (queue_of a.broker i).delivered s')
+      → ActorsStand (record a { subscriptions = slice_set a.subscriptions (i - 1) kept' }) (with_subscription i s' w)
+  subscription_changes s' kept' seen same delivered =
+      rw (set_same a.broker.queues (i - 1) (empty_queue nobody)) at
+      (one_changes s' (queue_of a.broker i) kept' (queue_is ∙ seen) same delivered)
 
--- and of a queue whose subscription is kept as it was
-queue_changes : (a : ActorParts) (w : WorldState) (i : ℕ) (kept : SubscriptionParts) (s s' : Subscription)
-    (q' : QueueState) → ActorsStand a w → slice_get a.subscriptions (i - 1) ≡ Some kept
-    → slice_get w.subscriptions (i - 1) ≡ Some s
-    → view_of q' ≡ queue_for (taken_items w) s' → kept ≡ parts_of s'
-    → (WereDelivered (queue_of a.broker i).delivered s → WereDelivered q'.delivered s')
-    → ActorsStand (record a { broker = with_queue i q' a.broker }) (with_subscription i s' w)
-queue_changes a w i kept s s' q' st here there seen same delivered =
-    subst (λ (kepts : List SubscriptionParts). ActorsStand (record a {
-      broker = with_queue i q' a.broker;
-      subscriptions = kepts;
-    }) (with_subscription i s' w)) (set_found a.subscriptions (i - 1) kept here)
-    (one_changes a w i s s' q' kept st there seen same delivered)
+  -- and of a queue whose subscription is kept as it was
+  queue_changes : (kept : SubscriptionParts) (s' : Subscription) (q' : QueueState)
+      → slice_get a.subscriptions (i - 1) ≡ Some kept → view_of q' ≡ queue_for (taken_items w) s'
+      → kept ≡ parts_of s' → (WereDelivered (queue_of a.broker i).delivered s → WereDelivered q'.delivered s')
+      → ActorsStand (record a { broker = with_queue i q' a.broker }) (with_subscription i s' w)
+  queue_changes kept s' q' here seen same delivered =
+      rw (set_found a.subscriptions (i - 1) kept here) at (one_changes s' q' kept seen same delivered)
 
 -- ---- a queue delivers
-
--- a queue delivers what its subscription's queue does
-deliveries_same : (a : ActorParts) (w : WorldState) (i : ℕ) (s : Subscription) → ActorsStand a w
-    → slice_get w.subscriptions (i - 1) ≡ Some s → next_of_queue (queue_of a.broker i) ≡ next_delivery w s
-deliveries_same a w i s st there = ap (λ (v : QueueView). delivery_at v.cursor v.items) (queue_is a w i s st there)
 
 -- its position is the cursor's
 position_from : (cursor : Cursor) (item : Option Item) (delivery : Delivery)
@@ -164,187 +139,101 @@ delivered_found : (i : ℕ) (b b' : BrokerState) (s s' : SubscriptionParts) (fou
 delivered_found i b b' s s' None delivers = cc (delivers.0)
 delivered_found i b b' s s' (Some delivery) delivers = (delivery, (refl, delivers))
 
--- a step of a queue is what it does with what it delivers next
-sends_next : (w : WorldState) (i : ℕ) (s : Subscription) (found : Option Delivery) → numbered w.subscriptions i ≡ Some s
-    → next_delivery w s ≡ found
-    → next w (Send i) ≡ (found >>= (λ delivery. success (with_subscription i (with_delivery delivery s) w)))
-sends_next w i s found here next =
-    let after : Subscription → Delivery → Outcome =
-    λ s delivery. success (with_subscription i (with_delivery delivery s) w) in
-    ap (λ (found : Option Subscription). found >>= (λ s. next_delivery w s >>= after s)) here
-    ∙ ap (λ (found : Option Delivery). found >>= after s) next
-
--- a queue delivers
-send_done : (a : ActorParts) (i : ℕ) (s s' : SubscriptionParts) (b' : BrokerState) → 0 < i
-    → slice_get a.subscriptions (i - 1) ≡ Some s
-    → DeliversAt i a.broker s (next_of_queue (queue_of a.broker i)) (Ok tt) b' s'
-    → ActorsMove a (Send i) (Ok Done)
-    (record a { broker = b'; subscriptions = slice_set a.subscriptions (i - 1) s' })
-send_done a i s s' b' above here delivers =
-    let found = delivered_found i a.broker b' s s' (next_of_queue (queue_of a.broker i)) delivers in
-    let delivery = found.0 in (
-      tt,
-      λ w st.
-          let of = of_number a w i s st above here in
-          let sub = of.subscription in
-          let q = queue_of a.broker i in
-          let seen : view_of q ≡ queue_for (taken_items w) sub = queue_is a w i sub st of.there in
-          let cursor : sub.cursor ≡ q.cursor = ap (λ (v : QueueView). v.cursor) (sym seen) in
-          let next_is : next_delivery w sub ≡ Some delivery =
-          sym (deliveries_same a w i sub st of.there) ∙ found.1.0 in
-          let position : delivery.position ≡ q.cursor.next =
-          position_from q.cursor (slice_get q.items (q.cursor.next - 1)) delivery found.1.0 in
-          let same : s' ≡ parts_of (with_delivery delivery sub) =
-          found.1.1.1 ∙ ap (λ (t : SubscriptionParts). record t { flight = t.flight ++ delivery ∷ [] })
-          (sym of.parts) in (
-            with_subscription i (with_delivery delivery sub) w,
-            (
-              subst (λ (b : BrokerState). ActorsStand (record a {
-                broker = b;
-                subscriptions = slice_set a.subscriptions (i - 1) s';
-              }) (with_subscription i (with_delivery delivery sub) w)) (sym found.1.1.0)
-                  (one_changes a w i sub (with_delivery delivery sub)
-                  (with_delivery_of (Some delivery) q) s' st of.there
-                  (ap (λ (v : QueueView). record v { cursor = after_delivery v.cursor }) seen) same
-                  (delivered_more q.delivered q.cursor sub delivery cursor position)),
-              (sends_next w i sub (Some delivery) of.numbered_so next_is, refl),
-            ),
-          ),
-    )
-
--- a queue that has nothing at its cursor doesn't hand anything out
-unsent_none : (a : ActorParts) (i : ℕ) (s : SubscriptionParts) → 0 < i → slice_get a.subscriptions (i - 1) ≡ Some s
-    → next_of_queue (queue_of a.broker i) ≡ None → ActorsMove a (Send i) (Err NotEnabled) a
-unsent_none a i s above here none =
-    unable a (Send i)
-    (λ w st.
-    let of = of_number a w i s st above here in
-    sends_next w i of.subscription None of.numbered_so (sym (deliveries_same a w i of.subscription st of.there) ∙ none))
-
--- one that has something fails only if memory runs out
-unsent_some : (a : ActorParts) (i : ℕ) (s : SubscriptionParts) (delivery : Delivery) → 0 < i
-    → slice_get a.subscriptions (i - 1) ≡ Some s → next_of_queue (queue_of a.broker i) ≡ Some delivery
-    → ActorsMove a (Send i) (Err OutOfMemory) a
-unsent_some a i s delivery above here some =
-    exhausted a (Send i) refl
-    (λ w st.
-    let of = of_number a w i s st above here in
-    tried w _ (Send i) _
-    (sends_next w i of.subscription (Some delivery) of.numbered_so
-    (sym (deliveries_same a w i of.subscription st of.there) ∙ some)))
-
 -- one refusal is the other
-err_same : {A : Type 0} (why why' : StepError) → ◌≡◌ {A = Result A StepError} (Err why) (Err why') → why' ≡ why
+err_same : {A : Type 0} (why why' : StepError) → ◌≡◌ {A = Result A StepError} (Err why) (Err why') → why ≡ why'
 err_same why why' is = cc
 
--- so a delivery that is refused, for either reason, leaves broker, subscription and all that is kept as they were
-unsent : (a : ActorParts) (i : ℕ) (s s' : SubscriptionParts) (b' : BrokerState) (found : Option Delivery)
-    (why : StepError) → 0 < i
-    → slice_get a.subscriptions (i - 1) ≡ Some s → next_of_queue (queue_of a.broker i) ≡ found
-    → DeliversAt i a.broker s found (Err why) b' s'
-    → (b' ≡ a.broker) × ((s' ≡ s) × ActorsMove a (Send i) (Err why) a)
-unsent a i s s' b' None why above here is delivers = (
-  delivers.1.0,
-  (
-    delivers.1.1,
-    subst (λ (e : StepError). ActorsMove a (Send i) (Err e) a) (err_same why NotEnabled delivers.0)
-        (unsent_none a i s above here is),
-  ),
-)
-unsent a i s s' b' (Some delivery) why above here is delivers = (
-  delivers.1.0,
-  (
-    delivers.1.1,
-    subst (λ (e : StepError). ActorsMove a (Send i) (Err e) a) (sym delivers.0)
-        (unsent_some a i s delivery above here is),
-  ),
-)
-
--- what is kept as it was may be put back
-put_back : (a : ActorParts) (step : Step) (answer : Result Did StepError) (i : ℕ) (s s' : SubscriptionParts)
-    → slice_get a.subscriptions (i - 1) ≡ Some s → s' ≡ s → ActorsMove a step answer a
-    → ActorsMove a step answer (record a { subscriptions = slice_set a.subscriptions (i - 1) s' })
-put_back a step answer i s s' here same moves =
-    subst (λ (kepts : List SubscriptionParts). ActorsMove a step answer (record a { subscriptions = kepts }))
-    (sym (ap (slice_set a.subscriptions (i - 1)) same ∙ set_found a.subscriptions (i - 1) s here)) moves
-
--- the same of the step
-send_refused : (a : ActorParts) (i : ℕ) (s s' : SubscriptionParts) (b' : BrokerState) (why : StepError) → 0 < i
-    → slice_get a.subscriptions (i - 1) ≡ Some s
-    → DeliversAt i a.broker s (next_of_queue (queue_of a.broker i)) (Err why) b' s'
-    → ActorsMove a (Send i) (Err why) (record a { broker = b'; subscriptions = slice_set a.subscriptions (i - 1) s' })
-send_refused a i s s' b' why above here delivers =
-    let un = unsent a i s s' b' (next_of_queue (queue_of a.broker i)) why above here refl delivers in
-    subst (λ (b : BrokerState). ActorsMove a (Send i) (Err why) (record a {
-      broker = b;
-      subscriptions = slice_set a.subscriptions (i - 1) s';
-    })) (sym un.0)
-    (put_back a (Send i) (Err why) i s s' here un.1.0 un.1.1)
-
--- ---- a queue rewinds
-
--- what was delivered stays so if the queue rewinds
-delivered_rewound : (delivered : ℕ) (s : Subscription) → WereDelivered delivered s
-    → WereDelivered delivered (with_rewind s)
-delivered_rewound delivered s has = record { first = omega arith; flight = has.flight; acks = has.acks }
-
--- the queue rewinds
-rewind_done : (a : ActorParts) (i : ℕ) (s : SubscriptionParts) → 0 < i → slice_get a.subscriptions (i - 1) ≡ Some s
-    → ActorsMove a (Rewind i) (Ok Done)
-    (record a { broker = with_queue i (rewound_queue (queue_of a.broker i)) a.broker })
-rewind_done a i s above here = (
-  tt,
-  λ w st.
+module _ (a : ActorParts) (i : ℕ) (s : SubscriptionParts) (above : 0 < i)
+    (here : slice_get a.subscriptions (i - 1) ≡ Some s) where
+  -- a step of a queue is what it does with what it delivers next
+  sends_next : (w : WorldState) (st : ActorsStand a w) (found : Option Delivery)
+      → next_of_queue (queue_of a.broker i) ≡ found → next w (Send i) ≡ (found
+      >>= (λ d. success (with_subscription i (with_delivery d (of_number a w i s st above here).subscription) w)))
+  sends_next w st found next =
       let of = of_number a w i s st above here in
-      let sub = of.subscription in
-      let q = queue_of a.broker i in (
-        with_subscription i (with_rewind sub) w,
-        (
-          queue_changes a w i s sub (with_rewind sub) (rewound_queue q) st here of.there
-              (ap (λ (v : QueueView). record v { cursor = rewound v.cursor }) (queue_is a w i sub st of.there))
-              (sym of.parts) (delivered_rewound q.delivered sub),
-          (
-            ap (λ (found : Option Subscription). found >>= (λ s. success (with_subscription i (with_rewind s) w)))
-                of.numbered_so,
-            refl,
-          ),
-        ),
-      ),
-)
+      let is : next_delivery w of.subscription ≡ found =
+      sym (ap (λ (v : QueueView). delivery_at v.cursor v.items) (queue_is a w i of.subscription st of.there)) ∙ next in
+      rw (of.numbered_so, is)
 
--- nothing is on its way after a break
-delivered_broken : (delivered : ℕ) (s : Subscription) → WereDelivered delivered s
-    → WereDelivered delivered (with_break s)
-delivered_broken delivered s has =
-    record { first = omega arith; flight = λ d there. absurd (none_there d there); acks = has.acks }
+  -- a queue delivers
+  send_done : (s' : SubscriptionParts) (b' : BrokerState)
+      → DeliversAt i a.broker s (next_of_queue (queue_of a.broker i)) (Ok tt) b' s'
+      → ActorsMove a (Send i) (Ok Done) (record a { broker = b'; subscriptions = slice_set a.subscriptions (i - 1) s' })
+  send_done s' b' delivers =
+      let found = delivered_found i a.broker b' s s' (next_of_queue (queue_of a.broker i)) delivers in
+      let delivery = found.0 in (
+        tt,
+        λ w st.
+            let of = of_number a w i s st above here in
+            let sub = of.subscription in
+            let q = queue_of a.broker i in
+            let seen : view_of q ≡ queue_for (taken_items w) sub = queue_is a w i sub st of.there in
+            let same : s' ≡ parts_of (with_delivery delivery sub) =
+            found.1.1.1 ∙ ap (λ (t : SubscriptionParts). record t { flight = t.flight ++ delivery ∷ [] })
+            (sym of.parts) in (
+              with_subscription i (with_delivery delivery sub) w,
+              (
+                subst (λ (b : BrokerState). ActorsStand (record a {
+                  broker = b;
+                  subscriptions = slice_set a.subscriptions (i - 1) s';
+                }) (with_subscription i (with_delivery delivery sub) w)) (sym found.1.1.0)
+                    (one_changes a w i sub st of.there (with_delivery delivery sub)
+                    (with_delivery_of (Some delivery) q) s'
+                    (ap (λ (v : QueueView). record v { cursor = after_delivery v.cursor }) seen) same
+                    (delivered_more q.delivered q.cursor sub delivery (ap (λ (v : QueueView). v.cursor) (sym seen))
+                    (position_from q.cursor (slice_get q.items (q.cursor.next - 1)) delivery found.1.0))),
+                (sends_next w st (Some delivery) found.1.0, refl),
+              ),
+            ),
+      )
 
--- and what is on its way is lost
-break_done : (a : ActorParts) (i : ℕ) (s s' : SubscriptionParts) → 0 < i → slice_get a.subscriptions (i - 1) ≡ Some s
-    → s' ≡ record s { flight = [] }
-    → ActorsMove a (Break i) (Ok Done) (record a {
-      broker = with_queue i (rewound_queue (queue_of a.broker i)) a.broker;
-      subscriptions = slice_set a.subscriptions (i - 1) s';
-    })
-break_done a i s s' above here lost = (
-  tt,
-  λ w st.
-      let of = of_number a w i s st above here in
-      let sub = of.subscription in
-      let q = queue_of a.broker i in (
-        with_subscription i (with_break sub) w,
-        (
-          one_changes a w i sub (with_break sub) (rewound_queue q) s' st of.there
-              (ap (λ (v : QueueView). record v { cursor = rewound v.cursor }) (queue_is a w i sub st of.there))
-              (lost ∙ ap (λ (t : SubscriptionParts). record t { flight = [] }) (sym of.parts))
-              (delivered_broken q.delivered sub),
-          (
-            ap (λ (found : Option Subscription). found >>= (λ s. success (with_subscription i (with_break s) w)))
-                of.numbered_so,
-            refl,
-          ),
-        ),
-      ),
-)
+  -- one that has nothing at its cursor doesn't, nor does one for which memory runs out; all that is kept stays
+  send_refused : (j : ℕ) → j ≡ i → (s' : SubscriptionParts) (b' : BrokerState) (why : StepError)
+      (found : Option Delivery) → next_of_queue (queue_of a.broker i) ≡ found
+      → DeliversAt i a.broker s found (Err why) b' s'
+      → ActorsMove a (Send j) (Err why) (record a { broker = b'; subscriptions = slice_set a.subscriptions (i - 1) s' })
+  send_refused j is s' b' why None next delivers =
+      rw (err_same why NotEnabled delivers.0, is, delivers.1.0, delivers.1.1, set_found a.subscriptions (i - 1) s here)
+      (unable a (Send i) (λ w st. sends_next w st None next))
+  send_refused j is s' b' why (Some delivery) next delivers =
+      rw (delivers.0, is, delivers.1.0, delivers.1.1, set_found a.subscriptions (i - 1) s here)
+      (exhausted a (Send i) refl (λ w st. tried w _ (Send i) _ (sends_next w st (Some delivery) next)))
+
+  -- ---- a queue rewinds
+
+  -- the queue rewinds
+  rewind_done : ActorsMove a (Rewind i) (Ok Done)
+      (record a { broker = with_queue i (rewound_queue (queue_of a.broker i)) a.broker })
+  rewind_done = (
+    tt,
+    λ w st.
+        let of = of_number a w i s st above here in
+        let sub = of.subscription in
+        done w (with_subscription i (with_rewind sub) w) (Rewind i) Done
+        (queue_changes a w i sub st of.there s (with_rewind sub) (rewound_queue (queue_of a.broker i)) here
+        (ap (λ (v : QueueView). record v { cursor = rewound v.cursor }) (queue_is a w i sub st of.there))
+        (sym of.parts) (λ has. record { first = omega arith; flight = has.flight; acks = has.acks }))
+        (rw (of.numbered_so)) refl,
+  )
+
+  -- and what is on its way is lost
+  break_done : (s' : SubscriptionParts) → s' ≡ record s { flight = [] }
+      → ActorsMove a (Break i) (Ok Done) (record a {
+        broker = with_queue i (rewound_queue (queue_of a.broker i)) a.broker;
+        subscriptions = slice_set a.subscriptions (i - 1) s';
+      })
+  break_done s' lost = (
+    tt,
+    λ w st.
+        let of = of_number a w i s st above here in
+        let sub = of.subscription in
+        done w (with_subscription i (with_break sub) w) (Break i) Done
+        (one_changes a w i sub st of.there (with_break sub) (rewound_queue (queue_of a.broker i)) s'
+        (ap (λ (v : QueueView). record v { cursor = rewound v.cursor }) (queue_is a w i sub st of.there))
+        (lost ∙ ap (λ (t : SubscriptionParts). record t { flight = [] }) (sym of.parts))
+        (λ has. record { first = omega arith; flight = λ d there. absurd (none_there d there); acks = has.acks }))
+        (rw (of.numbered_so)) refl,
+  )
 
 -- ---- a subscriber takes
 
@@ -362,210 +251,128 @@ parts_same s s' k f acks =
     ∙ (ap (λ (x : List Delivery). record s { kept = s'.kept; flight = x }) f
     ∙ ap (λ (x : List ℕ). record s' { acks = x }) acks)
 
--- a step of a subscriber is what it does with the first of the deliveries
-takes_next : (w : WorldState) (i : ℕ) (s : Subscription) (flight : List Delivery) → numbered w.subscriptions i ≡ Some s
-    → s.flight ≡ flight → next w (Take i) ≡ (first_flight flight >>= taking w i s)
-takes_next w i s flight here first =
-    ap (λ (found : Option Subscription). found >>= (λ s. first_flight s.flight >>= taking w i s)) here
-    ∙ ap (λ (flight : List Delivery). first_flight flight >>= taking w i s) first
-
--- the first element of a list, or one after it
-contains_first : {X : Type 0} (x : X) (xs : List X) → Contains (x ∷ xs) x
-contains_first x xs = (0, omega arith, refl)
-
-contains_rest : {X : Type 0} (x : X) (xs : List X) (y : X) → Contains xs y → Contains (x ∷ xs) y
-contains_rest x xs y (i, low, is) = (suc i, omega (arith, low), is)
-
 -- what was delivered stays so if a delivery is taken and acknowledged
 delivered_taken : (delivered : ℕ) (s : Subscription) (delivery : Delivery) (rest : List Delivery)
     → s.flight ≡ delivery ∷ rest → WereDelivered delivered s → WereDelivered delivered (with_taking delivery rest s)
 delivered_taken delivered s delivery rest first has = record {
   first = has.first;
-  flight = λ d there. has.flight d (subst (λ ds. Contains ds d) (sym first) (contains_rest delivery rest d there));
+  flight = λ d there.
+      has.flight d (subst (λ ds. Contains ds d) (sym first) (suc there.0, omega (arith, there.1), there.2));
   acks = λ p there.
       elim (Contains-push_cases s.acks delivery.position p there) [
         | inl old ↦ has.acks p old
         | inr new ↦ subst (IsDelivered delivered) new
-            (has.flight delivery (subst (λ ds. Contains ds delivery) (sym first) (contains_first delivery rest)))
+            (has.flight delivery (subst (λ ds. Contains ds delivery) (sym first) (0, omega arith, refl)))
       ];
 }
-
--- a subscriber takes a delivery
-take_done : (a : ActorParts) (i : ℕ) (s s' : SubscriptionParts) (answer : Taking) → 0 < i
-    → slice_get a.subscriptions (i - 1) ≡ Some s → TakesAt s s.flight (Ok answer) s'
-    → ActorsMove a (Take i) (Ok (Took answer)) (record a { subscriptions = slice_set a.subscriptions (i - 1) s' })
-take_done a i s s' answer above here takes =
-    let found = taken_found s s' s.flight answer takes in
-    let delivery = found.0 in
-    let rest = found.1.0 in
-    let has = found.1.1.1 in (
-      tt,
-      λ w st.
-          let of = of_number a w i s st above here in
-          let sub = of.subscription in
-          let sub' : Subscription = with_taking delivery rest sub in
-          let flight : sub.flight ≡ delivery ∷ rest =
-          ap (λ (t : SubscriptionParts). t.flight) of.parts ∙ found.1.1.0 in
-          let kept : s.kept ≡ kept_of sub.reception = ap (λ (t : SubscriptionParts). t.kept) (sym of.parts) in
-          let acks : s.acks ≡ sub.acks = ap (λ (t : SubscriptionParts). t.acks) (sym of.parts) in
-          let same : s' ≡ parts_of sub' =
-          parts_same s' (parts_of sub') (has.receives sub.reception kept) has.flight
-          (has.acks ∙ ap (λ (xs : List ℕ). xs ++ delivery.position ∷ []) acks) in (
-            with_subscription i sub' w,
-            (
-              subscription_changes a w i sub sub' s' st of.there refl same
-                  (delivered_taken (queue_of a.broker i).delivered sub delivery rest flight),
-              (
-                takes_next w i sub (delivery ∷ rest) of.numbered_so flight
-                    ∙ ap (λ (t : Taking). Ok (Took t, with_subscription i sub' w))
-                    (ap (λ (k : SubscriberState). answer_to k delivery.item) (sym kept) ∙ sym has.answers),
-                refl,
-              ),
-            ),
-          ),
-    )
-
--- if nothing is on its way to a subscriber, it can't take anything
-untaken_none : (a : ActorParts) (i : ℕ) (s : SubscriptionParts) → 0 < i → slice_get a.subscriptions (i - 1) ≡ Some s
-    → s.flight ≡ [] → ActorsMove a (Take i) (Err NotEnabled) a
-untaken_none a i s above here none =
-    unable a (Take i)
-    (λ w st.
-    let of = of_number a w i s st above here in
-    takes_next w i of.subscription [] of.numbered_so (ap (λ (t : SubscriptionParts). t.flight) of.parts ∙ none))
-
--- if something is, it fails to take that only if memory runs out
-untaken_some : (a : ActorParts) (i : ℕ) (s : SubscriptionParts) (delivery : Delivery) (rest : List Delivery) → 0 < i
-    → slice_get a.subscriptions (i - 1) ≡ Some s → s.flight ≡ delivery ∷ rest
-    → ActorsMove a (Take i) (Err OutOfMemory) a
-untaken_some a i s delivery rest above here first =
-    exhausted a (Take i) refl
-    (λ w st.
-    let of = of_number a w i s st above here in
-    tried w _ (Take i) _
-    (takes_next w i of.subscription (delivery ∷ rest) of.numbered_so
-    (ap (λ (t : SubscriptionParts). t.flight) of.parts ∙ first)))
-
--- so a take that is refused, for either reason, leaves what is kept as it was
-untaken : (a : ActorParts) (i : ℕ) (s s' : SubscriptionParts) (flight : List Delivery) (why : StepError) → 0 < i
-    → slice_get a.subscriptions (i - 1) ≡ Some s → s.flight ≡ flight → TakesAt s flight (Err why) s'
-    → (s' ≡ s) × ActorsMove a (Take i) (Err why) a
-untaken a i s s' [] why above here is takes = (
-  takes.1,
-  subst (λ (e : StepError). ActorsMove a (Take i) (Err e) a) (err_same why NotEnabled takes.0)
-      (untaken_none a i s above here is),
-)
-untaken a i s s' (delivery ∷ rest) why above here is takes = (
-  takes.1,
-  subst (λ (e : StepError). ActorsMove a (Take i) (Err e) a) (sym takes.0)
-      (untaken_some a i s delivery rest above here is),
-)
-
--- a subscriber doesn't take anything
-take_refused : (a : ActorParts) (i : ℕ) (s s' : SubscriptionParts) (why : StepError) → 0 < i
-    → slice_get a.subscriptions (i - 1) ≡ Some s → TakesAt s s.flight (Err why) s'
-    → ActorsMove a (Take i) (Err why) (record a { subscriptions = slice_set a.subscriptions (i - 1) s' })
-take_refused a i s s' why above here takes =
-    let un = untaken a i s s' s.flight why above here refl takes in
-    put_back a (Take i) (Err why) i s s' here un.0 un.1
-
--- ---- an acknowledgement comes
-
--- a step with an acknowledgement is what it does with its position
-acks_next : (w : WorldState) (i k : ℕ) (s : Subscription) (found : Option ℕ) → numbered w.subscriptions i ≡ Some s
-    → numbered s.acks k ≡ found → next w (Ack i k) ≡ (found >>= acknowledgement w i s)
-acks_next w i k s found here there =
-    ap (λ (found : Option Subscription). found >>= (λ s. numbered s.acks k >>= acknowledgement w i s)) here
-    ∙ ap (λ (found : Option ℕ). found >>= acknowledgement w i s) there
-
--- what was delivered stays so if the cursor moves forward
-delivered_acked : (delivered : ℕ) (s : Subscription) (position : ℕ) → WereDelivered delivered s
-    → WereDelivered delivered (with_ack position s)
-delivered_acked delivered s position has =
-    record { first = omega (arith, has.first); flight = has.flight; acks = has.acks }
 
 -- a position that was delivered is known to the broker
 known : (q : QueueState) (position : ℕ) → IsDelivered q.delivered position → is_unknown q position ≡ false
 known q position is =
     let above : (position == 0) ≡ false = grind (arith, is.0) in
     let inside : nat_lt q.delivered position ≡ false = grind (arith, is.1) in
-    ap₂ (λ (a b : Bool). a || b) above inside
+    rw (above, inside)
 
--- an acknowledgement comes to the queue, and counts
-ack_done : (a : ActorParts) (i k : ℕ) (s : SubscriptionParts) (position : ℕ) (b' : BrokerState) (counted : Bool) → 0 < i
-    → slice_get a.subscriptions (i - 1) ≡ Some s → numbered s.acks k ≡ Some position
-    → counted ≡ not (is_unknown (queue_of a.broker i) position)
-    → b' ≡ (if counted then with_queue i (acknowledged position (queue_of a.broker i)) a.broker else a.broker)
-    → ActorsMove a (Ack i k) (Ok (Counted counted)) (record a { broker = b' })
-ack_done a i k s position b' counted above here there answer state = (
-  tt,
-  λ w st.
+module _ (a : ActorParts) (i : ℕ) (s : SubscriptionParts) (above : 0 < i)
+    (here : slice_get a.subscriptions (i - 1) ≡ Some s) where
+  -- a step of a subscriber is what it does with the first of the deliveries
+  takes_next : (w : WorldState) (st : ActorsStand a w) (flight : List Delivery) → s.flight ≡ flight
+      → next w (Take i) ≡ (first_flight flight >>= taking w i (of_number a w i s st above here).subscription)
+  takes_next w st flight first =
       let of = of_number a w i s st above here in
-      let sub = of.subscription in
-      let q = queue_of a.broker i in
-      let given : numbered sub.acks k ≡ Some position =
+      let is : of.subscription.flight ≡ flight = ap (λ (t : SubscriptionParts). t.flight) of.parts ∙ first in
+      rw (of.numbered_so, is)
+
+  -- a subscriber takes a delivery
+  take_done : (s' : SubscriptionParts) (answer : Taking) → TakesAt s s.flight (Ok answer) s'
+      → ActorsMove a (Take i) (Ok (Took answer)) (record a { subscriptions = slice_set a.subscriptions (i - 1) s' })
+  take_done s' answer takes =
+      let found = taken_found s s' s.flight answer takes in
+      let delivery = found.0 in
+      let rest = found.1.0 in
+      let first = found.1.1.0 in
+      let has = found.1.1.1 in (
+        tt,
+        λ w st.
+            let of = of_number a w i s st above here in
+            let sub = of.subscription in
+            let sub' : Subscription = with_taking delivery rest sub in
+            let kept : s.kept ≡ kept_of sub.reception = ap (λ (t : SubscriptionParts). t.kept) (sym of.parts) in
+            let acks : s.acks ≡ sub.acks = ap (λ (t : SubscriptionParts). t.acks) (sym of.parts) in
+            done w (with_subscription i sub' w) (Take i) (Took answer)
+            (subscription_changes a w i sub st of.there sub' s' refl
+            (parts_same s' (parts_of sub') (has.receives sub.reception kept) has.flight
+            (has.acks ∙ ap (λ (xs : List ℕ). xs ++ delivery.position ∷ []) acks))
+            (delivered_taken (queue_of a.broker i).delivered sub delivery rest
+            (ap (λ (t : SubscriptionParts). t.flight) of.parts ∙ first)))
+            (takes_next w st (delivery ∷ rest) first ∙ ap (λ (t : Taking). Ok (Took t, with_subscription i sub' w))
+            (ap (λ (k : SubscriberState). answer_to k delivery.item) (sym kept) ∙ sym has.answers)) refl,
+      )
+
+  -- it takes nothing if nothing is on its way or memory runs out; what is kept stays
+  take_refused : (j : ℕ) → j ≡ i → (s' : SubscriptionParts) (why : StepError) (flight : List Delivery)
+      → s.flight ≡ flight → TakesAt s flight (Err why) s'
+      → ActorsMove a (Take j) (Err why) (record a { subscriptions = slice_set a.subscriptions (i - 1) s' })
+  take_refused j is s' why [] first takes =
+      rw (err_same why NotEnabled takes.0, is, takes.1, set_found a.subscriptions (i - 1) s here)
+      (unable a (Take i) (λ w st. takes_next w st [] first))
+  take_refused j is s' why (delivery ∷ rest) first takes =
+      rw (takes.0, is, takes.1, set_found a.subscriptions (i - 1) s here)
+      (exhausted a (Take i) refl (λ w st. tried w _ (Take i) _ (takes_next w st (delivery ∷ rest) first)))
+
+  -- ---- an acknowledgement comes
+
+  -- a step with an acknowledgement is what it does with its position
+  acks_next : (w : WorldState) (st : ActorsStand a w) (k : ℕ) (found : Option ℕ) → numbered s.acks k ≡ found
+      → next w (Ack i k) ≡ (found >>= acknowledgement w i (of_number a w i s st above here).subscription)
+  acks_next w st k found there =
+      let of = of_number a w i s st above here in
+      let is : numbered of.subscription.acks k ≡ found =
       ap (λ (t : SubscriptionParts). numbered t.acks k) of.parts ∙ there in
-      let has = delivered_is a w i sub st of.there in
-      let is : counted ≡ true =
-      answer ∙ ap not (known q position (has.acks position (Contains_numbered sub.acks k position given))) in
-      let broker : b' ≡ with_queue i (acknowledged position q) a.broker =
-      state ∙ ap (λ (b : Bool). if b then with_queue i (acknowledged position q) a.broker else a.broker) is in (
-        with_subscription i (with_ack position sub) w,
-        (
-          subst (λ (b : BrokerState). ActorsStand (record a { broker = b })
-              (with_subscription i (with_ack position sub) w))
-              (sym broker)
-              (queue_changes a w i s sub (with_ack position sub) (acknowledged position q) st here of.there
-              (ap (λ (v : QueueView). record v { cursor = after_ack position v.cursor })
-              (queue_is a w i sub st of.there))
-              (sym of.parts) (delivered_acked q.delivered sub position)),
+      rw (of.numbered_so, is)
+
+  -- an acknowledgement comes to the queue, and counts
+  ack_done : (k position : ℕ) (b' : BrokerState) (counted : Bool) → numbered s.acks k ≡ Some position
+      → counted ≡ not (is_unknown (queue_of a.broker i) position)
+      → b' ≡ (if counted then with_queue i (acknowledged position (queue_of a.broker i)) a.broker else a.broker)
+      → ActorsMove a (Ack i k) (Ok (Counted counted)) (record a { broker = b' })
+  ack_done k position b' counted there answer state = (
+    tt,
+    λ w st.
+        let of = of_number a w i s st above here in
+        let sub = of.subscription in
+        let q = queue_of a.broker i in
+        let given : numbered sub.acks k ≡ Some position =
+        ap (λ (t : SubscriptionParts). numbered t.acks k) of.parts ∙ there in
+        let is : counted ≡ true =
+        answer ∙ ap not (known q position ((delivered_is a w i sub st of.there).acks position
+        (Contains_numbered sub.acks k position given))) in (
+          with_subscription i (with_ack position sub) w,
           (
-            acks_next w i k sub (Some position) of.numbered_so given
-                ∙ ap (λ (b : Bool). Ok (Counted b, with_subscription i (with_ack position sub) w)) (sym is),
-            refl,
+            rw (state, is) (queue_changes a w i sub st of.there s (with_ack position sub) (acknowledged position q) here
+                (ap (λ (v : QueueView). record v { cursor = after_ack position v.cursor })
+                (queue_is a w i sub st of.there)) (sym of.parts)
+                (λ has. record { first = omega (arith, has.first); flight = has.flight; acks = has.acks })),
+            (rw is (acks_next w st k (Some position) there), refl),
           ),
         ),
-      ),
-)
+  )
 
--- an acknowledgement that was never given
-ack_none : (a : ActorParts) (i k : ℕ) (s : SubscriptionParts) → 0 < i → slice_get a.subscriptions (i - 1) ≡ Some s
-    → numbered s.acks k ≡ None → ActorsMove a (Ack i k) (Err NotEnabled) a
-ack_none a i k s above here none =
-    unable a (Ack i k)
-    (λ w st.
-    let of = of_number a w i s st above here in
-    acks_next w i k of.subscription None of.numbered_so
-    (ap (λ (t : SubscriptionParts). numbered t.acks k) of.parts ∙ none))
-
--- ---- a subscriber closes
-
--- a subscriber closes
-close_done : (a : ActorParts) (i : ℕ) (s s' : SubscriptionParts) → 0 < i → slice_get a.subscriptions (i - 1) ≡ Some s
-    → HasClosed s s'
-    → ActorsMove a (Close i) (Ok Done) (record a { subscriptions = slice_set a.subscriptions (i - 1) s' })
-close_done a i s s' above here has = (
-  tt,
-  λ w st.
-      let of = of_number a w i s st above here in
-      let sub = of.subscription in
-      let kept : s.kept ≡ kept_of sub.reception = ap (λ (t : SubscriptionParts). t.kept) (sym of.parts) in
-      let flight : s.flight ≡ sub.flight = ap (λ (t : SubscriptionParts). t.flight) (sym of.parts) in
-      let acks : s.acks ≡ sub.acks = ap (λ (t : SubscriptionParts). t.acks) (sym of.parts) in (
-        with_subscription i (with_close sub) w,
-        (
-          subscription_changes a w i sub (with_close sub) s' st of.there refl
-              (parts_same s' (parts_of (with_close sub)) (has.closes sub.reception kept) (has.flight ∙ flight)
-              (has.acks ∙ acks))
-              (λ has. record { first = has.first; flight = has.flight; acks = has.acks }),
-          (
-            ap (λ (found : Option Subscription). found >>= (λ s. success (with_subscription i (with_close s) w)))
-                of.numbered_so,
-            refl,
-          ),
-        ),
-      ),
-)
+  -- a subscriber closes
+  close_done : (s' : SubscriptionParts) → HasClosed s s'
+      → ActorsMove a (Close i) (Ok Done) (record a { subscriptions = slice_set a.subscriptions (i - 1) s' })
+  close_done s' has = (
+    tt,
+    λ w st.
+        let of = of_number a w i s st above here in
+        let sub = of.subscription in
+        done w (with_subscription i (with_close sub) w) (Close i) Done
+        (subscription_changes a w i sub st of.there (with_close sub) s' refl (parts_same s' (parts_of (with_close sub))
+        (has.closes sub.reception (ap (λ (t : SubscriptionParts). t.kept) (sym of.parts)))
+        (has.flight ∙ ap (λ (t : SubscriptionParts). t.flight) (sym of.parts))
+        (has.acks ∙ ap (λ (t : SubscriptionParts). t.acks) (sym of.parts)))
+        (λ has. record { first = has.first; flight = has.flight; acks = has.acks })) (rw (of.numbered_so)) refl,
+  )
 
 -- ---- by the place that the code finds
 
@@ -575,12 +382,6 @@ refused_none : (place : Option ℕ) (why : StepError) → ok_or place NotEnabled
 refused_none None why is = (refl, cc)
 refused_none (Some place) why is = cc
 
--- each place within a list has an element
-slice_get_within : {X : Type 0} (xs : List X) (k : ℕ) → k < length xs → (x : X) × (slice_get xs k ≡ Some x)
-slice_get_within [] k inside = absurd (omega arith)
-slice_get_within (x ∷ xs) zero inside = (x, refl)
-slice_get_within (x ∷ xs) (suc k) inside = slice_get_within xs k (omega arith)
-
 -- the queue of a subscriber rewinds, by the place that the code finds for the number
 pub rewind_at : (a : ActorParts) (i count place : ℕ) (items : List Kept_subscription) (b' : BrokerState)
     → a.subscriptions ≡ map subscription_parts items → count ≡ length items → place_in i count ≡ Some place
@@ -589,86 +390,61 @@ pub rewind_at : (a : ActorParts) (i count place : ℕ) (items : List Kept_subscr
 rewind_at a i count place items b' same counted found state =
     let at = place_is i count place found in
     let many : length a.subscriptions ≡ length items = ap length same ∙ length-map items subscription_parts in
-    let kept = slice_get_within a.subscriptions (i - 1) (omega (arith, at.inside, counted, many)) in
-    let number : place + 1 ≡ i = omega (arith, at.above, at.here) in
-    subst (λ (b : BrokerState). ActorsMove a (Rewind i) (Ok Done) (record a { broker = b }))
-    (sym (state ∙ ap (λ (n : ℕ). with_queue n (rewound_queue (queue_of a.broker n)) a.broker) number))
-    (rewind_done a i kept.0 at.above kept.1)
+    let number : i ≡ place + 1 = omega (arith, at.above, at.here) in
+    rw (state, number)
+    (rewind_done a (place + 1) _ (omega arith) (slice_get-get_or a.subscriptions (place + 1 - 1) empty_subscription
+    (omega (arith, at.inside, at.above, at.here, counted, many))))
 
 module _ (a : ActorParts) (i count place : ℕ) (items : List Kept_subscription) (s : Kept_subscription)
     (same : a.subscriptions ≡ map subscription_parts items) (counted : count ≡ length items)
     (found : place_in i count ≡ Some place) (got : s ≡ get_or items place s) where
-  -- the code's place for a subscriber's number
-  is_at : IsPlace i count place
-  is_at = place_is i count place found
+  -- the code's place for a subscriber's number is the one before it
+  number_is : i ≡ place + 1
+  number_is = let at = place_is i count place found in omega (arith, at.above, at.here)
+
+  -- and back
+  back : place ≡ place + 1 - 1
+  back = omega arith
 
   -- what the code found there is what is kept of the number's subscription
-  kept_at : slice_get a.subscriptions (i - 1) ≡ Some (subscription_parts s)
+  kept_at : slice_get a.subscriptions (place + 1 - 1) ≡ Some (subscription_parts s)
   kept_at =
-      let at = is_at in
+      let at = place_is i count place found in
       let inside : place < length items = omega (arith, at.inside, at.here, counted) in
-      ap₂ (λ (ss : List SubscriptionParts) (k : ℕ). slice_get ss k) same (sym at.here)
+      ap₂ (λ (ss : List SubscriptionParts) (k : ℕ). slice_get ss k) same (sym back)
       ∙ subscription_here items place s inside got
 
   -- and what it puts there is put under the same number
-  set_at : (s' : Kept_subscription)
-      → map subscription_parts (slice_set items place s') ≡ slice_set a.subscriptions (i - 1) (subscription_parts s')
+  set_at : (s' : Kept_subscription) → map subscription_parts (slice_set items place s')
+      ≡ slice_set a.subscriptions (place + 1 - 1) (subscription_parts s')
   set_at s' =
       map-set subscription_parts items place s'
-      ∙ ap₂ (λ (ss : List SubscriptionParts) (k : ℕ). slice_set ss k (subscription_parts s')) (sym same) is_at.here
-
-  -- the broker is asked under that number too
-  number_is : place + 1 ≡ i
-  number_is = let at = is_at in omega (arith, at.above, at.here)
+      ∙ ap₂ (λ (ss : List SubscriptionParts) (k : ℕ). slice_set ss k (subscription_parts s')) (sym same) back
 
   -- so that a queue delivers to what the code found
   pub send_at : (s' : Kept_subscription) (b' : BrokerState)
       → DeliversAt (place + 1) a.broker (subscription_parts s)
-      (next_of_queue (queue_of a.broker (place + 1))) (Ok tt) b'
-      (subscription_parts s')
+      (next_of_queue (queue_of a.broker (place + 1))) (Ok tt) b' (subscription_parts s')
       → ActorsMove a (Send i) (Ok Done)
       (record a { broker = b'; subscriptions = map subscription_parts (slice_set items place s') })
   send_at s' b' delivers =
-      subst (λ (kepts : List SubscriptionParts). ActorsMove a (Send i) (Ok Done) (record a {
-        broker = b';
-        subscriptions = kepts;
-      })) (sym (set_at s'))
-      (send_done a i (subscription_parts s) (subscription_parts s') b' is_at.above kept_at
-      (subst (λ (n : ℕ). DeliversAt n a.broker (subscription_parts s) (next_of_queue (queue_of a.broker n)) (Ok tt) b'
-      (subscription_parts s')) number_is delivers))
+      rw (number_is, set_at s') (send_done a (place + 1) _ (omega arith) kept_at _ b' delivers)
 
   -- or hands nothing out
   pub send_at_refused : (s' : Kept_subscription) (b' : BrokerState) (why : StepError)
       → DeliversAt (place + 1) a.broker (subscription_parts s) (next_of_queue (queue_of a.broker (place + 1)))
-      (Err why) b' (subscription_parts s')
-      → ActorsMove a (Send i) (Err why)
+      (Err why) b' (subscription_parts s') → ActorsMove a (Send i) (Err why)
       (record a { broker = b'; subscriptions = map subscription_parts (slice_set items place s') })
   send_at_refused s' b' why delivers =
-      subst (λ (kepts : List SubscriptionParts). ActorsMove a (Send i) (Err why) (record a {
-        broker = b';
-        subscriptions = kepts;
-      })) (sym (set_at s'))
-      (send_refused a i (subscription_parts s) (subscription_parts s') b' why is_at.above kept_at
-      (subst (λ (n : ℕ). DeliversAt n a.broker (subscription_parts s) (next_of_queue (queue_of a.broker n)) (Err why) b'
-      (subscription_parts s')) number_is delivers))
+      rw (set_at s') (send_refused a (place + 1) _ (omega arith) kept_at i number_is _ b' why _ refl delivers)
 
   -- or rewinds while what is on its way is lost
   pub break_at : (s' : Kept_subscription) (b' : BrokerState)
       → b' ≡ with_queue (place + 1) (rewound_queue (queue_of a.broker (place + 1))) a.broker
-      → subscription_parts s' ≡ record (subscription_parts s) { flight = [] }
-      → ActorsMove a (Break i) (Ok Done)
+      → subscription_parts s' ≡ record (subscription_parts s) { flight = [] } → ActorsMove a (Break i) (Ok Done)
       (record a { broker = b'; subscriptions = map subscription_parts (slice_set items place s') })
   break_at s' b' state lost =
-      subst (λ (kepts : List SubscriptionParts). ActorsMove a (Break i) (Ok Done) (record a {
-        broker = b';
-        subscriptions = kepts;
-      })) (sym (set_at s'))
-      (subst (λ (b : BrokerState). ActorsMove a (Break i) (Ok Done) (record a {
-        broker = b;
-        subscriptions = slice_set a.subscriptions (i - 1) (subscription_parts s');
-      }))
-      (sym (state ∙ ap (λ (n : ℕ). with_queue n (rewound_queue (queue_of a.broker n)) a.broker) number_is))
-      (break_done a i (subscription_parts s) (subscription_parts s') is_at.above kept_at lost))
+      rw (number_is, set_at s', state) (break_done a (place + 1) _ (omega arith) kept_at _ lost)
 
   -- and the subscriber takes a delivery
   pub take_at : (s' : Kept_subscription) (answer : Taking)
@@ -676,21 +452,14 @@ module _ (a : ActorParts) (i count place : ℕ) (items : List Kept_subscription)
       → ActorsMove a (Take i) (Ok (Took answer))
       (record a { subscriptions = map subscription_parts (slice_set items place s') })
   take_at s' answer takes =
-      subst (λ (kepts : List SubscriptionParts). ActorsMove a (Take i) (Ok (Took answer)) (record a {
-        subscriptions = kepts;
-      })) (sym (set_at s'))
-      (take_done a i (subscription_parts s) (subscription_parts s') answer is_at.above kept_at takes)
+      rw (number_is, set_at s') (take_done a (place + 1) _ (omega arith) kept_at _ answer takes)
 
   -- or takes nothing
   pub take_at_refused : (s' : Kept_subscription) (why : StepError)
       → TakesAt (subscription_parts s) (subscription_parts s).flight (Err why) (subscription_parts s')
-      → ActorsMove a (Take i) (Err why)
-      (record a { subscriptions = map subscription_parts (slice_set items place s') })
+      → ActorsMove a (Take i) (Err why) (record a { subscriptions = map subscription_parts (slice_set items place s') })
   take_at_refused s' why takes =
-      subst (λ (kepts : List SubscriptionParts). ActorsMove a (Take i) (Err why) (record a {
-        subscriptions = kepts;
-      })) (sym (set_at s'))
-      (take_refused a i (subscription_parts s) (subscription_parts s') why is_at.above kept_at takes)
+      rw (set_at s') (take_refused a (place + 1) _ (omega arith) kept_at i number_is _ why _ refl takes)
 
   -- an acknowledgement that it gave comes to its queue
   pub ack_at : (k position : ℕ) (b' : BrokerState) (counts : Bool)
@@ -700,28 +469,21 @@ module _ (a : ActorParts) (i count place : ℕ) (items : List Kept_subscription)
       else a.broker)
       → ActorsMove a (Ack i k) (Ok (Counted counts)) (record a { broker = b' })
   ack_at k position b' counts there answer state =
-      ack_done a i k (subscription_parts s) position b' counts is_at.above kept_at there
-      (answer ∙ ap (λ (n : ℕ). not (is_unknown (queue_of a.broker n) position)) number_is)
-      (state ∙ ap (λ (n : ℕ). if counts then with_queue n (acknowledged position (queue_of a.broker n)) a.broker
-      else a.broker) number_is)
+      rw number_is (ack_done a (place + 1) _ (omega arith) kept_at k position b' counts there answer state)
 
   -- one that it never gave doesn't
   pub ack_at_none : (k : ℕ) (why : StepError) (place' : Option ℕ) → ok_or place' NotEnabled ≡ Err why
       → (place' ≡ None → numbered (subscription_parts s).acks k ≡ None) → ActorsMove a (Ack i k) (Err why) a
   ack_at_none k why place' refused none =
       let is = refused_none place' why refused in
-      subst (λ (e : StepError). ActorsMove a (Ack i k) (Err e) a) (sym is.1)
-      (ack_none a i k (subscription_parts s) is_at.above kept_at (none is.0))
+      rw (is.1, number_is)
+      (unable a (Ack (place + 1) k) (λ w st. acks_next a (place + 1) _ (omega arith) kept_at w st k None (none is.0)))
 
   -- it closes
   pub close_at : (s' : Kept_subscription) → HasClosed (subscription_parts s) (subscription_parts s')
       → ActorsMove a (Close i) (Ok Done)
       (record a { subscriptions = map subscription_parts (slice_set items place s') })
-  close_at s' has =
-      subst (λ (kepts : List SubscriptionParts). ActorsMove a (Close i) (Ok Done) (record a {
-        subscriptions = kepts;
-      })) (sym (set_at s'))
-      (close_done a i (subscription_parts s) (subscription_parts s') is_at.above kept_at has)
+  close_at s' has = rw (number_is, set_at s') (close_done a (place + 1) _ (omega arith) kept_at _ has)
 
 -- ---- what readers find
 
@@ -741,8 +503,7 @@ pub taken_is : (s s' : SubscriptionParts) (delivery : Delivery) (flight : List D
     → delivery ≡ get_or flight 0 delivery → 0 < length flight → s'.flight ≡ drop 1 flight
     → answer ≡ answer_to s.kept delivery.item → s'.acks ≡ s.acks ++ delivery.position ∷ []
     → ((reception : Reception) → s.kept ≡ kept_of reception
-    → s'.kept ≡ kept_of (next_reception reception delivery.item))
-    → TakesAt s flight (Ok answer) s'
+    → s'.kept ≡ kept_of (next_reception reception delivery.item)) → TakesAt s flight (Ok answer) s'
 taken_is s s' delivery [] answer first some rest answers acks receives = absurd (omega arith)
 taken_is s s' delivery (d ∷ ds) answer first some rest answers acks receives = record {
   answers = answers ∙ ap (λ (x : Delivery). answer_to s.kept x.item) first;
@@ -764,7 +525,6 @@ mapped_ok F (Err e) x Q mapped ok = cc
 
 -- what is answered
 pub answered_is : (kept : SubscriberState) (item : Item) (answer : Taking) (r : Result Taking TakeError)
-    → TakesItem kept item r
-    → r ≡ Ok answer → answer ≡ answer_to kept item
+    → TakesItem kept item r → r ≡ Ok answer → answer ≡ answer_to kept item
 answered_is kept item answer r takes is =
     elim takes [ inl same ↦ cc | inr lacks ↦ cc (lacks.1) ]

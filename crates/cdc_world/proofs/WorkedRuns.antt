@@ -21,8 +21,7 @@ pub runs-lead : (w : WorldState) (steps : List Step)
     → Leads w (take (run_of w steps).0.0 steps) (run_of w steps).1
 runs-lead w [] = refl
 runs-lead w (step ∷ steps) =
-    leads-on w step steps (λ between. run_of between steps) (λ between. runs-lead between steps)
-    (next w step) refl
+    leads-on w step steps (λ between. run_of between steps) (λ between. runs-lead between steps) (next w step) refl
 
 -- a run from a world in which nothing has happened, over an empty store, reaches its last world
 pub reaches : (bindings : List Arguments) (window : ℕ) (steps : List Step)

@@ -15,3 +15,7 @@ pub mod Orderly
 pub mod Runs
 pub mod Served
 pub mod Turns
+pub use Rattle.cdc_broker.specs.Cursors
+pub use Rattle.cdc_broker.specs.Packets
+pub use Rattle.cdc_publisher.specs.Courses
+pub use Rattle.cdc_publisher.specs.declared.errors.StartError

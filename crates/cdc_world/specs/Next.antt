@@ -8,7 +8,7 @@ use Rattle.cdc_ledger.specs.Events.{events}
 use Rattle.cdc_ledger.specs.History.{History}
 use Rattle.cdc_ledger.specs.Submit.{submit}
 use Rattle.cdc_laws.specs.Readings.{none_follow}
-use Rattle.cdc_log.specs.Log.{events_after}
+use Rattle.cdc_laws.specs.Log.{events_after}
 use Rattle.cdc_match.specs.Arguments.{Arguments}
 use Rattle.cdc_message.specs.declared.items.Delivery.{Delivery}
 use Rattle.cdc_message.specs.declared.packets.Answer.{Answer as BrokerAnswer}
@@ -16,8 +16,8 @@ use Rattle.cdc_message.specs.declared.packets.Answer.TheVariants.{Connected, Con
 use Rattle.cdc_message.specs.declared.packets.Confirm.{Confirm}
 use Rattle.cdc_message.specs.declared.packets.Packet.{Packet}
 use Rattle.cdc_message.specs.declared.packets.Packet.TheVariants.{Connect, Publish}
-use Rattle.cdc_progress.specs.declared.errors.StoreError.{StoreError}
-use Rattle.cdc_progress.specs.declared.errors.StoreError.TheVariants as store
+use Rattle.cdc_progress.specs.StoreError.{StoreError}
+use Rattle.cdc_progress.specs.StoreError.TheVariants as store
 use Rattle.cdc_progress.specs.Records.{Saved}
 use Rattle.cdc_progress.specs.Stores.{IsRisked, Risks}
 use Rattle.cdc_publisher.specs.Courses.{Course, after_answer, begun, new_course, next_packet, progress_of, takes_confirm, next_poll, with_offer, with_sent}

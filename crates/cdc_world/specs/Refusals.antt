@@ -1,7 +1,7 @@
 -- Which refusal of a step corresponds to a refusal of one of the actors.
 use Rattle.cdc_ledger.specs.declared.errors.BatchError.{BatchError}
 use Rattle.cdc_ledger.specs.declared.errors.BatchError.TheVariants as batch
-use Rattle.cdc_progress.specs.declared.errors.StoreError.{StoreError}
+use Rattle.cdc_progress.specs.StoreError.{StoreError}
 use Rattle.cdc_publisher.specs.Errors.{store_refusal as start_error_of}
 use Rattle.cdc_publisher.specs.declared.errors.StartError.{StartError}
 use Rattle.cdc_publisher.specs.declared.errors.StartError.TheVariants as start

@@ -5,7 +5,7 @@ use Rattle.cdc_broker.specs.Broker.{BrokerState, after_packet, empty_broker, que
 use Rattle.cdc_broker.specs.Queues.{with_delivery}
 use Rattle.cdc_ledger.specs.Events.{events}
 use Rattle.cdc_ledger.specs.History.{History, empty_history}
-use Rattle.cdc_log.specs.Log.{events_after}
+use Rattle.cdc_laws.specs.Log.{events_after}
 use Rattle.cdc_match.specs.Arguments.{Arguments}
 use Rattle.cdc_message.specs.declared.items.Delivery.{Delivery}
 use Rattle.cdc_message.specs.declared.packets.Confirm.{Confirm}

@@ -1,6 +1,7 @@
 //! What no contract states of a writer: a text doesn't wait in its buffer, and an error of it ends the command.
 
-use cdc_commands::{Ending, ProgramFault, print_text};
+use cdc_commands::{Ending, print_text};
+use cdc_output::ProgramFault;
 use std::io;
 use std::io::Write;
 

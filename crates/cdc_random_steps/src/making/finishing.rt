@@ -3,12 +3,9 @@
 use super::{Draw, Maker, acks_of};
 use cdc_diagnostics::Sentence;
 use cdc_progress::MemoryStore;
-use cdc_types::Step;
+use cdc_types::{Limits, Step};
 use cdc_world::World;
 use std::alloc::{AllocError, Global};
-
-/// The limit of lines: the step file may have 1,048,576 bytes, and a line has fewer than 50.
-const MOST_LINES: u32 = 20_000;
 
 impl Maker {
     /// Adds steps that make progress, until every subscriber has received the end-of-stream marker. None of them loses
@@ -19,7 +16,7 @@ impl Maker {
         alloc: Global,
         world: &mut World<MemoryStore>,
     ) -> Result<(), AllocError> {
-        for _ in 0..MOST_LINES {
+        for _ in 0..Limits::RANDOM_STEPS {
             if all_ended(world) || !self.add_round(alloc, world)? {
                 break;
             }
@@ -27,7 +24,7 @@ impl Maker {
         if !all_ended(world) {
             self.write_line(Sentence::One(
                 "# the limit of ",
-                u64::from(MOST_LINES).into(),
+                u64::from(Limits::RANDOM_STEPS).into(),
                 " steps is reached; not every subscriber has received the end mark",
             ))?;
         }
@@ -85,7 +82,7 @@ impl Maker {
         world: &mut World<MemoryStore>,
         draw: Draw,
     ) -> Result<(), AllocError> {
-        if self.lines < MOST_LINES {
+        if self.lines < Limits::RANDOM_STEPS {
             self.try_draw(alloc, world, draw)?;
         }
         Ok(())

@@ -1,7 +1,7 @@
 -- Replies as JSON lines, in their order.
 use Rattle.std.specs.Prelude.{ℕ, ◌+◌, List, [], ◌∷◌}
 use Rattle.serde_json.specs.Data.{Data}
-use Rattle.cdc_json.specs.Lines.{batch_value}
+use Rattle.cdc_commands.specs.JsonValues.{batch_value}
 use Rattle.cdc_traffic.specs.declared.requests.Reply.{Reply}
 
 -- the values of replies, the first of which is that to the batch of this number

@@ -1,9 +1,9 @@
 -- The faults of the program that correspond to those of a run.
-use Rattle.cdc_actors.specs.declared.faults.RunFault.{RunFault}
-use Rattle.cdc_actors.specs.declared.faults.RunFault.TheVariants as run
-use Rattle.cdc_commands.specs.declared.faults.ProgramFault.{ProgramFault}
-use Rattle.cdc_commands.specs.declared.faults.ProgramFault.TheVariants as program
-use Rattle.cdc_commands.specs.Faults.{store_fault}
+use Rattle.cdc_actor_work.specs.declared.faults.RunFault.{RunFault}
+use Rattle.cdc_actor_work.specs.declared.faults.RunFault.TheVariants as run
+use Rattle.cdc_output.specs.declared.faults.ProgramFault.{ProgramFault}
+use Rattle.cdc_output.specs.declared.faults.ProgramFault.TheVariants as program
+use Rattle.cdc_output.specs.Faults.{store_fault}
 
 -- why a run failed, as the fault of the program
 abbrev pub run_fault : RunFault → ProgramFault

@@ -1,8 +1,8 @@
-use Rattle.cdc_actors.proofs.BrokerLemmas.Failing.{brokers_come_so_far}
-use Rattle.cdc_actors.proofs.ClientLemmas.Fails.{clients_come_so_far}
-use Rattle.cdc_actors.proofs.ConnectorLemmas.Histories.{connectors_come_so_far}
-use Rattle.cdc_actors.proofs.LedgerLemmas.Fails.{ledgers_come_so_far}
-use Rattle.cdc_actors.proofs.SubscriberLemmas.Fails.{subscribers_come_so_far}
+use Rattle.cdc_broker_actors.proofs.BrokerLemmas.Failing.{brokers_come_so_far}
+use Rattle.cdc_ledger_actors.proofs.ClientLemmas.Fails.{clients_come_so_far}
+use Rattle.cdc_connector_actor.proofs.ConnectorLemmas.Histories.{connectors_come_so_far}
+use Rattle.cdc_ledger_actors.proofs.LedgerLemmas.Fails.{ledgers_come_so_far}
+use Rattle.cdc_broker_actors.proofs.SubscriberLemmas.Fails.{subscribers_come_so_far}
 use Rattle.cdc_actors.proofs.so_far.so_far_laws.Goals as goal
 
 pub returns-clause-broker : goal.returns-clause-broker

@@ -1,5 +1,5 @@
 use Rattle.std.specs.Prelude.{◌++◌, codes, decimal}
-use Rattle.cdc_commands.proofs.TextLemmas.{pieces}
+use Rattle.cdc_output.proofs.TextLemmas.{pieces}
 use Rattle.cdc_audit.specs.Texts.{refusal_text}
 use Rattle.cdc_audit_command.proofs.forms.push_refused.Goals as goal
 

@@ -1,7 +1,7 @@
 use Rattle.std.proofs.Common.{◌^◌, ap, arith, length, subst}
-use Rattle.cdc_audit_state.specs.Reading.{ReadsNumber}
-use Rattle.cdc_audit_state.proofs.ReadingLemmas.{drop_less}
-use Rattle.cdc_audit_state.proofs.RowLemmas.{settled_reads}
+use Rattle.cdc_codec.specs.ReadBack.{ReadsNumber}
+use Rattle.cdc_audit_state.specs.Rows.{settled_byte}
+use Rattle.cdc_audit_state.proofs.RowLemmas.{drop_less, settled_reads}
 use Rattle.cdc_audit_state.proofs.rows.settled_row.Goals as goal
 
 pub returns-clause-reads : goal.returns-clause-reads
@@ -13,4 +13,8 @@ returns-clause-reads c =
 
 pub returns-clause-shorter : goal.returns-clause-shorter
 returns-clause-shorter c =
-    omega (arith, ap length c.skip.ensures.rest, drop_less 7 115 c.args.text.now c.requires (omega arith) (omega arith))
+    omega (
+      arith,
+      ap length c.skip.ensures.rest,
+      drop_less 7 settled_byte c.args.text.now c.requires (omega arith) (omega arith),
+    )

@@ -1,7 +1,7 @@
 use Rattle.std.proofs.Common.{◌^◌, ap, arith, length, subst}
-use Rattle.cdc_audit_state.specs.Reading.{ReadsNumber}
-use Rattle.cdc_audit_state.proofs.ReadingLemmas.{drop_less}
-use Rattle.cdc_audit_state.proofs.RowLemmas.{time_reads}
+use Rattle.cdc_codec.specs.ReadBack.{ReadsNumber}
+use Rattle.cdc_audit_state.specs.Rows.{time_byte}
+use Rattle.cdc_audit_state.proofs.RowLemmas.{drop_less, time_reads}
 use Rattle.cdc_audit_state.proofs.rows.time_row.Goals as goal
 
 pub returns-clause-reads : goal.returns-clause-reads
@@ -14,4 +14,8 @@ returns-clause-reads c =
 
 pub returns-clause-shorter : goal.returns-clause-shorter
 returns-clause-shorter c =
-    omega (arith, ap length c.skip.ensures.rest, drop_less 4 116 c.args.text.now c.requires (omega arith) (omega arith))
+    omega (
+      arith,
+      ap length c.skip.ensures.rest,
+      drop_less 4 time_byte c.args.text.now c.requires (omega arith) (omega arith),
+    )

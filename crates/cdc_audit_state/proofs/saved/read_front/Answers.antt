@@ -1,8 +1,6 @@
-use Rattle.std.proofs.Common.{◌++◌, ◌∷◌, ◌∙◌, ap, drop, refl}
-use Rattle.std.proofs.Common.{arith}
+use Rattle.std.proofs.Common.{◌++◌, ◌∷◌, ◌∙◌, ap, arith, drop, refl}
 use Rattle.std.specs.Prelude.{codes}
-use Rattle.cdc_subscriber.specs.Lines.{spaced}
-use Rattle.cdc_audit_state.specs.Reading.{word_of}
+use Rattle.cdc_codec.specs.Texts.{spaced, yes_or_no}
 use Rattle.cdc_audit_state.proofs.SavedLemmas.{front_text}
 use Rattle.cdc_audit_state.proofs.saved.read_front.Goals as goal
 
@@ -10,12 +8,12 @@ pub returns : goal.returns
 returns c auditor lines last applied is =
     let kept = auditor.kept in
     let t8 = 10 ∷ lines in
-    let t7 = codes " closed" ++ (word_of kept.closed ++ t8) in
-    let t6 = codes " ended" ++ (word_of kept.ended ++ t7) in
+    let t7 = codes " closed" ++ (yes_or_no kept.closed ++ t8) in
+    let t6 = codes " ended" ++ (yes_or_no kept.ended ++ t7) in
     let t5 = codes " last" ++ (spaced kept.last ++ t6) in
     let t4 = codes " applied" ++ (spaced kept.applied ++ t5) in
     let t3 = codes "\nsubscriber" ++ (spaced 1 ++ t4) in
-    let t2 = codes " linked" ++ (word_of auditor.linked ++ t3) in
+    let t2 = codes " linked" ++ (yes_or_no auditor.linked ++ t3) in
     let whole = is ∙ front_text auditor lines in
     let f1 = c.flag-foreign.ensures.reads auditor.foreign t2 (c.skip.ensures.rest ∙ ap (drop 21) whole) in
     let f2 = c.flag-linked.ensures.reads auditor.linked t3 (c.skip-2.ensures.rest ∙ ap (drop 7) f1.1) in

@@ -3,7 +3,7 @@ use Rattle.std.specs.Prelude.{string_bytes}
 use Rattle.cdc_message.specs.Bodies.{body}
 use Rattle.cdc_message.specs.Headers.{headers_of_event}
 use Rattle.cdc_commands.specs.Messages.{headers_line, seconds_of}
-use Rattle.cdc_commands.proofs.TextLemmas.{pieces}
+use Rattle.cdc_output.proofs.TextLemmas.{pieces}
 use Rattle.cdc_commands.proofs.event_lines.push_message.Goals as goal
 
 pub returns : goal.returns

@@ -8,7 +8,7 @@ use Rattle.cdc_message.specs.declared.items.Item.TheVariants.{Event as OfEvent}
 use Rattle.cdc_subscriber.specs.SubscriberState.{SubscriberState}
 use Rattle.cdc_commands.specs.Private.Takers.{AreFed}
 use Rattle.cdc_commands.proofs.FeedLemmas.{AreFedTo, AreFedTo-more}
-use Rattle.cdc_commands.proofs.FoundElements.{found_within}
+use Rattle.cdc_output.proofs.FoundElements.{found_within}
 use Rattle.cdc_commands.proofs.feeding.subscribers_of_log.Goals as goal
 use Rattle.cdc_commands.proofs.feeding.subscribers_of_log.Goals.{in-Some+in_ok-of+in_ok-feed, in_default}
 

@@ -2,7 +2,7 @@ use Rattle.std.proofs.Common.{◌≡◌, ◌++◌, take}
 use Rattle.std.specs.Prelude.{string_bytes}
 use Rattle.std.specs.List.{flat_map}
 use Rattle.cdc_types.specs.Results.{transfer_number}
-use Rattle.cdc_subscriber.specs.Lines.{spaced}
+use Rattle.cdc_codec.specs.Texts.{spaced}
 use Rattle.cdc_commands.proofs.report.push_transfer_results.Given as goal
 
 abbrev pub invariant-loop-result : goal.invariant-loop-result

@@ -1,5 +1,5 @@
 use Rattle.std.specs.Prelude.{◌++◌, codes, decimal}
-use Rattle.cdc_commands.proofs.TextLemmas.{pieces}
+use Rattle.cdc_output.proofs.TextLemmas.{pieces}
 use Rattle.cdc_follow_command.proofs.forms.push_after_end.Goals as goal
 
 pub returns : goal.returns

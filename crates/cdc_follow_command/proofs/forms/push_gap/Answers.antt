@@ -1,5 +1,5 @@
 use Rattle.std.specs.Prelude.{◌++◌, codes, decimal, unwrap_or}
-use Rattle.cdc_commands.proofs.TextLemmas.{pieces}
+use Rattle.cdc_output.proofs.TextLemmas.{pieces}
 use Rattle.cdc_follow_command.proofs.forms.push_gap.Goals as goal
 
 pub returns : goal.returns

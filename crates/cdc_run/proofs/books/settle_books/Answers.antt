@@ -2,8 +2,8 @@ use Rattle.std.proofs.Common.{◌≡◌, ◌∙◌, ℕ, true, false, List, ◌�
 use Rattle.std.specs.Prelude.{All}
 use Rattle.std.specs.List.{AllZip}
 use Rattle.std.proofs.lemmas.Simd.{map-map}
-use Rattle.cdc_actors.specs.Client.{ClientCore}
-use Rattle.cdc_actors.specs.Ledger.{order_of, LedgerCore, is_over}
+use Rattle.cdc_ledger_actors.specs.Client.{ClientCore}
+use Rattle.cdc_ledger_actors.specs.Ledger.{order_of, LedgerCore, is_over}
 use Rattle.cdc_actors.specs.Ends.{ActorState, has_finished}
 use Rattle.cdc_ledger.specs.History.{History}
 use Rattle.cdc_links.specs.Links.{CanSend, Incoming, IsAccount, Outgoing}
@@ -14,8 +14,8 @@ use Rattle.cdc_types.specs.declared.batches.Batch.{Batch}
 use Rattle.cdc_run.specs.SettledLinks.{IsAccounted}
 use Rattle.cdc_run.specs.Books.{AreBooks}
 use Rattle.cdc_run.specs.ClientMail.{AreClientsOf, HasFinishedWith}
-use Rattle.cdc_run.specs.Parted.{works_of}
-use Rattle.cdc_run.proofs.ClientsParted.{AreTogether, all_settled, as_many_senders, of_one_link, senders, together}
+use Rattle.cdc_run.specs.Parts.{works_of}
+use Rattle.cdc_run.proofs.ClientMailLemmas.{AreTogether, all_settled, as_many_senders, of_one_link, senders, together}
 use Rattle.cdc_run.proofs.Refused.{asked_more, passed_on}
 use Rattle.cdc_run.proofs.Zips.{same_zip}
 use Rattle.cdc_run.proofs.books.settle_books.Goals as goal

@@ -2,17 +2,17 @@ use Rattle.std.proofs.Common.{◌≡◌, ◌∙◌, ℕ, true, false, List, refl
 use Rattle.std.specs.Prelude.{is_none}
 use Rattle.std.proofs.lemmas.Bool.{and_parts, false≢true}
 use Rattle.std.proofs.lemmas.Simd.{map-map}
-use Rattle.cdc_actors.specs.Subscriber.{SubscriberCore}
+use Rattle.cdc_broker_actors.specs.Subscriber.{SubscriberCore}
 use Rattle.cdc_ledger.specs.History.{History}
 use Rattle.cdc_links.specs.Links.{Outgoing}
 use Rattle.cdc_subscriber.specs.SubscriberState.{SubscriberState}
 use Rattle.cdc_traffic.specs.declared.messages.ToBroker.{ToBroker}
 use Rattle.cdc_run.specs.ClientMail.{HasFinishedWith as LedgerHasFinishedWith}
-use Rattle.cdc_run.specs.Parted.{works_of}
+use Rattle.cdc_run.specs.Parts.{works_of}
 use Rattle.cdc_run.specs.Reports.{AreFinished, AreSubscribed}
-use Rattle.cdc_actors.specs.Seats.{broker_seat}
+use Rattle.cdc_broker_actors.specs.Seats.{broker_seat}
 use Rattle.cdc_actors.specs.Ends.{ActorState, has_finished}
-use Rattle.cdc_actors.specs.Connector.{ConnectorCore}
+use Rattle.cdc_connector_actor.specs.Connector.{ConnectorCore}
 use Rattle.cdc_run.specs.Streams.{AllCome, ArePacketsTo, Middle}
 use Rattle.cdc_run.specs.SubscriberMail.{AreSubscribersOf, HasFinishedWith as BrokerHasFinishedWith}
 use Rattle.cdc_run.proofs.Refused.{asked_more, passed_on}

@@ -2,10 +2,10 @@ use Rattle.std.proofs.Common.{◌∙◌, List, ap, subst, sym}
 use denote.Param.Send.{sendable}
 use Rattle.std.proofs.Crossing.{crosses}
 use Rattle.cdc_actors.proofs.ends.End.TheSendSync as end
-use Rattle.cdc_actors.proofs.ledger.cores.LedgerCore.TheSendSync as ledger
-use Rattle.cdc_actors.proofs.client.cores.ClientCore.TheSendSync as client
-use Rattle.cdc_actors.proofs.connector.cores.ConnectorCore.TheSendSync as connector
-use Rattle.cdc_actors.proofs.subscriber.cores.SubscriberCore.TheSendSync as subscriber
+use Rattle.cdc_ledger_actors.proofs.ledger.cores.LedgerCore.TheSendSync as ledger
+use Rattle.cdc_ledger_actors.proofs.client.cores.ClientCore.TheSendSync as client
+use Rattle.cdc_connector_actor.proofs.connector.cores.ConnectorCore.TheSendSync as connector
+use Rattle.cdc_broker_actors.proofs.subscriber.cores.SubscriberCore.TheSendSync as subscriber
 use Rattle.cdc_run.proofs.scripted.Scripted.TheSendSync as scripted
 use Rattle.cdc_run.proofs.Crossing.{core_crosses}
 use Rattle.std.specs.List.{AllZip}

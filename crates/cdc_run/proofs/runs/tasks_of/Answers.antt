@@ -3,8 +3,8 @@ use Rattle.std.proofs.lemmas.Iterator.{YieldsList-from_zip}
 use Rattle.std.proofs.lemmas.Iterator.Adapters.{YieldsList-from_vec}
 use Rattle.std.proofs.lemmas.Iterator.Consumers.{YieldsList-end}
 use Rattle.cdc_run.specs.Tasks.{places_of}
-use Rattle.cdc_run.specs.declared.placed.Task.{Task}
-use Rattle.cdc_run.specs.declared.placed.Task.TheVariants as task
+use Rattle.cdc_run.specs.declared.tasks.Task.{Task}
+use Rattle.cdc_run.specs.declared.tasks.Task.TheVariants as task
 use Rattle.cdc_run.proofs.Listed.{all_listed, client_push, subscriber_push}
 use Rattle.cdc_run.proofs.runs.tasks_of.Goals as goal
 

@@ -1,5 +1,5 @@
 use Rattle.std.proofs.Common.{◌≡◌, ◌∷◌, ◌++◌, map}
-use Rattle.cdc_run.specs.declared.placed.Task.TheVariants as task
+use Rattle.cdc_run.specs.declared.tasks.Task.TheVariants as task
 use Rattle.cdc_run.proofs.runs.tasks_of.Given as goal
 
 -- those so far

@@ -3,9 +3,9 @@ use Rattle.std.specs.Prelude.{All, Some, is_none, slice_get}
 use Rattle.std.specs.List.{AllZip}
 use Rattle.std.proofs.lemmas.Bool.{and_parts}
 use Rattle.std.proofs.lemmas.List.Elements.{All-cons, All-map}
-use Rattle.cdc_actors.specs.Broker.{BrokerCore}
-use Rattle.cdc_actors.specs.Subscriber.{SubscriberCore}
-use Rattle.cdc_actors.specs.declared.broker.consumers.Consumer.{Consumer}
+use Rattle.cdc_broker_actors.specs.Broker.{BrokerCore}
+use Rattle.cdc_broker_actors.specs.Subscriber.{SubscriberCore}
+use Rattle.cdc_broker_actors.specs.declared.broker.consumers.Consumer.{Consumer}
 use Rattle.cdc_actors.specs.Ends.{ActorState, has_finished}
 use Rattle.cdc_links.specs.Links.{CanSend, Incoming, IsAccount, Outgoing}
 use Rattle.cdc_traffic.specs.Following.{FollowsToConnector}
@@ -13,7 +13,7 @@ use Rattle.cdc_traffic.specs.declared.messages.ToBroker.{ToBroker}
 use Rattle.cdc_traffic.specs.declared.messages.ToConnector.{ToConnector}
 use Rattle.cdc_traffic.specs.declared.pasts.Past.{Past}
 use Rattle.cdc_run.specs.SettledLinks.{IsAccounted}
-use Rattle.cdc_run.specs.Parted.{works_of}
+use Rattle.cdc_run.specs.Parts.{works_of}
 use Rattle.cdc_run.specs.Streams.{AreJoined, Middle}
 use Rattle.cdc_run.specs.SubscriberMail.{AreSubscribersOf, HasFinishedWith}
 use Rattle.cdc_run.proofs.Refused.{asked_more, passed_on}

@@ -12,8 +12,8 @@ use Rattle.cdc_run_command.proofs.RunLemmas.{clients_fit, counted_same, order_of
 use Rattle.cdc_run_command.proofs.ShareLemmas.{length-shares_from}
 use Rattle.cdc_run_command.proofs.reports.report_of_run.Goals as goal
 
-pub run-requires-clause-fits : goal.run-requires-clause-fits
-run-requires-clause-fits g c κs within =
+pub run_explained-requires-clause-fits : goal.run_explained-requires-clause-fits
+run_explained-requires-clause-fits g c κs within =
     let script = c.args.script in
     let fit = clients_fit script c.requires.script in
     let bindings = c.into_vec-bindings.result in
@@ -30,8 +30,8 @@ run-requires-clause-fits g c κs within =
       prefetch = c.requires.plan.prefetch.greatest;
     }
 
-pub run-requires-clause-scripts : goal.run-requires-clause-scripts
-run-requires-clause-scripts g c κs within =
+pub run_explained-requires-clause-scripts : goal.run_explained-requires-clause-scripts
+run_explained-requires-clause-scripts g c κs within =
     let scripts = c.in_ok-clients.field-0.scripts in
     let batches = c.into_vec-batches.result.items in
     let so_many : length scripts.items ≡ c.in_ok-clients.field-0.clients =

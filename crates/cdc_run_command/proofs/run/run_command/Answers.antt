@@ -10,7 +10,8 @@ returns-in-Ok-clause-writes g c =
     let setting : Setting = setting_of c.args.plan (g.S.ProgressStore.held c.args.store)
     (g.S.ProgressStore.is_honest c.args.store) (g.S.ProgressStore.risks c.args.store) in
     writes_text
-    (RunCommandPrints g.F.RunForm.prints_run g.F.Form.prints_fault setting (g.R.Read.remaining c.args.reader.now)) _ _
+    (RunCommandPrints (g.C.RunContent.prints_ran c.args.content.now) (g.C.Content.finds c.args.content.now)
+    g.F.Form.prints_fault setting (g.R.Read.remaining c.args.reader.now)) _ _
     _ _ _ c.print_output.ensures.text c.in-Ok.ensures.output
 
 pub returns-in-Err-clause-writes : goal.returns-in-Err-clause-writes
@@ -18,7 +19,8 @@ returns-in-Err-clause-writes g c =
     let setting : Setting = setting_of c.args.plan (g.S.ProgressStore.held c.args.store)
     (g.S.ProgressStore.is_honest c.args.store) (g.S.ProgressStore.risks c.args.store) in
     writes_failure
-    (RunCommandPrints g.F.RunForm.prints_run g.F.Form.prints_fault setting (g.R.Read.remaining c.args.reader.now))
+    (RunCommandPrints (g.C.RunContent.prints_ran c.args.content.now) (g.C.Content.finds c.args.content.now)
+    g.F.Form.prints_fault setting (g.R.Read.remaining c.args.reader.now))
     g.F.Form.prints_fault _ _ _ _ c.print_output-in-Err.ensures.fault
     (λ line stated. (
       record { failed = c.in-Err.field-0; fault = refl; may = c.in-Err.ensures.failed },

@@ -3,10 +3,10 @@ use Rattle.cdc_run.specs.Reports.{replies_of}
 use Rattle.cdc_run_command.specs.Runs.{AreMerged}
 use Rattle.cdc_subscriber.specs.SubscriberState.{SubscriberState}
 use Rattle.cdc_traffic.specs.declared.requests.Reply.{Reply}
-use Rattle.cdc_json.specs.Lines.{json_lines, kept_values}
+use Rattle.cdc_output.specs.Lines.{json_lines, kept_values}
 use Rattle.cdc_run_command.specs.Private.Diagnostics.{numbered_values}
 use Rattle.cdc_run_command.specs.RunObjects.{reply_values}
-use Rattle.cdc_json.proofs.LineLemmas.{json_lines-append}
+use Rattle.cdc_output.proofs.LineLemmas.{json_lines-append}
 use Rattle.cdc_run_command.proofs.ObjectLemmas.{values_numbered}
 use Rattle.cdc_run_command.proofs.run_objects.print_run_objects.Goals as goal
 

@@ -5,7 +5,7 @@ use Rattle.std.proofs.lemmas.List.{drop_all, length-map}
 use Rattle.std.proofs.lemmas.Option.{slice_get-map, slice_get_read}
 use Rattle.cdc_traffic.specs.declared.requests.Reply.{Reply}
 use Rattle.cdc_commands.specs.Report.{batch_line}
-use Rattle.cdc_commands.proofs.FoundElements.{drop_found}
+use Rattle.cdc_output.proofs.FoundElements.{drop_found}
 use Rattle.cdc_run_command.specs.Private.Merging.{numbered_lines}
 use Rattle.cdc_run_command.proofs.run_report.reply_text.Goals as goal
 

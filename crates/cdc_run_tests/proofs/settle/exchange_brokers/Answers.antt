@@ -1,5 +1,5 @@
 use Rattle.std.proofs.Common.{subst, sym}
-use Rattle.cdc_actors.specs.Broker.{BrokerCore}
+use Rattle.cdc_broker_actors.specs.Broker.{BrokerCore}
 use Rattle.cdc_actors.specs.Ends.{ActorState}
 use Rattle.cdc_run_tests.specs.Systems.{MayBeSettled}
 use Rattle.cdc_run_tests.proofs.Sitting.{first_seated, second_seated}

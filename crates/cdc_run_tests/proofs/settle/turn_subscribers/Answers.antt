@@ -1,6 +1,6 @@
 use Rattle.std.proofs.Common.{◌∙◌}
 use Rattle.std.proofs.Math.Seq.{map-set_same}
-use Rattle.cdc_actors.specs.Seats.{subscriber_seat}
+use Rattle.cdc_broker_actors.specs.Seats.{subscriber_seat}
 use Rattle.cdc_run_tests.specs.Systems.{sits_at}
 use Rattle.cdc_run_tests.proofs.settle.turn_subscribers.Goals as goal
 

@@ -1,5 +1,5 @@
 use Rattle.std.proofs.Common.{◌≡◌, map}
-use Rattle.cdc_actors.specs.Seats.{subscriber_seat}
+use Rattle.cdc_broker_actors.specs.Seats.{subscriber_seat}
 use Rattle.cdc_run_tests.specs.Systems.{sits_at}
 use Rattle.cdc_run_tests.proofs.settle.turn_subscribers.Given as goal
 

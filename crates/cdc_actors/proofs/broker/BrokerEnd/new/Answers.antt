@@ -1,6 +1,6 @@
 use Rattle.std.proofs.Common.{◌≡◌, ◌+◌, ◌∙◌, sym, ap, subst, length}
-use Rattle.cdc_actors.specs.Broker.{IsBrokerActor}
-use Rattle.cdc_actors.proofs.BrokerLemmas.Finishing.{IsBrokerActor-first}
+use Rattle.cdc_broker_actors.specs.Broker.{IsBrokerActor}
+use Rattle.cdc_broker_actors.proofs.BrokerLemmas.Finishing.{IsBrokerActor-first}
 use Rattle.cdc_actors.proofs.broker.BrokerEnd.new.Goals as goal
 
 pub of-requires : goal.of-requires

@@ -1,12 +1,13 @@
 use Rattle.std.proofs.Common.{◌≡◌, ◌∙◌, false, sym, ap, subst}
 use Rattle.std.proofs.lemmas.Result.{IfOk-weaker}
-use Rattle.cdc_actors.specs.Client.{IsClient, ClientCore}
+use Rattle.cdc_ledger_actors.specs.Client.{IsClient, ClientCore}
 use Rattle.cdc_actors.specs.Ends.{ActorState}
-use Rattle.cdc_actors.specs.Faults.{IsTurnFault}
-use Rattle.cdc_actors.specs.Seats.{client_seat}
+use Rattle.cdc_actor_work.specs.Faults.{IsTurnFault}
+use Rattle.cdc_ledger_actors.specs.Seats.{client_seat}
 use Rattle.cdc_actors.proofs.Keeping.{come_so}
-use Rattle.cdc_actors.proofs.Seated.{asked_seat, replied_seat, stays_by}
-use Rattle.cdc_actors.proofs.ClientLemmas.Talking.{answered_is}
+use Rattle.cdc_actor_work.proofs.Staying.{stays_by}
+use Rattle.cdc_ledger_actors.proofs.Seated.{asked_seat, replied_seat}
+use Rattle.cdc_ledger_actors.proofs.ClientLemmas.Talking.{answered_is}
 use Rattle.cdc_actors.proofs.client.ClientEnd.submit.Goals as goal
 
 pub invariant_of-self : goal.invariant_of-self

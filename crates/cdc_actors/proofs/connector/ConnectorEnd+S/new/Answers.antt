@@ -1,6 +1,6 @@
 use Rattle.std.proofs.Common.{sym, subst}
-use Rattle.cdc_actors.specs.Connector.{IsConnectorActor}
-use Rattle.cdc_actors.proofs.ConnectorLemmas.Rounds.{begins}
+use Rattle.cdc_connector_actor.specs.Connector.{IsConnectorActor}
+use Rattle.cdc_connector_actor.proofs.ConnectorLemmas.Rounds.{begins}
 use Rattle.cdc_actors.proofs.connector.ConnectorEnd+S.new.Goals as goal
 
 pub of-requires : goal.of-requires

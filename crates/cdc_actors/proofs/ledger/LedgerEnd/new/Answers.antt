@@ -1,6 +1,6 @@
 use Rattle.std.proofs.Common.{sym, subst}
-use Rattle.cdc_actors.specs.Ledger.{IsLedgerActor}
-use Rattle.cdc_actors.proofs.LedgerLemmas.Turns.{core_first}
+use Rattle.cdc_ledger_actors.specs.Ledger.{IsLedgerActor}
+use Rattle.cdc_ledger_actors.proofs.LedgerLemmas.Turns.{core_first}
 use Rattle.cdc_actors.proofs.ledger.LedgerEnd.new.Goals as goal
 
 pub of-requires : goal.of-requires

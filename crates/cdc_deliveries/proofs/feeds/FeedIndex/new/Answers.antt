@@ -1,5 +1,5 @@
 use Rattle.std.proofs.Common.{◌≤◌, arith, length, sym}
-use Rattle.cdc_queues.proofs.LineTexts.{no_event}
+use Rattle.cdc_queue_lines.proofs.LineTexts.{no_event}
 use Rattle.cdc_deliveries.proofs.IndexLemmas.{all_indexed, one_indexed}
 use Rattle.cdc_deliveries.proofs.feeds.FeedIndex.new.Goals as goal
 use Rattle.cdc_deliveries.proofs.feeds.FeedIndex.new.Goals.{in-Some+in_ok-add, in_default}

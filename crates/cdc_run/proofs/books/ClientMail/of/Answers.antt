@@ -1,4 +1,4 @@
-use Rattle.cdc_run.proofs.ClientsParted.{all_push}
+use Rattle.cdc_run.proofs.ClientMailLemmas.{all_push}
 use Rattle.cdc_run.proofs.books.ClientMail.of.Goals as goal
 
 pub loop-parts-preserved : goal.loop-parts-preserved

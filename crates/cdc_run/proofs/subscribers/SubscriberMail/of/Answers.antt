@@ -1,4 +1,4 @@
-use Rattle.cdc_run.proofs.SubscribersParted.{all_push}
+use Rattle.cdc_run.proofs.SubscriberMailLemmas.{all_push}
 use Rattle.cdc_run.proofs.subscribers.SubscriberMail.of.Goals as goal
 
 pub loop-parts-preserved : goal.loop-parts-preserved

@@ -1,4 +1,4 @@
-use Rattle.std.proofs.Common.{◌≡◌, ◌∙◌, ap, arith, inl, inr, sym, true, false}
+use Rattle.std.proofs.Common.{◌≡◌, arith, inl, inr, sym, true, false}
 use Rattle.std.proofs.lemmas.Bool.{and_right, cases_Bool}
 use Rattle.cdc_subscriber.specs.Book.{entries_of, has_both, ids_of, is_among}
 use Rattle.cdc_subscriber.proofs.BookLemmas.{book_of-push}

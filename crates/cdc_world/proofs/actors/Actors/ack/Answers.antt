@@ -27,6 +27,5 @@ returns c = record {
       c.index-2.result.now c.ack.new.self c.ack.result
       (numbered_some c.index.result.now.acks.items c.args.k c.len-2.result c.in_ok-ack.ack c.index-2.result.now
       (c.len-2.ensures ∙ c.index.result.now.acks.ok.0) (sym c.place_of-2.ensures ∙ c.in_ok-ack.ensures.ok_part)
-      c.index-2.ensures)
-      c.ack.ensures.answer c.ack.ensures.state);
+      c.index-2.ensures) c.ack.ensures.answer c.ack.ensures.state);
 }

@@ -13,6 +13,5 @@ returns c = record {
       c.in-Some.is
       (numbered_some c.self.inside.confirms.items c.args.k c.len.result c.in_ok-place.place c.index.result.now
       (c.len.ensures ∙ c.self.inside.confirms.ok.0) (sym c.place_of.ensures ∙ c.in_ok-place.ensures.ok_part)
-      c.index.ensures)
-      c.take_confirm.ensures.answer c.take_confirm.ensures.stands);
+      c.index.ensures) c.take_confirm.ensures.answer c.take_confirm.ensures.stands);
 }

@@ -15,8 +15,7 @@ returns-in_err-taken c = record {
       c.take_in.new.confirms.items
       (numbered_some c.self.inside.packets.items c.args.k c.len.result c.in_ok-place.place c.index-packet.result.now
       (c.len.ensures ∙ c.self.inside.packets.ok.0) (sym c.place_of.ensures ∙ c.in_ok-place.ensures.ok_part)
-      c.index-packet.ensures)
-      c.in_err-taken.ensures);
+      c.index-packet.ensures) c.in_err-taken.ensures);
 }
 
 pub returns : goal.returns
@@ -26,6 +25,5 @@ returns c = record {
       c.take_in.new.confirms.items
       (numbered_some c.self.inside.packets.items c.args.k c.len.result c.in_ok-place.place c.index-packet.result.now
       (c.len.ensures ∙ c.self.inside.packets.ok.0) (sym c.place_of.ensures ∙ c.in_ok-place.ensures.ok_part)
-      c.index-packet.ensures)
-      c.in_ok-taken.ensures);
+      c.index-packet.ensures) c.in_ok-taken.ensures);
 }

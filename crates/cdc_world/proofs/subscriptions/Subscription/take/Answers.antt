@@ -14,10 +14,8 @@ returns c =
     let some : 0 < length c.args.self.now.flight.items =
     omega (arith, c.in-Some.ensures.variant.0 refl, c.args.self.now.flight.ok.0) in
     taken_is (subscription_parts c.args.self.now) _ delivery c.args.self.now.flight.items c.in_ok-taking.taking
-    c.in-Some.ensures.lookup
-    some c.pop_front.ensures.rest
+    c.in-Some.ensures.lookup some c.pop_front.ensures.rest
     (answered_is c.args.self.now.subscriber delivery.item c.in_ok-taking.taking c.take.result c.take.ensures.answer is)
     (c.push_reserved.ensures.items ∙ ap (λ (xs : List ℕ). xs ++ delivery.position ∷ []) c.reserve.ensures.items)
     (λ reception kept. subst (λ (r : Result Taking TakeError). OnOk r (c.take.new.self
-    ≡ kept_of (next reception delivery.item))) is
-    (c.take.ensures.stands reception kept))
+    ≡ kept_of (next reception delivery.item))) is (c.take.ensures.stands reception kept))

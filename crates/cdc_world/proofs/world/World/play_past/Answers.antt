@@ -1,6 +1,5 @@
-use Rattle.std.proofs.Common.{Ok, Err, Some, None, ◌∙◌, refl, length, arith}
+use Rattle.std.proofs.Common.{◌∙◌, refl, arith}
 use Rattle.cdc_world.proofs.Counting.{HaveTriesCounted-done}
-use Rattle.cdc_world.specs.Tries.{NextPast}
 use Rattle.cdc_world.proofs.PlayMoves.{HasDone-more, MovesBy-past, Plays-ended, Plays-stopped}
 use Rattle.cdc_world.proofs.ClosedSubscribers.{AllStay-past, PlayFixesClosed-plays}
 use Rattle.cdc_world.proofs.world.World.play_past.Goals as goal
@@ -8,13 +7,8 @@ use Rattle.cdc_world.proofs.world.World.play_past.Goals as goal
 pub loop-done-preserved : goal.loop-done-preserved
 loop-done-preserved g c = record {
   does =
-      HasDone-more (NextPast c.args.self.now.risks c.args.tries) c.args.self.now
-      c.loop-done.self c.step_past.new.self c.args.steps.now c.loop-done.done
-      c.index-steps-done.result
-      c.in_default.field-0 c.loop-done-test.true c.index-steps-done.is c.loop-done.invariant.does
-      (MovesBy-past c.loop-done.self.risks c.args.self.now.risks c.args.tries c.loop-done.self
-      c.index-steps-done.result (Ok c.in_default.field-0)
-      c.step_past.new.self c.loop-done.invariant.does.risks c.in_default.ensures.next)
+      HasDone-more _ _ _ _ _ _ _ _ c.loop-done-test.true c.index-steps-done.is c.loop-done.invariant.does
+      (MovesBy-past _ _ _ _ _ _ _ c.loop-done.invariant.does.risks c.in_default.ensures.next)
       c.in_default.ensures.honest c.in_default.ensures.risks;
   counts = HaveTriesCounted-done c.args.tries c.args.self.now.failed c.loop-done.self.failed c.step_past.new.self.failed
       c.in_default.field-0 c.loop-done.invariant.counts c.in_default.ensures.counted;
@@ -38,30 +32,14 @@ returns-clause-counted g c = (c.loop-done.self.failed, (c.loop-done.invariant.co
 
 pub returns-in-Err-clause-plays : goal.returns-in-Err-clause-plays
 returns-in-Err-clause-plays g c =
-    Plays-stopped (NextPast c.args.self.now.risks c.args.tries) c.args.self.now
-    c.loop-done.self c.step_past.new.self c.args.steps.now c.loop-done.done
-    c.index-steps-done.result c.in-Err.why c.loop-done-test.true c.index-steps-done.is c.loop-done.invariant.does
-    (MovesBy-past c.loop-done.self.risks c.args.self.now.risks c.args.tries c.loop-done.self
-    c.index-steps-done.result (Err c.in-Err.why)
-    c.step_past.new.self c.loop-done.invariant.does.risks c.in-Err.ensures.next)
+    Plays-stopped _ _ _ _ _ _ _ _ c.loop-done-test.true c.index-steps-done.is c.loop-done.invariant.does
+    (MovesBy-past _ _ _ _ _ _ _ c.loop-done.invariant.does.risks c.in-Err.ensures.next)
 
 pub returns-in-Err-clause-fixed : goal.returns-in-Err-clause-fixed
 returns-in-Err-clause-fixed g c =
-    PlayFixesClosed-plays (NextPast c.args.self.now.risks c.args.tries)
-    (AllStay-past c.args.self.now.risks c.args.tries)
-    c.args.self.now c.args.steps.now c.loop-done.done (Some c.in-Err.why) c.step_past.new.self
-    (Plays-stopped (NextPast c.args.self.now.risks c.args.tries) c.args.self.now
-    c.loop-done.self c.step_past.new.self c.args.steps.now c.loop-done.done
-    c.index-steps-done.result c.in-Err.why c.loop-done-test.true c.index-steps-done.is c.loop-done.invariant.does
-    (MovesBy-past c.loop-done.self.risks c.args.self.now.risks c.args.tries c.loop-done.self
-    c.index-steps-done.result (Err c.in-Err.why)
-    c.step_past.new.self c.loop-done.invariant.does.risks c.in-Err.ensures.next))
+    PlayFixesClosed-plays _ (AllStay-past _ _) _ _ _ _ _ (returns-in-Err-clause-plays g c)
 
 pub returns-clause-fixed : goal.returns-clause-fixed
 returns-clause-fixed g c =
-    PlayFixesClosed-plays (NextPast c.args.self.now.risks c.args.tries)
-    (AllStay-past c.args.self.now.risks c.args.tries)
-    c.args.self.now c.args.steps.now (length c.args.steps.now) None c.loop-done.self
-    (Plays-ended (NextPast c.args.self.now.risks c.args.tries) c.args.self.now c.loop-done.self c.args.steps.now
-    c.loop-done.done c.loop-done-test.false
+    PlayFixesClosed-plays _ (AllStay-past _ _) _ _ _ _ _ (Plays-ended _ _ _ _ _ c.loop-done-test.false
     c.loop-done.auto.done-end c.loop-done.invariant.does)

@@ -18,9 +18,7 @@ returns-in_err-session-clause-next g c =
 
 pub returns-clause-next : goal.returns-clause-next
 returns-clause-next g c =
-    moves_entry (start_after c.args.at) (Ok Done) c.self.view_is
-    (Moves-risked _ (start_after c.args.at) (Ok Done) _
+    moves_entry (start_after c.args.at) (Ok Done) c.self.view_is (Moves-risked _ (start_after c.args.at) (Ok Done) _
     (start_done _ c.args.at c.begin.new.self c.in_ok-session.session _ _ _ _ c.window.result
     (sym c.session.ensures ∙ ap option_copied (none_of _ (sym c.is_some.ensures ∙ c.if-is_some.false)))
-    c.begin.ensures c.window.ensures.value c.in_ok-session.ensures.ok)
-    tt)
+    c.begin.ensures c.window.ensures.value c.in_ok-session.ensures.ok) tt)

@@ -1,7 +1,5 @@
-use Rattle.std.proofs.Common.{sym, ap, subst}
-use Rattle.cdc_types.specs.declared.steps.Step.{Step}
+use Rattle.std.proofs.Common.{ap}
 use Rattle.cdc_types.specs.declared.steps.Step.TheVariants.{Save}
-use Rattle.cdc_world.specs.Moves.{StepFixesClosed}
 use Rattle.cdc_world.specs.Parts.{Parts}
 use Rattle.cdc_world.proofs.ClosedSubscribers.{StepFixesClosed-moves}
 use Rattle.cdc_world.proofs.ActorMoves.{Moves-actors, counted_entry, moves_entry}
@@ -9,8 +7,7 @@ use Rattle.cdc_world.proofs.world.World.step.Goals as goal
 
 pub returns-in-Save-clause-fixed : goal.returns-in-Save-clause-fixed
 returns-in-Save-clause-fixed g c =
-    subst (λ (step : Step). StepFixesClosed c.args.self.now step c.save.result c.save.new.self) (sym c.in-Save.is)
-    (StepFixesClosed-moves c.args.self.now Save c.save.result c.save.new.self c.save.ensures.next)
+    rw (c.in-Save.is) (StepFixesClosed-moves _ Save _ _ c.save.ensures.next)
 
 pub returns-in_default : goal.returns-in_default
 returns-in_default g c =
@@ -19,7 +16,7 @@ returns-in_default g c =
     record {
       next = next;
       fixed = StepFixesClosed-moves c.args.self.now c.args.step.now c.step.result _ next;
-      counted = counted_entry c.step.result c.self.view_is c.step.ensures.next.0;
+      counted = counted_entry _ c.self.view_is c.step.ensures.next.0;
       honest = ap (λ (p : Parts). p.honest) c.self.view_is;
       risks = ap (λ (p : Parts). p.risks) c.self.view_is;
       safe = λ is. absurd (c.in_default.not-Save is);

@@ -6,15 +6,14 @@ use Rattle.cdc_world.proofs.world.World.step_past.Goals as goal
 pub loop-init : goal.loop-init
 loop-init g c = record {
   within = omega arith;
-  failed = HasFailed-none c.args.self.now c.args.step.now;
+  failed = HasFailed-none _ _;
   counts = (omega arith, λ none. refl);
 }
 
 pub returns-then-not-is_passing-clause-next : goal.returns-then-not-is_passing-clause-next
 returns-then-not-is_passing-clause-next g c =
-    MovesPast-last c.args.self.now c.loop.self c.step-answer.new.self c.args.step.now c.args.tries c.loop.counter
-    c.step-answer.result c.loop.invariant.within
-    (isnt_passing c.step-answer.result (sym c.is_passing.ensures ∙ c.if-not-is_passing.true))
+    MovesPast-last _ _ _ _ _ _ _ c.loop.invariant.within
+    (isnt_passing _ (sym c.is_passing.ensures ∙ c.if-not-is_passing.true))
     c.loop.invariant.failed c.step-answer.ensures.next
 
 pub returns-then-not-is_passing-clause-honest : goal.returns-then-not-is_passing-clause-honest
@@ -23,10 +22,8 @@ returns-then-not-is_passing-clause-honest g c = c.step-answer.ensures.honest ∙
 pub loop-preserved : goal.loop-preserved
 loop-preserved g c = record {
   within = omega arith;
-  failed = HasFailed-more c.args.self.now c.loop.self c.step-answer.new.self c.args.step.now c.loop.counter
-      c.step-answer.result (sym c.is_passing.ensures ∙ c.if-not-is_passing.false) c.loop.invariant.failed
-      c.step-answer.ensures.next
-      c.step-answer.ensures.honest c.step-answer.ensures.risks;
+  failed = HasFailed-more _ _ _ _ _ _ (sym c.is_passing.ensures ∙ c.if-not-is_passing.false) c.loop.invariant.failed
+      c.step-answer.ensures.next c.step-answer.ensures.honest c.step-answer.ensures.risks;
   counts = (
     omega (
       arith,
@@ -58,7 +55,7 @@ returns-clause-counted g c = (
 
 pub returns-clause-next : goal.returns-clause-next
 returns-clause-next g c =
-    MovesPast-last c.args.self.now c.loop.self c.step.new.self c.args.step.now c.args.tries c.loop.counter c.step.result
+    MovesPast-last _ _ _ _ _ _ _
     c.loop.invariant.within (λ passing. omega (arith, c.loop-test.false, c.loop.invariant.within))
     c.loop.invariant.failed c.step.ensures.next
 

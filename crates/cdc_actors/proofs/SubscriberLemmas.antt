@@ -1,5 +1,0 @@
--- Lemmas on a subscriber as an actor of a run.
-pub mod Arriving
-pub mod Closing
-pub mod Fails
-pub mod Taking

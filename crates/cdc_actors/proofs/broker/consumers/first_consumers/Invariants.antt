@@ -1,8 +1,0 @@
-use Rattle.std.proofs.Common.{vec_len, vec_capacity}
-use Rattle.cdc_actors.proofs.BrokerLemmas.Subscribers.{AreFirst}
-use Rattle.cdc_actors.proofs.broker.consumers.first_consumers.Given as goal
-
-abbrev pub invariant-loop-link : goal.invariant-loop-link
-invariant-loop-link l =
-    AreFirst l.fn.links.items l.yielded l.link-iterator.rest.items l.consumers.items (vec_len l.consumers)
-    (vec_capacity l.consumers)

@@ -1,5 +1,0 @@
-use Rattle.cdc_actors.proofs.ConnectorLemmas.Rounds.{finished_done}
-use Rattle.cdc_actors.proofs.connector.connector_actor_laws.Goals as goal
-
-pub returns : goal.returns
-returns c = record { finished = finished_done }

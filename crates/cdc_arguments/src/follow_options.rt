@@ -1,0 +1,162 @@
+//! The arguments of the command `follow`.
+
+use crate::command_line::OptionsFault;
+use crate::help;
+use crate::parsing::{STANDARD_INPUT, bad_value, json_flag, usage_error};
+use cdc_follow::Rules;
+use cdc_match::{BindError, Binding};
+use cdc_message::decimal_up_to;
+use clap::{Arg, ArgAction, ArgMatches, Command};
+use std::alloc::{AllocError, Global};
+
+/// How many lines are followed, at most, before the book is saved, if no number is given.
+const DEFAULT_EVERY: u64 = 1000;
+
+/// How a stream is followed.
+#[derive(Drop)]
+pub struct FollowPlan<'a> {
+    pub rules: Rules,
+    /// Which events are applied.
+    pub binding: Binding,
+    /// The binding's text, with a space between its parts.
+    pub binding_text: Vec<u8>,
+    /// The file of the book; `None` if it isn't kept.
+    pub book: Option<&'a str>,
+    /// How many lines are followed, at most, before the book is saved.
+    pub every: u64,
+}
+
+pub fn follow_arguments<'a>(alloc: Global) -> Result<Command<'a>, AllocError> {
+    Command::new(alloc, "follow")
+        .about("Follow a stream of messages, apply each event once, and print the book")
+        .after_help(help::FOLLOW)
+        .arg(stream_argument(alloc))?
+        .arg(chained_flag(alloc))?
+        .arg(gaps_flag(alloc))?
+        .arg(binding_option(alloc))?
+        .arg(book_option(alloc))?
+        .arg(every_option(alloc))?
+        .arg(json_flag(alloc))
+}
+
+/// The argument FILE, a stream.
+pub fn stream_argument<'a>(alloc: Global) -> Arg<'a> {
+    Arg::new(alloc, "FILE")
+        .action(ArgAction::Set)
+        .default_value(STANDARD_INPUT)
+        .help("The stream; - is standard input")
+}
+
+fn chained_flag<'a>(alloc: Global) -> Arg<'a> {
+    Arg::new(alloc, "chained")
+        .long("chained")
+        .action(ArgAction::SetTrue)
+        .help("Apply an event only if it follows the last one of its queue, by its member previous")
+}
+
+fn gaps_flag<'a>(alloc: Global) -> Arg<'a> {
+    Arg::new(alloc, "skip-gaps")
+        .long("skip-gaps")
+        .action(ArgAction::SetTrue)
+        .help("Skip an event that does not follow the last one, and go on; needs --chained")
+}
+
+fn binding_option<'a>(alloc: Global) -> Arg<'a> {
+    Arg::new(alloc, "binding")
+        .long("binding")
+        .value_name("BINDING")
+        .action(ArgAction::Set)
+        .default_value("all")
+        .help("Apply only the events that match this binding, such as 'all ledger=700'")
+}
+
+fn book_option<'a>(alloc: Global) -> Arg<'a> {
+    Arg::new(alloc, "book")
+        .long("book")
+        .value_name("BOOK")
+        .action(ArgAction::Set)
+        .help("Save the book in this file, or sqlite:FILE, and resume from it [default: memory]")
+}
+
+fn every_option<'a>(alloc: Global) -> Arg<'a> {
+    Arg::new(alloc, "every")
+        .long("every")
+        .value_name("N")
+        .action(ArgAction::Set)
+        .help("Save the book after N lines at the latest [1-18446744073709551615; default: 1000]")
+}
+
+/// The plan that the arguments ask for, or a usage error.
+pub fn follow_plan<'a>(
+    alloc: Global,
+    arguments: &ArgMatches<'a>,
+) -> Result<FollowPlan<'a>, OptionsFault> {
+    let rules = Rules {
+        chained: arguments.get_flag("chained"),
+        skips_gaps: arguments.get_flag("skip-gaps"),
+    };
+    if rules.skips_gaps && !rules.chained {
+        return Err(usage_error(
+            alloc,
+            "error: --skip-gaps needs --chained\n\nFor more information, try '--help'.\n",
+        )?);
+    }
+    let parts: Vec<&str> = arguments
+        .get_str("binding")
+        .unwrap_or("all")
+        .split_ascii_whitespace()
+        .collect(alloc)?;
+    Ok(FollowPlan {
+        rules,
+        binding: asked_binding(
+            alloc,
+            arguments.get_str("binding").unwrap_or("all"),
+            parts.as_slice(),
+        )?,
+        binding_text: joined(alloc, parts.as_slice())?,
+        book: arguments.get_str("book"),
+        every: asked_every(alloc, arguments)?,
+    })
+}
+
+/// The binding that these parts of a word represent.
+fn asked_binding(alloc: Global, word: &str, parts: &[&str]) -> Result<Binding, OptionsFault> {
+    match Binding::parse(alloc, parts) {
+        Ok(binding) => Ok(binding),
+        Err(BindError::OutOfMemory) => Err(OptionsFault::OutOfMemory),
+        Err(_) => Err(bad_value(
+            alloc,
+            "binding",
+            word,
+            "all or any, and up to ten pairs of a header and its value, such as 'all ledger=700'",
+        )?),
+    }
+}
+
+/// The parts with a space between them.
+fn joined(alloc: Global, parts: &[&str]) -> Result<Vec<u8>, AllocError> {
+    let mut text = Vec::new(alloc);
+    for part in parts {
+        if !text.is_empty() {
+            text.push(b' ')?;
+        }
+        text.extend_from_slice(part.as_bytes())?;
+    }
+    Ok(text)
+}
+
+/// After how many lines a book or a state is saved.
+pub fn asked_every(alloc: Global, arguments: &ArgMatches<'_>) -> Result<u64, OptionsFault> {
+    let Some(word) = arguments.get_str("every") else {
+        return Ok(DEFAULT_EVERY);
+    };
+    match decimal_up_to(word.as_bytes(), u128::from(u64::MAX)) {
+        Some(number) if number != 0 => Ok(number as u64),
+        _ => Err(bad_value(
+            alloc,
+            "every",
+            word,
+            "a number from 1 to 18446744073709551615",
+        )?),
+    }
+}

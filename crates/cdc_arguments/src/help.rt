@@ -1,0 +1,145 @@
+//! What the help of each command adds after its options.
+
+pub const BOOKS: &str = "\
+FILE is a script, and - is standard input. Its batches go to a ledger in the order of the file. The output is
+the results of each batch, a number for each request, and then for each subscriber how far it is and its book: for each
+account its pending debits, posted debits, pending credits and posted credits.
+
+A script is a text of lines:
+  subscriber all
+  accounts 1000
+  account id=1 ledger=700 code=10
+  account id=2 ledger=700 code=10
+  transfers 2000
+  transfer id=1 debit_account_id=1 credit_account_id=2 amount=100 ledger=700 code=1
+A subscriber's binding is all or any, and up to ten pairs of a header and its value, as in
+  subscriber any event_type=two_phase_posted ledger=700
+
+Examples:
+  relayplum books examples/two-phase.script
+  relayplum books examples/refusals.script --explain
+
+Exit status:
+  0  all was done
+  1  a read, a write or memory failed: the last line of standard output names the fault, unless a write failed
+  2  the arguments or the script are bad: standard error reports what was expected, and where";
+
+pub const MESSAGES: &str = "\
+FILE is a script, and - is standard input. Its batches go to a ledger in the order of the file. The output
+is, for each event that it makes, a line with the message's headers and its timestamp in seconds, and a line with its
+body, which is JSON.
+
+With --queue I the output is the queue of subscriber I: a JSON object for each of its messages, and one for its end.
+Each has a member previous: the timestamp in nanoseconds of the message before it in this queue, or 0 if it is the
+first. A consumer that applies a message only if it has applied the one before misses nothing, whatever lies between.
+
+Examples:
+  relayplum messages examples/first-transfer.script
+  relayplum messages examples/two-phase.script --queue 1
+
+Exit status:
+  0  all was done
+  1  a read, a write or memory failed: the last line of standard output names the fault, unless a write failed
+  2  the arguments or the script are bad: standard error reports what was expected, and where";
+
+pub const SIMULATE: &str = "\
+FILE is a script, and - is standard input. STEPS is a file with one step of a simulation in each line: batch,
+close_ledger, start, start at N, crash, poll, publish, arrive K, answer K, save, send I, rewind I, break I, take I,
+ack I K or close I. I is a subscriber and its queue, K counts the packets, the confirms or a subscriber's
+acknowledgements ever sent, from 1, and N is a timestamp in nanoseconds. /dev/stdin reads the steps from standard input.
+
+The steps are taken in order, up to the first that is refused. Random steps are printed as a step file. The output is
+the results of the batches that were taken, how many steps were done, what the session has saved, and for each
+subscriber how far it is and its book.
+
+Examples:
+  relayplum simulate examples/two-phase.script examples/two-phase.steps
+  relayplum simulate examples/two-phase.script examples/faults.steps --trace
+
+Exit status:
+  0  all was done
+  1  a read, a write or memory failed: the last line of standard output names the fault, unless a write failed; or a
+     step was refused
+  2  the arguments, the script or the steps are bad: standard error reports what was expected, and where";
+
+pub const RUN: &str = "\
+FILE is a script, and - is standard input. It is run on threads: the ledger, each client, the connector, the broker and
+each subscriber have one each. The N of a fault is counted over the whole run, from 1. The output is what the command
+books prints, for that run.
+
+Examples:
+  relayplum run examples/first-transfer.script --lose-confirm 1
+  relayplum run examples/first-transfer.script --progress saved
+
+Exit status:
+  0  all was done
+  1  a read, a write, memory, a thread, the store of progress or the run itself failed: the last line of standard
+     output names the fault, unless a write failed
+  2  the arguments or the script are bad: standard error reports what was expected, and where";
+
+pub const FOLLOW: &str = "\
+FILE is a stream of messages, one JSON object in each line, and - is standard input. A line is the body of a message,
+as the command messages prints it; or an object with a member body, which is such a body; or the end of the stream, an
+object with the member end, which is true. Empty lines and lines that begin with event_type= are ignored.
+
+Each event that is later than the last one is applied to the book, and any other one is a duplicate. So the stream has
+to keep its order: an event that a later one overtakes is lost. With --chained that is noticed: each line has a member
+previous, the timestamp of the message before it in its queue (0 before the first), and an event is applied only if that
+is the last event that was received. If it isn't, there is a gap, and following stops. So if each line is one of the
+queue, no event is lost or applied twice, whatever was lost, repeated or reordered on the way.
+
+An event that is later than the end of the stream contradicts it, and following stops there.
+
+With --book, the book is saved after every N lines, each time that no whole line of a pipe or a terminal is waiting, and
+at the end. After each save a line with saved and the timestamp of the last event is printed: events up to there may be
+acknowledged, and none later. If following is stopped at any time and started again with that book, it goes on where the
+book was saved, and what was applied before is a duplicate.
+
+With --book sqlite:FILE, the book is kept in an SQLite file, which other programs may read between saves: the table
+accounts has the balances, and the table book the timestamp of the last event applied and the count of these events.
+
+The output is these lines, and at the end how far the stream was applied and its book: for each account its pending
+debits, posted debits, pending credits and posted credits.
+
+Examples:
+  relayplum messages examples/two-phase.script | relayplum follow
+  consume-from-my-queue | relayplum follow --chained --book ann.book
+  consume-from-my-queue | relayplum follow --chained --book sqlite:ann.db
+
+Exit status:
+  0  the stream ended
+  1  there is a gap, or a line contradicts the end; or a read, a write, memory or the store of the book failed: the last
+     line of standard output names the fault, unless a write failed
+  2  the arguments or a line of the stream are bad: standard error reports what was expected, and where";
+
+pub const AUDIT: &str = "\
+FILE is a stream of messages from a ledger's first event on, one JSON object in each line, and - is standard input. Its
+lines are those that the command follow reads.
+
+Each event shows the balances of its two accounts after it, so it has to follow from the events before it: its timestamp
+is later, its transfer is new, a post, void or expiry names a pending transfer that came before and hasn't ended, and
+each of the eight balances is the one before with this event's amount. The first event that doesn't follow is refused,
+with the rule that it breaks and the numbers. So a lost, duplicated, swapped or changed event is found;
+docs/AUDIT.md lists what can't be.
+
+Another ledger of this kind may have more flags. With --foreign they are ignored, and a transfer that is stored with
+such a flag may have any timestamp.
+
+With --state, what was audited is saved after every N lines, each time that no whole line of a pipe or a terminal is
+waiting, and at the end. After each save a line with saved and the timestamp of the last accepted event is printed. If
+auditing is stopped at any time and started again with that file, it goes on there: the stream has to begin with the
+event after that one.
+
+The output is these lines; then how many events are accepted and the last one's timestamp; with --book also the balances
+that they show last, as the command books prints them; and at the end the line of the event that is refused, if one is.
+
+Examples:
+  relayplum messages examples/two-phase.script | relayplum audit
+  relayplum audit archive.jsonl --book
+  relayplum audit today.jsonl --state audit.state
+
+Exit status:
+  0  all events are accepted
+  1  an event is refused; or a read, a write, memory or the store of the state failed: the last line of standard output
+     names the fault, unless a write failed
+  2  the arguments or a line of the stream are bad: standard error reports what was expected, and where";

@@ -1,0 +1,17 @@
+//! The arguments of the program: what they ask for, usage errors, and help.
+#![tactic(auto)]
+
+mod audit_options;
+mod command_line;
+mod delivery_options;
+mod follow_options;
+mod help;
+mod parsing;
+mod random_options;
+mod run_options;
+mod slips;
+
+pub use audit_options::AuditPlan;
+pub use command_line::{Diagnostics, Form, Options, OptionsFault, RunDiagnostics};
+pub use follow_options::FollowPlan;
+pub use parsing::{STANDARD_ERROR, STANDARD_INPUT, options};

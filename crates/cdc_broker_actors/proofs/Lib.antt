@@ -1,0 +1,4 @@
+pub mod BrokerLemmas
+mod Seated
+pub mod SubscriberLemmas
+pub mod Words

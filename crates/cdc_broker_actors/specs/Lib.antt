@@ -1,0 +1,3 @@
+pub mod Broker
+pub mod Seats
+pub mod Subscriber

@@ -1,0 +1,8 @@
+//! Lines of text that have numbers and flags: how they are written, and how they are read back.
+#![tactic(auto)]
+
+mod reading;
+mod writing;
+
+pub use reading::{flag, line, number, number_16, number_32, number_64, skip};
+pub use writing::{write_flagged, write_named, write_spaced, write_text};

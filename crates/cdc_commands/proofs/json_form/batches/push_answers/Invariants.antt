@@ -1,0 +1,9 @@
+use Rattle.std.proofs.Common.{◌≡◌, ◌++◌, take}
+use Rattle.cdc_commands.specs.JsonValues.{answered_values}
+use Rattle.cdc_output.specs.Lines.{json_lines}
+use Rattle.cdc_commands.proofs.json_form.batches.push_answers.Given as goal
+
+abbrev pub invariant-loop-answered : goal.invariant-loop-answered
+invariant-loop-answered l =
+    l.lines.text.items
+    ≡ l.initial.lines.text.items ++ json_lines (answered_values (take l.answered-index l.answers))

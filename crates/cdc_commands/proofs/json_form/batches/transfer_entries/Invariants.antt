@@ -1,0 +1,7 @@
+use Rattle.std.proofs.Common.{◌≡◌, map, take}
+use Rattle.cdc_commands.specs.JsonValues.{transfer_result}
+use Rattle.cdc_output.specs.Private.Sending.{entry_value}
+use Rattle.cdc_commands.proofs.json_form.batches.transfer_entries.Given as goal
+
+abbrev pub invariant-loop-result : goal.invariant-loop-result
+invariant-loop-result l = map entry_value l.entries.items ≡ map transfer_result (take l.result-index l.results)

@@ -1,0 +1,4 @@
+pub mod ConnectorLemmas
+mod RestartExamples
+mod Seated
+pub mod Words

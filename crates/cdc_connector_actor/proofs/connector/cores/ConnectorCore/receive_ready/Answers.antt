@@ -1,0 +1,22 @@
+use Rattle.cdc_connector_actor.proofs.Words.{ConnectorCore, HasFailed, ap, passed_on}
+use Rattle.cdc_connector_actor.proofs.ConnectorLemmas.Failing.{failed_unheard, same_inbox}
+use Rattle.cdc_connector_actor.proofs.ConnectorLemmas.Rounds.{took_ready}
+use Rattle.cdc_connector_actor.proofs.connector.cores.ConnectorCore.receive_ready.Goals as goal
+
+pub handle-requires : goal.handle-requires
+handle-requires g c = (
+  c.args.self.now,
+  record {
+    sends = c.requires;
+    takes = took_ready _ c.args.self.now _ c.in-Some.message c.receive_ready.new.inbox c.self.view_is c.in-Some.is
+        c.in_ok-message.ensures.taken;
+    after = ap (λ (w : ConnectorCore). record w { inbox = c.receive_ready.new.inbox }) c.self.view_is;
+  },
+)
+
+pub returns-in_err-message-clause-failed : goal.returns-in_err-message-clause-failed
+returns-in_err-message-clause-failed g c =
+    let gone = c.in_err-message.ensures.refused in
+    passed_on (λ fault. HasFailed c.args.self.now fault _) _ _ c.from_residual.ensures.1
+    (failed_unheard c.args.self.now _ c.in_err-message.field-0.0 c.requires
+    (gone.0, same_inbox _ c.args.self.now c.receive_ready.new.inbox c.self.view_is gone.1))

@@ -1,0 +1,2 @@
+pub mod Connector
+pub mod Seats

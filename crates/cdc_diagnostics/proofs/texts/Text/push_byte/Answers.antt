@@ -1,8 +1,0 @@
-use Rattle.std.proofs.Common.{◌∷◌, ℕ, [], subst, sym}
-use Rattle.std.specs.Str.{IsUtf8}
-use Rattle.cdc_diagnostics.proofs.ShownWords.{shown_utf8}
-use Rattle.cdc_diagnostics.proofs.texts.Text.push_byte.Goals as goal
-
-pub unreachable-requires : goal.unreachable-requires
-unreachable-requires c =
-    c.in-Err.ensures.cases.0 (subst (λ (b : ℕ). IsUtf8 (b ∷ [])) (sym c.shown_byte.ensures) (shown_utf8 c.args.byte))

@@ -1,0 +1,161 @@
+//! The command `follow`: follows a stream up to its end, and saves and prints its book.
+
+ghost use Rattle.std.specs.Prelude.{◌≡◌, Some, is_some, IfSome};
+ghost use Rattle.cdc_follow.specs.Gaps.{bytes_skipped};
+ghost use Rattle.cdc_follow.specs.Saved.{book_text};
+ghost use Rattle.cdc_follow.specs.Stops.{bytes_followed};
+ghost use Rattle.cdc_follow_command.specs.Following.{KeepsAfter, last_of, prints_end_of, skipped_by as skipped_under};
+ghost use Rattle.cdc_streams.specs.Saving.{IfStopped, PrintsSaves, PrintsStream};
+
+use crate::books::text_of;
+use crate::endings::FollowEnding;
+use crate::forms::FollowForm;
+use cdc_follow::{FollowError, Follower, Rules, Stop, Turn, follow_line};
+use cdc_match::Binding;
+use cdc_streams::{Consumer, LineReader, Saver, TextStore, stream_command};
+use std::alloc::{AllocError, Global};
+use std::io::{BufRead, Write};
+
+/// By what a stream is followed.
+#[derive(Drop)]
+pub struct FollowSetup {
+    /// The binding that takes the events.
+    pub binding: Binding,
+    /// Whether the stream is chained, and whether gaps are skipped.
+    pub rules: Rules,
+    /// The text of the binding, which the saved book states.
+    pub binding_text: Vec<u8>,
+}
+
+/// What follows a stream.
+#[derive(Drop)]
+pub struct StreamFollower {
+    /// The follower, with its book.
+    pub follower: Follower,
+    /// How many entries came too early and were skipped.
+    pub gaps: u64,
+}
+
+impl StreamFollower {
+    /// A follower that goes on from this one; no entry was skipped yet.
+    pub fn new(follower: Follower) -> StreamFollower
+        ensures follower { result.follower ≡ follower }
+        ensures gaps { result.gaps ≡ 0 }
+    {
+        StreamFollower { follower, gaps: 0 }
+    }
+}
+
+/// How many gaps were skipped, if they are to be.
+fn skipped_by(rules: Rules, gaps: u64) -> Option<u64>
+    ensures { result ≡ skipped_under rules gaps }
+{
+    if rules.skips_gaps { Some(gaps) } else { None }
+}
+
+impl<F: FollowForm> Consumer<F> for StreamFollower {
+    ghost use Rattle.cdc_follow_command.specs.Private.Followed.{HasFollowed, followed_none, keeps_after};
+    ghost use Rattle.cdc_follow_command.specs.Following.{KeepsAfter, StopsAt, book_of, last_of, prints_end_of};
+
+    type Setup = FollowSetup;
+
+    type Stop = Stop;
+
+    ghost has_taken = { HasFollowed };
+
+    ghost stands = { KeepsAfter };
+
+    ghost stops = { StopsAt };
+
+    ghost text = { book_of };
+
+    ghost last = { last_of };
+
+    ghost prints_end = { prints_end_of F.prints_end };
+
+    fn take_line<B: BufRead>(
+        &mut self,
+        setup: &FollowSetup,
+        alloc: Global,
+        reader: &mut B,
+        line: &mut Vec<u8>,
+        number: u64,
+    ) -> Result<Option<Stop>, FollowError> {
+        let turn = follow_line(
+            alloc,
+            reader,
+            line,
+            number,
+            &setup.binding,
+            setup.rules,
+            &mut self.follower,
+        )?;
+        match turn {
+            Turn::GoesOn { skipped } => {
+                self.gaps = self.gaps.saturating_add(u64::from(skipped));
+                Ok(None)
+            }
+            Turn::Stops(stop) => Ok(Some(stop)),
+        }
+    }
+
+    fn to_text(&self, setup: &FollowSetup, alloc: Global) -> Result<Vec<u8>, AllocError> {
+        text_of(
+            alloc,
+            setup.rules.chained,
+            setup.binding_text.as_slice(),
+            &self.follower,
+        )
+    }
+
+    fn last_timestamp(&self) -> u64 {
+        self.follower.seen()
+    }
+
+    fn end_text(
+        &self,
+        form: &F,
+        setup: &FollowSetup,
+        alloc: Global,
+        stop: Stop,
+    ) -> Result<Vec<u8>, AllocError> {
+        form.end(
+            alloc,
+            skipped_by(setup.rules, self.gaps),
+            &self.follower,
+            stop,
+        )
+    }
+
+    ghost begins = { followed_none };
+
+    ghost stands_for_it = { keeps_after };
+}
+
+/// Follows the lines of a reader, numbered from 1. It saves the book after every so many lines, each time that no whole
+/// line is waiting, and at the end, and prints each save once the store holds its book; and at the end the book and why
+/// following stopped, or the fault of a command that failed. Nothing is written after a write that failed.
+pub fn follow_command<F: FollowForm, B: LineReader, W: Write, K: TextStore>(
+    form: &F,
+    alloc: Global,
+    reader: &mut B,
+    writer: &mut W,
+    saver: &mut Saver<K>,
+    setup: &FollowSetup,
+    followed: &mut StreamFollower,
+) -> FollowEnding
+    ensures stops { IfStopped result (λ stop. IfSome (B.remaining reader.old) (λ bytes.
+        bytes_followed setup.now.binding setup.now.rules followed.old.follower bytes
+        ≡ record { state = followed.new.follower; stop = stop })) }
+    ensures gaps { IfStopped result (λ _. IfSome (B.remaining reader.old) (λ bytes.
+        followed.old.gaps ≡ 0
+        → followed.new.gaps ≡ bytes_skipped setup.now.binding setup.now.rules followed.old.follower bytes)) }
+    ensures store { is_some saver.new.store ≡ is_some saver.old.store }
+    ensures saved { IfStopped result (λ _. IfSome saver.new.store (λ store. K.held store
+        ≡ Some (book_text setup.now.rules.chained setup.now.binding_text.items followed.new.follower))) }
+    ensures printed { PrintsStream (PrintsSaves F.prints_saved last_of (KeepsAfter setup.now followed.old)
+        (is_some saver.old.store) (B.remaining reader.old) (W.contents writer.old))
+        (prints_end_of F.prints_end setup.now) F.prints_failure (W.contents writer.new) followed.new result }
+{
+    stream_command(form, alloc, reader, writer, saver, setup, followed)
+}

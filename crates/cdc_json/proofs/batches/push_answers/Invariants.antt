@@ -1,8 +1,0 @@
-use Rattle.std.proofs.Common.{◌≡◌, ◌++◌, take}
-use Rattle.cdc_json.specs.Lines.{answered_values, json_lines}
-use Rattle.cdc_json.proofs.batches.push_answers.Given as goal
-
-abbrev pub invariant-loop-answered : goal.invariant-loop-answered
-invariant-loop-answered l =
-    l.lines.text.items
-    ≡ l.initial.lines.text.items ++ json_lines (answered_values (take l.answered-index l.answers))

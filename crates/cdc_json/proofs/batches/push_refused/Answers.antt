@@ -1,4 +1,0 @@
-use Rattle.cdc_json.proofs.batches.push_refused.Goals as goal
-
-pub returns : goal.returns
-returns c = rw (c.into.ensures, c.number.ensures, c.name.ensures) at c.push.ensures

@@ -1,7 +1,0 @@
-use Rattle.std.proofs.Common.{◌≡◌, map, take}
-use Rattle.cdc_json.specs.Lines.{transfer_result}
-use Rattle.cdc_json.specs.Private.Sending.{entry_value}
-use Rattle.cdc_json.proofs.batches.transfer_entries.Given as goal
-
-abbrev pub invariant-loop-result : goal.invariant-loop-result
-invariant-loop-result l = map entry_value l.entries.items ≡ map transfer_result (take l.result-index l.results)

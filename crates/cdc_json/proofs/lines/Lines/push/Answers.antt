@@ -1,9 +1,0 @@
-use Rattle.std.proofs.lemmas.Result.{on_ok_weaker}
-use Rattle.cdc_json.proofs.SentLemmas.{line_added}
-use Rattle.cdc_json.proofs.lines.Lines.push.Goals as goal
-
-pub returns : goal.returns
-returns c =
-    on_ok_weaker c.push_value.result
-    (line_added c.args.kind.now c.args.members.now c.args.self.now.text.items c.push_value.new.text.items)
-    c.push_value.ensures

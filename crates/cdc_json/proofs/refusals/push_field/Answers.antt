@@ -1,4 +1,0 @@
-use Rattle.cdc_json.proofs.refusals.push_field.Goals as goal
-
-pub returns : goal.returns
-returns c = rw (c.name.ensures) at c.push.ensures

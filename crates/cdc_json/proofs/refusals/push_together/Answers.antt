@@ -1,4 +1,0 @@
-use Rattle.cdc_json.proofs.refusals.push_together.Goals as goal
-
-pub returns : goal.returns
-returns c = rw (c.into.ensures) at c.push.ensures

@@ -1,8 +1,0 @@
-use Rattle.std.proofs.Common.{◌≡◌, ◌+◌, ◌++◌, drop}
-use Rattle.cdc_json.specs.Lines.{json_lines, kept_values}
-use Rattle.cdc_json.proofs.subscribers.push_subscribers.Given as goal
-
-abbrev pub invariant-loop-place : goal.invariant-loop-place
-invariant-loop-place l =
-    l.lines.text.items ++ json_lines (kept_values (l.place + 1) (drop l.place l.subscribers))
-    ≡ l.fn.lines.text.items ++ json_lines (kept_values 1 l.subscribers)

@@ -1,5 +1,0 @@
-pub mod Audits
-pub mod Lines
-pub mod Objects
-pub mod Private
-pub mod Streams

@@ -1,0 +1,4 @@
+pub mod Client
+pub mod Ledger
+pub mod Orders
+pub mod Seats

@@ -1,0 +1,4 @@
+pub mod FoundElements
+pub mod LineLemmas
+pub mod SentLemmas
+pub mod TextLemmas

@@ -1,0 +1,16 @@
+use Rattle.cdc_run.specs.ClientMail.{AreClientsOf}
+use Rattle.cdc_run.proofs.ClientMailLemmas.{mail_of}
+use Rattle.cdc_run.proofs.Refused.{passed_on}
+use Rattle.cdc_run.proofs.books.mail_of_clients.Goals as goal
+
+-- it is what they have left
+pub returns-clause-mail : goal.returns-clause-mail
+returns-clause-mail c =
+    mail_of c.args.clients.items c.in_ok-parts.parts.items c.in_ok-mail.mail c.in_ok-parts.ensures.parts
+    c.in_ok-mail.ensures
+
+-- one of them isn't as it has to be
+pub returns-in_err-parts-clause-refused : goal.returns-in_err-parts-clause-refused
+returns-in_err-parts-clause-refused c =
+    passed_on (AreClientsOf c.args.system 1 c.args.clients.items) c.from_residual.result c.in_err-parts.field-0.0
+    c.from_residual.ensures.1 c.in_err-parts.ensures.refused

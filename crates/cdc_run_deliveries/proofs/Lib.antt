@@ -1,3 +1,0 @@
-pub mod Arriving
-pub mod Delivered
-pub mod Printing

@@ -1,8 +1,0 @@
-use Rattle.std.proofs.Common.{◌≡◌, ◌++◌, drop}
-use Rattle.cdc_run_deliveries.specs.Arrived.{arrived, arrived_from}
-use Rattle.cdc_run_deliveries.proofs.arrivals.arrivals_of_run.Given as goal
-
--- what has arrived, and what the deliveries that are left make, are all that arrives
-abbrev pub invariant-loop-delivery : goal.invariant-loop-delivery
-invariant-loop-delivery l =
-    l.arrived.items ++ arrived_from l.furthest (drop l.delivery-index l.received) ≡ arrived l.received

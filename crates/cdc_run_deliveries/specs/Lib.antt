@@ -1,2 +1,0 @@
-pub mod Arrived
-pub mod RunDeliveries

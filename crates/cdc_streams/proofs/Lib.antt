@@ -1,0 +1,4 @@
+pub mod EntryLemmas
+pub mod OrderLemmas
+pub mod RunLemmas
+pub mod SavingLemmas

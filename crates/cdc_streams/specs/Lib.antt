@@ -1,0 +1,4 @@
+pub mod Endings
+pub mod Lines
+pub mod Saving
+pub mod Taking

@@ -1,0 +1,21 @@
+//! What every command over a stream shares: how its lines are read, what takes them, when and where that is saved, and
+//! how the command ends.
+#![tactic(auto)]
+
+mod commands;
+mod consumers;
+mod endings;
+mod forms;
+mod readers;
+mod savers;
+mod stores;
+mod text_files;
+
+pub use commands::{stream_command, take_stream};
+pub use consumers::Consumer;
+pub use endings::StreamEnding;
+pub use forms::{StreamForm, push_bad_line, push_bad_line_json};
+pub use readers::{LineReader, Origin};
+pub use savers::Saver;
+pub use stores::TextStore;
+pub use text_files::TextFile;
