@@ -72,6 +72,11 @@ check 'times that are far ahead: nothing is built' '' "$calls"
 rm "$program.stamps"
 start books x
 check 'times that are far ahead are not noted' '' "$(cat "$program.stamps" 2>/dev/null)"
+echo "found=" >"$DO/find"
+start books x
+check 'a find that prints nothing: the program runs' 'run with books x' "$out"
+check 'a find that prints nothing: nothing is noted' '' "$(cat "$program.stamps" 2>/dev/null)"
+check 'a find that prints nothing: nothing else is printed' '' "$err"
 rm "$DO/find" "$room/bin/find"
 start books x
 

@@ -177,7 +177,7 @@ class Program:
 def last_change(printed):
     """Returns the time of the last change among the files that `find` printed, in nanoseconds; of none, one that never comes. A time without
     a fraction counts to the end of its second, since some filesystems keep whole seconds."""
-    times = [line.rsplit(b" ", 1)[1].partition(b".") for line in printed.splitlines()[1:]]
+    times = [line.rsplit(b" ", 1)[1].partition(b".") for line in printed.splitlines()[1:] if line.count(b" ") == 2]
     exact = [int(seconds + fraction[:9].ljust(9, b"0")) for seconds, _, fraction in times]
     return max((it if it % SECOND else it + SECOND - 1 for it in exact), default=sys.maxsize)
 
