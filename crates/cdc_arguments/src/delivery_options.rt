@@ -1,27 +1,26 @@
 //! The arguments of `simulate` and `run` that ask for the deliveries to one subscriber.
 
+use crate::arguments::Argument;
 use crate::command_line::OptionsFault;
 use crate::parsing::{bad_value, read_subscriber};
 use cdc_deliveries::Asked;
-use clap::{Arg, ArgAction, ArgMatches};
-use std::alloc::{AllocError, Global};
+use clap::ArgMatches;
+use std::alloc::Global;
 
-pub fn deliveries_option<'a>(alloc: Global) -> Arg<'a> {
-    Arg::new(alloc, "deliveries")
-        .long("deliveries")
-        .value_name("I")
-        .action(ArgAction::Set)
-        .help(
-            "Print what subscriber I receives up to its close, as JSON lines, instead of the report [1-8]",
-        )
+pub fn deliveries_option() -> Argument {
+    Argument::option(
+        "deliveries",
+        "I",
+        "Print what subscriber I receives up to its close, as JSON lines, instead of the report [1-8]",
+    )
 }
 
-pub fn expect_flag<'a>(alloc: Global) -> Result<Arg<'a>, AllocError> {
-    Arg::new(alloc, "expect")
-        .long("expect")
-        .action(ArgAction::SetTrue)
-        .help("Print the expected result of each delivery instead of the delivery")
-        .requires_arg("deliveries")
+pub fn expect_flag() -> Argument {
+    Argument::flag(
+        "expect",
+        "Print the expected result of each delivery instead of the delivery",
+    )
+    .with("deliveries")
 }
 
 /// The subscriber whose deliveries the arguments ask for, if they do. A usage error if no script can have it.

@@ -1,5 +1,6 @@
 //! The arguments of the command `follow`.
 
+use crate::arguments::{Argument, with_arguments};
 use crate::command_line::OptionsFault;
 use crate::help;
 use crate::parsing::{STANDARD_INPUT, bad_value, json_flag, usage_error};
@@ -27,16 +28,41 @@ pub struct FollowPlan<'a> {
 }
 
 pub fn follow_arguments<'a>(alloc: Global) -> Result<Command<'a>, AllocError> {
-    Command::new(alloc, "follow")
+    let command = Command::new(alloc, "follow")
         .about("Follow a stream of messages, apply each event once, and print the book")
         .after_help(help::FOLLOW)
-        .arg(stream_argument(alloc))?
-        .arg(chained_flag(alloc))?
-        .arg(gaps_flag(alloc))?
-        .arg(binding_option(alloc))?
-        .arg(book_option(alloc))?
-        .arg(every_option(alloc))?
-        .arg(json_flag(alloc))
+        .arg(stream_argument(alloc))?;
+    with_arguments(
+        alloc,
+        command,
+        &[
+            Argument::flag(
+                "chained",
+                "Apply an event only if it follows the last one of its queue, by its member previous",
+            ),
+            Argument::flag(
+                "skip-gaps",
+                "Skip an event that does not follow the last one, and go on; needs --chained",
+            ),
+            Argument::option(
+                "binding",
+                "BINDING",
+                "Apply only the events that match this binding, such as 'all ledger=700'",
+            )
+            .or("all"),
+            Argument::option(
+                "book",
+                "BOOK",
+                "Save the book in this file, or sqlite:FILE, and resume from it [default: memory]",
+            ),
+            Argument::option(
+                "every",
+                "N",
+                "Save the book after N lines at the latest [1-18446744073709551615; default: 1000]",
+            ),
+            json_flag(),
+        ],
+    )
 }
 
 /// The argument FILE, a stream.
@@ -45,45 +71,6 @@ pub fn stream_argument<'a>(alloc: Global) -> Arg<'a> {
         .action(ArgAction::Set)
         .default_value(STANDARD_INPUT)
         .help("The stream; - is standard input")
-}
-
-fn chained_flag<'a>(alloc: Global) -> Arg<'a> {
-    Arg::new(alloc, "chained")
-        .long("chained")
-        .action(ArgAction::SetTrue)
-        .help("Apply an event only if it follows the last one of its queue, by its member previous")
-}
-
-fn gaps_flag<'a>(alloc: Global) -> Arg<'a> {
-    Arg::new(alloc, "skip-gaps")
-        .long("skip-gaps")
-        .action(ArgAction::SetTrue)
-        .help("Skip an event that does not follow the last one, and go on; needs --chained")
-}
-
-fn binding_option<'a>(alloc: Global) -> Arg<'a> {
-    Arg::new(alloc, "binding")
-        .long("binding")
-        .value_name("BINDING")
-        .action(ArgAction::Set)
-        .default_value("all")
-        .help("Apply only the events that match this binding, such as 'all ledger=700'")
-}
-
-fn book_option<'a>(alloc: Global) -> Arg<'a> {
-    Arg::new(alloc, "book")
-        .long("book")
-        .value_name("BOOK")
-        .action(ArgAction::Set)
-        .help("Save the book in this file, or sqlite:FILE, and resume from it [default: memory]")
-}
-
-fn every_option<'a>(alloc: Global) -> Arg<'a> {
-    Arg::new(alloc, "every")
-        .long("every")
-        .value_name("N")
-        .action(ArgAction::Set)
-        .help("Save the book after N lines at the latest [1-18446744073709551615; default: 1000]")
 }
 
 /// The plan that the arguments ask for, or a usage error.

@@ -1,6 +1,7 @@
 //! The arguments of the program: what they ask for, usage errors, and help.
 #![tactic(auto)]
 
+mod arguments;
 mod audit_options;
 mod command_line;
 mod delivery_options;

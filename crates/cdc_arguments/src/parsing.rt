@@ -4,6 +4,7 @@ ghost use Rattle.std.specs.Prelude.{◌≡◌, length, codes, IfOk, IfSome, IsOk
 ghost use Rattle.cdc_types.specs.Windows.{IsWindow};
 ghost use Rattle.cdc_arguments.specs.Options.{IsRun, IsWithinLimits};
 
+use crate::arguments::{Argument, with_arguments};
 use crate::audit_options::{audit_arguments, audit_plan};
 pub use crate::command_line::{Diagnostics, Form, Options, OptionsFault, RunDiagnostics};
 use crate::delivery_options::{asked_deliveries, deliveries_option, expect_flag};
@@ -28,6 +29,27 @@ pub const STANDARD_INPUT: &str = "-";
 
 /// As the file of a diagram, this is standard error.
 pub const STANDARD_ERROR: &str = "-";
+
+/// The name of a command.
+#[derive(Clone, Copy)]
+enum CommandName {
+    Books,
+    Messages,
+    Simulate,
+    Run,
+    Follow,
+    Audit,
+}
+
+/// The commands, in the order in which help lists them.
+const COMMANDS: [CommandName; 6] = [
+    CommandName::Books,
+    CommandName::Messages,
+    CommandName::Simulate,
+    CommandName::Run,
+    CommandName::Follow,
+    CommandName::Audit,
+];
 
 const ABOUT: &str =
     "Change data capture: a script's batches go to a double-entry ledger, and its events are reported";
@@ -104,68 +126,88 @@ pub fn options<'a>(alloc: Global, args: &'a [&'a str]) -> Result<Options<'a>, Op
 
 /// The matches of clap. An error is also the answer to `--help` and `--version`.
 fn read_arguments<'a>(alloc: Global, args: &'a [&'a str]) -> Result<ArgMatches<'a>, Error> {
-    let program = Command::new(alloc, "relayplum")
+    let mut program = Command::new(alloc, "relayplum")
         .no_binary_name(true)
         .bin_name("relayplum")?
         .version("1.1.1")
         .about(ABOUT)
         .after_help(MORE)
-        .subcommand_required(true)
-        .subcommand(books_arguments(alloc)?)?
-        .subcommand(messages_arguments(alloc)?)?
-        .subcommand(simulate_arguments(alloc)?)?
-        .subcommand(run_arguments(alloc)?)?
-        .subcommand(follow_arguments(alloc)?)?
-        .subcommand(audit_arguments(alloc)?)?;
+        .subcommand_required(true);
+    for name in COMMANDS {
+        program = program.subcommand(command_of(alloc, name)?)?;
+    }
     program.try_get_matches_from(args)
 }
 
+/// The commands, each with its arguments.
+fn all_commands(alloc: Global) -> Result<Vec<Command<'static>>, AllocError> {
+    let mut commands = Vec::new(alloc);
+    for name in COMMANDS {
+        commands.push(command_of(alloc, name)?)?;
+    }
+    Ok(commands)
+}
+
+/// A command with its arguments.
+fn command_of<'a>(alloc: Global, name: CommandName) -> Result<Command<'a>, AllocError> {
+    match name {
+        CommandName::Books => books_arguments(alloc),
+        CommandName::Messages => messages_arguments(alloc),
+        CommandName::Simulate => simulate_arguments(alloc),
+        CommandName::Run => run_arguments(alloc),
+        CommandName::Follow => follow_arguments(alloc),
+        CommandName::Audit => audit_arguments(alloc),
+    }
+}
+
 fn books_arguments<'a>(alloc: Global) -> Result<Command<'a>, AllocError> {
-    Command::new(alloc, "books")
+    let command = Command::new(alloc, "books")
         .about("Print the results of a script's batches and the books of its subscribers")
         .after_help(help::BOOKS)
-        .arg(script_argument(alloc))?
-        .arg(explain_flag(alloc))?
-        .arg(json_flag(alloc))?
-        .arg(check_flag(alloc))
+        .arg(script_argument(alloc))?;
+    with_arguments(alloc, command, &[explain_flag(), json_flag(), check_flag()])
 }
 
 fn messages_arguments<'a>(alloc: Global) -> Result<Command<'a>, AllocError> {
-    Command::new(alloc, "messages")
+    let command = Command::new(alloc, "messages")
         .about(
             "Print two lines for each event of a script: what its message is routed by, and its JSON body",
         )
         .after_help(help::MESSAGES)
-        .arg(script_argument(alloc))?
-        .arg(queue_option(alloc))?
-        .arg(json_flag(alloc))?
-        .arg(check_flag(alloc))
+        .arg(script_argument(alloc))?;
+    let queue = Argument::option(
+        "queue",
+        "I",
+        "Print only the queue of subscriber I, as JSON lines that each name the message before [1-8]",
+    );
+    with_arguments(alloc, command, &[queue, json_flag(), check_flag()])
 }
 
 fn simulate_arguments<'a>(alloc: Global) -> Result<Command<'a>, AllocError> {
-    let steps = Arg::new(alloc, "STEPS")
-        .required_unless_present("random")?
-        .action(ArgAction::Set)
-        .help("The file of the steps; /dev/stdin is standard input");
-    Command::new(alloc, "simulate")
+    let command = Command::new(alloc, "simulate")
         .about(
             "Take a script's batches and a session's packets step by step, and print the state that the steps lead to",
         )
         .after_help(help::SIMULATE)
         .arg(script_argument(alloc))?
-        .arg(steps)?
-        .arg(random_option(alloc)?)?
-        .arg(to_end_flag(alloc)?)?
-        .arg(steps_option(alloc)?)?
-        .arg(faults_option(alloc)?)?
-        .arg(deliveries_option(alloc).conflicts_with("check")?)?
-        .arg(expect_flag(alloc)?)?
-        .arg(window_option(alloc))?
-        .arg(explain_flag(alloc))?
-        .arg(trace_flag(alloc))?
-        .arg(diagram_option(alloc))?
-        .arg(json_flag(alloc))?
-        .arg(check_flag(alloc))
+        .arg(steps_argument(alloc)?)?;
+    let command = with_arguments(
+        alloc,
+        command,
+        &[
+            random_option(),
+            to_end_flag(),
+            steps_option(),
+            faults_option(),
+            deliveries_option().without(&["check"]),
+            expect_flag(),
+            window_option(),
+            explain_flag(),
+            Argument::flag("trace", "Print on standard error what each step did"),
+        ],
+    )?
+    .arg(diagram_option(alloc))?;
+    with_arguments(alloc, command, &[json_flag(), check_flag()])
 }
 
 /// The argument FILE, a script.
@@ -176,58 +218,12 @@ pub fn script_argument<'a>(alloc: Global) -> Arg<'a> {
         .help("The script; - is standard input")
 }
 
-pub fn window_option<'a>(alloc: Global) -> Arg<'a> {
-    Arg::new(alloc, "window")
-        .long("window")
-        .value_name("N")
-        .action(ArgAction::Set)
-        .help("Set the number of events that a session waits for at a time [1-64; default: 1]")
-}
-
-pub fn explain_flag<'a>(alloc: Global) -> Arg<'a> {
-    Arg::new(alloc, "explain")
-        .long("explain")
-        .action(ArgAction::SetTrue)
-        .help("Print on standard error why each request or batch was not accepted")
-}
-
-fn queue_option<'a>(alloc: Global) -> Arg<'a> {
-    Arg::new(alloc, "queue")
-        .long("queue")
-        .value_name("I")
-        .action(ArgAction::Set)
-        .help(
-            "Print only the queue of subscriber I, as JSON lines that each name the message before [1-8]",
-        )
-}
-
-fn check_flag<'a>(alloc: Global) -> Arg<'a> {
-    Arg::new(alloc, "check")
-        .long("check")
-        .action(ArgAction::SetTrue)
-        .help("Validate the files only: print the first fault, or nothing")
-}
-
-pub fn json_flag<'a>(alloc: Global) -> Arg<'a> {
-    Arg::new(alloc, "json")
-        .long("json")
-        .action(ArgAction::SetTrue)
-        .help("Print a JSON object on each line instead of text")
-}
-
 fn asked_form(arguments: &ArgMatches<'_>) -> Form {
     if arguments.get_flag("json") {
         Form::Json
     } else {
         Form::Text
     }
-}
-
-fn trace_flag<'a>(alloc: Global) -> Arg<'a> {
-    Arg::new(alloc, "trace")
-        .long("trace")
-        .action(ArgAction::SetTrue)
-        .help("Print on standard error what each step did")
 }
 
 fn diagram_option<'a>(alloc: Global) -> Arg<'a> {
@@ -241,6 +237,40 @@ fn diagram_option<'a>(alloc: Global) -> Arg<'a> {
         .help(
             "Draw the steps as a sequence diagram for Mermaid, on standard error or in the file OUT",
         )
+}
+
+/// The argument STEPS, a file of steps.
+fn steps_argument<'a>(alloc: Global) -> Result<Arg<'a>, AllocError> {
+    Arg::new(alloc, "STEPS")
+        .action(ArgAction::Set)
+        .help("The file of the steps; /dev/stdin is standard input")
+        .required_unless_present("random")
+}
+
+pub fn window_option() -> Argument {
+    Argument::option(
+        "window",
+        "N",
+        "Set the number of events that a session waits for at a time [1-64; default: 1]",
+    )
+}
+
+pub fn explain_flag() -> Argument {
+    Argument::flag(
+        "explain",
+        "Print on standard error why each request or batch was not accepted",
+    )
+}
+
+fn check_flag() -> Argument {
+    Argument::flag(
+        "check",
+        "Validate the files only: print the first fault, or nothing",
+    )
+}
+
+pub fn json_flag() -> Argument {
+    Argument::flag("json", "Print a JSON object on each line instead of text")
 }
 
 /// The command that the arguments name, with its files and its numbers.
@@ -429,18 +459,6 @@ pub fn bad_value(
 pub fn usage_error(alloc: Global, message: &str) -> Result<OptionsFault, AllocError> {
     let message = String::from_str(alloc, message)?;
     Ok(OptionsFault::BadWords { message })
-}
-
-/// The commands, each with its flags.
-fn all_commands(alloc: Global) -> Result<Vec<Command<'static>>, AllocError> {
-    let mut commands = Vec::new(alloc);
-    commands.push(books_arguments(alloc)?)?;
-    commands.push(messages_arguments(alloc)?)?;
-    commands.push(simulate_arguments(alloc)?)?;
-    commands.push(run_arguments(alloc)?)?;
-    commands.push(follow_arguments(alloc)?)?;
-    commands.push(audit_arguments(alloc)?)?;
-    Ok(commands)
 }
 
 /// What follows from clap's error: help or the version, if the arguments ask for it, or a usage error.

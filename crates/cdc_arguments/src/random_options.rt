@@ -1,12 +1,13 @@
 //! The arguments of `simulate` that ask for random steps.
 
+use crate::arguments::Argument;
 use crate::command_line::OptionsFault;
 use crate::parsing::bad_value;
 use cdc_message::decimal_up_to;
 use cdc_random_steps::Chances;
 use cdc_types::Limits;
-use clap::{Arg, ArgAction, ArgMatches};
-use std::alloc::{AllocError, Global};
+use clap::ArgMatches;
+use std::alloc::Global;
 
 /// The greatest number of steps, if none is given.
 const DEFAULT_STEPS: u64 = 200;
@@ -14,47 +15,42 @@ const DEFAULT_STEPS: u64 = 200;
 /// The number of faults to inject, if none is given.
 const DEFAULT_FAULTS: u64 = 10;
 
-pub fn random_option<'a>(alloc: Global) -> Result<Arg<'a>, AllocError> {
-    Arg::new(alloc, "random")
-        .long("random")
-        .value_name("SEED")
-        .action(ArgAction::Set)
-        .help(
-            "Take random steps from this seed, and print them on standard error [0-18446744073709551615]",
-        )
-        .conflicts_with("STEPS")?
-        .conflicts_with("check")
+pub fn random_option() -> Argument {
+    Argument::option(
+        "random",
+        "SEED",
+        "Take random steps from this seed, and print them on standard error [0-18446744073709551615]",
+    )
+    .without(&["STEPS", "check"])
 }
 
-pub fn steps_option<'a>(alloc: Global) -> Result<Arg<'a>, AllocError> {
-    Arg::new(alloc, "steps")
-        .long("steps")
-        .value_name("N")
-        .action(ArgAction::Set)
-        .help("Take at most N random steps [0-20000; default: 200]")
-        .conflicts_with("STEPS")?
-        .requires_arg("random")
+pub fn to_end_flag() -> Argument {
+    Argument::flag(
+        "to-end",
+        "Go on until every subscriber has received the end mark; draw no close and no late start",
+    )
+    .with("random")
+    .without(&["STEPS"])
 }
 
-pub fn faults_option<'a>(alloc: Global) -> Result<Arg<'a>, AllocError> {
-    Arg::new(alloc, "faults")
-        .long("faults")
-        .value_name("N")
-        .action(ArgAction::Set)
-        .help("Inject N faults among the steps [0-20000; default: 10]")
-        .conflicts_with("STEPS")?
-        .requires_arg("random")
+pub fn steps_option() -> Argument {
+    Argument::option(
+        "steps",
+        "N",
+        "Take at most N random steps [0-20000; default: 200]",
+    )
+    .with("random")
+    .without(&["STEPS"])
 }
 
-pub fn to_end_flag<'a>(alloc: Global) -> Result<Arg<'a>, AllocError> {
-    Arg::new(alloc, "to-end")
-        .long("to-end")
-        .action(ArgAction::SetTrue)
-        .help(
-            "Go on until every subscriber has received the end mark; draw no close and no late start",
-        )
-        .conflicts_with("STEPS")?
-        .requires_arg("random")
+pub fn faults_option() -> Argument {
+    Argument::option(
+        "faults",
+        "N",
+        "Inject N faults among the steps [0-20000; default: 10]",
+    )
+    .with("random")
+    .without(&["STEPS"])
 }
 
 /// The seed and the numbers of steps and faults that the arguments give, or a usage error.

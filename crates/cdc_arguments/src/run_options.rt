@@ -4,6 +4,7 @@ ghost use Rattle.std.specs.Prelude.{◌≤◌, All, IfOk, IfSome};
 ghost use Rattle.cdc_run_command.specs.Plans.{AreCounts, IsPlan, IsPrefetch};
 ghost use Rattle.cdc_arguments.specs.Options.{IsDefaultPlan};
 
+use crate::arguments::{Argument, with_arguments};
 use crate::command_line::OptionsFault;
 use crate::delivery_options::{deliveries_option, expect_flag};
 use crate::help;
@@ -15,7 +16,7 @@ use cdc_message::decimal_up_to;
 use cdc_run::Faults;
 use cdc_run_command::RunPlan;
 use cdc_types::{EventTimestamp, Limits};
-use clap::{Arg, ArgAction, ArgMatches, Command};
+use clap::{ArgMatches, Command};
 use std::alloc::{AllocError, Global};
 
 /// The limit of deliveries of a queue without an acknowledgement, if none is given.
@@ -31,106 +32,72 @@ const POSITIONS: &str = "a queue from 1, a colon and a position from 1, such as 
 const CLOSES: &str = "a subscriber from 1, a colon and a number of events from 1, such as 1:2";
 
 pub fn run_arguments<'a>(alloc: Global) -> Result<Command<'a>, AllocError> {
-    Command::new(alloc, "run")
+    let command = Command::new(alloc, "run")
         .about(
             "Run a script on threads, and print the results of its batches and the books of its subscribers",
         )
         .after_help(help::RUN)
-        .arg(script_argument(alloc))?
-        .arg(window_option(alloc))?
-        .arg(prefetch_option(alloc))?
-        .arg(count_option(
-            alloc,
-            "lose-confirm",
-            "Lose the confirm of the Nth accepted publish",
-        ))?
-        .arg(count_option(
-            alloc,
-            "lose-publish",
-            "Lose the Nth publish that comes to the broker",
-        ))?
-        .arg(count_option(
-            alloc,
-            "restart-after",
-            "Restart the connector after its Nth publish",
-        ))?
-        .arg(pair_option(
-            alloc,
-            "repeat",
-            "QUEUE:POSITION",
-            "Rewind a queue after its first delivery of a position",
-        ))?
-        .arg(pair_option(
-            alloc,
-            "close",
-            "SUBSCRIBER:N",
-            "Close a subscriber after N applied events",
-        ))?
-        .arg(start_option(alloc))?
-        .arg(progress_option(alloc))?
-        .arg(deliveries_option(alloc))?
-        .arg(expect_flag(alloc)?)?
-        .arg(explain_flag(alloc))?
-        .arg(trace_flag(alloc))?
-        .arg(json_flag(alloc))
-}
-
-fn trace_flag<'a>(alloc: Global) -> Arg<'a> {
-    Arg::new(alloc, "trace")
-        .long("trace")
-        .action(ArgAction::SetTrue)
-        .help(
-            "Print on standard error what was lost or sent again, and what each subscriber received",
-        )
-}
-
-fn prefetch_option<'a>(alloc: Global) -> Arg<'a> {
-    Arg::new(alloc, "prefetch")
-        .long("prefetch")
-        .value_name("N")
-        .action(ArgAction::Set)
-        .help(
-            "Set the number of deliveries that a queue may have unacknowledged [1-64; default: 8]",
-        )
-}
-
-/// An option with a count, which may be given several times.
-fn count_option<'a>(alloc: Global, name: &'static str, help: &'static str) -> Arg<'a> {
-    Arg::new(alloc, name)
-        .long(name)
-        .value_name("N")
-        .action(ArgAction::Append)
-        .help(help)
-}
-
-/// An option with two numbers, which may be given several times.
-fn pair_option<'a>(
-    alloc: Global,
-    name: &'static str,
-    value: &'static str,
-    help: &'static str,
-) -> Arg<'a> {
-    Arg::new(alloc, name)
-        .long(name)
-        .value_name(value)
-        .action(ArgAction::Append)
-        .help(help)
-}
-
-fn start_option<'a>(alloc: Global) -> Arg<'a> {
-    Arg::new(alloc, "start-after")
-        .long("start-after")
-        .value_name("N")
-        .action(ArgAction::Set)
-        .help("Leave out the events up to this timestamp, in nanoseconds [0-9223372036854775807]")
-}
-
-fn progress_option<'a>(alloc: Global) -> Arg<'a> {
-    Arg::new(alloc, "progress")
-        .long("progress")
-        .value_name("SAVED")
-        .action(ArgAction::Set)
-        .help("Save the connector's progress in this file, and resume from it [default: memory]")
+        .arg(script_argument(alloc))?;
+    with_arguments(
+        alloc,
+        command,
+        &[
+            window_option(),
+            Argument::option(
+                "prefetch",
+                "N",
+                "Set the number of deliveries that a queue may have unacknowledged [1-64; default: 8]",
+            ),
+            Argument::option(
+                "lose-confirm",
+                "N",
+                "Lose the confirm of the Nth accepted publish",
+            )
+            .several(),
+            Argument::option(
+                "lose-publish",
+                "N",
+                "Lose the Nth publish that comes to the broker",
+            )
+            .several(),
+            Argument::option(
+                "restart-after",
+                "N",
+                "Restart the connector after its Nth publish",
+            )
+            .several(),
+            Argument::option(
+                "repeat",
+                "QUEUE:POSITION",
+                "Rewind a queue after its first delivery of a position",
+            )
+            .several(),
+            Argument::option(
+                "close",
+                "SUBSCRIBER:N",
+                "Close a subscriber after N applied events",
+            )
+            .several(),
+            Argument::option(
+                "start-after",
+                "N",
+                "Leave out the events up to this timestamp, in nanoseconds [0-9223372036854775807]",
+            ),
+            Argument::option(
+                "progress",
+                "SAVED",
+                "Save the connector's progress in this file, and resume from it [default: memory]",
+            ),
+            deliveries_option(),
+            expect_flag(),
+            explain_flag(),
+            Argument::flag(
+                "trace",
+                "Print on standard error what was lost or sent again, and what each subscriber received",
+            ),
+            json_flag(),
+        ],
+    )
 }
 
 /// The plan of a run without any option: a window of one event, a prefetch of 8, no fault and no start.
