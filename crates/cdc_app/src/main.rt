@@ -46,7 +46,7 @@ use random::run_random;
 use run::{WantedRun, run_on_threads};
 use simulation::{Wanted, run_simulation};
 use sources::Source;
-use std::alloc::AllocError;
+use std::alloc::{AllocError, AllocGlobal};
 use std::io::IsTerminal;
 use std::process::ExitCode;
 use std::sync::Wait;
@@ -81,7 +81,11 @@ fn command_line_of(rt: &HostRuntime) -> io::Result<Vec<String>> {
 }
 
 /// Does what the arguments ask for, and returns the exit status. `threads` starts the threads of a run.
-fn run_arguments<T: Threads + Wait + Sync>(rt: &HostRuntime, threads: &T, args: &[String]) -> u8 {
+fn run_arguments<T: Threads + Wait + Sync + AllocGlobal>(
+    rt: &HostRuntime,
+    threads: &T,
+    args: &[String],
+) -> u8 {
     let texts: Result<Vec<&str>, AllocError> = args
         .iter()
         .map(|word| word.as_str())

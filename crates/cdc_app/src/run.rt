@@ -35,7 +35,7 @@ pub struct WantedRun<'a> {
 
 /// Runs the script of this name on threads, and reports on standard error why the command failed, or what wasn't
 /// accepted and which faults never came.
-pub fn run_on_threads<T: Threads + Wait + Sync>(
+pub fn run_on_threads<T: Threads + Wait + Sync + AllocGlobal>(
     rt: &HostRuntime,
     threads: &T,
     file: &str,
@@ -120,7 +120,7 @@ pub fn run_on_threads<T: Threads + Wait + Sync>(
 }
 
 /// Runs a script, and prints what is asked for in this form.
-fn print_in<T: Threads + Wait + Sync, S: ProgressStore + Send + Drop>(
+fn print_in<T: Threads + Wait + Sync + AllocGlobal, S: ProgressStore + Send + Drop>(
     rt: &HostRuntime,
     threads: &T,
     script: &mut Kept<Source>,
@@ -139,7 +139,7 @@ fn print_in<T: Threads + Wait + Sync, S: ProgressStore + Send + Drop>(
 }
 
 /// Runs a script, and prints its report, or the deliveries to one subscriber.
-fn print_run<F: RunForm, T: Threads + Wait + Sync, S: ProgressStore + Send + Drop>(
+fn print_run<F: RunForm, T: Threads + Wait + Sync + AllocGlobal, S: ProgressStore + Send + Drop>(
     form: &F,
     rt: &HostRuntime,
     threads: &T,
@@ -151,14 +151,12 @@ fn print_run<F: RunForm, T: Threads + Wait + Sync, S: ProgressStore + Send + Dro
 ) -> RunEnded
     requires { IsPlan plan }
 {
-    let alloc = rt.alloc();
     let mut writer = io::writer(rt);
     match deliveries {
         None => run_command(
             form,
             &Report,
             threads,
-            alloc,
             script,
             plan,
             store,
@@ -170,7 +168,6 @@ fn print_run<F: RunForm, T: Threads + Wait + Sync, S: ProgressStore + Send + Dro
                 form,
                 &asked,
                 threads,
-                alloc,
                 script,
                 plan,
                 store,

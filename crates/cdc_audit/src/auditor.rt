@@ -50,6 +50,24 @@ pub struct Auditor {
     expired: Option<Event>,
 }
 
+/// What an auditor can be made of again.
+#[derive(Drop)]
+pub struct AuditorParts {
+    /// Whether the stream is another ledger's.
+    pub foreign: bool,
+    pub subscriber: Subscriber,
+    pub transfers: IndexMap<u128, Stored>,
+    pub open_ones: OpenOnes,
+    /// The fields of each account that never change, as its first event shows them.
+    pub fields: IndexMap<u128, FixedFields>,
+    /// The timestamps of the events.
+    pub times: Vec<u64>,
+    /// Whether the last event stored a linked transfer.
+    pub linked: bool,
+    /// The last expiry.
+    pub expired: Option<Event>,
+}
+
 impl Drop for Auditor {
     fn drop(self) {
         let Auditor {
@@ -104,31 +122,30 @@ impl Auditor {
         }
     }
 
-    /// An auditor with these parts of another one, which goes on where that one stopped. `of_another`: whether the
-    /// stream is another ledger's. `in_chain`: whether the last event stored a linked transfer. The one error is that
-    /// memory ran out.
-    pub fn resume(
-        alloc: Global,
-        of_another: bool,
-        subscriber: Subscriber,
-        transfers: IndexMap<u128, Stored>,
-        open_ones: OpenOnes,
-        fields: IndexMap<u128, FixedFields>,
-        times: Vec<u64>,
-        in_chain: bool,
-        last_expiry: Option<Event>,
-    ) -> Result<Auditor, AllocError>
+    /// An auditor with these parts of another one, which goes on where that one stopped. The one error is that memory
+    /// ran out.
+    pub fn resume(alloc: Global, parts: AuditorParts) -> Result<Auditor, AllocError>
         ensures { IfOk result (λ auditor. auditor ≡ record {
-          foreign = of_another;
-          kept = subscriber;
-          transfers = transfers.entries;
-          open_ones = open_ones;
-          fields = fields.entries;
-          times = times.items;
-          linked = in_chain;
-          expired = last_expiry;
+          foreign = parts.foreign;
+          kept = parts.subscriber;
+          transfers = parts.transfers.entries;
+          open_ones = parts.open_ones;
+          fields = parts.fields.entries;
+          times = parts.times.items;
+          linked = parts.linked;
+          expired = parts.expired;
         }) }
     {
+        let AuditorParts {
+            foreign: of_another,
+            subscriber,
+            transfers,
+            open_ones,
+            fields,
+            times,
+            linked,
+            expired,
+        } = parts;
         let created = index_of(alloc, &fields)?;
         Ok(Auditor {
             foreign: of_another,
@@ -138,8 +155,8 @@ impl Auditor {
             fields,
             created,
             times,
-            linked: in_chain,
-            expired: last_expiry,
+            linked,
+            expired,
         })
     }
 

@@ -15,7 +15,7 @@ pub mod shapes;
 pub mod streams;
 pub mod texts;
 
-pub use auditor::Auditor;
+pub use auditor::{Auditor, AuditorParts};
 pub use checks::Stored;
 pub use fields::FixedFields;
 pub use open_ones::OpenOnes;

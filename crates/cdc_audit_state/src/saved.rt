@@ -8,7 +8,7 @@ ghost use Rattle.cdc_audit_state.specs.States.{state_text};
 
 use crate::parts::{Parts, read_parts};
 use crate::printing::push_state;
-use cdc_audit::Auditor;
+use cdc_audit::{Auditor, AuditorParts};
 use cdc_codec::{flag, number, number_64, skip};
 use cdc_subscriber::Subscriber;
 use std::alloc::{AllocError, Global};
@@ -87,14 +87,16 @@ fn auditor_of(alloc: Global, front: &Front<'_>, parts: Parts) -> Result<Auditor,
     let subscriber = Subscriber::resume(book, front.last, front.applied, front.ended);
     Auditor::resume(
         alloc,
-        front.foreign,
-        subscriber,
-        transfers,
-        open_ones,
-        fields,
-        times,
-        front.linked,
-        expired,
+        AuditorParts {
+            foreign: front.foreign,
+            subscriber,
+            transfers,
+            open_ones,
+            fields,
+            times,
+            linked: front.linked,
+            expired,
+        },
     )
 }
 

@@ -21,7 +21,7 @@ use cdc_commands::{Ended, Ending, Form, Notes, Output, Tally, print_output, read
 use cdc_progress::ProgressStore;
 use cdc_run::{Gate, Met, Place, Report};
 use cdc_script::{Script, ScriptError, parse_script};
-use std::alloc::{AllocError, Global};
+use std::alloc::{AllocError, AllocGlobal, Global};
 use std::io::{Read, Write};
 use std::sync::Wait;
 use std::thread::Threads;
@@ -155,7 +155,7 @@ pub fn tally_of(report: &Report) -> Tally {
 pub fn run_command<
     F: Form,
     C: RunContent<F>,
-    T: Threads + Wait + Sync,
+    T: Threads + Wait + Sync + AllocGlobal,
     R: Read,
     W: Write,
     S: ProgressStore + Send + Drop,
@@ -164,7 +164,6 @@ pub fn run_command<
     form: &F,
     content: &C,
     rt: &T,
-    alloc: Global,
     reader: &mut R,
     plan: RunPlan,
     store: S,
@@ -183,7 +182,7 @@ pub fn run_command<
         (R.remaining reader.old) (R.remaining reader.new) }
 {
     lone_run_laws();
-    match read_run(form, content, rt, alloc, reader, plan, store, gate) {
+    match read_run(form, content, rt, rt.alloc(), reader, plan, store, gate) {
         Ok(RunOutput { output, ran }) => RunEnded {
             ended: print_output(form, writer, Ok(output)),
             ran,

@@ -108,7 +108,6 @@ fn run_prints_a_report(rt: HostRuntime) {
         &Text,
         &Report,
         &rt,
-        rt.alloc(),
         &mut reader,
         plan,
         store,
