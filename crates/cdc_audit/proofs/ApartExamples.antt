@@ -1,14 +1,5 @@
 -- Streams in which an account was created at a timestamp that another account or an event has.
-use Rattle.std.proofs.Common.{◌≡◌, ℕ, true, [], ◌∷◌, Some, refl}
-use Rattle.std.specs.Prelude.{codes}
-use Rattle.std.specs.Fmt.{digits}
-use Rattle.cdc_types.specs.declared.events.Event.{Event}
-use Rattle.cdc_types.specs.declared.events.EventAccount.{EventAccount}
-use Rattle.cdc_types.specs.declared.events.EventKind.TheVariants.{SinglePhase}
-use Rattle.cdc_audit.specs.declared.refusals.Refusal.TheVariants.{CreatedAtEvent, CreatedTogether}
-use Rattle.cdc_audit.specs.Audits.{follows_on, is_accepted}
-use Rattle.cdc_audit.specs.Rules.{refusal}
-use Rattle.cdc_audit.specs.Texts.{refusal_text}
+use Rattle.cdc_audit.proofs.Words.{CreatedAtEvent, CreatedTogether, Event, EventAccount, SinglePhase, Some, [], codes, digits, follows_on, is_accepted, refl, refusal, refusal_text, true, ℕ, ◌∷◌, ◌≡◌}
 
 -- an account that was created at this time
 abbrev shown : ℕ → ℕ → EventAccount

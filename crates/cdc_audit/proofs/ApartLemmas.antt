@@ -1,25 +1,11 @@
 -- What is known of timestamps and of accounts after one more of them.
-use Rattle.std.proofs.Common.{◌≡◌, ◌≢◌, nat_cmp, ℕ, suc, zero, ◌<◌, ◌≤◌, Bool, true, false, cond, map, length, get_or, List, [], ◌∷◌, ◌++◌, Option, Some, None, Result, Ok, Err, refl, sym, ap, ◌∙◌, arith, inl, inr}
-use Rattle.std.specs.Prelude.{◌==◌, ◌||◌, nat_eq, is_some, fold, find, option_map}
-use Rattle.std.specs.List.{flat_map, list_any}
+use Rattle.cdc_audit.proofs.Words.{AreInOrder, Bool, Err, Event, FixedFields, IsTimeIndex, List, None, Ok, Option, Result, RiseFrom, Some, [], account_at, accounts_before, accounts_of, ap, arith, cases_lt, cond, eq-eqb, eqb-true, eqb_tells, false, fields_before, fields_under, find, find-append, flat_map, fold, get_or, has_time, inl, inr, insert_entry, is_ok, is_some, length, list_any, lookup, map, nat_eq, ne_eqb, option_map, option_or, refl, suc, sym, times_of, true, with_accounts, with_shown, zero, ℕ, ◌++◌, ◌<◌, ◌==◌, ◌||◌, ◌∙◌, ◌∷◌, ◌≡◌, ◌≢◌, ◌≤◌}
+use Rattle.std.proofs.Common.{nat_cmp}
 use Rattle.std.specs.List.Sorted.{IsBinarySearchResult}
-use Rattle.std.specs.Map.{lookup}
-use Rattle.std.specs.Option.{option_or}
-use Rattle.std.specs.Result.{is_ok}
-use Rattle.std.proofs.lemmas.Bool.{cases_lt, eq-eqb, eqb-true, ne_eqb}
-use Rattle.std.proofs.lemmas.Bool.Decides.{eqb_tells}
 use Rattle.std.proofs.lemmas.Grind.{flat_map-append}
 use Rattle.std.proofs.lemmas.List.{map-append}
-use Rattle.std.proofs.lemmas.List.Folds.{find-append}
 use Rattle.std.proofs.lemmas.List.Sorted.{searched}
 use Rattle.std.proofs.lemmas.List.Sums.{fold-append}
-use Rattle.indexmap.specs.IndexMap.{insert_entry}
-use Rattle.cdc_types.specs.declared.events.Event.{Event}
-use Rattle.cdc_types.specs.Timestamps.{RiseFrom}
-use Rattle.cdc_audit.specs.declared.fields.FixedFields.{FixedFields}
-use Rattle.cdc_audit.specs.Apart.{account_at, accounts_before, has_time, times_of, with_shown}
-use Rattle.cdc_audit.specs.Fields.{accounts_of, fields_before}
-use Rattle.cdc_audit.specs.Standing.{AreInOrder, IsTimeIndex, fields_under, with_accounts}
 use Rattle.cdc_audit.proofs.OpenLemmas.{lookup-append}
 
 -- ---- timestamps that rise

@@ -1,6 +1,5 @@
 -- What a first line makes of an audit.
-use Rattle.std.proofs.Common.{◌≡◌, ◌≢◌, ℕ, suc, ◌+◌, List, [], ◌∷◌, ◌++◌, take, append-nil, append_assoc, true, false, Bool, Some, None, Option, Result, Ok, Err, refl, sym, ap, ◌∙◌, subst}
-use Rattle.std.specs.Prelude.{IfOk, IfSome, OnErr, IsSome}
+use Rattle.cdc_audit.proofs.Words.{AuditState, Audited, AuditorState, Audits, Bool, EndsAs, Err, IfOk, IfSome, IsSome, KeepsFirst, LineLeadsTo, List, None, Ok, OnErr, Option, Refusal, Result, Some, StandsFor, StepLeadsTo, [], ap, append-nil, append_assoc, audit_entries, audited_on, bytes_audited, entry_refusal, false, lines_audited, next_audit, refl, stop_at, subst, suc, sym, take, true, ℕ, ◌++◌, ◌+◌, ◌∙◌, ◌∷◌, ◌≡◌, ◌≢◌}
 use Rattle.cdc_follow.specs.declared.entries.Entry.{Entry}
 use Rattle.cdc_follow.specs.declared.errors.LineError.{LineError}
 use Rattle.cdc_follow.specs.declared.errors.LineError.TheVariants.{OutOfMemory, TooLong}
@@ -11,12 +10,8 @@ use Rattle.cdc_follow.specs.Lines.{FirstLineIsLong, TakesLine, lines_of}
 use Rattle.cdc_follow.specs.Streams.{Stream, NumberedEntry, stream_of_lines, stream_with}
 use Rattle.cdc_follow.proofs.LineLemmas.{lines_of-none}
 use Rattle.cdc_follow.proofs.StopLemmas.{gives_err, gives_ok, long_entry, stream_first}
-use Rattle.cdc_audit.specs.declared.refusals.Refusal.{Refusal}
 use Rattle.cdc_audit.specs.declared.streams.AuditStop.{AuditStop}
 use Rattle.cdc_audit.specs.declared.streams.AuditStop.TheVariants as stop
-use Rattle.cdc_audit.specs.Audits.{AuditState, Audited, audit_entries, audited_on, bytes_audited, entry_refusal, lines_audited, next_audit, stop_at}
-use Rattle.cdc_audit.specs.Standing.{AuditorState, StandsFor}
-use Rattle.cdc_audit.specs.Stops.{Audits, EndsAs, KeepsFirst, LineLeadsTo, StepLeadsTo}
 
 -- the audit of a stream
 abbrev stream_audited : AuditState → Stream → Audited

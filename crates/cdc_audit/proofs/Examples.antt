@@ -1,23 +1,11 @@
 -- Streams of a few events: one that is accepted, one that each rule refuses, and the texts of the refusals.
-use Rattle.std.proofs.Common.{◌≡◌, ℕ, true, false, [], ◌∷◌, Some, refl}
-use Rattle.std.specs.Prelude.{codes, ◌-◌, ◌^◌}
-use Rattle.std.specs.Fmt.{digits}
-use Rattle.cdc_types.specs.declared.events.Event.{Event}
-use Rattle.cdc_types.specs.declared.events.EventAccount.{EventAccount}
-use Rattle.cdc_types.specs.declared.events.EventKind.{EventKind}
-use Rattle.cdc_types.specs.declared.events.EventKind.TheVariants.{SinglePhase, TwoPhasePending, TwoPhasePosted, TwoPhaseVoided, TwoPhaseExpired}
+use Rattle.cdc_audit.proofs.Words.{AccountField, AccountShape, AfterEnd, Amount, Balance, BrokenChain, CreatedLater, Event, EventAccount, EventKind, ExpiresApart, ExpiresLate, KnownId, Limit, NoTimeout, NotLater, NotPending, OneAccount, OtherFields, OtherKind, OtherTimestamp, Settled, SinglePhase, Some, TooHigh, TooLarge, TooLate, TooSoon, TransferShape, TwoPhaseExpired, TwoPhasePending, TwoPhasePosted, TwoPhaseVoided, [], codes, digits, entry_refusal, false, follows_on, is_accepted, max_128, refl, refusal, refusal_text, true, ℕ, ◌-◌, ◌^◌, ◌∷◌, ◌≡◌}
 use Rattle.cdc_types.specs.declared.results.AccountResult.TheVariants as account
 use Rattle.cdc_types.specs.declared.results.TransferResult.TheVariants as transfer
-use Rattle.cdc_types.specs.Widths.{max_128}
 use Rattle.cdc_follow.specs.declared.entries.Content.TheVariants as content
 use Rattle.cdc_audit.specs.declared.refusals.BalanceField.TheVariants.{DebitsPosted, DebitsPending}
 use Rattle.cdc_audit.specs.declared.refusals.FixedField.TheVariants.{Code}
-use Rattle.cdc_audit.specs.declared.refusals.Refusal.TheVariants.{AfterEnd, NotLater, TooHigh, OneAccount, TransferShape, OtherKind, OtherTimestamp, AccountShape, AccountField, CreatedLater}
-use Rattle.cdc_audit.specs.declared.refusals.Refusal.TheVariants.{KnownId, NotPending, Settled, OtherFields, Amount, NoTimeout, TooSoon, TooLate, ExpiresLate, ExpiresApart, BrokenChain, TooLarge, Limit, Balance}
 use Rattle.cdc_audit.specs.declared.refusals.Side.TheVariants.{Debits, Credits}
-use Rattle.cdc_audit.specs.Audits.{entry_refusal, follows_on, is_accepted}
-use Rattle.cdc_audit.specs.Rules.{refusal}
-use Rattle.cdc_audit.specs.Texts.{refusal_text}
 
 -- an account that is debited, and one that is credited, with their pending and posted sums
 abbrev debited : ℕ → ℕ → ℕ → EventAccount

@@ -1,18 +1,6 @@
 -- Of open pending transfers the one that expires first, by the events and by what an auditor keeps.
-use Rattle.std.proofs.Common.{◌≡◌, ℕ, Bool, true, false, cond, List, [], ◌∷◌, Option, Some, None, refl, sym, ap, ◌∙◌, subst, arith}
-use Rattle.std.specs.Prelude.{◌==◌, ◌&&◌, ◌||◌, not, nat_lt, filter, IfSome, IsSomeAnd, if◌then◌else◌}
-use Rattle.std.specs.List.{AllByRecursion}
-use Rattle.std.specs.Ordering.{is_gt, nat_cmp, ordering_then}
-use Rattle.std.proofs.lemmas.Bool.{and_from, and_parts, eqb-true, false≢true, not-true, not_from_false}
-use Rattle.std.proofs.lemmas.Bool.Decides.{nat_tests}
-use Rattle.cdc_types.specs.declared.events.Event.{Event}
-use Rattle.cdc_ledger.specs.Kinds.{holds}
-use Rattle.cdc_ledger.proofs.Elements.{AllByRecursion-weaker}
+use Rattle.cdc_audit.proofs.Words.{AllByRecursion, AllByRecursion-weaker, Bool, Event, IfSome, IsFirst, IsOnce, IsSomeAnd, List, None, Option, Some, [], and_from, and_parts, ap, arith, can_expire, cond, eqb-true, expires_at, false, false≢true, filter, first_due, first_of, goes_first, holds, if◌then◌else◌, is_gt, is_settled, nat_cmp, nat_lt, nat_tests, not, not-true, not_from_false, open_event, open_under, ordering_then, pending_event, refl, sooner_of, subst, sym, true, ℕ, ◌&&◌, ◌==◌, ◌||◌, ◌∙◌, ◌∷◌, ◌≡◌}
 use Rattle.cdc_ledger.proofs.StoredLaws.{find_all}
-use Rattle.cdc_audit.specs.Expiries.{can_expire, first_due, first_of, goes_first, sooner_of}
-use Rattle.cdc_audit.specs.Known.{is_settled, open_event, pending_event}
-use Rattle.cdc_audit.specs.Settling.{expires_at}
-use Rattle.cdc_audit.specs.Standing.{IsFirst, IsOnce, open_under}
 
 -- ---- the order
 

@@ -1,10 +1,5 @@
 -- An index of accounts by their timestamps, made of one account after another.
-use Rattle.std.proofs.Common.{◌≡◌, ℕ, cond, List, [], ◌∷◌, ◌++◌, Option, Some, None, refl, sym, ap, subst, ◌∙◌, append_assoc, append-nil}
-use Rattle.std.specs.Prelude.{◌==◌, nat_eq}
-use Rattle.std.specs.Map.{lookup}
-use Rattle.std.specs.Option.{option_or}
-use Rattle.cdc_audit.specs.declared.fields.FixedFields.{FixedFields}
-use Rattle.cdc_audit.specs.Standing.{IsTimeIndex}
+use Rattle.cdc_audit.proofs.Words.{FixedFields, IsTimeIndex, List, None, Option, Some, [], ap, append-nil, append_assoc, cond, lookup, nat_eq, option_or, refl, subst, sym, ℕ, ◌++◌, ◌==◌, ◌∙◌, ◌∷◌, ◌≡◌}
 use Rattle.cdc_audit.proofs.ApartLemmas.{index-push}
 
 -- the index has the accounts that aren't left

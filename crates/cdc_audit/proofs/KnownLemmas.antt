@@ -1,23 +1,7 @@
 -- What the events show of a transfer after one more event, and what an auditor knows of it then.
-use Rattle.std.proofs.Common.{◌≡◌, ℕ, Bool, true, false, cond, List, [], ◌∷◌, ◌++◌, Option, Some, None, refl, sym, ap, ap₂, ◌∙◌, inl, inr}
-use Rattle.std.specs.Prelude.{◌==◌, ◌&&◌, ◌||◌, nat_eq, is_none, is_some, unwrap_or, find, option_map}
-use Rattle.std.specs.List.{AllByRecursion}
-use Rattle.std.specs.Option.{option_or}
-use Rattle.std.proofs.lemmas.Bool.{ne_eqb}
-use Rattle.std.proofs.lemmas.Bool.Decides.{eqb_tells}
-use Rattle.std.proofs.lemmas.List.Folds.{find-append, list_any-append}
-use Rattle.indexmap.specs.IndexMap.{insert_entry}
-use Rattle.cdc_types.specs.declared.events.Event.{Event}
-use Rattle.cdc_types.specs.declared.events.EventKind.{EventKind}
+use Rattle.cdc_audit.proofs.Words.{AllByRecursion, AllByRecursion-weaker, AllByRecursion_push, Bool, Event, EventKind, IsKnownOf, IsOnce, List, None, Option, Some, Stored, [], amount_in, ap, ap₂, cond, eqb_tells, expiry_or, false, find, find-append, holds, inl, inr, insert_entry, is_linked, is_none, is_settled, is_some, is_stored, last_expiry_from, linked_from, list_any-append, nat_eq, ne_eqb, open_event, open_under, option_map, option_or, pending_amount, pending_event, refl, settled_id, settles, stored_by, stored_under, stores, sym, true, unwrap_or, was_settled, with_held, with_open, with_own, with_settled, without_settled, ℕ, ◌&&◌, ◌++◌, ◌==◌, ◌||◌, ◌∙◌, ◌∷◌, ◌≡◌}
 use Rattle.cdc_types.specs.declared.events.EventKind.TheVariants as kind
-use Rattle.cdc_ledger.specs.Kinds.{holds, settles, stores}
-use Rattle.cdc_ledger.proofs.Elements.{AllByRecursion-weaker, AllByRecursion_push}
-use Rattle.cdc_audit.specs.declared.checks.Stored.{Stored}
 use Rattle.cdc_audit.specs.declared.checks.Stored.TheVariants.{Plain, Pending, Settled}
-use Rattle.cdc_audit.specs.Checks.{amount_in, stored_by, was_settled}
-use Rattle.cdc_audit.specs.Known.{expiry_or, is_linked, is_settled, is_stored, last_expiry_from, linked_from, open_event}
-use Rattle.cdc_audit.specs.Known.{pending_amount, pending_event, settled_id}
-use Rattle.cdc_audit.specs.Standing.{IsKnownOf, IsOnce, open_under, stored_under, with_held, with_open, with_own, with_settled, without_settled}
 use Rattle.cdc_audit.proofs.OpenLemmas.{open_under-added}
 
 or_false : (b : Bool) → (b || false) ≡ b

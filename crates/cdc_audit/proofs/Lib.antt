@@ -8,3 +8,4 @@ pub mod AuditLemmas
 pub mod TextLemmas
 mod Examples
 mod ApartExamples
+pub mod Words

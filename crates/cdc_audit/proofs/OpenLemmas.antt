@@ -1,19 +1,7 @@
 -- The index of the open pending transfers: which expiries it has, and which comes first.
-use Rattle.std.proofs.Common.{◌≡◌, ℕ, zero, suc, ◌<◌, Bool, true, false, cond, List, [], ◌∷◌, ◌++◌, Option, Some, None, refl, sym, ap, ap₂, ◌∙◌, inl, inr, length, arith}
-use Rattle.std.specs.Prelude.{◌==◌, ◌&&◌, ◌↔◌, not, nat_eq, nat_lt, is_some, IsSome, IsTrue}
+use Rattle.cdc_audit.proofs.Words.{BTreeSet, Bool, Due, Event, IsFirst, IsIndexOf, IsLowerBound, IsSome, IsTrue, List, None, Option, Some, [], and_parts, ap, ap₂, arith, btree_set_len, cond, contains, due_cmp, due_of, eq-eqb, eqb-true, eqb_tells, expires_at, false, false≢true, inl, inr, insert_entry, is_due, is_eq, is_gt, is_some, length, lookup, nat_cmp, nat_eq, nat_lt, nat_tests, ne_eqb, not, not-true, open_under, option_or, ordering_then, refl, suc, sym, true, zero, ℕ, ◌&&◌, ◌++◌, ◌<◌, ◌==◌, ◌↔◌, ◌∙◌, ◌∷◌, ◌≡◌}
 use Rattle.std.specs.declared.cmp.Ordering.{Ordering}
 use Rattle.std.specs.declared.cmp.Ordering.TheVariants.{Less, Equal, Greater}
-use Rattle.std.specs.Ordering.{is_eq, is_gt, nat_cmp, ordering_then}
-use Rattle.std.specs.BTreeSet.{BTreeSet, IsLowerBound, btree_set_len, contains}
-use Rattle.std.specs.Map.{lookup}
-use Rattle.std.specs.Option.{option_or}
-use Rattle.std.proofs.lemmas.Bool.{and_parts, eq-eqb, eqb-true, false≢true, ne_eqb, not-true}
-use Rattle.std.proofs.lemmas.Bool.Decides.{eqb_tells, nat_tests}
-use Rattle.indexmap.specs.IndexMap.{insert_entry}
-use Rattle.cdc_types.specs.declared.events.Event.{Event}
-use Rattle.cdc_audit.specs.declared.open_ones.Due.{Due}
-use Rattle.cdc_audit.specs.Settling.{expires_at}
-use Rattle.cdc_audit.specs.Standing.{IsFirst, IsIndexOf, due_cmp, due_of, is_due, open_under}
 
 -- ---- the order of expiries
 

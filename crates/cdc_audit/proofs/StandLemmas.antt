@@ -1,50 +1,20 @@
 -- An auditor's answer to an event, and what it stands for after it.
-use Rattle.std.proofs.Common.{◌≡◌, ℕ, ◌+◌, Bool, true, false, cond, min, length, List, [], ◌∷◌, ◌++◌, Option, Some, None, Result, Ok, Err, refl, sym, ap, ap₂, ◌∙◌, subst, length-append, arith}
-use Rattle.std.specs.Prelude.{◌==◌, ◌&&◌, not, nat_le, nat_lt, is_none, is_some, unwrap_or, IfOk, OnOk}
-use Rattle.std.specs.Option.{option_or}
-use Rattle.std.specs.Result.{is_err}
-use Rattle.std.proofs.lemmas.Bool.{ltb-true}
-use Rattle.std.proofs.lemmas.Bool.Decides.{nat_tests}
+use Rattle.cdc_audit.proofs.Words.{AfterEnd, AreInOrder, AuditState, AuditorState, Bool, Err, Event, EventAccount, Facts, FixedFields, IfOk, IsFirst, IsKnownOf, KnownId, List, None, NotPending, Ok, OnOk, Option, Refusal, Result, Settled, Some, StandsFor, Stored, [], account_lines, accounts_before, amount_in, ap, apart_lines, ap₂, arith, audited_event, balances_after, balances_lines, chain_lines, cond, created_lines, ends_in_chain, entry_refusal, event_lines, event_refusal, expiry_lines, expiry_or, facts_of, false, fields_lines, fields_under, first_due, first_line, fixed_lines, held, holds, is_err, is_linked, is_none, is_settled, is_some, is_stored, kept_after, last_expiry, last_timestamp, length, length-append, limits_lines, lines, ltb-true, max_64, min, nat_le, nat_lt, nat_tests, next_audit, next_state, not, nothing, open_under, option_or, order_lines, pending_amount, posted, refl, refusal, released, settled_event, settled_id, settles, settling_lines, shape_lines, stored_under, stores, subst, sym, times_before, times_known, times_of_account, transfer_lines, true, unwrap_or, was_settled, with_accounts, with_event, with_held, with_own, with_settled, without_settled, ℕ, ◌&&◌, ◌++◌, ◌+◌, ◌==◌, ◌∙◌, ◌∷◌, ◌≡◌}
 use Rattle.cdc_types.specs.declared.accounts.Balances.{Balances}
 use Rattle.cdc_types.specs.declared.bounds.TheConstants.Limits.{TIMESTAMP}
-use Rattle.cdc_types.specs.declared.events.Event.{Event}
-use Rattle.cdc_types.specs.declared.events.EventAccount.{EventAccount}
-use Rattle.cdc_types.specs.Lines.{first_line}
-use Rattle.cdc_types.specs.Timestamps.{last_timestamp}
-use Rattle.cdc_types.specs.Widths.{max_64}
 use Rattle.cdc_types.proofs.Rising.{RiseFrom-push, last_timestamp_from-push}
 use Rattle.cdc_ledger.specs.Accounts.{no_balances}
-use Rattle.cdc_ledger.specs.Kinds.{holds, settles, stores}
 use Rattle.cdc_ledger.proofs.LineLaws.{first_line-append, first_line_append_none_parts}
 use Rattle.cdc_message.specs.declared.items.Item.TheVariants as item
 use Rattle.cdc_subscriber.specs.declared.book.BookEntry.{BookEntry}
 use Rattle.cdc_subscriber.specs.Book.{balances_in}
-use Rattle.cdc_subscriber.specs.Steps.{next_state}
 use Rattle.cdc_subscriber.specs.SubscriberState.{SubscriberState}
 use Rattle.cdc_subscriber.proofs.BookFinds.{balances_in-book_of}
 use Rattle.cdc_subscriber.proofs.BookLemmas.{book_of-push}
 use Rattle.cdc_follow.specs.declared.entries.Content.{Content}
 use Rattle.cdc_follow.specs.declared.entries.Content.TheVariants as content
 use Rattle.cdc_audit.specs.declared.apart.Times.{Times}
-use Rattle.cdc_audit.specs.declared.checks.Facts.{Facts}
-use Rattle.cdc_audit.specs.declared.checks.Stored.{Stored}
-use Rattle.cdc_audit.specs.declared.fields.FixedFields.{FixedFields}
-use Rattle.cdc_audit.specs.declared.refusals.Refusal.{Refusal}
-use Rattle.cdc_audit.specs.declared.refusals.Refusal.TheVariants.{AfterEnd, KnownId, NotPending, Settled}
-use Rattle.cdc_audit.specs.Audits.{AuditState, entry_refusal, event_refusal, next_audit, with_event}
-use Rattle.cdc_audit.specs.Checks.{account_lines, amount_in, balances_lines, fixed_lines, lines, nothing, released, transfer_lines, was_settled}
-use Rattle.cdc_audit.specs.Known.{balances_after, ends_in_chain, expiry_or, is_linked, is_settled, is_stored}
-use Rattle.cdc_audit.specs.Known.{last_expiry, pending_amount, settled_id}
 use Rattle.cdc_audit.specs.Rules as rules
-use Rattle.cdc_audit.specs.Rules.{chain_lines, event_lines, held, order_lines, posted, refusal, settled_event}
-use Rattle.cdc_audit.specs.EventShapes.{shape_lines}
-use Rattle.cdc_audit.specs.Expiries.{expiry_lines, first_due}
-use Rattle.cdc_audit.specs.Apart.{accounts_before, apart_lines, times_before, times_known}
-use Rattle.cdc_audit.specs.Fields.{created_lines, fields_lines}
-use Rattle.cdc_audit.specs.Foreign.{audited_event}
-use Rattle.cdc_audit.specs.Limits.{limits_lines}
-use Rattle.cdc_audit.specs.Settling.{settling_lines}
-use Rattle.cdc_audit.specs.Standing.{AuditorState, AreInOrder, IsFirst, IsKnownOf, StandsFor, facts_of, fields_under, kept_after, open_under, stored_under, times_of_account, with_accounts, with_held, with_own, with_settled, without_settled}
 use Rattle.cdc_audit.proofs.ApartLemmas.{accounts_before-fields, accounts_before-push, rising_in_order, times_of-push}
 use Rattle.cdc_audit.proofs.FirstLemmas.{first_is}
 use Rattle.cdc_audit.proofs.KnownLemmas.{known-step, last_expiry_from-push, linked_from-push, once-step, open_one-step}

@@ -1,6 +1,5 @@
 -- One part of a text after another.
-use Rattle.std.proofs.Common.{◌≡◌, List, ◌++◌, append_assoc, ap, ◌∙◌, Result, Ok, Err}
-use Rattle.std.specs.Prelude.{OnOk}
+use Rattle.cdc_audit.proofs.Words.{Err, List, Ok, OnOk, Result, ap, append_assoc, ◌++◌, ◌∙◌, ◌≡◌}
 
 -- a part is added, and then the others
 pub pieces : {A : Type 0} (old mid new part others : List A) → mid ≡ old ++ part → new ≡ mid ++ others

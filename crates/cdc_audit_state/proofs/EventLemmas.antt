@@ -1,21 +1,11 @@
 -- A line's event.
-use Rattle.std.proofs.Common.{◌≡◌, ◌≢◌, ℕ, List, ◌++◌, drop, Option, Some, None, Result, Ok, Err, sym, ap, ◌∙◌}
-use Rattle.std.proofs.Common.{subst, inl, inr}
-use Rattle.std.specs.Prelude.{IsSomeAnd}
-use Rattle.cdc_types.specs.declared.events.Event.{Event}
+use Rattle.cdc_audit_state.proofs.Words.{Err, Event, Expired, IsEventLine, IsSomeAnd, List, None, Ok, Open, Option, ReadsLine, Result, Row, RowFits, Some, ap, body, drop, expired_byte, first_of, inl, inr, open_byte, row_line, subst, sym, ℕ, ◌++◌, ◌∙◌, ◌≡◌, ◌≢◌}
 use Rattle.cdc_message.specs.declared.errors.DecodeError.{DecodeError}
 use Rattle.cdc_message.specs.declared.errors.DecodeError.TheVariants.{OutOfMemory}
-use Rattle.cdc_message.specs.Bodies.{body}
 use Rattle.cdc_message.specs.Errors.{GivesUnlessMemory}
 use Rattle.cdc_message.specs.Reading.{read}
 use Rattle.cdc_message.proofs.Law.{read-body}
-use Rattle.cdc_codec.specs.ReadBack.{ReadsLine}
 use Rattle.cdc_audit_state.specs.declared.rows.ReadEvent.{ReadEvent}
-use Rattle.cdc_audit_state.specs.declared.rows.Row.{Row}
-use Rattle.cdc_audit_state.specs.declared.rows.Row.TheVariants.{Expired, Open}
-use Rattle.cdc_audit_state.specs.Rows.{IsEventLine, expired_byte, first_of, open_byte}
-use Rattle.cdc_audit_state.specs.Saveable.{RowFits}
-use Rattle.cdc_audit_state.specs.States.{row_line}
 use Rattle.cdc_audit_state.proofs.RowLemmas.{body_in_line, expired_is, open_is}
 
 -- what a line's body is read as

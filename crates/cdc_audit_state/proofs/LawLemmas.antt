@@ -1,16 +1,9 @@
 -- Audits go on.
-use Rattle.std.proofs.Common.{◌≡◌, ℕ, ◌+◌, ◌<◌, ◌^◌, Bool, true, false, cond, List, [], ◌∷◌, ◌++◌, length, Option, Some, None, Result, Ok, Err, refl, sym, ap, ◌∙◌, subst, arith, inl, inr}
-use Rattle.std.specs.Prelude.{◌==◌, ◌&&◌}
-use Rattle.std.specs.List.{AllByRecursion}
-use Rattle.std.proofs.lemmas.Bool.Decides.{eqb_tells}
+use Rattle.cdc_audit_state.proofs.Words.{AccountFits, AllByRecursion, AuditedEventsFit, AuditsGoOn, Bool, Err, Event, EventAccount, EventFits, List, None, Ok, Option, PastFits, Result, Some, [], ap, arith, cond, eqb_tells, false, inl, inr, later_by, length, refl, stores, subst, sym, true, ℕ, ◌&&◌, ◌++◌, ◌+◌, ◌<◌, ◌==◌, ◌^◌, ◌∙◌, ◌∷◌, ◌≡◌}
 use Rattle.std.proofs.lemmas.Nat.{and_le_l}
 use Rattle.cdc_types.specs.declared.accounts.TheConstants.AccountFlags as account
-use Rattle.cdc_types.specs.declared.events.Event.{Event}
-use Rattle.cdc_types.specs.declared.events.EventAccount.{EventAccount}
 use Rattle.cdc_types.specs.declared.transfers.TheConstants.TransferFlags as transfer
 use Rattle.cdc_types.specs.Flags.{has_other_flag}
-use Rattle.cdc_audit.specs.Kinds.{stores}
-use Rattle.cdc_message.specs.Widths.{AccountFits, EventFits}
 use Rattle.cdc_follow.specs.declared.entries.Content.{Content}
 use Rattle.cdc_follow.specs.declared.entries.Content.TheVariants as content
 use Rattle.cdc_follow.specs.declared.entries.Entry.{Entry}
@@ -24,7 +17,6 @@ use Rattle.cdc_audit.specs.declared.streams.AuditStop.TheVariants as stop
 use Rattle.cdc_audit.specs.Audits.{AuditState, Audited, entry_refusal, lines_audited, next_audit}
 use Rattle.cdc_audit.specs.Foreign.{own_account, own_event}
 use Rattle.cdc_audit.proofs.AuditLemmas.{bad_line, entry_line, no_lines, past_line}
-use Rattle.cdc_audit_state.specs.Laws.{AuditedEventsFit, AuditsGoOn, PastFits, later_by}
 
 -- ---- what is audited fits
 

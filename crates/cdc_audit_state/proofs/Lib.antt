@@ -6,3 +6,4 @@ pub mod PrintingLemmas
 pub mod SavedLemmas
 pub mod WidthLemmas
 pub mod LawLemmas
+pub mod Words

@@ -1,17 +1,6 @@
 -- Reading line after line.
-use Rattle.std.proofs.Common.{◌≡◌, ℕ, ◌<◌, Bool, true, false, length, List, [], ◌∷◌, Some, None, refl, sym, ap}
-use Rattle.std.proofs.Common.{◌∙◌, arith}
-use Rattle.std.specs.Prelude.{◌==◌}
-use Rattle.std.specs.List.{AllByRecursion}
-use Rattle.cdc_audit.specs.declared.checks.Stored.TheVariants.{Plain, Pending, Settled}
+use Rattle.cdc_audit_state.proofs.Words.{Account, AllByRecursion, Bool, Expired, Fields, GivesParts, GivesRow, List, None, Open, PartsState, Pending, Plain, Row, RowFits, Settled, Some, Time, Transfer, [], ap, arith, false, first_of, length, no_parts, parts_of, refl, rows_text, sym, true, with_row, ℕ, ◌<◌, ◌==◌, ◌∙◌, ◌∷◌, ◌≡◌}
 use Rattle.cdc_audit_state.specs.declared.rows.ReadRow.{ReadRow}
-use Rattle.cdc_audit_state.specs.declared.rows.Row.{Row}
-use Rattle.cdc_audit_state.specs.declared.rows.Row.TheVariants.{Account, Expired, Transfer, Open, Fields, Time}
-use Rattle.cdc_audit_state.specs.Parts.{GivesParts, PartsState, no_parts, parts_of, with_row}
-use Rattle.cdc_audit_state.specs.Rows.{first_of}
-use Rattle.cdc_audit_state.specs.Rows.{GivesRow}
-use Rattle.cdc_audit_state.specs.Saveable.{RowFits}
-use Rattle.cdc_audit_state.specs.States.{rows_text}
 use Rattle.cdc_audit_state.proofs.PartLemmas.{on}
 use Rattle.cdc_audit_state.proofs.RowLemmas.{first_row, row_first}
 

@@ -1,24 +1,6 @@
 -- What the lines of a state that can be saved contain.
-use Rattle.std.proofs.Common.{◌≡◌, ℕ, Bool, true, false, cond, List, [], ◌∷◌, ◌++◌, Option, Some, None, refl, sym, ap, ◌∙◌, subst, append_assoc, append-nil}
-use Rattle.std.specs.Prelude.{◌==◌, fold, is_some, map, nat_eq, not}
-use Rattle.std.specs.List.{AllByRecursion, flat_map}
-use Rattle.std.specs.Map.{keys_of, lookup}
-use Rattle.std.proofs.lemmas.Bool.{and_parts}
-use Rattle.std.proofs.lemmas.Map.Keys.{IsDistinct-head, IsDistinct-tail}
+use Rattle.cdc_audit_state.proofs.Words.{Account, AllByRecursion, AreDistinct, AuditorState, BookEntry, Bool, CanBeSaved, Event, FixedFields, IsByItsId, IsDistinct-head, IsDistinct-tail, List, None, Option, PartsState, Row, Some, Stored, [], account_line, and_parts, ap, append-nil, append_assoc, are_distinct, cond, eqb_swap, expiry_rows, false, fields_rows, flat_map, fold, ids_of, is_among, is_some, keys_of, known_rows, lookup, map, nat_eq, neither, no_parts, not, open_rows, open_under, parts_of, refl, row_line, rows_text, subst, sym, time_rows, transfer_rows, true, with_account, with_open, with_row, ℕ, ◌++◌, ◌==◌, ◌∙◌, ◌∷◌, ◌≡◌}
 use Rattle.indexmap.specs.IndexMap.{insert_entry}
-use Rattle.cdc_types.specs.declared.events.Event.{Event}
-use Rattle.cdc_subscriber.specs.declared.book.BookEntry.{BookEntry}
-use Rattle.cdc_subscriber.specs.Book.{are_distinct, ids_of, is_among}
-use Rattle.cdc_subscriber.specs.Lines.{account_line}
-use Rattle.cdc_subscriber.proofs.BookLemmas.{eqb_swap, neither}
-use Rattle.cdc_audit.specs.declared.checks.Stored.{Stored}
-use Rattle.cdc_audit.specs.declared.fields.FixedFields.{FixedFields}
-use Rattle.cdc_audit.specs.Standing.{AuditorState, open_under, with_open}
-use Rattle.cdc_audit_state.specs.declared.rows.Row.{Row}
-use Rattle.cdc_audit_state.specs.declared.rows.Row.TheVariants.{Account}
-use Rattle.cdc_audit_state.specs.Parts.{PartsState, no_parts, parts_of, with_account, with_row}
-use Rattle.cdc_audit_state.specs.Saveable.{AreDistinct, CanBeSaved, IsByItsId}
-use Rattle.cdc_audit_state.specs.States.{expiry_rows, fields_rows, known_rows, open_rows, row_line, rows_text, time_rows, transfer_rows}
 
 -- the lines of accounts
 abbrev pub account_rows : List BookEntry → List Row

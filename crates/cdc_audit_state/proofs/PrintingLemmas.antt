@@ -1,12 +1,5 @@
 -- The lines of a map's entries, one after another.
-use Rattle.std.proofs.Common.{◌≡◌, ℕ, List, [], ◌∷◌, ◌++◌, refl, sym, ap, ◌∙◌, append_assoc, append-nil}
-use Rattle.std.specs.List.{flat_map}
-use Rattle.std.proofs.lemmas.Grind.{flat_map-append}
-use Rattle.std.specs.Prelude.{codes}
-use Rattle.cdc_types.specs.declared.events.Event.{Event}
-use Rattle.cdc_audit.specs.declared.checks.Stored.{Stored}
-use Rattle.cdc_audit.specs.declared.fields.FixedFields.{FixedFields}
-use Rattle.cdc_audit_state.specs.States.{event_line, fields_line, fields_rows, open_rows, row_line, rows_text, time_line, time_rows, transfer_line, transfer_rows}
+use Rattle.cdc_audit_state.proofs.Words.{Event, FixedFields, List, Stored, [], ap, append-nil, append_assoc, codes, event_line, fields_line, fields_rows, flat_map, flat_map-append, open_rows, refl, row_line, rows_text, sym, time_line, time_rows, transfer_line, transfer_rows, ℕ, ◌++◌, ◌∙◌, ◌∷◌, ◌≡◌}
 
 -- the lines of the entries that aren't left were pushed
 pub record Pushed {V : Type 0} (line : V → List ℕ) (all left : List V) (old new : List ℕ) : Type 0 where

@@ -1,31 +1,11 @@
 -- The lines of a state's text, by their first bytes.
-use Rattle.std.proofs.Common.{◌≡◌, ◌≢◌, ℕ, ◌<◌, ◌^◌, List, [], ◌∷◌, ◌++◌, drop, Bool, true, false, Option}
-use Rattle.std.proofs.Common.{refl, sym, ap, ◌∙◌, append_assoc, arith, length, length-drop}
-use Rattle.std.specs.Prelude.{◌&&◌, codes, nat_le, IsSomeAnd}
-use Rattle.std.specs.List.{join_with_byte, list_all}
+use Rattle.cdc_audit_state.proofs.Words.{Account, BookEntry, Bool, Event, EventFits, Expired, Fields, FixedFields, IsEventLine, IsSomeAnd, List, Open, Option, Pending, Plain, ReadsFields, ReadsNumber, Row, RowFits, Settled, Stored, Time, Transfer, [], account_byte, and_parts, ap, append_assoc, arith, body, codes, drop, expired_byte, false, fields_byte, fields_numbers, first_of, in_quotes, is_in_line, join_with_byte, length, length-drop, list_all, member_text, narrow_member, nat_le, open_byte, pending_byte, plain_byte, refl, row_line, settled_byte, spaced, sym, time_byte, true, wide_member, ℕ, ◌&&◌, ◌++◌, ◌<◌, ◌^◌, ◌∙◌, ◌∷◌, ◌≡◌, ◌≢◌}
 use Rattle.std.proofs.lemmas.List.Folds.{list_all-append}
-use Rattle.std.proofs.lemmas.Bool.{and_parts}
-use Rattle.cdc_types.specs.declared.events.Event.{Event}
-use Rattle.cdc_message.specs.Bodies.{body, in_quotes, member_text, narrow_member, wide_member}
 use Rattle.cdc_message.specs.Headers.{headers_of_event}
-use Rattle.cdc_message.specs.Widths.{EventFits}
-use Rattle.cdc_subscriber.specs.declared.book.BookEntry.{BookEntry}
-use Rattle.cdc_codec.specs.ReadBack.{ReadsNumber}
-use Rattle.cdc_codec.specs.Texts.{is_in_line, spaced}
 use Rattle.cdc_follow.specs.SavedParts.{ReadsAccount}
 use Rattle.cdc_follow.proofs.SavedLemmas.{account_parts}
 use Rattle.cdc_queue_lines.specs.Lines.{headers_text, message_line, message_members, seconds_of}
 use Rattle.cdc_queue_lines.proofs.Neat.{neat_message}
-use Rattle.cdc_audit.specs.declared.checks.Stored.{Stored}
-use Rattle.cdc_audit.specs.declared.checks.Stored.TheVariants.{Plain, Pending, Settled}
-use Rattle.cdc_audit.specs.declared.fields.FixedFields.{FixedFields}
-use Rattle.cdc_audit_state.specs.declared.rows.Row.{Row}
-use Rattle.cdc_audit_state.specs.declared.rows.Row.TheVariants.{Account, Expired, Transfer, Open, Fields, Time}
-use Rattle.cdc_audit_state.specs.Rows.{IsEventLine, ReadsFields, fields_numbers, first_of}
-use Rattle.cdc_audit_state.specs.Rows.{account_byte, expired_byte, fields_byte, open_byte}
-use Rattle.cdc_audit_state.specs.Rows.{pending_byte, plain_byte, settled_byte, time_byte}
-use Rattle.cdc_audit_state.specs.Saveable.{RowFits}
-use Rattle.cdc_audit_state.specs.States.{row_line}
 
 -- ---- what each kind of line begins with
 

@@ -1,19 +1,7 @@
 -- A state's text, part by part.
-use Rattle.std.proofs.Common.{◌≡◌, ℕ, List, [], ◌∷◌, ◌++◌, false, Some, None, sym, ap, ◌∙◌, append_assoc}
-use Rattle.std.specs.Prelude.{codes}
-use Rattle.std.specs.List.{AllByRecursion, flat_map}
-use Rattle.std.proofs.lemmas.Grind.{flat_map-append}
-use Rattle.cdc_follow.specs.Saved.{EntryFits}
-use Rattle.cdc_subscriber.specs.declared.book.BookEntry.{BookEntry}
-use Rattle.cdc_codec.specs.Texts.{spaced, yes_or_no}
-use Rattle.cdc_subscriber.specs.Lines.{account_line, subscriber_line}
-use Rattle.cdc_audit.specs.Standing.{AuditorState}
-use Rattle.cdc_audit_state.specs.declared.rows.Row.{Row}
+use Rattle.cdc_audit_state.proofs.Words.{AllByRecursion, AuditorState, BookEntry, CanBeSaved, EntryFits, GivesParts, List, None, PartsState, Row, RowFits, Some, [], account_line, ap, append_assoc, codes, false, flat_map, flat_map-append, heading, known_rows, row_line, rows_text, spaced, state_text, subscriber_line, sym, yes_or_no, ℕ, ◌++◌, ◌∙◌, ◌∷◌, ◌≡◌}
 use Rattle.cdc_audit_state.specs.declared.saved.Front.{Front}
 use Rattle.cdc_audit_state.specs.Headings.{IsFront, ReadsFront}
-use Rattle.cdc_audit_state.specs.Parts.{GivesParts, PartsState}
-use Rattle.cdc_audit_state.specs.Saveable.{CanBeSaved, RowFits}
-use Rattle.cdc_audit_state.specs.States.{heading, known_rows, row_line, rows_text, state_text}
 use Rattle.cdc_audit_state.proofs.PartLemmas.{account_rows, accounts_text, contained}
 
 -- what precedes the lines, and the lines

@@ -1,33 +1,10 @@
 -- That an auditor of events with numbers of their widths can be saved.
-use Rattle.std.proofs.Common.{◌≡◌, ℕ, ◌<◌, ◌^◌, Bool, true, false, cond, List, [], ◌∷◌, ◌++◌, Option, Some, None, refl, sym, ap, ◌∙◌, subst, inl, inr, arith, append_assoc, append-nil}
-use Rattle.std.specs.Prelude.{◌==◌, ◌&&◌, ◌||◌, find, map, nat_eq, not, option_map}
-use Rattle.std.specs.List.{AllByRecursion, flat_map}
-use Rattle.std.specs.Map.{keys_of, lookup}
-use Rattle.std.proofs.lemmas.Bool.{and_parts, false≢true}
-use Rattle.std.proofs.lemmas.Bool.Decides.{eqb_tells}
-use Rattle.std.proofs.lemmas.Map.Keys.{IsDistinct-head, IsDistinct-tail}
-use Rattle.cdc_types.specs.declared.events.Event.{Event}
-use Rattle.cdc_types.specs.declared.events.EventAccount.{EventAccount}
-use Rattle.cdc_message.specs.Widths.{AccountFits, EventFits}
-use Rattle.cdc_audit.specs.Kinds.{holds, stores}
-use Rattle.cdc_subscriber.specs.declared.book.BookEntry.{BookEntry}
-use Rattle.cdc_subscriber.specs.Book.{are_distinct, book_of, entry_of, ids_of, is_among, put}
+use Rattle.cdc_audit_state.proofs.Words.{AccountFits, AllByRecursion, AreBook, AreDistinct, AuditsCanBeSaved, BookEntry, Bool, EntryFits, Event, EventAccount, EventFits, Fields, FieldsFit, FixedFields, IsByItsId, IsDistinct-head, IsDistinct-tail, IsKnownOf, List, None, Open, Option, Pending, Plain, Row, RowFits, Settled, Some, Stored, StoredFits, Time, Transfer, [], and_parts, ap, append-nil, append_assoc, are_distinct, arith, book_of, book_of-push, cond, entry_of, eqb_same, eqb_swap, eqb_tells, expiry_rows, false, false≢true, find, flat_map, holds, ids_of, inl, inr, is_among, keys_of, lookup, map, nat_eq, neither, not, option_map, put, refl, stored_under, stores, subst, sym, true, ℕ, ◌&&◌, ◌++◌, ◌<◌, ◌==◌, ◌^◌, ◌||◌, ◌∙◌, ◌∷◌, ◌≡◌}
 use Rattle.cdc_subscriber.specs.SubscriberState.{SubscriberState}
-use Rattle.cdc_subscriber.proofs.BookLemmas.{book_of-push, eqb_same, eqb_swap, neither}
-use Rattle.cdc_follow.specs.Saved.{AreBook, EntryFits}
 use Rattle.cdc_types.specs.Timestamps.{last_timestamp_from}
-use Rattle.cdc_audit.specs.declared.checks.Stored.{Stored}
-use Rattle.cdc_audit.specs.declared.checks.Stored.TheVariants.{Plain, Pending, Settled}
-use Rattle.cdc_audit.specs.declared.fields.FixedFields.{FixedFields}
 use Rattle.cdc_audit.specs.Apart.{times_of}
 use Rattle.cdc_audit.specs.Fields.{accounts_of, fields_before, fixed_fields}
 use Rattle.cdc_audit.specs.Known.{expiry_or, is_settled, is_stored, last_expiry_from, open_event, pending_amount, pending_event}
-use Rattle.cdc_audit.specs.Standing.{IsKnownOf, stored_under}
-use Rattle.cdc_audit_state.specs.declared.rows.Row.{Row}
-use Rattle.cdc_audit_state.specs.declared.rows.Row.TheVariants.{Transfer, Open, Fields, Time}
-use Rattle.cdc_audit_state.specs.Laws.{AuditsCanBeSaved}
-use Rattle.cdc_audit_state.specs.Saveable.{AreDistinct, FieldsFit, IsByItsId, RowFits, StoredFits}
-use Rattle.cdc_audit_state.specs.States.{expiry_rows}
 
 -- ---- the accounts
 

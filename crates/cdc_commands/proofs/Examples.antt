@@ -1,27 +1,15 @@
 -- Examples: what the definitions compute for small scripts.
-use Rattle.std.specs.Prelude.{ℕ, ◌≡◌, true, Result, Ok, Err, List, [], ◌∷◌, ◌++◌, codes}
-use Rattle.std.proofs.Common.{refl}
+use Rattle.cdc_commands.proofs.Words.{BadScript, Done, Err, Event, List, Ok, Outcome, Result, Script, ScriptFault, [], batch_line, body, codes, emitted, printed_books, printed_messages, refl, script_fault_line, script_of, subscribers_text, true, ℕ, ◌++◌, ◌∷◌, ◌≡◌}
 use Rattle.std.specs.Fmt.{digits}
 use Rattle.cdc_types.specs.declared.batches.BatchResults.TheVariants as results
-use Rattle.cdc_types.specs.declared.events.Event.{Event}
 use Rattle.cdc_types.specs.declared.events.EventAccount.{EventAccount}
 use Rattle.cdc_types.specs.declared.events.EventKind.TheVariants.{SinglePhase}
 use Rattle.cdc_types.specs.declared.results.TransferResult.TheVariants.{Accepted, OverflowsDebitsPosted}
 use Rattle.cdc_ledger.specs.declared.errors.BatchError.TheVariants.{BatchTooLarge}
 use Rattle.cdc_match.specs.declared.pairs.Mode.TheVariants as mode
 use Rattle.cdc_match.specs.declared.pairs.Pair.TheVariants as pair
-use Rattle.cdc_message.specs.Bodies.{body}
-use Rattle.cdc_commands.specs.declared.endings.Ending.TheVariants.{Done, BadScript}
 use Rattle.cdc_script.specs.declared.faults.Detail.TheVariants.{Plain}
 use Rattle.cdc_script.specs.declared.faults.FaultKind.TheVariants as kind
-use Rattle.cdc_laws.specs.Line.{emitted}
-use Rattle.cdc_commands.specs.Feeds.{subscribers_text}
-use Rattle.cdc_commands.specs.Outcomes.{Outcome}
-use Rattle.cdc_commands.specs.Printed.{printed_books, printed_messages}
-use Rattle.cdc_commands.specs.Report.{batch_line, script_fault_line}
-use Rattle.cdc_script.specs.Scripts.{script_of}
-use Rattle.cdc_script.specs.declared.faults.ScriptFault.{ScriptFault}
-use Rattle.cdc_script.specs.declared.scripts.Script.{Script}
 
 -- the lines of batches
 prints_batches : (batch_line 2 (Ok (results.Transfers (Accepted ∷ OverflowsDebitsPosted ∷ [])))

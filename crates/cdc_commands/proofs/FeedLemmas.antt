@@ -1,27 +1,9 @@
 -- A broker to which items are published, and subscribers that take each of them before the next one is published.
-use Rattle.std.proofs.Common.{◌≡◌, ℕ, ◌+◌, ◌-◌, ◌<◌, ◌≤◌, Bool, true, false, List, [], ◌∷◌, ◌++◌, Option, Some, None, refl, sym, ap, ap₂, ◌∙◌, subst, map, length, take, max, append-nil, arith, rules}
-use Rattle.std.specs.Prelude.{slice_get, slice_set, option_map, unwrap_or, ◌==◌, ◌||◌, nat_lt, if◌then◌else◌}
-use Rattle.std.proofs.lemmas.Bool.{lt-ltb, le-ltb, false≢true}
-use Rattle.std.proofs.lemmas.List.{length-map, length-set, length_push, map_push, take_all}
-use Rattle.std.proofs.lemmas.List.Elements.{filter-append}
+use Rattle.cdc_commands.proofs.Words.{AreFed, Arguments, Bool, BrokerState, Delivery, EndMark, Event, Item, List, None, OfEvent, Option, QueueState, Some, SubscriberState, TakesDelivery, [], ap, append-nil, ap₂, arith, caught_up, connected, empty_broker, empty_queue, false, false≢true, filter-append, found_at, if◌then◌else◌, kept_by, kept_of, le-ltb, length, length-map, length-set, length_push, lt-ltb, map, map_push, max, max_64, nat_lt, next, next_delivery, nobody, nothing, option_map, published, queue, queue_of, queued, receiving, receiving_delivery, refl, rules, same_Some, slice_get_past, slice_set, subst, sym, take, take_all, take_found, takes_item, takes_packet, true, unwrap_or, with_item, with_taken, ℕ, ◌++◌, ◌+◌, ◌-◌, ◌<◌, ◌==◌, ◌||◌, ◌∙◌, ◌∷◌, ◌≡◌, ◌≤◌}
+use Rattle.std.specs.Prelude.{slice_get}
 use Rattle.std.proofs.lemmas.List.Sums.{fold-append}
-use Rattle.std.proofs.lemmas.Option.{same_Some, slice_get_past}
-use Rattle.cdc_broker.specs.Broker.{BrokerState, connected, empty_broker, published, queue_of, takes_packet, nobody}
 use Rattle.cdc_broker.specs.Packets.{tag_after}
-use Rattle.cdc_broker.specs.Queues.{QueueState, empty_queue, next_delivery, queued, with_item}
-use Rattle.cdc_match.specs.Arguments.{Arguments}
-use Rattle.cdc_match.specs.Queue.{queue, takes_item}
-use Rattle.cdc_message.specs.declared.items.Delivery.{Delivery}
-use Rattle.cdc_message.specs.declared.items.Item.{Item}
-use Rattle.cdc_message.specs.declared.items.Item.TheVariants.{Event as OfEvent, EndMark}
 use Rattle.cdc_message.specs.declared.packets.Packet.TheVariants.{Connect}
-use Rattle.cdc_types.specs.declared.events.Event.{Event}
-use Rattle.cdc_types.specs.Widths.{max_64}
-use Rattle.cdc_subscriber.specs.Reception.{nothing, next, kept_of}
-use Rattle.cdc_subscriber.specs.SubscriberState.{SubscriberState}
-use Rattle.cdc_commands.specs.Feeds.{kept_by, receiving}
-use Rattle.cdc_commands.specs.Private.Takers.{AreFed, TakesDelivery, caught_up, receiving_delivery, with_taken}
-use Rattle.cdc_output.proofs.FoundElements.{found_at, take_found}
 use Rattle.cdc_commands.proofs.HalfwayLemmas.{halfway, halfway-all, halfway-get, halfway-length, halfway-set}
 
 -- ---- one queue and its subscriber, with one more item

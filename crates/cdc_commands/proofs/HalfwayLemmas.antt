@@ -1,7 +1,6 @@
 -- A list that is made of another one, and made again by a loop, one element after another.
-use Rattle.std.proofs.Common.{◌≡◌, ℕ, ◌+◌, ◌≤◌, List, [], ◌∷◌, ◌++◌, Some, zero, suc, refl, ap, ap₂, ◌∙◌, map, length, take, drop, append-nil, arith}
-use Rattle.std.specs.Prelude.{slice_get, slice_set}
-use Rattle.std.proofs.lemmas.List.{drop_all, take_all}
+use Rattle.cdc_commands.proofs.Words.{List, Some, [], ap, append-nil, ap₂, arith, drop, drop_all, length, map, refl, slice_set, suc, take, take_all, zero, ℕ, ◌++◌, ◌+◌, ◌∙◌, ◌∷◌, ◌≡◌, ◌≤◌}
+use Rattle.std.specs.Prelude.{slice_get}
 
 -- the first elements are made as they will be, the others as they were
 abbrev pub halfway : {X Y : Type 0} → ℕ → (X → Y) → (X → Y) → List X → List Y

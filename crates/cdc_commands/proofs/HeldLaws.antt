@@ -1,35 +1,19 @@
 -- What a subscriber keeps that has taken its whole queue of a closed ledger.
-use Rattle.std.proofs.Common.{◌≡◌, ℕ, ◌+◌, ◌-◌, ◌<◌, ◌≤◌, ◌^◌, Bool, true, false, List, [], ◌∷◌, refl, sym, ap, ap₂, ◌∙◌, map, length, append-nil, subst, arith}
-use Rattle.std.specs.Prelude.{filter, min, if◌then◌else◌}
-use Rattle.std.specs.List.{AllByRecursion}
-use Rattle.std.proofs.lemmas.List.{length-map}
+use Rattle.cdc_commands.proofs.Words.{AllByRecursion, Arguments, Bool, Event, History, IsFaithful, Item, List, Reception, Script, SubscriberState, [], ap, append-nil, applied, ap₂, arith, emitted, empty_history, event_of, events, false, feed, feed_of, filter, has_ended, history_after, history_of, if◌then◌else◌, kept_by, length, length-map, line, line_after, map, min, queue, received_of, receiving, refl, subst, sym, takes_event, true, ℕ, ◌+◌, ◌-◌, ◌<◌, ◌^◌, ◌∙◌, ◌∷◌, ◌≡◌, ◌≤◌}
 use Rattle.cdc_types.specs.declared.events.Entry.{Entry}
-use Rattle.cdc_types.specs.declared.events.Event.{Event}
 use Rattle.cdc_types.specs.Timestamps.{last_timestamp}
-use Rattle.cdc_ledger.specs.Events.{event_of, events}
-use Rattle.cdc_ledger.specs.History.{History, empty_history}
 use Rattle.cdc_ledger.specs.Sound as sound
 use Rattle.cdc_ledger.specs.Verdict.{max_timestamp}
 use Rattle.cdc_ledger.proofs.KeptLaws.{IsSound-after_batches}
 use Rattle.cdc_ledger.proofs.SoundLaws.{IsSound-empty, IsSound-closed}
-use Rattle.cdc_match.specs.Arguments.{Arguments}
-use Rattle.cdc_match.specs.Queue.{feed, queue, takes_event}
-use Rattle.cdc_message.specs.declared.items.Item.{Item}
 use Rattle.cdc_message.specs.Replays.{IsPrefix, IsReplay}
 use Rattle.cdc_subscriber.specs.Book.{accounts_of, book_of}
-use Rattle.cdc_subscriber.specs.Reception.{Reception, has_ended}
-use Rattle.cdc_subscriber.specs.SubscriberState.{SubscriberState}
-use Rattle.cdc_laws.specs.Faithful.{IsFaithful, applied}
-use Rattle.cdc_laws.specs.Line.{feed_of, line, line_after, emitted}
 use Rattle.cdc_laws.proofs.Books.{book_of-prefix}
 use Rattle.cdc_laws.proofs.Faithful.{receives-all, receives-emitted, kept_of-line}
 use Rattle.cdc_laws.proofs.Feeds.{queue-line}
 use Rattle.cdc_laws.proofs.Lines.{all_after_zero, line_after-zero}
 use Rattle.cdc_laws.proofs.Replays.{IsReplay-same}
-use Rattle.cdc_script.specs.declared.scripts.Script.{Script}
-use Rattle.cdc_commands.specs.Feeds.{received_of, receiving, kept_by}
 use Rattle.cdc_commands.specs.Held.{HasWholeFeed, ListsBalances, entry_as_of}
-use Rattle.cdc_commands.specs.Printed.{history_after, history_of}
 
 -- ---- a ledger's events are few: no two have one timestamp
 

@@ -1,28 +1,14 @@
 -- What a command writes of what it makes of its input.
-use Rattle.std.proofs.Common.{◌≡◌, ◌∙◌, ℕ, List, [], Some, None, Ok, Err, sym, subst, inl, inr}
-use Rattle.std.specs.Prelude.{Option, Result, IfErr, IfOk, IfSome, IsSomeAnd}
-use Rattle.cdc_script.specs.Scripts.{script_of}
-use Rattle.cdc_script.specs.StepFiles.{acts_of}
-use Rattle.cdc_script.specs.declared.faults.ScriptFault.{ScriptFault}
+use Rattle.cdc_commands.proofs.Words.{Act, BadScript, BadSteps, BadWords, Done, Err, Failed, IfErr, IfOk, IfSome, IsGoodScript, IsParsedAs, IsPrinted, IsReadFault, IsSimulationFault, IsSomeAnd, IsWriteFault, List, MayFailScript, None, Ok, Option, Outcome, Output, Plan, PrintsAtWord, PrintsFailure, PrintsNone, PrintsPlan, PrintsScript, Refused, ReportsPlan, Result, Script, ScriptFault, SimulationInput, Some, StepError, Writes, [], acts_of, bytes_at, ending_of, inl, inr, of_acts, of_files, outcome_of, refusal_ending, script_of, subst, sym, ℕ, ◌∙◌, ◌≡◌}
 use Rattle.cdc_script.specs.declared.faults.Span.{Span}
-use Rattle.cdc_script.specs.declared.scripts.Script.{Script}
-use Rattle.cdc_script.specs.declared.step_files.Act.{Act}
-use Rattle.cdc_world.specs.declared.steps.StepError.{StepError}
 use Rattle.cdc_commands.specs.declared.book_reports.ParsedBatches.{ParsedBatches}
 use Rattle.cdc_commands.specs.declared.books.BooksOutput.{BooksOutput}
 use Rattle.cdc_commands.specs.declared.endings.Ending.{Ending}
-use Rattle.cdc_commands.specs.declared.endings.Ending.TheVariants.{Done, Failed, Refused, BadScript, BadSteps, BadWords}
 use Rattle.cdc_output.specs.declared.faults.ProgramFault.{ProgramFault}
 use Rattle.cdc_output.specs.declared.faults.ProgramFault.TheVariants as fault
-use Rattle.cdc_commands.specs.declared.output.Output.{Output}
 use Rattle.cdc_commands.specs.BookReports.{AreBatchesOf, AreParsedFrom}
 use Rattle.cdc_commands.specs.Checked.{IsGoodStepFile, ValidatesFiles}
-use Rattle.cdc_commands.specs.FaultWords.{IsParsedAs, PrintsAtWord, bytes_at}
-use Rattle.cdc_commands.specs.Outcomes.{IsPrinted, IsReadFault, IsSimulationFault, IsWriteFault, MayFailScript, Outcome, PrintsFailure, Writes, ending_of, outcome_of, refusal_ending}
-use Rattle.cdc_commands.specs.Printed.{PrintsScript}
 use Rattle.cdc_commands.specs.QueuePrinted.{AnswersQueue, PrintsQueue}
-use Rattle.cdc_commands.specs.Simulated.{IsGoodScript, PrintsNone, PrintsPlan, SimulationInput, ReportsPlan, of_acts, of_files}
-use Rattle.cdc_commands.specs.Simulations.{Plan}
 
 -- a command writes what it made of its input, or why it made nothing
 pub writes_made : (prints : Ending → List ℕ → Type 0) (PrintsFault : List ℕ → Ending → List ℕ → Type 0)

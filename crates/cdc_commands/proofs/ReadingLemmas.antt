@@ -1,15 +1,7 @@
 -- The word in error in a text that was read up to its limit.
-use Rattle.std.proofs.Common.{◌≡◌, ◌∙◌, ◌++◌, ℕ, ◌<◌, ◌≤◌, ◌⊎◌, List, Some, None, Err, ap, append-nil, arith, inl, inr, length, refl, subst, sym}
-use Rattle.std.specs.Prelude.{Option, Result, IfSome, nat_lt, true}
+use Rattle.cdc_commands.proofs.Words.{Err, IfSome, IsParsedAs, List, None, Option, Result, ScriptFault, Some, acts_of, ap, append-nil, arith, bytes_at, cases_lt, inl, inr, length, max_bytes, nat_lt, nat_tests, refl, script_of, subst, sym, true, whole_fault, ℕ, ◌++◌, ◌<◌, ◌∙◌, ◌≡◌, ◌≤◌, ◌⊎◌}
 use Rattle.std.specs.Io.KnownBytes.{Consumes, IsAtEnd}
-use Rattle.std.proofs.lemmas.Bool.{cases_lt}
-use Rattle.std.proofs.lemmas.Bool.Decides.{nat_tests}
 use Rattle.cdc_script.specs.declared.faults.FaultKind.TheVariants.{TooLong}
-use Rattle.cdc_script.specs.declared.faults.ScriptFault.{ScriptFault}
-use Rattle.cdc_script.specs.Faults.{whole_fault}
-use Rattle.cdc_script.specs.Scripts.{max_bytes, script_of}
-use Rattle.cdc_script.specs.StepFiles.{acts_of}
-use Rattle.cdc_commands.specs.FaultWords.{IsParsedAs, bytes_at}
 
 -- a text that was read is too long, or all there is
 long_or_whole : (text all : List ℕ) (new : Option (List ℕ)) → Consumes (Some all) new text

@@ -1,13 +1,7 @@
 -- Words of a file as they are shown.
-use Rattle.std.proofs.Common.{◌≡◌, ◌∙◌, ◌+◌, ◌++◌, ◌∷◌, ◌<◌, ℕ, List, [], Bool, true, ap, append_assoc, arith, codes, length, map, sym, take}
-use Rattle.std.proofs.lemmas.Bool.Decides.{nat_tests}
-use Rattle.std.specs.Prelude.{slice_index, nat_lt, if◌then◌else◌}
-use Rattle.std.specs.Str.{IsUtf8}
-use Rattle.std.proofs.lemmas.List.{map-append, take_more}
-use Rattle.std.proofs.lemmas.List.Elements.{All-cons, All-nil}
+use Rattle.cdc_commands.proofs.Words.{All-cons, All-nil, Bool, IsUtf8, List, [], ap, append_assoc, arith, codes, if◌then◌else◌, length, map, map-append, nat_lt, nat_tests, shown_byte, shown_bytes, slice_index, sym, take, take_more, true, ℕ, ◌++◌, ◌+◌, ◌<◌, ◌∙◌, ◌∷◌, ◌≡◌}
 use Rattle.std.proofs.lemmas.Str.{IsUtf8-from_ascii}
 use Rattle.std.proofs.lemmas.Str.Ascii.{IsAscii-from_all}
-use Rattle.cdc_commands.specs.ShownWords.{shown_byte, shown_bytes}
 use Rattle.cdc_commands.specs.declared.words.TheConstants.{MOST_SHOWN}
 
 -- a byte is shown as ASCII

@@ -1,36 +1,11 @@
 -- Simulations, act by act, and the subscribers of a world, one after another.
-use Rattle.std.proofs.Common.{◌≡◌, ◌∙◌, ℕ, ◌+◌, ◌-◌, ◌<◌, ◌≤◌, ◌⊎◌, List, [], ◌∷◌, ◌++◌, Some, None, true, false, drop, append_assoc, append-nil, refl, sym, ap, ap₂, subst, inl, inr, arith, rules, length, get_or}
-use Rattle.std.specs.Prelude.{IfOk, OnErr, Option, Ok, Err, Result, ◌==◌, if◌then◌else◌, is_some, option_map}
+use Rattle.cdc_commands.proofs.Words.{Act, ActsTo, AnswersTo, ClientBatch, Err, History, IfOk, IsAt, IsReportOf, List, Next, NextOver, None, Ok, OnErr, Option, Parts, PlaysActs, Result, Seen, Simulated, SimulationParts, Some, Stage, Stands, Step, StepError, SubscriberState, Subscription, WorldState, [], after_act, answered_lines, ap, append-nil, append_assoc, ap₂, arith, did_answer, drop, drop_all, drop_more, false, false≢true, get_or, get_or_from_slice_get, if◌then◌else◌, inl, inr, is_some, kept_of, length, no_risks, numbered, option_map, pieces, progress_line, refl, refusal_line, rules, simulation_text, slice_get, slice_get_cases, slice_get_within, step_for, steps_line, subscriber_text, subscriptions_text, subst, sym, true, ℕ, ◌++◌, ◌+◌, ◌-◌, ◌<◌, ◌==◌, ◌∙◌, ◌∷◌, ◌≡◌, ◌≤◌, ◌⊎◌}
 use Rattle.std.specs.declared.alloc.AllocError.{AllocError}
-use Rattle.std.specs.List.{slice_get}
-use Rattle.std.proofs.lemmas.Bool.{false≢true}
-use Rattle.std.proofs.lemmas.List.{drop_all, drop_more}
-use Rattle.std.proofs.lemmas.Option.{get_or_from_slice_get, slice_get_cases, slice_get_within}
-use Rattle.cdc_progress.specs.Stores.{no_risks}
-use Rattle.cdc_subscriber.specs.Reception.{kept_of}
-use Rattle.cdc_subscriber.specs.SubscriberState.{SubscriberState}
-use Rattle.cdc_subscriber.specs.Lines.{subscriber_text}
-use Rattle.cdc_ledger.specs.History.{History}
 use Rattle.cdc_world.specs.declared.moved.Moved.{Moved}
 use Rattle.cdc_world.specs.declared.steps.Did.{Did}
-use Rattle.cdc_types.specs.declared.steps.Step.{Step}
 use Rattle.cdc_types.specs.declared.steps.Step.TheVariants as step
-use Rattle.cdc_world.specs.declared.steps.StepError.{StepError}
 use Rattle.cdc_world.specs.Moved.{moved}
-use Rattle.cdc_world.specs.Next.{Next, NextOver}
-use Rattle.cdc_world.specs.Parts.{Parts}
-use Rattle.cdc_world.specs.Stands.{Stands}
-use Rattle.cdc_world.specs.Worlds.{Subscription, WorldState, numbered}
-use Rattle.cdc_script.specs.declared.scripts.ClientBatch.{ClientBatch}
-use Rattle.cdc_script.specs.declared.step_files.Act.{Act}
 use Rattle.cdc_script.specs.declared.step_files.Act.TheVariants as act
-use Rattle.cdc_commands.specs.declared.simulations.Simulated.{Simulated}
-use Rattle.cdc_commands.specs.SimulationReports.{IsReportOf}
-use Rattle.cdc_commands.specs.Private.Stages.{IsAt, SimulationParts}
-use Rattle.cdc_commands.specs.Report.{answered_lines}
-use Rattle.cdc_commands.specs.Seen.{Seen}
-use Rattle.cdc_commands.specs.Simulations.{ActsTo, AnswersTo, PlaysActs, Stage, after_act, did_answer, step_for, progress_line, refusal_line, simulation_text, steps_line, subscriptions_text}
-use Rattle.cdc_output.proofs.TextLemmas.{pieces}
 
 -- the element at a place, and those after it
 pub drop_found : {X : Type 0} (xs : List X) (i : ℕ) (x : X) → slice_get xs i ≡ Some x → drop i xs ≡ x ∷ drop (i + 1) xs

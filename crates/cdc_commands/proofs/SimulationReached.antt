@@ -1,21 +1,6 @@
 -- The world that a simulation comes to is one that steps lead to, so each of its subscribers is faithful.
-use Rattle.std.proofs.Common.{◌≡◌, ℕ, ◌+◌, List, [], ◌∷◌, Some, None, Ok, Err, length, get_or, ap, subst, inl, inr}
-use Rattle.std.specs.Prelude.{Option, All}
-use Rattle.std.proofs.lemmas.Option.{slice_get-get_or}
-use Rattle.cdc_match.specs.Arguments.{Arguments}
-use Rattle.cdc_types.specs.declared.steps.Step.{Step}
-use Rattle.cdc_laws.specs.Faithful.{IsFaithful}
-use Rattle.cdc_world.specs.declared.steps.StepError.{StepError}
-use Rattle.cdc_world.specs.Next.{IsReached, Leads}
-use Rattle.cdc_world.specs.Worlds.{WorldState, start_of}
+use Rattle.cdc_commands.proofs.Words.{Act, All, AnswersTo, Arguments, ClientBatch, ComesTo, Err, IsFaithful, IsReached, IsReportOf, Leads, List, None, Ok, Option, Plan, PlaysActs, Script, Seen, Simulated, Simulates, Some, Stage, Step, StepError, WorldState, [], ap, at_start, get_or, inl, inr, length, simulation_text, slice_get-get_or, start_of, step_for, subst, ℕ, ◌+◌, ◌∷◌, ◌≡◌}
 use Rattle.cdc_world.proofs.Reached.{faithful-reached}
-use Rattle.cdc_script.specs.declared.scripts.ClientBatch.{ClientBatch}
-use Rattle.cdc_script.specs.declared.scripts.Script.{Script}
-use Rattle.cdc_script.specs.declared.step_files.Act.{Act}
-use Rattle.cdc_commands.specs.declared.simulations.Simulated.{Simulated}
-use Rattle.cdc_commands.specs.Seen.{Seen}
-use Rattle.cdc_commands.specs.SimulationReports.{ComesTo, IsReportOf}
-use Rattle.cdc_commands.specs.Simulations.{AnswersTo, Plan, PlaysActs, Simulates, Stage, at_start, step_for, simulation_text}
 use Rattle.cdc_commands.proofs.SimulationLemmas.{numbered_found}
 
 -- a step that is done, and those after it

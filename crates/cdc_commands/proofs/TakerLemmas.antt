@@ -1,11 +1,5 @@
 -- What a queue delivers next is taken and acknowledged.
-use Rattle.std.proofs.Common.{◌≡◌, ℕ, ◌-◌, ◌<◌, Bool, true, false, List, refl, ap, ap₂, ◌∙◌, length}
-use Rattle.std.specs.Prelude.{slice_set, not, if◌then◌else◌}
-use Rattle.std.proofs.lemmas.List.{get_or-set_same, set-set}
-use Rattle.std.proofs.lemmas.Option.{unwrap_or-slice_get}
-use Rattle.cdc_broker.specs.Broker.{BrokerState, queue_of, with_queue, nobody}
-use Rattle.cdc_broker.specs.Queues.{QueueState, acknowledged, empty_queue, is_unknown}
-use Rattle.cdc_commands.specs.Private.Takers.{with_ack}
+use Rattle.cdc_commands.proofs.Words.{Bool, BrokerState, List, QueueState, acknowledged, ap, ap₂, empty_queue, false, get_or-set_same, if◌then◌else◌, is_unknown, length, nobody, not, queue_of, refl, set-set, slice_set, true, unwrap_or-slice_get, with_ack, with_queue, ℕ, ◌-◌, ◌<◌, ◌∙◌, ◌≡◌}
 
 -- the queue that was put into its place
 queue_of-with_queue : (s : BrokerState) (i : ℕ) (q : QueueState) → i - 1 < length s.queues

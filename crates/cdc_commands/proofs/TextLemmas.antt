@@ -1,14 +1,5 @@
 -- The lines of subscribers, one after another.
-use Rattle.std.proofs.Common.{◌≡◌, ℕ, ◌+◌, ◌≤◌, List, [], ◌∷◌, ◌++◌, Some, drop, length, map, append_assoc, append-nil, refl, sym, ap, ◌∙◌}
-use Rattle.std.proofs.lemmas.List.{drop_all}
-use Rattle.std.specs.List.{slice_get}
-use Rattle.cdc_match.specs.Arguments.{Arguments}
-use Rattle.cdc_message.specs.declared.items.Item.{Item}
-use Rattle.cdc_subscriber.specs.SubscriberState.{SubscriberState}
-use Rattle.cdc_subscriber.specs.Lines.{subscriber_text}
-use Rattle.cdc_commands.specs.Feeds.{kept_by, subscribers_text}
-use Rattle.cdc_commands.specs.Private.Takers.{kept_text}
-use Rattle.cdc_output.proofs.FoundElements.{drop_found}
+use Rattle.cdc_commands.proofs.Words.{Arguments, Item, List, Some, SubscriberState, [], ap, append-nil, append_assoc, drop, drop_all, drop_found, kept_by, kept_text, length, map, refl, slice_get, subscriber_text, subscribers_text, sym, ℕ, ◌++◌, ◌+◌, ◌∙◌, ◌∷◌, ◌≡◌, ◌≤◌}
 
 -- one more subscriber is printed
 pub kept_text-more : (all : List SubscriberState) (place : ℕ) (kept : SubscriberState) (now next whole : List ℕ)

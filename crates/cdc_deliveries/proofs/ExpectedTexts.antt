@@ -1,18 +1,6 @@
 -- The lines of what is expected, one after another.
-use Rattle.std.proofs.Common.{◌≡◌, ℕ, ◌+◌, ◌≤◌, List, ◌++◌, Some, drop, length, sym, ap, ◌∙◌, append-nil}
-use Rattle.std.specs.List.{slice_get}
-use Rattle.std.proofs.lemmas.List.{drop_all}
-use Rattle.cdc_types.specs.declared.events.Event.{Event}
-use Rattle.cdc_subscriber.specs.Answers.{answer_to}
-use Rattle.cdc_subscriber.specs.declared.subscriber.Taking.{Taking}
-use Rattle.cdc_subscriber.specs.Reception.{Reception, kept_of, next as next_reception, nothing}
+use Rattle.cdc_deliveries.proofs.Words.{Arrival, Event, List, Placed, Reception, Some, Taking, answer_line, answer_to, ap, append-nil, drop, drop_all, ended, expected_from, expected_line, item_of, kept_of, length, line_of, next_placed, next_reception, nothing, placed, slice_get, sym, ℕ, ◌++◌, ◌+◌, ◌∙◌, ◌≡◌, ◌≤◌}
 use Rattle.cdc_subscriber.specs.SubscriberState.{SubscriberState}
-use Rattle.cdc_queue_lines.specs.Lines.{ended}
-use Rattle.cdc_deliveries.specs.declared.arrivals.Arrival.{Arrival}
-use Rattle.cdc_deliveries.specs.declared.feeds.Placed.{Placed}
-use Rattle.cdc_deliveries.specs.DeliveryLines.{line_of}
-use Rattle.cdc_deliveries.specs.Expected.{answer_line, expected_from, expected_line, item_of, next_placed}
-use Rattle.cdc_deliveries.specs.Feeds.{placed}
 use Rattle.cdc_deliveries.proofs.LineTexts.{line_added}
 use Rattle.cdc_deliveries.proofs.Walks.{drop_found}
 

@@ -1,33 +1,16 @@
 -- Whatever a subscriber took is found by its name in the feed of its binding.
-use Rattle.std.proofs.Common.{◌≡◌, ◌∙◌, ℕ, ◌<◌, ◌==◌, Bool, true, false, Some, None, List, [], ◌∷◌, map, refl, ap, subst, inl, inr, arith}
-use Rattle.std.specs.Prelude.{Contains, filter, if◌then◌else◌, nat_lt}
-use Rattle.std.proofs.lemmas.Bool.{cases_Bool, eq-eqb, eqb-true}
-use Rattle.std.proofs.lemmas.List.Elements.{All-contains, All-contains_itself, All-filter, Contains-append_cases, Contains-append_left, Contains-append_right, filter_passes}
-use Rattle.cdc_laws.specs.Deliveries.{deliveries}
+use Rattle.cdc_deliveries.proofs.Words.{All-contains, All-contains_itself, All-filter, Bool, Contains, Contains-append_cases, Contains-append_left, Contains-append_right, Contains-cons_cases, Delivery, Event, IsReached, Item, List, None, Placed, Some, Subscription, WorldState, [], ap, arith, cases_Bool, deliveries, each_has, eq-eqb, eqb-true, events, false, feed, filter, filter_passes, if◌then◌else◌, inl, inr, item_name, item_of, last_timestamp, map, nat_lt, none_there, numbered, placed, placed_after, queue_in, refl, start_of, subst, taken_items, takes_event, takes_item, true, ℕ, ◌<◌, ◌==◌, ◌∙◌, ◌∷◌, ◌≡◌}
 use Rattle.cdc_laws.specs.Line.{end_mark_if, line_after}
 use Rattle.cdc_laws.proofs.Deliveries.{items_in-deliveries}
-use Rattle.cdc_laws.proofs.ListElements.{Contains-cons_cases, each_has, none_there}
 use Rattle.cdc_laws.proofs.Replays.{Contains-map, Contains-unmap}
 use Rattle.cdc_laws.proofs.Rising.{RiseFrom-filter, all_later, events_rise}
-use Rattle.cdc_ledger.specs.Events.{events}
 use Rattle.cdc_log.specs.Log.{RiseFrom, events_after}
-use Rattle.cdc_match.specs.Queue.{feed, takes_event, takes_item}
-use Rattle.cdc_message.specs.declared.items.Delivery.{Delivery}
-use Rattle.cdc_message.specs.declared.items.Item.{Item}
 use Rattle.cdc_message.specs.declared.items.Item.TheVariants as item
 use Rattle.cdc_message.proofs.ReplayLaws.{IsReplay-Contains}
-use Rattle.cdc_types.specs.Timestamps.{last_timestamp}
-use Rattle.cdc_types.specs.declared.events.Event.{Event}
-use Rattle.cdc_world.specs.Moved.{item_name}
-use Rattle.cdc_world.specs.Next.{IsReached}
 use Rattle.cdc_world.specs.Orderly.{IsOrderly}
 use Rattle.cdc_world.specs.Served.{IsServed, sent_to}
-use Rattle.cdc_world.specs.Worlds.{Subscription, WorldState, numbered, queue_in, start_of, taken_items}
 use Rattle.cdc_world.proofs.OrderlyWorlds.{IsOrderly-reached, IsReplay-orderly}
 use Rattle.cdc_world.proofs.ServedWorlds.{AreQueued-reached}
-use Rattle.cdc_deliveries.specs.declared.feeds.Placed.{Placed}
-use Rattle.cdc_deliveries.specs.Expected.{item_of}
-use Rattle.cdc_deliveries.specs.Feeds.{placed, placed_after}
 
 -- ---- elements of filtered lists
 

@@ -1,19 +1,7 @@
 -- An index of a feed, one event after another.
-use Rattle.std.proofs.Common.{◌≡◌, ℕ, ◌+◌, ◌≤◌, Bool, true, false, List, [], ◌∷◌, ◌==◌, Option, Some, None, is_some, cond, length, drop, nat_eq, refl, sym, ap, ◌∙◌, subst, Ok, Err}
-use Rattle.std.proofs.lemmas.Bool.{eqb-true}
-use Rattle.std.proofs.lemmas.List.{drop_all}
-use Rattle.std.specs.List.{slice_get}
-use Rattle.std.specs.Prelude.{OnOk, Result}
-use Rattle.std.specs.Option.{option_or}
+use Rattle.cdc_deliveries.proofs.Words.{Arguments, Bool, Err, Event, Indexes, IsIndexOf, List, None, Ok, OnOk, Option, Placed, Result, Some, [], ap, cond, drop, drop_all, eqb-true, false, feed, is_some, last_timestamp_from, length, nat_eq, option_or, placed_after, refl, slice_get, subst, sym, takes_event, true, ℕ, ◌+◌, ◌==◌, ◌∙◌, ◌∷◌, ◌≡◌, ◌≤◌}
 use Rattle.indexmap.specs.IndexMap.{Updates, get}
-use Rattle.cdc_types.specs.declared.events.Event.{Event}
-use Rattle.cdc_types.specs.Timestamps.{last_timestamp_from}
-use Rattle.cdc_match.specs.Arguments.{Arguments}
-use Rattle.cdc_match.specs.Queue.{feed, takes_event}
 use Rattle.cdc_deliveries.specs.declared.feeds.FeedIndex.{FeedIndex}
-use Rattle.cdc_deliveries.specs.declared.feeds.Placed.{Placed}
-use Rattle.cdc_deliveries.specs.Feeds.{placed_after}
-use Rattle.cdc_deliveries.specs.Indexes.{Indexes, IsIndexOf}
 use Rattle.cdc_deliveries.proofs.Walks.{drop_found}
 
 added : (is : Bool) (got later : Option Placed) (place : Placed) → (is ≡ true → is_some got ≡ false)

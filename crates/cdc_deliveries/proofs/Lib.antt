@@ -9,3 +9,4 @@ pub mod TakenPlays
 pub mod SentPositions
 pub mod FoundItems
 pub mod TakenArrivals
+pub mod Words

@@ -1,15 +1,7 @@
 -- The texts of lines, put together piece by piece.
-use Rattle.std.proofs.Common.{◌≡◌, ℕ, ◌+◌, List, [], ◌∷◌, ◌++◌, Some, None, codes, drop, refl, sym, ap, ◌∙◌, append_assoc, append-nil}
-use Rattle.std.specs.Prelude.{Option}
-use Rattle.std.specs.List.{join_with_byte, slice_get}
-use Rattle.cdc_types.specs.declared.events.Event.{Event}
-use Rattle.cdc_message.specs.Bodies.{body, in_quotes, member_text, narrow_member, object_text}
-use Rattle.cdc_message.specs.Headers.{headers_of_event}
+use Rattle.cdc_deliveries.proofs.Words.{Arrival, Event, List, None, Option, Some, [], ap, append-nil, body, codes, content_members, deliveries_from, delivery_line, drop, ended, headers_of_event, headers_text, in_quotes, join_with_byte, line_of, member_text, narrow_member, object_text, placed, refl, seconds_of, slice_get, sym, ℕ, ◌++◌, ◌+◌, ◌∙◌, ◌∷◌, ◌≡◌}
+use Rattle.std.proofs.Common.{append_assoc}
 use Rattle.cdc_message.proofs.Members.{members_then, object_text-append}
-use Rattle.cdc_queue_lines.specs.Lines.{ended, headers_text, seconds_of}
-use Rattle.cdc_deliveries.specs.declared.arrivals.Arrival.{Arrival}
-use Rattle.cdc_deliveries.specs.DeliveryLines.{content_members, deliveries_from, delivery_line, line_of}
-use Rattle.cdc_deliveries.specs.Feeds.{placed}
 use Rattle.cdc_deliveries.proofs.Walks.{drop_found}
 
 -- a piece, and what follows it

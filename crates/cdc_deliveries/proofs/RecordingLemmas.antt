@@ -1,13 +1,5 @@
 -- The steps of deliveries, one step of a simulation after another.
-use Rattle.std.proofs.Common.{◌≡◌, ◌∙◌, List, [], ◌∷◌, ◌++◌, Some, None, append-nil, ap, sym}
-use Rattle.std.specs.Prelude.{IfSome, Option}
-use Rattle.std.specs.List.{cons_option}
-use Rattle.std.specs.declared.alloc.Global.{Global}
-use Rattle.std.specs.declared.vec.Vec.{Vec}
-use Rattle.std.proofs.lemmas.List.Elements.{filter_map-append}
-use Rattle.cdc_commands.specs.Seen.{Seen}
-use Rattle.cdc_deliveries.specs.Recorded.{delivery_step, delivery_steps}
-use Rattle.cdc_deliveries.specs.declared.steps.DeliveryStep.{DeliveryStep}
+use Rattle.cdc_deliveries.proofs.Words.{DeliveryStep, Global, IfSome, List, None, Option, Seen, Some, Vec, [], ap, append-nil, cons_option, delivery_step, delivery_steps, filter_map-append, sym, ◌++◌, ◌∙◌, ◌∷◌, ◌≡◌}
 
 -- one more step that was seen
 more_seen : (seen : List Seen) (one : Seen) (did : Option DeliveryStep) → did ≡ delivery_step one

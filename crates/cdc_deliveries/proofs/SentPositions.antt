@@ -1,29 +1,7 @@
 -- The queue of a subscriber sends positions from 1 on and leaves none out.
-use Rattle.std.proofs.Common.{◌≡◌, ◌∙◌, ℕ, ◌+◌, ◌<◌, ◌≤◌, ◌==◌, max, Bool, false, Option, Some, None, List, [], ◌∷◌, ◌++◌, refl, sym, ap, subst, inl, inr, arith}
-use Rattle.std.specs.Prelude.{Contains, if◌then◌else◌}
-use Rattle.std.specs.List.{cons_option}
-use Rattle.std.proofs.lemmas.Bool.{cases_lt, eq-eqb}
+use Rattle.cdc_deliveries.proofs.Words.{Act, Arguments, Arriving, Bool, ClientBatch, Contains, Contains-append_left, Contains-append_right, Contains-push, Contains-push_cases, Cursor, Delivery, DeliveryStep, ItemName, List, None, Option, PlaysActs, Seen, Some, Stage, Step, StepError, Subscription, Taking, [], ap, arith, cases_lt, cons_option, delivery_step, delivery_steps, eq-eqb, false, filter_map-append, if◌then◌else◌, inl, inr, max, new_subscription, none_there, numbered, positions_sent, refl, sent_to, step_for, subscriber_of, subst, sym, with_close, with_delivery, with_taken, with_taking, ℕ, ◌++◌, ◌+◌, ◌<◌, ◌==◌, ◌∙◌, ◌∷◌, ◌≡◌, ◌≤◌}
 use Rattle.std.proofs.lemmas.List.{append-nil}
-use Rattle.std.proofs.lemmas.List.Elements.{Contains-append_left, Contains-append_right, Contains-push, Contains-push_cases, filter_map-append}
-use Rattle.cdc_world.specs.Cursors.{Cursor}
-use Rattle.cdc_laws.proofs.ListElements.{none_there}
-use Rattle.cdc_match.specs.Arguments.{Arguments}
-use Rattle.cdc_message.specs.declared.items.Delivery.{Delivery}
-use Rattle.cdc_script.specs.declared.scripts.ClientBatch.{ClientBatch}
-use Rattle.cdc_script.specs.declared.step_files.Act.{Act}
-use Rattle.cdc_subscriber.specs.declared.subscriber.Taking.{Taking}
-use Rattle.cdc_types.specs.declared.steps.Step.{Step}
-use Rattle.cdc_world.specs.declared.moved.ItemName.{ItemName}
-use Rattle.cdc_world.specs.declared.steps.StepError.{StepError}
-use Rattle.cdc_world.specs.Next.{with_close, with_delivery, with_taking}
-use Rattle.cdc_world.specs.Worlds.{Subscription, new_subscription, numbered}
-use Rattle.cdc_commands.specs.Seen.{Seen}
-use Rattle.cdc_commands.specs.Simulations.{PlaysActs, Stage, step_for}
-use Rattle.cdc_deliveries.specs.declared.steps.DeliveryStep.{DeliveryStep}
 use Rattle.cdc_deliveries.specs.declared.steps.DeliveryStep.TheVariants as delivery
-use Rattle.cdc_deliveries.specs.Arrivals.{Arriving, subscriber_of, with_taken}
-use Rattle.cdc_deliveries.specs.Recorded.{delivery_step, delivery_steps}
-use Rattle.cdc_deliveries.specs.Taken.{positions_sent, sent_to}
 use Rattle.cdc_deliveries.proofs.SubscriptionSteps.{Changes, IsQuiet, MovesCursor, quiet_arriving, with_recorded}
 use Rattle.cdc_deliveries.proofs.TakenDeliveries.{its_own, own_taking}
 use Rattle.cdc_deliveries.proofs.TakenPlays.{act_changes, act_refused, arriving_by}

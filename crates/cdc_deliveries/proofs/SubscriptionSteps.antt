@@ -1,36 +1,18 @@
 -- What a step that is done makes of one subscription, and which step of deliveries is recorded of it.
-use Rattle.std.proofs.Common.{◌≡◌, ◌⊎◌, ◌∙◌, ℕ, zero, suc, ◌-◌, ◌==◌, Bool, true, false, Option, Some, None, Result, Ok, Err, List, [], ◌∷◌, ◌++◌, length, refl, sym, ap, subst, inl, inr, arith}
-use Rattle.std.specs.Prelude.{Contains, if◌then◌else◌, slice_get, slice_set}
-use Rattle.std.specs.Option.{option_and_then, option_map, option_or}
-use Rattle.std.proofs.lemmas.Bool.{cases_Bool, eqb-false, eqb-true}
-use Rattle.std.proofs.lemmas.List.{length-append}
-use Rattle.cdc_world.specs.Cursors.{Cursor, after_ack, rewound}
+use Rattle.cdc_deliveries.proofs.Words.{Ack, Answer, Arrive, Arriving, Bool, Break, Close, CloseLedger, Contains, Contains_numbered, Crash, Cursor, Delivery, DeliveryStep, Err, Item, List, Next, None, Ok, Option, Outcome, Poll, Publish, Result, Rewind, Save, Send, Some, Start, StartAt, Step, Submit, Subscription, Take, WorldState, [], after_ack, answer_to, ap, arith, cases_Bool, delivery_sent, delivery_taken, eqb-false, eqb-true, false, first_flight, first_taken, if◌then◌else◌, inl, inr, item_name, kept_of, last_sent, length, length-append, moved, next, next_delivery, numbered, numbered_from, numbered_parts, option_and_then, option_map, option_or, queue_in, refl, rewound, slice_get-behind, slice_set, step_of, subscriber_of, subst, suc, sym, true, with_ack, with_arrival, with_batch, with_break, with_close, with_delivery, with_numbered, with_own, with_rewind, with_session, with_start, with_step, with_subscription, with_taking, zero, ℕ, ◌++◌, ◌-◌, ◌==◌, ◌>>=◌, ◌∙◌, ◌∷◌, ◌≡◌, ◌⊎◌}
+use Rattle.std.specs.Prelude.{slice_get}
 use Rattle.cdc_world.specs.Packets.{is_taken}
 use Rattle.cdc_ledger.specs.History.{History}
 use Rattle.cdc_ledger.specs.Submit.{submit}
 use Rattle.cdc_ledger.specs.declared.errors.BatchError.{BatchError}
-use Rattle.cdc_laws.proofs.ListElements.{slice_get-behind}
-use Rattle.cdc_message.specs.declared.items.Delivery.{Delivery}
-use Rattle.cdc_message.specs.declared.items.Item.{Item}
 use Rattle.cdc_message.specs.declared.packets.Packet.{Packet}
 use Rattle.cdc_progress.specs.Records.{Saved}
 use Rattle.cdc_world.specs.Courses.{Course, begun, next_packet, next_poll}
 use Rattle.cdc_world.specs.StartError.{StartError}
-use Rattle.cdc_subscriber.specs.Answers.{answer_to}
-use Rattle.cdc_subscriber.specs.Reception.{kept_of}
 use Rattle.cdc_types.specs.declared.batches.Batch.{Batch}
 use Rattle.cdc_types.specs.declared.batches.BatchResults.{BatchResults}
-use Rattle.cdc_types.specs.declared.steps.Step.{Step}
-use Rattle.cdc_types.specs.declared.steps.Step.TheVariants.{Submit, CloseLedger, Start, StartAt, Crash, Poll, Publish, Arrive, Answer, Save, Send, Rewind, Break, Take, Ack, Close}
 use Rattle.cdc_world.specs.declared.steps.Did.{Did}
 use Rattle.cdc_world.specs.declared.steps.Did.TheVariants.{Counted, Done, Took}
-use Rattle.cdc_world.specs.Moved.{delivery_sent, delivery_taken, first_taken, item_name, last_sent, moved}
-use Rattle.cdc_world.specs.Next.{Next, Outcome, first_flight, next, next_delivery, with_ack, with_arrival, with_batch, with_break, with_close, with_delivery, with_rewind, with_session, with_start, with_subscription, with_taking, ◌>>=◌}
-use Rattle.cdc_world.specs.Worlds.{Subscription, WorldState, numbered, queue_in, with_numbered}
-use Rattle.cdc_world.proofs.NumberedElements.{Contains_numbered, numbered_from, numbered_parts}
-use Rattle.cdc_deliveries.specs.Arrivals.{Arriving, subscriber_of, with_own, with_step}
-use Rattle.cdc_deliveries.specs.Recorded.{step_of}
-use Rattle.cdc_deliveries.specs.declared.steps.DeliveryStep.{DeliveryStep}
 use Rattle.cdc_deliveries.specs.declared.steps.DeliveryStep.TheVariants as delivery
 
 -- ---- what happens to a subscription

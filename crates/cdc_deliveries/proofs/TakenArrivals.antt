@@ -1,30 +1,7 @@
 -- What arrives at a subscriber in a simulation is what the world's subscriber took.
-use Rattle.std.proofs.Common.{◌≡◌, ◌∙◌, ℕ, ◌-◌, Bool, Option, Some, List, [], ◌∷◌, fold, map, refl, sym, ap, subst}
-use Rattle.std.specs.Prelude.{Contains}
-use Rattle.std.specs.List.{AllByRecursion, AllZip}
-use Rattle.std.proofs.lemmas.List.Elements.{Contains-append_left}
-use Rattle.std.proofs.lemmas.Option.{slice_get-map}
-use Rattle.std.specs.Option.{option_map}
-use Rattle.cdc_laws.specs.Deliveries.{items_in}
-use Rattle.cdc_laws.proofs.ListElements.{each_from}
-use Rattle.cdc_ledger.specs.Events.{events}
-use Rattle.cdc_match.specs.Arguments.{Arguments}
-use Rattle.cdc_match.specs.Queue.{feed}
-use Rattle.cdc_message.specs.declared.items.Delivery.{Delivery}
-use Rattle.cdc_subscriber.specs.Reception.{Reception, next as next_reception, nothing}
-use Rattle.cdc_types.specs.declared.events.Event.{Event}
-use Rattle.cdc_world.specs.declared.steps.StepError.{StepError}
-use Rattle.cdc_world.specs.Worlds.{new_subscription, numbered}
-use Rattle.cdc_world.proofs.NumberedElements.{numbered_from, numbered_parts}
+use Rattle.cdc_deliveries.proofs.Words.{AllByRecursion, AllZip, Arguments, Arrival, ArrivesAsTaken, Bool, Contains, Contains-append_left, Delivery, Event, IsArrivalOf, List, Option, Plan, PlaysActs, Reception, Some, Stage, StepError, [], ap, arrivals, at_start, delivery_steps, each_from, events, feed, fold, items_in, map, new_subscription, next_placed, next_reception, nothing, nothing_sent, numbered, numbered_from, numbered_parts, option_map, placed, refl, slice_get-map, subst, sym, ℕ, ◌-◌, ◌∙◌, ◌∷◌, ◌≡◌}
 use Rattle.cdc_commands.specs.QueuePrinted.{binding_at}
-use Rattle.cdc_commands.specs.Simulations.{Plan, PlaysActs, Stage, at_start}
 use Rattle.cdc_commands.proofs.SimulationReached.{is_reached}
-use Rattle.cdc_deliveries.specs.declared.arrivals.Arrival.{Arrival}
-use Rattle.cdc_deliveries.specs.Arrivals.{arrivals, nothing_sent}
-use Rattle.cdc_deliveries.specs.Expected.{next_placed}
-use Rattle.cdc_deliveries.specs.Feeds.{placed}
-use Rattle.cdc_deliveries.specs.Recorded.{delivery_steps}
-use Rattle.cdc_deliveries.specs.Taken.{ArrivesAsTaken, IsArrivalOf}
 use Rattle.cdc_deliveries.proofs.FoundItems.{IsFound, taken_is_found}
 use Rattle.cdc_deliveries.proofs.SentPositions.{in_turn_new, plays_in_turn}
 use Rattle.cdc_deliveries.proofs.TakenDeliveries.{Follows, IsNamed}

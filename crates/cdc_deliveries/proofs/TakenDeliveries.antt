@@ -1,28 +1,9 @@
 -- What has arrived at a subscriber, beside what its subscription took, step after step.
-use Rattle.std.proofs.Common.{◌≡◌, ◌⊎◌, ◌∙◌, ℕ, Bool, true, false, Option, Some, None, List, [], ◌∷◌, ◌++◌, fold, length, refl, sym, ap, subst, inl, inr, arith}
-use Rattle.std.specs.Prelude.{◌||◌, if◌then◌else◌, nat_le, unwrap_or}
-use Rattle.std.specs.List.{AllZip}
-use Rattle.std.proofs.lemmas.Bool.{eq-eqb}
-use Rattle.std.proofs.lemmas.List.{append_assoc, append-nil, length-append, map_push}
-use Rattle.std.proofs.lemmas.List.Sums.{fold_push}
-use Rattle.cdc_laws.specs.Deliveries.{items_in}
-use Rattle.cdc_message.specs.declared.items.Delivery.{Delivery}
-use Rattle.cdc_message.specs.declared.items.Item.{Item}
+use Rattle.cdc_deliveries.proofs.Words.{AllZip, Arrival, Arriving, Bool, Close, Delivery, DeliveryStep, Item, ItemName, List, None, Option, Reception, Some, Step, Subscription, Taking, [], answer_to, ap, append_assoc, arith, eq-eqb, false, fold, fold_push, has_ended, if◌then◌else◌, inl, inr, is_closed, item_name, items_in, kept_of, length, length-append, map_push, nat_le, next_reception, nothing, received_answer, refl, subscriber_of, subst, sym, true, unwrap_or, with_break, with_delivery, with_own, with_step, with_taken, with_taking, ℕ, ◌++◌, ◌||◌, ◌∙◌, ◌∷◌, ◌≡◌, ◌⊎◌}
+use Rattle.std.proofs.lemmas.List.{append-nil}
 use Rattle.cdc_message.specs.declared.items.Item.TheVariants as item
-use Rattle.cdc_subscriber.specs.declared.subscriber.Taking.{Taking}
 use Rattle.cdc_subscriber.specs.declared.subscriber.Taking.TheVariants.{Applied, Repeat, AfterClose}
-use Rattle.cdc_subscriber.specs.Answers.{answer_to, received_answer}
-use Rattle.cdc_subscriber.specs.Reception.{Reception, has_ended, kept_of, next as next_reception, nothing}
-use Rattle.cdc_types.specs.declared.steps.Step.{Step}
-use Rattle.cdc_types.specs.declared.steps.Step.TheVariants.{Close}
-use Rattle.cdc_world.specs.declared.moved.ItemName.{ItemName}
-use Rattle.cdc_world.specs.Moved.{item_name}
-use Rattle.cdc_world.specs.Next.{with_break, with_delivery, with_taking}
-use Rattle.cdc_world.specs.Worlds.{Subscription}
-use Rattle.cdc_deliveries.specs.declared.arrivals.Arrival.{Arrival}
-use Rattle.cdc_deliveries.specs.declared.steps.DeliveryStep.{DeliveryStep}
 use Rattle.cdc_deliveries.specs.declared.steps.DeliveryStep.TheVariants as delivery
-use Rattle.cdc_deliveries.specs.Arrivals.{Arriving, is_closed, subscriber_of, with_own, with_step, with_taken}
 use Rattle.cdc_deliveries.proofs.SubscriptionSteps.{Breaks, Changes, Closes, Sends, Stays, Takes, quiet_arriving, with_recorded}
 
 -- ---- what holds

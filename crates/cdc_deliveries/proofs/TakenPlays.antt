@@ -1,26 +1,8 @@
 -- What arrives in a play of acts is what the subscriber took up to its close.
-use Rattle.std.proofs.Common.{◌≡◌, ◌∙◌, ℕ, ◌+◌, true, false, Option, Some, None, Err, List, [], ◌∷◌, ◌++◌, fold, refl, sym, ap, subst, inl, inr}
-use Rattle.std.specs.List.{cons_option, slice_get}
-use Rattle.std.specs.Option.{option_map}
-use Rattle.std.proofs.lemmas.List.Elements.{filter_map-append}
-use Rattle.std.proofs.lemmas.List.Sums.{fold-append}
-use Rattle.cdc_match.specs.Arguments.{Arguments}
+use Rattle.cdc_deliveries.proofs.Words.{Act, ActsTo, AnswersTo, Arguments, Arriving, ClientBatch, Close, DeliveryStep, Err, LastOpen, List, Next, None, Option, PlaysActs, Seen, Some, Stage, Step, StepError, Submit, Subscription, WorldState, [], ap, arriving, cons_option, delivery_step, delivery_steps, false, filter_map-append, fold, fold-append, inl, inr, nothing_sent, numbered, option_map, refl, seen_of, slice_get, step_for, subst, sym, true, with_step, ℕ, ◌++◌, ◌+◌, ◌∙◌, ◌∷◌, ◌≡◌}
 use Rattle.cdc_progress.specs.StoreError.TheVariants as store
-use Rattle.cdc_script.specs.declared.scripts.ClientBatch.{ClientBatch}
-use Rattle.cdc_script.specs.declared.step_files.Act.{Act}
 use Rattle.cdc_script.specs.declared.step_files.Act.TheVariants as act
-use Rattle.cdc_types.specs.declared.steps.Step.{Step}
-use Rattle.cdc_types.specs.declared.steps.Step.TheVariants.{Close, Submit}
-use Rattle.cdc_world.specs.declared.steps.StepError.{StepError}
 use Rattle.cdc_world.specs.declared.steps.StepError.TheVariants.{NotEnabled, Refused, Store, SessionsExhausted, OutOfMemory, StartNotAllowed}
-use Rattle.cdc_world.specs.Next.{Next}
-use Rattle.cdc_world.specs.Worlds.{Subscription, WorldState, numbered}
-use Rattle.cdc_commands.specs.Seen.{Seen}
-use Rattle.cdc_commands.specs.Simulations.{ActsTo, AnswersTo, PlaysActs, Stage, seen_of, step_for}
-use Rattle.cdc_deliveries.specs.declared.steps.DeliveryStep.{DeliveryStep}
-use Rattle.cdc_deliveries.specs.Arrivals.{Arriving, arriving, nothing_sent, with_step}
-use Rattle.cdc_deliveries.specs.Recorded.{delivery_step, delivery_steps}
-use Rattle.cdc_deliveries.specs.Taken.{LastOpen}
 use Rattle.cdc_deliveries.proofs.SubscriptionSteps.{Changes, step_does, with_recorded}
 use Rattle.cdc_deliveries.proofs.TakenDeliveries.{Follows, IsLater, IsLater-same, IsLater-trans, goes_on, stays_closed}
 

@@ -1,15 +1,9 @@
 -- How an event is found in a log by its timestamp, and how many are no later than one.
-use Rattle.std.proofs.Common.{◌≡◌, ◌⊎◌, ℕ, suc, zero, ◌-◌, ◌<◌, ◌≤◌, Bool, true, false, cond, not, List, [], ◌∷◌, drop, length, refl, arith, sym, ◌∙◌, ap, inl, inr, nat_lt, nat_le, nat_eq, length-drop}
-use Rattle.std.specs.Prelude.{Option, Some, None, slice_get}
-use Rattle.std.proofs.lemmas.Bool.{ne_eqb}
+use Rattle.cdc_diagnostics.proofs.Words.{Bool, Event, List, None, Option, Some, [], ap, arith, cond, drop, event_at, events_after, false, inl, inr, left_out, length, length-drop, nat_eq, nat_le, nat_lt, ne_eqb, not, refl, slice_get, suc, sym, true, zero, ℕ, ◌-◌, ◌<◌, ◌∙◌, ◌∷◌, ◌≡◌, ◌≤◌, ◌⊎◌}
 use Rattle.std.proofs.lemmas.Bool.Decides.{nat_tests}
 use Rattle.std.proofs.lemmas.List.Sums.{length-filter}
 use Rattle.std.proofs.lemmas.List.Filters.{length-filter_both}
-use Rattle.cdc_types.specs.declared.events.Event.{Event}
 use Rattle.cdc_types.specs.Timestamps.{last_timestamp_from, RiseFrom}
-use Rattle.cdc_log.specs.Log.{events_after}
-use Rattle.cdc_diagnostics.specs.Movements.{event_at}
-use Rattle.cdc_diagnostics.specs.Traces.{left_out}
 
 -- ---- the event of a timestamp
 

@@ -1,28 +1,21 @@
 -- Examples: lines of traces and diagrams as the documents show them. The ledger has moved 100 from account 90 to
 -- account 1 by transfer 1, at timestamp 2000.
-use Rattle.std.specs.Prelude.{ℕ, ◌≡◌, true, [], ◌∷◌, ◌++◌, codes, Option, None, Some}
-use Rattle.std.proofs.Common.{refl}
+use Rattle.cdc_diagnostics.proofs.Words.{Answer, Arrive, Moved, None, Option, Publish, Seen, Send, Some, StartAt, Step, Submit, Take, [], codes, diagram_head, diagram_line, refl, trace_line, trace_text, true, ℕ, ◌++◌, ◌∷◌, ◌≡◌}
 use Rattle.std.specs.Fmt.{digits}
 use Rattle.cdc_types.specs.declared.accounts.NewAccount.{NewAccount}
 use Rattle.cdc_types.specs.declared.batches.Batch.{Batch}
 use Rattle.cdc_types.specs.declared.batches.Batch.TheVariants as batch
 use Rattle.cdc_types.specs.declared.batches.BatchResults.TheVariants as results
 use Rattle.cdc_types.specs.declared.results.TransferResult.TheVariants.{Accepted}
-use Rattle.cdc_types.specs.declared.steps.Step.{Step}
-use Rattle.cdc_types.specs.declared.steps.Step.TheVariants.{Submit, StartAt, Publish, Arrive, Answer, Send, Take}
 use Rattle.cdc_ledger.specs.History.{History, empty_history}
 use Rattle.cdc_ledger.specs.Submit.{after_batches}
 use Rattle.cdc_subscriber.specs.declared.subscriber.Taking.TheVariants.{Applied, Repeat}
 use Rattle.cdc_world.specs.declared.moved.ItemName.TheVariants.{Event}
-use Rattle.cdc_world.specs.declared.moved.Moved.{Moved}
 use Rattle.cdc_world.specs.declared.moved.Moved.TheVariants.{SessionStarted, PacketSent, PacketTaken, ConfirmReceived, DeliverySent, DeliveryTaken}
 use Rattle.cdc_world.specs.declared.moved.PacketName.{PacketName}
 use Rattle.cdc_world.specs.declared.moved.PacketName.TheVariants.{Publish as PublishOf}
 use Rattle.cdc_world.specs.declared.steps.Did.{Did}
 use Rattle.cdc_world.specs.declared.steps.Did.TheVariants.{Submitted, Arrived, Counted, Took, Done}
-use Rattle.cdc_commands.specs.Seen.{Seen}
-use Rattle.cdc_diagnostics.specs.Diagrams.{diagram_head, diagram_line}
-use Rattle.cdc_diagnostics.specs.Traces.{trace_line, trace_text}
 
 -- a request for an account
 abbrev account : ℕ → NewAccount

@@ -1,3 +1,4 @@
 mod Examples
 pub mod Events
 pub mod OneMoreStep
+pub mod Words

@@ -1,12 +1,5 @@
 -- How a trace and a diagram grow with one more step.
-use Rattle.std.proofs.Common.{◌≡◌, ◌≤◌, ◌∙◌, ◌+◌, ℕ, Bool, true, false, List, [], ◌∷◌, ◌++◌, length, refl, ap, arith, sym, append_assoc}
-use Rattle.std.proofs.lemmas.List.{append-nil}
-use Rattle.cdc_types.specs.declared.steps.Step.{Step}
-use Rattle.cdc_types.specs.declared.steps.Step.TheVariants.{Submit}
-use Rattle.cdc_commands.specs.Seen.{Seen}
-use Rattle.cdc_diagnostics.specs.Diagrams.{diagram_after, diagram_head, diagram_line, diagram_text}
-use Rattle.cdc_diagnostics.specs.Recordings.{if_asked, taken_after}
-use Rattle.cdc_diagnostics.specs.Traces.{taken_with, trace_after, trace_line}
+use Rattle.cdc_diagnostics.proofs.Words.{Bool, List, Seen, Step, Submit, [], ap, append-nil, append_assoc, arith, diagram_after, diagram_head, diagram_line, diagram_text, false, if_asked, length, refl, sym, taken_after, taken_with, trace_after, trace_line, true, ℕ, ◌++◌, ◌+◌, ◌∙◌, ◌∷◌, ◌≡◌, ◌≤◌}
 
 -- a step takes one batch at most
 pub taken_with-most : (n : ℕ) (step : Step) → taken_with n step ≤ n + 1

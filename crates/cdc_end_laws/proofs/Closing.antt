@@ -1,22 +1,14 @@
 -- A subscriber's close decides what it keeps, and its book has the ledger's balances.
-use Rattle.std.proofs.Common.{◌≡◌, ℕ, zero, suc, Bool, true, false, List, [], ◌∷◌, ◌++◌, cond, refl, sym, ap, ap₂, ◌∙◌, subst, length, take, inl, inr, arith}
-use Rattle.std.specs.Prelude.{Option, None, Some, All, filter, min, nat_le, nat_lt, not}
-use Rattle.std.proofs.Math.Seq.{take-append_seam}
-use Rattle.std.proofs.lemmas.Bool.{cases_Bool, leb-false, leb-true}
-use Rattle.std.proofs.lemmas.List.Elements.{All-filter, All-head, All-tail}
+use Rattle.cdc_end_laws.proofs.Words.{All, All-filter, All-head, All-tail, Bool, History, List, None, Option, Reception, Some, [], ap, ap₂, arith, cases_Bool, cond, false, feed_after, filter, has_ended, inl, inr, leb-false, leb-true, length, min, nat_le, nat_lt, not, refl, subst, suc, sym, take, take-append_seam, takes_event, true, zero, ℕ, ◌++◌, ◌∙◌, ◌∷◌, ◌≡◌}
 use Rattle.cdc_types.specs.declared.events.Event.{Event}
 use Rattle.cdc_types.specs.Timestamps.{last_timestamp}
 use Rattle.cdc_types.specs.Widths.{max_64}
 use Rattle.cdc_laws.specs.Events.{events}
-use Rattle.cdc_laws.specs.History.{History}
 use Rattle.cdc_laws.specs.Log.{events_after}
 use Rattle.cdc_laws.specs.Arguments.{Arguments}
-use Rattle.cdc_laws.specs.Queue.{takes_event}
 use Rattle.cdc_laws.specs.Book.{book_of}
-use Rattle.cdc_laws.specs.Reception.{Reception, has_ended}
 use Rattle.cdc_laws.specs.SubscriberState.{SubscriberState}
 use Rattle.cdc_laws.specs.Faithful.{IsFaithful, applied, kept_from}
-use Rattle.cdc_laws.specs.Line.{feed_after}
 use Rattle.cdc_run.specs.Subscribing.{ClosesWith, EndsOpen, HasCome}
 use Rattle.cdc_end_laws.specs.Subscribers.{AllClosesDecide, BooksAreTheLedgers, ClosesDecide, HasLedgersBalances, ReportedBooksAreTheLedgers, state_due, state_with}
 

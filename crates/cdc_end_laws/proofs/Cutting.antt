@@ -1,53 +1,29 @@
 -- Each subscriber of a run that was cut off is faithful to what the ledger has.
-use Rattle.std.proofs.Common.{◌≡◌, ℕ, ◌+◌, ◌-◌, ◌<◌, List, [], ◌∷◌, ◌++◌, refl, sym, ap, ◌∙◌, subst, length, map, take, inl, inr, append_assoc, arith}
-use Rattle.std.specs.Prelude.{Contains, None, Option, Some, slice_get, unwrap_or}
+use Rattle.cdc_end_laws.proofs.Words.{All-contains, AreAmong, ArrivedWasReceived, BrokerCore, BrokersComeSoFar, CanSend, Confirm, Confirmed, ConnectorCore, ConnectorsKeepToRuns, Contains, Contains-append_left, Contains-get_or, Continues, DeliveriesAreReceived, HasSubscriberSaid, History, IsBrokerSoFar, IsLedgerSoFar, LedgerCore, LedgersComeSoFar, List, None, Option, Packet, Past, Reception, Some, SubscriberCore, SubscribersLackOne, ToConnector, [], ap, append_assoc, arith, as_confirm, confirm_in, confirms_in, dealings, deliveries_in, delivery_in, delivery_of, filter_map-append, fold-append, history_of, inl, inr, length, line_after, map, no_past, of_sender, origin_of, packet_in, packets_in, queue, received_by, refl, slice_get, subst, sym, take, take-append_seam, taken_by, taken_of, unwrap_or, ℕ, ◌++◌, ◌+◌, ◌-◌, ◌<◌, ◌∙◌, ◌∷◌, ◌≡◌}
 use Rattle.std.specs.List.{cons_option, filter_map}
-use Rattle.std.proofs.Math.Seq.{take-append_seam}
-use Rattle.std.proofs.lemmas.List.Elements.{All-contains, Contains-append_left, Contains-get_or, filter_map-append}
-use Rattle.std.proofs.lemmas.List.Sums.{fold-append}
 use Rattle.std.proofs.lemmas.Option.{slice_get_within, unwrap_or-slice_get}
 use Rattle.cdc_laws.specs.Broker.{nobody, queue_of}
 use Rattle.cdc_laws.specs.Packets.{items_of}
 use Rattle.cdc_laws.specs.Queues.{QueueState, empty_queue}
-use Rattle.cdc_laws.specs.History.{History}
 use Rattle.cdc_laws.specs.Sound.{IsSound}
-use Rattle.cdc_laws.specs.Queue.{queue}
 use Rattle.cdc_message.specs.declared.items.Delivery.{Delivery}
 use Rattle.cdc_message.specs.declared.items.Item.{Item}
-use Rattle.cdc_message.specs.declared.packets.Answer.TheVariants.{Confirmed}
-use Rattle.cdc_message.specs.declared.packets.Confirm.{Confirm}
-use Rattle.cdc_message.specs.declared.packets.Packet.{Packet}
 use Rattle.cdc_message.specs.Replays.{IsPrefix, IsReplay}
 use Rattle.cdc_message.proofs.ReplayLaws.{IsReplay-take}
-use Rattle.cdc_laws.specs.Reception.{Reception}
-use Rattle.cdc_laws.specs.Arrivals.{AreAmong, taken_of}
 use Rattle.cdc_laws.specs.ConnectorRuns.{IsConnectorRun}
 use Rattle.cdc_laws.specs.Deliveries.{deliveries, items_in}
 use Rattle.cdc_laws.specs.Laws.{DeliveriesAreReceivedAsReplays, SubscribersOfReplaysAreFaithful}
-use Rattle.cdc_laws.specs.Line.{line_after}
 use Rattle.cdc_laws.specs.RunLaws.{RunsStayOnLongerLines, TakenOfRunsIsAReplay}
-use Rattle.cdc_links.specs.Links.{CanSend, of_sender}
 use Rattle.cdc_links.proofs.Entries.{follow-prefix}
 use Rattle.cdc_traffic.specs.Following.{FollowsToConnector, MaySendConnector, last_named}
 use Rattle.cdc_traffic.specs.Laws.{PastsGoOn}
-use Rattle.cdc_traffic.specs.Pasts.{Continues, history_of, no_past}
-use Rattle.cdc_traffic.specs.declared.messages.ToConnector.{ToConnector}
 use Rattle.cdc_traffic.specs.declared.messages.ToConnector.TheVariants as message
 use Rattle.cdc_traffic.specs.declared.messages.ToSubscriber.{ToSubscriber}
 use Rattle.cdc_traffic.specs.declared.messages.ToSubscriber.TheVariants as to_subscriber
-use Rattle.cdc_traffic.specs.declared.pasts.Past.{Past}
 use Rattle.cdc_traffic.proofs.Continuing.{Continues-same, Continues-trans}
 use Rattle.cdc_traffic.proofs.Named.{follow-continues, follow-rest}
-use Rattle.cdc_broker_actors.specs.Broker.{ArrivedWasReceived, BrokerCore, as_confirm, dealings, delivery_in, deliveries_in}
-use Rattle.cdc_broker_actors.specs.Broker.SoFar.{BrokersComeSoFar, IsBrokerSoFar}
-use Rattle.cdc_actor_work.specs.Packets.{packet_in, packets_in}
-use Rattle.cdc_actors.specs.Connector.{ConnectorCore, confirm_in, confirms_in, origin_of}
-use Rattle.cdc_ledger_actors.specs.Ledger.{LedgerCore}
-use Rattle.cdc_ledger_actors.specs.Ledger.SoFar.{IsLedgerSoFar, LedgersComeSoFar}
-use Rattle.cdc_broker_actors.specs.Subscriber.{DeliveriesAreReceived, SubscriberCore, delivery_of, received_by, taken_by}
 use Rattle.cdc_broker_actors.specs.declared.broker.consumers.Consumer.{Consumer}
 use Rattle.cdc_end_laws.specs.Cut.{AreCutOff, CutOffSubscribersAreFaithful, IsFaithfulSoFar, IsServed}
-use Rattle.cdc_end_laws.specs.Said.{ConnectorsKeepToRuns, HasSubscriberSaid, SubscribersLackOne}
 
 -- ---- lists
 

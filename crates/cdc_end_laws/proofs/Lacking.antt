@@ -1,32 +1,13 @@
 -- What each actor has sent lacks one message at most of what it owes.
-use Rattle.std.proofs.Common.{◌≡◌, ℕ, zero, suc, ◌+◌, ◌≤◌, Bool, true, false, List, [], ◌∷◌, ◌++◌, cond, refl, sym, ap, ◌∙◌, subst, length, map, inl, inr, append_assoc, append-nil, arith}
-use Rattle.std.specs.Prelude.{◌==◌, Option, None, Some, slice_get, unwrap_or}
-use Rattle.std.proofs.lemmas.Bool.{cases_Bool}
-use Rattle.std.proofs.lemmas.List.{length-append, length-map, map-append}
-use Rattle.std.proofs.lemmas.List.Sums.{fold-append}
+use Rattle.cdc_end_laws.proofs.Words.{Bool, Broken, BrokerCore, BrokersComeSoFar, BrokersLackOne, ClientsLackOne, Confirm, ConnectorsKeepToRuns, Dealings, HasBrokerSaid, HasClientSaid, HasLedgerSaid, HasSubscriberSaid, IsBrokerSoFar, IsLedgerSoFar, Lacks, LedgerCore, LedgersComeSoFar, LedgersLackOne, List, None, Option, Outgoing, Packet, Past, ReceiveReplies, Some, SubscriberCore, SubscribersLackOne, ToLedger, [], ack_of, answer_after, ap, append-nil, append_assoc, arith, as_confirm, cases_Bool, cond, confirm_of, dealings, dealings_of, false, fold-append, history_of, inl, inr, is_lost, length, length-append, length-map, map, map-append, no_dealings, of_sender, order_of, packets_in, refl, slice_get, subst, suc, sym, taken_by, taken_of, true, unwrap_or, with_packet, zero, ℕ, ◌++◌, ◌+◌, ◌==◌, ◌∙◌, ◌∷◌, ◌≡◌, ◌≤◌}
 use Rattle.cdc_types.specs.declared.batches.Batch.{Batch}
-use Rattle.cdc_message.specs.declared.packets.Confirm.{Confirm}
-use Rattle.cdc_message.specs.declared.packets.Packet.{Packet}
-use Rattle.cdc_message.specs.declared.packets.Answer.TheVariants.{Broken}
-use Rattle.cdc_laws.specs.Arrivals.{taken_of}
-use Rattle.cdc_links.specs.Links.{Outgoing, of_sender}
-use Rattle.cdc_traffic.specs.Pasts.{history_of}
-use Rattle.cdc_traffic.specs.declared.messages.ToLedger.{ToLedger}
-use Rattle.cdc_traffic.specs.declared.pasts.Past.{Past}
 use Rattle.cdc_traffic.specs.declared.requests.Reply.{Reply}
-use Rattle.cdc_broker_actors.specs.Broker.{BrokerCore, Dealings, as_confirm, answer_after, confirm_of, dealings, dealings_of, is_lost, no_dealings, with_packet}
-use Rattle.cdc_broker_actors.specs.Broker.SoFar.{BrokersComeSoFar, IsBrokerSoFar}
 use Rattle.cdc_ledger_actors.specs.Client.{ClientCore, done_if, request_for, requests_from}
 use Rattle.cdc_ledger_actors.specs.Client.SoFar.{ClientsComeSoFar, IsClientSoFar}
-use Rattle.cdc_actor_work.specs.Packets.{packets_in}
 use Rattle.cdc_actors.specs.SoFar.{ConnectorsComeSoFar}
-use Rattle.cdc_ledger_actors.specs.Ledger.{LedgerCore, ReceiveReplies, order_of}
-use Rattle.cdc_ledger_actors.specs.Ledger.SoFar.{IsLedgerSoFar, LedgersComeSoFar}
 use Rattle.cdc_ledger_actors.specs.Orders.{RepliesAreSent, batches_in, named_replies_of, named_replies_to, past_of, reply_after}
-use Rattle.cdc_broker_actors.specs.Subscriber.{SubscriberCore, ack_of, taken_by}
 use Rattle.cdc_broker_actors.specs.Subscriber.SoFar.{IsSubscriberSoFar, SubscribersComeSoFar}
 use Rattle.cdc_broker_actors.specs.declared.broker.plans.BrokerPlan.{BrokerPlan}
-use Rattle.cdc_end_laws.specs.Said.{BrokersLackOne, ClientsLackOne, ConnectorsKeepToRuns, HasBrokerSaid, HasClientSaid, HasLedgerSaid, HasSubscriberSaid, Lacks, LedgersLackOne, SubscribersLackOne}
 
 -- ---- lists
 

@@ -3,3 +3,4 @@ mod Cutting
 mod Lacking
 mod Polled
 mod Trying
+pub mod Words

@@ -1,21 +1,10 @@
 -- The ledger's actor replies to polls in their order, and to each once it has finished.
-use Rattle.std.proofs.Common.{◌≡◌, ℕ, zero, suc, ◌≤◌, Bool, true, cond, List, [], ◌∷◌, ◌++◌, refl, sym, ap, ap₂, ◌∙◌, subst, length, map, inl, inr, append_assoc, append-nil, arith}
-use Rattle.std.specs.Prelude.{Option, None, Some}
-use Rattle.std.proofs.lemmas.Bool.{cases_Bool}
-use Rattle.std.proofs.lemmas.List.{map-append}
-use Rattle.std.proofs.lemmas.List.Elements.{filter_map-append}
-use Rattle.cdc_laws.specs.History.{History}
-use Rattle.cdc_links.specs.Links.{Incoming, Outgoing}
+use Rattle.cdc_end_laws.proofs.Words.{Bool, FinishedLedgersAreClosed, History, Incoming, IsLedgerTurn, LedgerCore, List, None, Option, Outgoing, Past, Some, ToConnector, ToLedger, [], ap, append-nil, append_assoc, ap₂, arith, asked, cases_Bool, cond, filter_map-append, first_ledger, has_to_wait, inl, inr, is_over, kept_of, length, map, map-append, past_of_inbox, poll_in, refl, replied_first, replied_of, replies_of, subst, suc, sym, true, with_replies, zero, ℕ, ◌++◌, ◌∙◌, ◌∷◌, ◌≡◌, ◌≤◌}
 use Rattle.cdc_traffic.specs.Answering.{read_by}
-use Rattle.cdc_traffic.specs.declared.messages.ToConnector.{ToConnector}
 use Rattle.cdc_traffic.specs.declared.messages.ToConnector.TheVariants.{PollReply as OfPoll}
-use Rattle.cdc_traffic.specs.declared.messages.ToLedger.{ToLedger}
 use Rattle.cdc_traffic.specs.declared.messages.ToLedger.TheVariants as to_ledger
-use Rattle.cdc_traffic.specs.declared.pasts.Past.{Past}
 use Rattle.cdc_traffic.specs.declared.polls.Poll.{Poll}
 use Rattle.cdc_traffic.specs.declared.polls.PollReply.{PollReply}
-use Rattle.cdc_actors.specs.Connector.{poll_in}
-use Rattle.cdc_ledger_actors.specs.Ledger.{FinishedLedgersAreClosed, IsLedgerTurn, LedgerCore, asked, first_ledger, has_to_wait, is_over, kept_of, past_of_inbox, replied_first, replied_of, replies_of, with_replies}
 use Rattle.cdc_end_laws.specs.Polls.{FinishedLedgersReplyToAll, HasWorked, PollsLackOne, TurnsTo, poll_replied, polls_received, polls_replied}
 
 -- ---- replies

@@ -1,6 +1,5 @@
 -- Steps that are tried again fail each time, or are taken.
-use Rattle.std.proofs.Common.{◌≡◌, ℕ, suc, List, [], ◌∷◌, refl, subst}
-use Rattle.std.specs.Prelude.{IsTrue, Some, Err, drop}
+use Rattle.cdc_end_laws.proofs.Words.{Err, IsTrue, List, Some, [], drop, refl, subst, suc, ℕ, ◌∷◌, ◌≡◌}
 use Rattle.cdc_progress.specs.Stores.{Risks}
 use Rattle.cdc_types.specs.declared.steps.Step.{Step}
 use Rattle.cdc_world.specs.declared.steps.StepError.{StepError}

@@ -1,19 +1,5 @@
 -- The actors of a run, made one after another.
-use Rattle.std.proofs.Common.{◌≡◌, ℕ, suc, ◌+◌, List, [], ◌∷◌, ◌++◌, sym, ap, ◌∙◌, subst, arith, map, length}
-use Rattle.std.specs.Prelude.{Option, None}
-use Rattle.std.proofs.lemmas.List.{length-map, length_push, map_push}
-use Rattle.cdc_ledger_actors.specs.Client.{first_client, ClientCore}
-use Rattle.cdc_broker_actors.specs.Subscriber.{first_subscriber, SubscriberCore}
-use Rattle.cdc_actors.specs.Ends.{ActorState}
-use Rattle.cdc_links.specs.Links.{Incoming, LinkId, Outgoing, fresh_endpoint}
-use Rattle.cdc_traffic.specs.declared.messages.ToBroker.{ToBroker}
-use Rattle.cdc_traffic.specs.declared.messages.ToLedger.{ToLedger}
-use Rattle.cdc_traffic.specs.declared.messages.ToSubscriber.{ToSubscriber}
-use Rattle.cdc_traffic.specs.declared.pasts.Past.{Past}
-use Rattle.cdc_traffic.specs.declared.requests.Reply.{Reply}
-use Rattle.cdc_run.specs.Made.{AreCloses, AreFreshSubscribers, fresh_inbox, made_clients, made_subscribers}
-use Rattle.cdc_run.specs.Plans.{IsLeastClose}
-use Rattle.cdc_run.specs.Wires.{IsFresh}
+use Rattle.cdc_run.proofs.Words.{ActorState, AreCloses, AreFreshSubscribers, ClientCore, Incoming, IsFresh, IsLeastClose, LinkId, List, None, Option, Outgoing, Past, Reply, SubscriberCore, ToBroker, ToLedger, ToSubscriber, [], ap, arith, first_client, first_subscriber, fresh_endpoint, fresh_inbox, length, length-map, length_push, made_clients, made_subscribers, map, map_push, subst, suc, sym, ℕ, ◌++◌, ◌+◌, ◌∙◌, ◌∷◌, ◌≡◌}
 
 -- a receiver's endpoint that has received nothing
 pub is_fresh : {M N : Type 0} (count : ℕ) (into : Incoming M N) → IsFresh count into

@@ -1,24 +1,10 @@
 -- The replies and the ledger of a run in which only one client submits batches.
-use Rattle.std.proofs.Common.{◌≡◌, ◌==◌, ◌⊎◌, ℕ, zero, suc, ◌+◌, ◌-◌, ◌<◌, ◌≤◌, Bool, true, false, List, [], ◌∷◌, ◌++◌, refl, sym, ap, ◌∙◌, subst, map, length, eq-eqb, arith, inl, inr}
-use Rattle.std.specs.Prelude.{All, Result, cond, filter, if◌then◌else◌}
-use Rattle.std.proofs.lemmas.Bool.{cases_lt, eqb-false, eqb-true}
-use Rattle.std.proofs.lemmas.List.{length-append, map-append}
-use Rattle.std.proofs.lemmas.List.Elements.{All-cons, All-head, All-nil, All-tail}
-use Rattle.std.proofs.lemmas.Simd.{map-map}
-use Rattle.cdc_ledger_actors.specs.Orders.{batches_by, batches_in, past_of, reply_after, named_replies_from, named_replies_to}
+use Rattle.cdc_run.proofs.Words.{All, All-cons, All-head, All-nil, All-tail, AreReplied, Batch, Bool, HaveNone, History, IsOfClients, IsReplied, List, LoneClientsAreServedAlone, Past, Reply, Result, [], answers_from, ap, arith, batches_by, batches_in, cases_lt, cond, empty_history, eq-eqb, eqb-false, eqb-true, false, filter, history_of, if◌then◌else◌, inl, inr, length, length-append, map, map-append, map-map, named_replies_from, named_replies_to, past_of, refl, reply_after, subst, suc, sym, true, zero, ℕ, ◌++◌, ◌+◌, ◌-◌, ◌<◌, ◌==◌, ◌∙◌, ◌∷◌, ◌≡◌, ◌≤◌, ◌⊎◌}
 use Rattle.cdc_ledger.specs.declared.errors.BatchError.{BatchError}
-use Rattle.cdc_ledger.specs.History.{History, empty_history}
 use Rattle.cdc_ledger.specs.Submit.{after_batches, history_or, submit}
 use Rattle.cdc_ledger.proofs.LegalLaws.{after_batches_push}
 use Rattle.cdc_traffic.specs.Answering.{answer_shown}
-use Rattle.cdc_traffic.specs.Pasts.{history_of}
-use Rattle.cdc_traffic.specs.declared.pasts.Past.{Past}
-use Rattle.cdc_traffic.specs.declared.requests.Reply.{Reply}
-use Rattle.cdc_types.specs.declared.batches.Batch.{Batch}
 use Rattle.cdc_types.specs.declared.batches.BatchResults.{BatchResults}
-use Rattle.cdc_run.specs.Books.{AreReplied}
-use Rattle.cdc_run.specs.Determined.{HaveNone, LoneClientsAreServedAlone, answers_from}
-use Rattle.cdc_run.specs.ClientReplies.{IsOfClients, IsReplied}
 
 -- all batches are this client's
 abbrev AllOwn : ℕ → List (ℕ × Batch) → Type 0

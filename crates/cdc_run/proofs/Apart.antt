@@ -1,9 +1,5 @@
 -- Actors of one kind, taken apart one after another.
-use Rattle.std.proofs.Common.{◌≡◌, ℕ, zero, suc, ◌+◌, ◌<◌, Bool, true, List, [], ◌∷◌, ◌++◌, refl, ap, ap₂, ◌∙◌, subst, get_or, length, map, arith}
-use Rattle.std.specs.Prelude.{Some, slice_get}
-use Rattle.std.proofs.lemmas.Option.{slice_get_read}
-use Rattle.cdc_actors.specs.Ends.{ActorState, has_finished}
-use Rattle.cdc_run.specs.Parts.{AreActorsOf, AreLeftOf, works_of}
+use Rattle.cdc_run.proofs.Words.{ActorState, AreActorsOf, AreLeftOf, Bool, List, Some, [], ap, ap₂, arith, get_or, has_finished, length, map, refl, slice_get, slice_get_read, subst, suc, true, works_of, zero, ℕ, ◌++◌, ◌+◌, ◌<◌, ◌∙◌, ◌∷◌, ◌≡◌}
 
 module _ {W : Type 0} (number_of : W → ℕ) (keeps : W → Type 0) (is_over : W → Bool) where
   -- one more of them

@@ -1,13 +1,5 @@
 -- What a subscriber keeps, from what it has applied.
-use Rattle.std.proofs.Common.{◌≡◌, List, sym, ap}
-use Rattle.std.specs.Prelude.{length, min}
-use Rattle.cdc_laws.specs.Faithful.{applied, kept_from}
-use Rattle.cdc_message.specs.Items.{TimestampsRise}
-use Rattle.cdc_subscriber.specs.Book.{book_of}
-use Rattle.cdc_subscriber.specs.Reception.{Reception, has_ended, kept_of}
-use Rattle.cdc_types.specs.declared.events.Event.{Event}
-use Rattle.cdc_types.specs.Timestamps.{last_timestamp}
-use Rattle.cdc_types.specs.Widths.{max_64}
+use Rattle.cdc_run.proofs.Words.{Event, List, Reception, TimestampsRise, ap, applied, book_of, has_ended, kept_from, kept_of, last_timestamp, length, max_64, min, sym, ◌≡◌}
 use Rattle.cdc_run.proofs.Firsts.{rises-of_firsts}
 
 -- if the timestamps of that rise, as for a faithful one, it is what is kept by timestamps alone

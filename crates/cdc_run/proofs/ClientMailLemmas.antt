@@ -1,22 +1,7 @@
 -- What the clients of a run leave behind.
-use Rattle.std.proofs.Common.{◌≡◌, ℕ, ◌+◌, true, List, [], ◌∷◌, ◌++◌, sym, ap, ◌∙◌, subst, length, map, arith}
-use Rattle.std.specs.Prelude.{All, is_none}
-use Rattle.std.proofs.lemmas.Bool.{and_parts}
-use Rattle.std.specs.List.{AllZip}
-use Rattle.std.proofs.lemmas.List.{length-map, map-append}
-use Rattle.std.proofs.lemmas.List.Elements.{All-cons, All-map}
-use Rattle.std.proofs.lemmas.Simd.{map-map}
-use Rattle.cdc_ledger_actors.specs.Client.{ArePartsOf, ClientCore}
+use Rattle.cdc_run.proofs.Words.{ActorState, All, All-cons, All-map, AllZip, AreClientsOf, AreLeftOf, ArePollsTo, AreSettled, AreWiredTo, CanSend, ClientCore, FollowsToLedger, HasAllOf, HasFinishedWith, HaveFinished, IsAccount, IsAccounted, IsLedgerActor, IsMailOf, IsMoreMail, LedgerCore, List, Outgoing, ToLedger, [], and_parts, ap, arith, has_finished, is_none, is_over, length, length-map, map, map-append, map-map, subst, sym, true, works_of, ℕ, ◌++◌, ◌+◌, ◌∙◌, ◌∷◌, ◌≡◌}
+use Rattle.cdc_ledger_actors.specs.Client.{ArePartsOf}
 use Rattle.cdc_ledger_actors.specs.declared.client.cores.ClientParts.{ClientParts}
-use Rattle.cdc_ledger_actors.specs.Ledger.{IsLedgerActor, is_over, LedgerCore}
-use Rattle.cdc_actors.specs.Ends.{ActorState, has_finished}
-use Rattle.cdc_links.specs.Links.{CanSend, IsAccount, Outgoing}
-use Rattle.cdc_traffic.specs.Following.{FollowsToLedger}
-use Rattle.cdc_traffic.specs.declared.messages.ToLedger.{ToLedger}
-use Rattle.cdc_run.specs.SettledLinks.{IsAccounted}
-use Rattle.cdc_run.specs.Books.{AreSettled, HaveFinished}
-use Rattle.cdc_run.specs.ClientMail.{AreClientsOf, ArePollsTo, AreWiredTo, HasAllOf, HasFinishedWith, IsMailOf, IsMoreMail}
-use Rattle.cdc_run.specs.Parts.{AreLeftOf, works_of}
 use Rattle.cdc_run.specs.declared.books.ClientMail.{ClientMail}
 use Rattle.cdc_run.proofs.Apart.{left_of}
 

@@ -1,10 +1,5 @@
 -- The least close number of a subscriber, one entry after another.
-use Rattle.std.proofs.Common.{◌≡◌, ℕ, ◌≤◌, Bool, true, List, [], ◌∷◌, ◌++◌, refl, sym, ap, ◌∙◌, subst, arith, inl, inr}
-use Rattle.std.specs.Prelude.{◌⊎◌, ◌==◌, ◌&&◌, nat_le, Some, None, Contains, filter, map, cond}
-use Rattle.std.proofs.lemmas.List.{map-append}
-use Rattle.std.proofs.lemmas.List.Elements.{All-nil, All-push, All-weaker, Contains-append_left, Contains-append_right, filter-append}
-use Rattle.std.proofs.lemmas.Bool.Decides.{nat_tests}
-use Rattle.cdc_run.specs.Plans.{IsLeast, closes_of}
+use Rattle.cdc_run.proofs.Words.{All-nil, All-push, All-weaker, Bool, Contains, Contains-append_left, Contains-append_right, IsLeast, List, None, Some, [], ap, arith, closes_of, cond, filter, filter-append, inl, inr, map, map-append, nat_le, nat_tests, refl, subst, sym, true, ℕ, ◌&&◌, ◌++◌, ◌==◌, ◌∙◌, ◌∷◌, ◌≡◌, ◌≤◌, ◌⊎◌}
 
 -- whether an entry counts for a subscriber
 abbrev pub counts : ℕ → ℕ × ℕ → Bool

@@ -1,20 +1,6 @@
 -- Whose messages were received: those of the senders that there are.
-use Rattle.std.proofs.Common.{◌≡◌, ◌≢◌, ◌==◌, ℕ, suc, ◌+◌, ◌<◌, ◌≤◌, Bool, true, false, List, [], ◌∷◌, ◌++◌, refl, sym, ap, ◌∙◌, subst, length, map, inl, inr, arith}
-use Rattle.std.specs.Prelude.{nat_lt, All, cond, filter, sum_by}
-use Rattle.std.specs.List.{AllByRecursion}
-use Rattle.std.proofs.lemmas.Bool.Decides.{eqb_tells, nat_tests}
-use Rattle.std.proofs.lemmas.List.{length-map}
-use Rattle.std.proofs.lemmas.List.Elements.{All-from_recursion, All-head, All-tail}
-use Rattle.std.proofs.lemmas.List.Sums.{sum_by-cons}
-use Rattle.cdc_ledger_actors.specs.Ledger.{batch_in, order_of}
-use Rattle.cdc_ledger_actors.specs.Orders.{batches_by}
-use Rattle.cdc_links.specs.Links.{CanSend, FollowFrom, Outgoing, of_sender}
-use Rattle.cdc_links.proofs.Entries.{follow-prefix, of_sender-append}
-use Rattle.cdc_traffic.specs.Following.{FollowsToLedger, MaySendLedger}
-use Rattle.cdc_traffic.specs.declared.messages.ToLedger.{ToLedger}
+use Rattle.cdc_run.proofs.Words.{All, All-from_recursion, All-head, All-tail, AllByRecursion, AreNumbered, Batch, Bool, CanSend, FollowFrom, FollowsToLedger, List, MaySendLedger, OrdersAreOfClients, Outgoing, ToLedger, [], ap, arith, batch_in, batches_by, cond, eqb_tells, false, filter, follow-prefix, inl, inr, length, length-map, map, nat_lt, nat_tests, of_sender, of_sender-append, order_of, refl, subst, suc, sum_by, sum_by-cons, sym, true, ℕ, ◌++◌, ◌+◌, ◌<◌, ◌==◌, ◌∙◌, ◌∷◌, ◌≡◌, ◌≢◌, ◌≤◌}
 use Rattle.cdc_traffic.specs.declared.messages.ToLedger.TheVariants as to_ledger
-use Rattle.cdc_types.specs.declared.batches.Batch.{Batch}
-use Rattle.cdc_run.specs.ClientReplies.{AreNumbered, OrdersAreOfClients}
 use Rattle.cdc_run.proofs.Replied.{all_kept, asked, asked_in, batches_asked, kept_most}
 
 module _ {M N : Type 0} (entries : List (ℕ × (M × N))) where

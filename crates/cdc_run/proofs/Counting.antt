@@ -1,50 +1,12 @@
 -- What the actors of a run came to, by their places.
-use Rattle.std.proofs.Common.{◌≡◌, ℕ, ◌+◌, List, [], ◌∷◌, ◌++◌, Option, Some, None, Result, Ok, Err, refl, sym, ap, ◌∙◌, subst, arith, length, map, inl, inr, true, false}
-use Rattle.std.specs.Prelude.{Bool, IfSome, if◌then◌else◌}
-use Rattle.std.specs.List.{AllByRecursion, AllZip}
-use Rattle.cdc_broker_actors.specs.Broker.{BrokerCore}
-use Rattle.cdc_ledger_actors.specs.Client.{ClientCore}
-use Rattle.cdc_connector_actor.specs.Connector.{ConnectorCore}
-use Rattle.cdc_connector_actor.specs.Connector.SoFar.{IsFaultOf as IsMetByConnector}
-use Rattle.cdc_actors.specs.Ends.{ActorState}
-use Rattle.cdc_actor_work.specs.Faults.{IsTurnFault}
-use Rattle.cdc_ledger_actors.specs.Ledger.{LedgerCore}
-use Rattle.cdc_ledger_actors.specs.Seats.{ClientSeat}
-use Rattle.cdc_connector_actor.specs.Seats.{ConnectorSeat, connector_seat}
-use Rattle.cdc_broker_actors.specs.Seats.{SubscriberSeat}
-use Rattle.cdc_actors.specs.Stops.{StopState}
-use Rattle.cdc_broker_actors.specs.Subscriber.{SubscriberCore}
-use Rattle.cdc_actor_work.specs.declared.faults.RunFault.{RunFault}
+use Rattle.cdc_run.proofs.Words.{Actor, ActorState, AllByRecursion, AllZip, AreMade, Batch, Bool, BrokerCore, CameTo, ClientCore, ClientSeat, ComesTo, Config, ConnectorCore, ConnectorSeat, Ends, Err, Failure, Fault, Faults, IfSome, IsConnectorFault, IsMetByConnector, IsRefused, IsRunFailure, IsTurnFault, Leaves, LedgerCore, LinkId, List, MayMeet, MayStop, Meets, Met, None, Ok, Option, Place, Reply, Result, Risks, RunFault, Saved, Some, StopState, Stops, SubscriberCore, SubscriberSeat, Task, ToBroker, ToLedger, ToSubscriber, Unstarted, [], ap, arith, clients_from, connector_seat, false, first_of, first_stop, if◌then◌else◌, inl, inr, is_gone, length, made_clients, made_subscribers, map, places_in, places_of, refl, subscribers_from, subst, sym, tasks_at, true, with_scripts, ℕ, ◌++◌, ◌+◌, ◌∙◌, ◌∷◌, ◌≡◌}
 use Rattle.cdc_actor_work.specs.declared.faults.RunFault.TheVariants.{PeerGone, OutOfMemory, Store, SessionsExhausted, NotOneSystem, StartNotAllowed}
-use Rattle.cdc_actors.specs.declared.met.Met.{Met}
-use Rattle.cdc_actors.specs.declared.met.Met.TheVariants.{Fault, Unstarted}
-use Rattle.cdc_actor_work.specs.declared.places.Place.{Place}
 use Rattle.cdc_actor_work.specs.declared.places.Place.TheVariants as place
-use Rattle.cdc_links.specs.Links.{LinkId}
-use Rattle.cdc_progress.specs.Records.{Saved}
-use Rattle.cdc_progress.specs.Stores.{Risks}
 use Rattle.cdc_progress.specs.StoreError.TheVariants as store
-use Rattle.cdc_run.specs.SettledLinks.{IsRefused}
-use Rattle.cdc_run.specs.Jobs.{ComesTo}
-use Rattle.cdc_run.specs.Made.{AreMade, made_clients, made_subscribers}
-use Rattle.cdc_run.specs.Meeting.{CameTo, IsConnectorFault, IsRunFailure, MayMeet, MayStop, clients_from, places_in, subscribers_from}
-use Rattle.cdc_run.specs.Outcomes.{first_of, first_stop, is_gone}
-use Rattle.cdc_run.specs.Tasks.{Leaves, Meets, Stops, places_of, tasks_at, with_scripts}
 use Rattle.cdc_run.specs.Worked.{HaveStopped}
-use Rattle.cdc_run.specs.declared.actors.Actor.{Actor}
 use Rattle.cdc_run.specs.declared.actors.Actor.TheVariants as actor
-use Rattle.cdc_run.specs.declared.configs.Config.{Config}
-use Rattle.cdc_run.specs.declared.ends.Ends.{Ends}
-use Rattle.cdc_run.specs.declared.failures.Failure.{Failure}
 use Rattle.cdc_run.specs.declared.failures.Failure.TheVariants as failure
-use Rattle.cdc_run.specs.declared.tasks.Task.{Task}
 use Rattle.cdc_run.specs.declared.tasks.Task.TheVariants as task
-use Rattle.cdc_run.specs.declared.plans.Faults.{Faults}
-use Rattle.cdc_traffic.specs.declared.messages.ToBroker.{ToBroker}
-use Rattle.cdc_traffic.specs.declared.messages.ToLedger.{ToLedger}
-use Rattle.cdc_traffic.specs.declared.messages.ToSubscriber.{ToSubscriber}
-use Rattle.cdc_traffic.specs.declared.requests.Reply.{Reply}
-use Rattle.cdc_types.specs.declared.batches.Batch.{Batch}
 
 -- the connector meets such faults alone
 fault_kind : (c : ConnectorCore) (fault : RunFault) → IsMetByConnector c fault → IsConnectorFault c.honest c.risks fault

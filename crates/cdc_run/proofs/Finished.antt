@@ -1,35 +1,5 @@
 -- The actors of a run that have all left have finished, and are of one system.
-use Rattle.std.proofs.Common.{◌≡◌, ℕ, suc, ◌+◌, List, [], ◌∷◌, refl, sym, ap, ◌∙◌, subst, arith, length}
-use Rattle.std.specs.Prelude.{Bool, Option}
-use Rattle.std.specs.List.{AllZip}
-use Rattle.std.proofs.lemmas.List.{length-map}
-use Rattle.cdc_broker_actors.specs.Broker.{BrokerCore}
-use Rattle.cdc_ledger_actors.specs.Client.{ClientCore}
-use Rattle.cdc_connector_actor.specs.Connector.{ConnectorCore}
-use Rattle.cdc_actors.specs.Ends.{ActorState}
-use Rattle.cdc_ledger_actors.specs.Ledger.{LedgerCore}
-use Rattle.cdc_ledger_actors.specs.Seats.{ClientSeat}
-use Rattle.cdc_broker_actors.specs.Seats.{SubscriberSeat}
-use Rattle.cdc_broker_actors.specs.Subscriber.{SubscriberCore}
-use Rattle.cdc_broker_actors.specs.declared.broker.consumers.Consumer.{Consumer}
-use Rattle.cdc_links.specs.Links.{LinkId, Outgoing}
-use Rattle.cdc_progress.specs.Records.{Saved}
-use Rattle.cdc_progress.specs.Stores.{Risks}
-use Rattle.cdc_run.specs.ClientMail.{AreClientsOf}
-use Rattle.cdc_run.specs.Made.{AreMade, made_clients, made_subscribers}
-use Rattle.cdc_run.specs.Reports.{AreFinished}
-use Rattle.cdc_run.specs.SubscriberMail.{AreSubscribersOf}
-use Rattle.cdc_run.specs.Tasks.{AreLeft, ClientLeaves, SubscriberLeaves, places_of, with_scripts}
-use Rattle.cdc_run.specs.Wirings.{AreSeated, Wiring}
-use Rattle.cdc_run.specs.declared.configs.Config.{Config}
-use Rattle.cdc_run.specs.declared.ends.Ends.{Ends}
-use Rattle.cdc_run.specs.declared.plans.Faults.{Faults}
-use Rattle.cdc_traffic.specs.declared.messages.ToBroker.{ToBroker}
-use Rattle.cdc_traffic.specs.declared.messages.ToLedger.{ToLedger}
-use Rattle.cdc_traffic.specs.declared.messages.ToSubscriber.{ToSubscriber}
-use Rattle.cdc_traffic.specs.declared.pasts.Past.{Past}
-use Rattle.cdc_traffic.specs.declared.requests.Reply.{Reply}
-use Rattle.cdc_types.specs.declared.batches.Batch.{Batch}
+use Rattle.cdc_run.proofs.Words.{ActorState, AllZip, AreClientsOf, AreFinished, AreLeft, AreMade, AreSeated, AreSubscribersOf, Batch, Bool, BrokerCore, ClientCore, ClientLeaves, ClientSeat, Config, ConnectorCore, Consumer, Ends, Faults, LedgerCore, LinkId, List, Option, Outgoing, Past, Reply, Risks, Saved, SubscriberCore, SubscriberLeaves, SubscriberSeat, ToBroker, ToLedger, ToSubscriber, Wiring, [], ap, arith, length, length-map, made_clients, made_subscribers, places_of, refl, subst, suc, sym, with_scripts, ℕ, ◌+◌, ◌∙◌, ◌∷◌, ◌≡◌}
 use Rattle.cdc_run.proofs.Leaving.{made_clients_left, made_subscribers_left}
 use Rattle.cdc_run.proofs.Seated.{all_seated}
 

@@ -1,17 +1,9 @@
 -- A list and the first occurrences of its elements: the list is a replay of them. So if the timestamps of the first
 -- occurrences rise, these are the elements that rise in the whole list.
-use Rattle.std.proofs.Common.{◌≡◌, ◌≢◌, Bool, List, [], ◌∷◌, ◌++◌, sym, subst, length, take, append-nil, append_assoc, inl, inr, arith}
-use Rattle.std.specs.Prelude.{Contains, fold, if◌then◌else◌}
+use Rattle.cdc_run.proofs.Words.{Bool, Contains, Contains-get_or, Decides-has_same, HasNoneTwice, HaveSame, HaveSame-again, HaveSame-push, HaveSame-refl, IsReplay, IsReplay-again, IsReplay-longer, IsReplay-nil, IsReplay-push, Item, List, TimestampsRise, [], append-nil, arith, cases_Bool, events_of, firsts, fold, has_same, if◌then◌else◌, inl, inr, length, not_from_Decides, rises, same_item, subst, sym, take, take_all, ◌++◌, ◌∷◌, ◌≡◌, ◌≢◌}
+use Rattle.std.proofs.Common.{append_assoc}
 use Rattle.std.specs.Bool.{Decides}
-use Rattle.std.proofs.lemmas.Bool.{cases_Bool}
-use Rattle.std.proofs.lemmas.Bool.Decides.{not_from_Decides}
-use Rattle.std.proofs.lemmas.List.{take_all}
-use Rattle.std.proofs.lemmas.List.Elements.{Contains-get_or}
 use Rattle.std.proofs.lemmas.List.Quantifiers.{all_pairs_push}
-use Rattle.cdc_message.specs.declared.items.Item.{Item}
-use Rattle.cdc_message.specs.Items.{TimestampsRise, events_of, rises, same_item}
-use Rattle.cdc_message.specs.Replays.{HasNoneTwice, HaveSame, IsReplay, firsts, has_same}
-use Rattle.cdc_message.proofs.ReplayLaws.{Decides-has_same, HaveSame-again, HaveSame-push, HaveSame-refl, IsReplay-again, IsReplay-longer, IsReplay-nil, IsReplay-push}
 use Rattle.cdc_message.proofs.RisesLaws.{rises-firsts}
 use Rattle.cdc_message.proofs.Same.{Decides-same_item}
 

@@ -1,15 +1,6 @@
 -- The actors of a list, taken apart by their kinds.
-use Rattle.std.proofs.Common.{◌≡◌, ◌∙◌, true, List, [], ◌∷◌, ◌++◌, refl, sym, ap, map, map-id}
-use Rattle.std.specs.Prelude.{Option, Some, None, is_some}
-use Rattle.std.proofs.lemmas.List.{append_assoc, append-nil}
-use Rattle.cdc_broker_actors.specs.Broker.{BrokerCore}
-use Rattle.cdc_ledger_actors.specs.Client.{ClientCore}
-use Rattle.cdc_connector_actor.specs.Connector.{ConnectorCore}
-use Rattle.cdc_ledger_actors.specs.Ledger.{LedgerCore}
-use Rattle.cdc_broker_actors.specs.Subscriber.{SubscriberCore}
-use Rattle.cdc_actors.specs.Ends.{ActorState}
-use Rattle.cdc_run.specs.Tasks.{Placed, left_at}
-use Rattle.cdc_run.specs.declared.actors.Actor.{Actor}
+use Rattle.cdc_run.proofs.Words.{Actor, ActorState, BrokerCore, ClientCore, ConnectorCore, LedgerCore, List, None, Option, Placed, Some, SubscriberCore, [], ap, append_assoc, is_some, left_at, map, map-id, refl, sym, true, ◌++◌, ◌∙◌, ◌∷◌, ◌≡◌}
+use Rattle.std.proofs.lemmas.List.{append-nil}
 use Rattle.cdc_run.specs.declared.actors.Actor.TheVariants as actor
 
 -- what was found of each kind

@@ -1,9 +1,5 @@
 -- The endpoints of a new link's senders, one by one.
-use Rattle.std.proofs.Common.{◌≡◌, ℕ, zero, suc, ◌+◌, List, [], ◌∷◌, ◌++◌, refl, sym, ap, ◌∙◌, add-one, arith, map, slice_index_or, take, drop}
-use Rattle.std.proofs.lemmas.List.{map-append}
-use Rattle.std.proofs.lemmas.List.Elements.{All-push}
-use Rattle.cdc_links.specs.Links.{Incoming, LinkId, Outgoing, fresh_endpoint, fresh_endpoints}
-use Rattle.cdc_run.specs.Wires.{AreOwn, IsFresh, fresh_from, only_sender}
+use Rattle.cdc_run.proofs.Words.{All-push, AreOwn, Incoming, IsFresh, LinkId, List, Outgoing, [], add-one, ap, arith, drop, fresh_endpoint, fresh_endpoints, fresh_from, map, map-append, only_sender, refl, slice_index_or, suc, sym, take, zero, ℕ, ◌++◌, ◌+◌, ◌∙◌, ◌∷◌, ◌≡◌}
 
 module _ {M N : Type 0} (link : LinkId M) where
   -- one more has the next number

@@ -1,25 +1,8 @@
 -- What a subscriber keeps that has ended and was never closed.
-use Rattle.std.proofs.Common.{◌≡◌, ℕ, ◌+◌, Bool, true, false, List, [], ◌∷◌, Option, Some, None, refl, sym, ap, ap₂, ◌∙◌, subst}
-use Rattle.std.specs.Prelude.{fold, length, min}
-use Rattle.cdc_broker_actors.specs.Subscriber.{is_asked}
-use Rattle.cdc_laws.specs.Faithful.{IsFaithful}
-use Rattle.cdc_laws.specs.Line.{feed_after, line_after, emitted}
+use Rattle.cdc_run.proofs.Words.{AllKeepTheLine, Bool, Event, History, IsFaithful, IsLeastClose, List, None, Option, Reception, Some, SubscriberState, TimestampsRise, UnaskedKeepTheLine, [], ap, applied_of, ap₂, book_of, emitted, events_emitted, events_of, false, feed_after, fold, has_ended, is_asked, kept_of, kept_of_line, last_timestamp, length, line_after, max_64, min, next, none_there, nothing, queue, queue-line_after, refl, rises, subst, sym, true, ℕ, ◌+◌, ◌∙◌, ◌∷◌, ◌≡◌}
 use Rattle.cdc_laws.proofs.Faithful.{ends-emitted, receives-emitted}
-use Rattle.cdc_laws.proofs.Feeds.{events_emitted, queue-line_after}
-use Rattle.cdc_laws.proofs.ListElements.{none_there}
-use Rattle.cdc_ledger.specs.History.{History}
 use Rattle.cdc_match.specs.Arguments.{Arguments}
-use Rattle.cdc_match.specs.Queue.{queue}
-use Rattle.cdc_message.specs.Items.{TimestampsRise, events_of, rises}
 use Rattle.cdc_message.proofs.LineLaws.{rises-rising}
-use Rattle.cdc_subscriber.specs.Book.{book_of}
-use Rattle.cdc_subscriber.specs.Reception.{Reception, applied_of, has_ended, kept_of, next, nothing}
-use Rattle.cdc_subscriber.specs.SubscriberState.{SubscriberState}
-use Rattle.cdc_types.specs.declared.events.Event.{Event}
-use Rattle.cdc_types.specs.Timestamps.{last_timestamp}
-use Rattle.cdc_types.specs.Widths.{max_64}
-use Rattle.cdc_run.specs.Determined.{AllKeepTheLine, UnaskedKeepTheLine, kept_of_line}
-use Rattle.cdc_run.specs.Plans.{IsLeastClose}
 use Rattle.cdc_run.proofs.Applied.{kept_emitted}
 use Rattle.cdc_run.proofs.Firsts.{rises-of_firsts}
 

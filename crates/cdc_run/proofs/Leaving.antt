@@ -1,26 +1,7 @@
 -- What the actors of a run leave, place by place.
-use Rattle.std.proofs.Common.{◌≡◌, Bool, List, [], ◌∷◌, ◌++◌, refl, sym, ap, ap₂, ◌∙◌, subst, map}
-use Rattle.std.specs.Prelude.{Option}
-use Rattle.std.specs.List.{AllZip}
-use Rattle.cdc_broker_actors.specs.Broker.{BrokerCore}
-use Rattle.cdc_ledger_actors.specs.Client.{ClientCore}
-use Rattle.cdc_connector_actor.specs.Connector.{ConnectorCore}
-use Rattle.cdc_ledger_actors.specs.Ledger.{LedgerCore}
-use Rattle.cdc_broker_actors.specs.Subscriber.{SubscriberCore}
-use Rattle.cdc_actors.specs.Ends.{ActorState}
-use Rattle.cdc_progress.specs.Records.{Saved}
-use Rattle.cdc_progress.specs.Stores.{Risks}
-use Rattle.cdc_run.specs.Made.{AreMade, made_clients, made_subscribers}
-use Rattle.cdc_run.specs.Scripted.{ScriptedState}
-use Rattle.cdc_run.specs.Tasks.{AreLeft, BrokerLeaves, ClientLeaves, ConnectorLeaves, LedgerLeaves, Leaves, Placed, SubscriberLeaves, left_at, places_of, tasks_at, with_scripts}
-use Rattle.cdc_run.specs.declared.configs.Config.{Config}
-use Rattle.cdc_run.specs.declared.ends.Ends.{Ends}
-use Rattle.cdc_run.specs.declared.actors.Actor.{Actor}
+use Rattle.cdc_run.proofs.Words.{Actor, ActorState, AllZip, AreLeft, AreMade, Batch, Bool, BrokerCore, BrokerLeaves, ClientCore, ClientLeaves, Config, ConnectorCore, ConnectorLeaves, Ends, Faults, Leaves, LedgerCore, LedgerLeaves, List, Option, Placed, Risks, Saved, ScriptedState, SubscriberCore, SubscriberLeaves, Task, [], ap, ap₂, left_at, made_clients, made_subscribers, map, places_of, refl, subst, sym, tasks_at, with_scripts, ◌++◌, ◌∙◌, ◌∷◌, ◌≡◌}
 use Rattle.cdc_run.specs.declared.actors.Actor.TheVariants as actor
-use Rattle.cdc_run.specs.declared.tasks.Task.{Task}
 use Rattle.cdc_run.specs.declared.tasks.Task.TheVariants as task
-use Rattle.cdc_run.specs.declared.plans.Faults.{Faults}
-use Rattle.cdc_types.specs.declared.batches.Batch.{Batch}
 
 module _ (S : Type 0) where
   -- each kind leaves one of its own

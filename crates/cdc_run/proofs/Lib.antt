@@ -31,3 +31,4 @@ mod Totals
 mod Unexplained
 mod Worked
 mod Zips
+pub mod Words

@@ -1,16 +1,6 @@
 -- The actors of a run as one list, one after another.
-use Rattle.std.proofs.Common.{◌≡◌, ◌∙◌, List, [], ◌∷◌, ◌++◌, refl, sym, ap, map, map-id, Vec, Global}
-use Rattle.std.specs.List.{zip}
-use Rattle.std.proofs.lemmas.List.{append_assoc, map_push}
-use Rattle.cdc_ledger_actors.specs.Client.{ClientCore}
-use Rattle.cdc_ledger_actors.specs.Ledger.{LedgerCore}
-use Rattle.cdc_broker_actors.specs.Subscriber.{SubscriberCore}
-use Rattle.cdc_actors.specs.Ends.{ActorState}
-use Rattle.cdc_run.specs.Scripted.{ScriptedState}
-use Rattle.cdc_run.specs.Tasks.{Placed, tasks_at, with_scripts}
-use Rattle.cdc_run.specs.declared.tasks.Task.{Task}
+use Rattle.cdc_run.proofs.Words.{ActorState, Batch, ClientCore, Global, LedgerCore, List, Placed, ScriptedState, SubscriberCore, Task, Vec, [], ap, append_assoc, map, map-id, map_push, refl, sym, tasks_at, with_scripts, zip, ◌++◌, ◌∙◌, ◌∷◌, ◌≡◌}
 use Rattle.cdc_run.specs.declared.tasks.Task.TheVariants as task
-use Rattle.cdc_types.specs.declared.batches.Batch.{Batch}
 
 module _ (S : Type 0) where
   -- one subscriber more

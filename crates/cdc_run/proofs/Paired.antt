@@ -1,20 +1,12 @@
 -- A loop over the endpoints of a link's senders, paired with endpoints of links of their own, place by place.
-use Rattle.std.proofs.Common.{◌≡◌, ℕ, zero, suc, ◌+◌, ◌<◌, List, [], ◌∷◌, refl, sym, ap, ◌∙◌, subst, arith, map, length, get_or}
+use Rattle.cdc_run.proofs.Words.{All, All-get_or, Incoming, IsFresh, LinkId, List, None, Option, Outgoing, Some, YieldsList, YieldsList-end, YieldsList-from_vec, YieldsList-from_zip, YieldsList-turn, [], ap, arith, fresh_endpoint, fresh_from, get_or, length, map, refl, subst, suc, sym, zero, zip, zips, ℕ, ◌+◌, ◌<◌, ◌∙◌, ◌∷◌, ◌≡◌}
 use Rattle.std.specs.Iterator.{Yields}
 use Rattle.std.specs.Iterator.Adapters.{zip_first, zip_second}
-use Rattle.std.specs.List.{zip}
-use Rattle.std.specs.Prelude.{Option, Some, None, All}
 use Rattle.std.specs.Vec.Iter.{into_iter_items, into_iter_len, into_iter_steps}
 use Rattle.std.specs.declared.iter.Zip.{Zip}
 use Rattle.std.specs.declared.vec.IntoIter.{IntoIter}
-use Rattle.std.proofs.lemmas.Iterator.{YieldsList, YieldsList-from_zip, zips}
-use Rattle.std.proofs.lemmas.Iterator.Adapters.{YieldsList-from_vec}
-use Rattle.std.proofs.lemmas.Iterator.Consumers.{YieldsList-end, YieldsList-turn}
 use Rattle.std.proofs.lemmas.List.{map-id}
-use Rattle.std.proofs.lemmas.List.Elements.{All-get_or}
 use Rattle.std.proofs.lemmas.Slice.Zip.{get_or-zip, length-zip}
-use Rattle.cdc_links.specs.Links.{Incoming, LinkId, Outgoing, fresh_endpoint}
-use Rattle.cdc_run.specs.Wires.{IsFresh, fresh_from}
 
 -- so many endpoints
 from_length : {M : Type 0} (N : Type 0) (link : LinkId M) (number n : ℕ)

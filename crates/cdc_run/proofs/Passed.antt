@@ -1,34 +1,7 @@
 -- What the actors of a run have kept to, once all have finished.
-use Rattle.std.proofs.Common.{◌≡◌, ℕ, ◌+◌, ◌-◌, ◌<◌, List, [], ◌∷◌, ◌++◌, refl, sym, ap, ◌∙◌, subst, length, map, append_assoc, arith}
-use Rattle.std.specs.Prelude.{Option, Contains}
-use Rattle.std.proofs.lemmas.List.{map-append}
-use Rattle.std.proofs.lemmas.List.Elements.{Contains-append_left, Contains-get_or, filter_map-append}
-use Rattle.std.proofs.lemmas.Option.{slice_get_within, unwrap_or-slice_get}
-use Rattle.std.proofs.lemmas.Simd.{map-map}
-use Rattle.cdc_broker.specs.Broker.{BrokerState, nobody, queue_of}
-use Rattle.cdc_broker.specs.Queues.{QueueState, empty_queue}
-use Rattle.cdc_broker_actors.specs.Broker.{ArrivedWasReceived, as_confirm, as_sent, dealings_of, deliveries_in, stop_sent_if}
-use Rattle.cdc_actor_work.specs.Packets.{packet_in, packets_in}
-use Rattle.cdc_connector_actor.specs.Connector.{FinishedConnectorsAreDone, IsDone, confirm_in, confirms_in, origin_of}
-use Rattle.cdc_ledger_actors.specs.Ledger.{past_of_inbox}
-use Rattle.cdc_broker_actors.specs.Subscriber.{received_by, stop_if, taken_by}
-use Rattle.cdc_laws.specs.Arrivals.{AreAmong}
-use Rattle.cdc_laws.specs.Brokers.{HasDelivered}
-use Rattle.cdc_laws.specs.Connectors.{held_start}
-use Rattle.cdc_ledger.specs.History.{History}
-use Rattle.cdc_links.specs.Links.{of_sender}
-use Rattle.cdc_links.proofs.Entries.{of_sender-append}
-use Rattle.cdc_message.specs.declared.items.Delivery.{Delivery}
-use Rattle.cdc_message.specs.declared.packets.Confirm.{Confirm}
-use Rattle.cdc_message.specs.declared.packets.Packet.{Packet}
-use Rattle.cdc_traffic.specs.declared.messages.ToBroker.{ToBroker}
-use Rattle.cdc_traffic.specs.declared.messages.ToConnector.{ToConnector}
-use Rattle.cdc_traffic.specs.declared.messages.ToSubscriber.{ToSubscriber}
+use Rattle.cdc_run.proofs.Words.{AreAmong, ArrivedWasReceived, BrokerState, Confirm, Contains, Contains-append_left, Contains-get_or, Delivery, EndsCome, EndsPass, FinishedConnectorsAreDone, HasCome, HasDelivered, History, IsDone, List, Option, Packet, Past, QueueState, SubscribersCome, ToBroker, ToConnector, ToSubscriber, [], ap, arith, as_confirm, as_sent, confirm_in, confirms_in, dealings_of, deliveries_in, empty_queue, filter_map-append, held_start, history_of, length, map, map-append, map-map, nobody, of_sender, of_sender-append, origin_of, packet_in, packets_in, passage_of, past_of_inbox, queue_of, received_by, refl, slice_get_within, stop_if, stop_sent_if, subst, sym, taken_by, unwrap_or-slice_get, ℕ, ◌++◌, ◌+◌, ◌-◌, ◌<◌, ◌∙◌, ◌∷◌, ◌≡◌}
+use Rattle.std.proofs.Common.{append_assoc}
 use Rattle.cdc_traffic.specs.declared.messages.ToSubscriber.TheVariants.{Delivery as Carries, Stop}
-use Rattle.cdc_traffic.specs.Pasts.{history_of}
-use Rattle.cdc_traffic.specs.declared.pasts.Past.{Past}
-use Rattle.cdc_run.specs.Passing.{EndsCome, EndsPass, passage_of}
-use Rattle.cdc_run.specs.Subscribing.{HasCome, SubscribersCome}
 use Rattle.cdc_run.proofs.Replied.{alone_sent}
 
 -- ---- packets and confirms

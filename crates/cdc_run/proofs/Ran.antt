@@ -1,41 +1,7 @@
 -- The result of a run, from how its actors were made and what they have left.
-use Rattle.std.proofs.Common.{◌≡◌, ℕ, ◌+◌, true, List, [], ◌∷◌, refl, sym, ap, ap₂, ◌∙◌, subst, arith, length, map, false}
-use Rattle.std.specs.Prelude.{All, Bool, None, Option, Some, is_none}
-use Rattle.std.proofs.lemmas.Bool.{and_parts}
-use Rattle.std.specs.List.{AllZip}
-use Rattle.std.proofs.lemmas.List.Elements.{All-cons}
-use Rattle.cdc_broker.specs.Queues.{QueueState, empty_queue}
-use Rattle.cdc_ledger_actors.specs.Client.{ClientCore, first_client}
-use Rattle.cdc_actor_work.specs.Packets.{packets_in}
-use Rattle.cdc_connector_actor.specs.Connector.{ConnectorCore, FinishedConnectorsAreDone, IsDone, IsUnplanned, RestartsAsPlanned, confirms_in, first_origin}
-use Rattle.cdc_ledger_actors.specs.Ledger.{order_of}
-use Rattle.cdc_broker_actors.specs.Subscriber.{SubscriberCore}
-use Rattle.cdc_broker_actors.specs.declared.broker.plans.BrokerPlan.{BrokerPlan}
-use Rattle.cdc_laws.specs.Connectors.{held_start, held_timestamp}
-use Rattle.cdc_links.specs.Links.{LinkId, fresh_endpoint, of_sender}
-use Rattle.cdc_match.specs.declared.binding.Binding.{Binding}
-use Rattle.cdc_message.specs.declared.packets.Confirm.{Confirm}
-use Rattle.cdc_message.specs.declared.packets.Packet.{Packet}
-use Rattle.cdc_progress.specs.Records.{Saved}
-use Rattle.cdc_progress.specs.Stores.{Risks}
-use Rattle.cdc_run.specs.Counts.{IsCountOf, MayCount}
+use Rattle.cdc_run.proofs.Words.{ActorState, All, All-cons, AllZip, AreLeft, AreMade, AreSubscribed, Batch, Binding, Bool, BrokerCore, BrokerPlan, BrokerSeat, ClientCore, ClientLeaves, Config, Confirm, ConnectorCore, ConnectorSeat, Ends, Faults, FinishedConnectorsAreDone, HasRun, IsCountOf, IsDone, IsReportOf, IsUnplanned, LinkId, List, MayCount, None, Option, Packet, QueueState, Reply, RestartsAsPlanned, Risks, Saved, Some, SubscriberCore, SubscriberLeaves, SubscriberSeat, ToBroker, ToLedger, ToSubscriber, [], and_parts, ap, ap₂, arith, at_start, broker_seat, confirms_in, connector_seat, empty_queue, false, first_client, first_origin, fresh_endpoint, fresh_inbox, held_start, held_timestamp, is_none, length, made_broker, made_clients, made_subscribers, map, of_sender, order_of, origin_if, packets_in, places_of, plan_of, refl, subst, sym, true, with_scripts, ℕ, ◌+◌, ◌∙◌, ◌∷◌, ◌≡◌}
 use Rattle.cdc_run.specs.Ran.{RanFrom}
-use Rattle.cdc_run.specs.Made.{AreMade, fresh_inbox, made_broker, made_clients, made_subscribers, plan_of}
-use Rattle.cdc_run.specs.Reports.{AreSubscribed, HasRun, IsReportOf}
-use Rattle.cdc_connector_actor.specs.Seats.{ConnectorSeat, at_start, connector_seat, origin_if}
-use Rattle.cdc_broker_actors.specs.Seats.{BrokerSeat, SubscriberSeat, broker_seat}
-use Rattle.cdc_actors.specs.Ends.{ActorState}
-use Rattle.cdc_broker_actors.specs.Broker.{BrokerCore}
-use Rattle.cdc_run.specs.Tasks.{AreLeft, ClientLeaves, SubscriberLeaves, places_of, with_scripts}
-use Rattle.cdc_run.specs.declared.configs.Config.{Config}
-use Rattle.cdc_run.specs.declared.ends.Ends.{Ends}
-use Rattle.cdc_run.specs.declared.plans.Faults.{Faults}
 use Rattle.cdc_run.specs.declared.reports.Report.{Report}
-use Rattle.cdc_traffic.specs.declared.messages.ToBroker.{ToBroker}
-use Rattle.cdc_traffic.specs.declared.messages.ToLedger.{ToLedger}
-use Rattle.cdc_traffic.specs.declared.messages.ToSubscriber.{ToSubscriber}
-use Rattle.cdc_traffic.specs.declared.requests.Reply.{Reply}
-use Rattle.cdc_types.specs.declared.batches.Batch.{Batch}
 use Rattle.cdc_run.proofs.Leaving.{made_clients_left, made_subscribers_left}
 
 -- new clients haven't finished

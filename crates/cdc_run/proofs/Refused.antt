@@ -1,8 +1,5 @@
 -- When actors are refused that were to be put together.
-use Rattle.std.proofs.Common.{◌≡◌, inl, inr, sym, subst}
-use Rattle.std.specs.Prelude.{IfErr, IsErrAnd, Result, Ok, Err}
-use Rattle.cdc_actor_work.specs.declared.faults.RunFault.{RunFault}
-use Rattle.cdc_run.specs.SettledLinks.{IsRefused}
+use Rattle.cdc_run.proofs.Words.{Err, IfErr, IsErrAnd, IsRefused, Ok, Result, RunFault, inl, inr, subst, sym, ◌≡◌}
 
 -- refused actors are also refused if more is required of them
 pub asked_more : (A B : Type 0) (fault : RunFault) → (B → A) → IsRefused A fault → IsRefused B fault

@@ -1,25 +1,9 @@
 -- The replies to a client, once it and the ledger actor have finished.
-use Rattle.std.proofs.Common.{◌≡◌, ◌≢◌, ◌==◌, ℕ, suc, ◌+◌, ◌≤◌, Bool, true, false, List, [], ◌∷◌, ◌++◌, refl, sym, ap, ◌∙◌, subst, length, map, append_assoc, append-nil, eq-eqb, ne_eqb, inl, inr, arith}
-use Rattle.std.specs.Prelude.{◌||◌, not, cond, filter, sum_by}
-use Rattle.std.proofs.lemmas.Bool.Decides.{eqb_tells}
-use Rattle.std.proofs.lemmas.List.{length-append, length-map, map-append}
-use Rattle.std.proofs.lemmas.List.Elements.{All-head}
+use Rattle.cdc_run.proofs.Words.{All-head, Batch, Bool, CanSend, ClientsAreReplied, EndsAreLast, FollowsToLedger, Incoming, IsAccount, LedgerMail, List, Outgoing, Past, RepliesHaveTheirBatches, Reply, ToLedger, [], ap, append-nil, arith, batch_in, batches_by, cond, done_if, ends_to_ledger, eq-eqb, eqb_tells, false, filter, inl, inr, is_done, length, length-append, length-map, map, map-append, map-map, named_replies_to, ne_eqb, not, of_sender, of_sender-append, of_sender-other, of_sender-own, order_of, refl, requests_from, subst, suc, sum_by, sum_by-cons, sym, true, ℕ, ◌++◌, ◌+◌, ◌==◌, ◌||◌, ◌∙◌, ◌∷◌, ◌≡◌, ◌≢◌, ◌≤◌}
+use Rattle.std.proofs.Common.{append_assoc}
 use Rattle.std.proofs.lemmas.List.Filters.{length-filter_both}
-use Rattle.std.proofs.lemmas.List.Sums.{sum_by-cons}
-use Rattle.std.proofs.lemmas.Simd.{map-map}
-use Rattle.cdc_ledger_actors.specs.Client.{done_if, requests_from}
-use Rattle.cdc_ledger_actors.specs.Ledger.{batch_in, is_done, order_of}
-use Rattle.cdc_ledger_actors.specs.Orders.{RepliesHaveTheirBatches, batches_by, named_replies_to}
-use Rattle.cdc_links.specs.Links.{CanSend, IsAccount, Incoming, Outgoing, of_sender}
-use Rattle.cdc_links.proofs.Entries.{of_sender-append, of_sender-other, of_sender-own}
-use Rattle.cdc_traffic.specs.Following.{FollowsToLedger, ends_to_ledger, has_ended}
-use Rattle.cdc_traffic.specs.Laws.{EndsAreLast}
-use Rattle.cdc_traffic.specs.declared.messages.ToLedger.{ToLedger}
+use Rattle.cdc_traffic.specs.Following.{has_ended}
 use Rattle.cdc_traffic.specs.declared.messages.ToLedger.TheVariants as to_ledger
-use Rattle.cdc_traffic.specs.declared.pasts.Past.{Past}
-use Rattle.cdc_traffic.specs.declared.requests.Reply.{Reply}
-use Rattle.cdc_types.specs.declared.batches.Batch.{Batch}
-use Rattle.cdc_run.specs.ClientReplies.{ClientsAreReplied, LedgerMail}
 
 -- ---- the last message
 

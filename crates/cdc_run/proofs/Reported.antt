@@ -1,23 +1,5 @@
 -- What is reported of actors that have finished.
-use Rattle.std.proofs.Common.{◌≡◌, ℕ, suc, ◌+◌, ◌-◌, Bool, true, false, true≢false, List, [], ◌∷◌, refl, sym, ap, ◌∙◌, subst, length, map, arith}
-use Rattle.std.specs.Prelude.{IfSome, Option, None, Some, is_none, slice_get, unwrap_or}
-use Rattle.std.proofs.lemmas.Bool.{and_parts}
-use Rattle.cdc_broker.specs.Broker.{nobody, queue_of}
-use Rattle.cdc_broker.specs.Queues.{QueueState, empty_queue}
-use Rattle.cdc_broker_actors.specs.Broker.{BrokerCore}
-use Rattle.cdc_connector_actor.specs.Connector.{IsAtRest, IsAtStart, IsConnectorActor, Origin, origin_of, ConnectorCore}
-use Rattle.cdc_ledger_actors.specs.Ledger.{LedgerCore, IsLedgerActor}
-use Rattle.cdc_broker_actors.specs.Subscriber.{SubscriberCore}
-use Rattle.cdc_laws.specs.Courses.{Course}
-use Rattle.cdc_run.specs.ClientMail.{HasFinishedWith as LedgerHasFinishedWith}
-use Rattle.cdc_run.specs.Parts.{works_of}
-use Rattle.cdc_run.specs.Reports.{AreFinished, AreSubscribed}
-use Rattle.cdc_connector_actor.specs.Seats.{at_start, connector_seat, origin_if}
-use Rattle.cdc_actors.specs.Ends.{ActorState, has_finished}
-use Rattle.cdc_run.specs.Streams.{AllCome, AreLeftBy, Middle}
-use Rattle.cdc_run.specs.SubscriberMail.{HasFinishedWith as BrokerHasFinishedWith}
-use Rattle.cdc_run.specs.Subscribing.{HasCome}
-use Rattle.cdc_run.specs.declared.ends.Ends.{Ends}
+use Rattle.cdc_run.proofs.Words.{ActorState, AllCome, AreFinished, AreLeftBy, AreSubscribed, Bool, BrokerCore, BrokerHasFinishedWith, ConnectorCore, Course, Ends, HasCome, IfSome, IsAtRest, IsAtStart, IsConnectorActor, IsLedgerActor, LedgerCore, LedgerHasFinishedWith, List, Middle, None, Option, Origin, QueueState, Some, SubscriberCore, [], and_parts, ap, arith, at_start, connector_seat, empty_queue, false, has_finished, is_none, length, map, nobody, origin_if, origin_of, queue_of, refl, slice_get, subst, suc, sym, true, true≢false, unwrap_or, works_of, ℕ, ◌+◌, ◌-◌, ◌∙◌, ◌∷◌, ◌≡◌}
 use Rattle.cdc_run.proofs.Applied.{kept_emitted}
 use Rattle.cdc_run.proofs.Seated.{AreBetween}
 

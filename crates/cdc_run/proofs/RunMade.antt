@@ -1,31 +1,5 @@
 -- The actors of a run over its wires.
-use Rattle.std.proofs.Common.{◌≡◌, ℕ, ◌+◌, Bool, List, [], ◌∷◌, refl, sym, ap, ◌∙◌, subst, map, length}
-use Rattle.std.specs.Prelude.{Option, None, All}
-use Rattle.std.proofs.lemmas.List.{length-map}
-use Rattle.std.proofs.lemmas.List.Elements.{All-cons, All-nil}
-use Rattle.cdc_broker.specs.Broker.{empty_broker}
-use Rattle.cdc_broker_actors.specs.Broker.{BrokerCore}
-use Rattle.cdc_broker_actors.specs.Broker.Turns.{first_broker}
-use Rattle.cdc_connector_actor.specs.Connector.{first_connector, ConnectorCore}
-use Rattle.cdc_ledger_actors.specs.Ledger.{first_ledger, LedgerCore}
-use Rattle.cdc_broker_actors.specs.declared.broker.plans.BrokerPlan.{BrokerPlan}
-use Rattle.cdc_actors.specs.Ends.{ActorState}
-use Rattle.cdc_links.specs.Links.{Incoming, LinkId, Outgoing, fresh_endpoint}
-use Rattle.cdc_match.specs.declared.binding.Binding.{Binding}
-use Rattle.cdc_progress.specs.Records.{Saved}
-use Rattle.cdc_progress.specs.Stores.{Risks}
-use Rattle.cdc_traffic.specs.declared.messages.ToBroker.{ToBroker}
-use Rattle.cdc_traffic.specs.declared.messages.ToConnector.{ToConnector}
-use Rattle.cdc_traffic.specs.declared.messages.ToLedger.{ToLedger}
-use Rattle.cdc_traffic.specs.declared.messages.ToSubscriber.{ToSubscriber}
-use Rattle.cdc_traffic.specs.declared.pasts.Past.{Past}
-use Rattle.cdc_traffic.specs.declared.requests.Reply.{Reply}
-use Rattle.cdc_run.specs.Made.{AreFreshSubscribers, AreMade, fresh_inbox, made_broker, made_clients, made_connector, made_ledger, plan_of}
-use Rattle.cdc_run.specs.Wires.{AreOwn, AreWired, only_sender}
-use Rattle.cdc_run.specs.Wirings.{Wiring}
-use Rattle.cdc_run.specs.declared.configs.Config.{Config}
-use Rattle.cdc_run.specs.declared.ends.Ends.{Ends}
-use Rattle.cdc_run.specs.declared.plans.Faults.{Faults}
+use Rattle.cdc_run.proofs.Words.{ActorState, All, All-cons, All-nil, AreFreshSubscribers, AreMade, AreOwn, AreWired, Binding, Bool, BrokerCore, BrokerPlan, Config, ConnectorCore, Ends, Faults, Incoming, LedgerCore, LinkId, List, None, Option, Outgoing, Past, Reply, Risks, Saved, ToBroker, ToConnector, ToLedger, ToSubscriber, Wiring, [], ap, empty_broker, first_broker, first_connector, first_ledger, fresh_endpoint, fresh_inbox, length, length-map, made_broker, made_clients, made_connector, made_ledger, map, only_sender, plan_of, refl, subst, sym, ℕ, ◌+◌, ◌∙◌, ◌∷◌, ◌≡◌}
 use Rattle.cdc_run.specs.declared.wires.Wires.{Wires}
 use Rattle.cdc_run.proofs.ActorsMade.{is_fresh}
 

@@ -1,46 +1,7 @@
 -- Once they have worked, the actors of a run are where its wiring has them; and actors that are there are wired to
 -- one another.
-use Rattle.std.proofs.Common.{◌≡◌, ℕ, suc, ◌+◌, ◌-◌, ◌≤◌, List, [], ◌∷◌, ◌++◌, refl, sym, ap, ◌∙◌, subst, length, map, arith}
-use Rattle.std.specs.Prelude.{All, Bool, Option, Some, slice_get}
-use Rattle.std.specs.List.{AllZip}
+use Rattle.cdc_run.proofs.Words.{ActorState, All, All-cons, All-head, All-nil, All-tail, AllZip, AreClientsOf, AreJoined, AreLeft, AreMade, ArePollsTo, AreSeated, AreSubscribersOf, AreWiredTo, Batch, Bool, BrokerCore, BrokerSits, ClientCore, ClientLeaves, ClientSits, Config, ConnectorCore, ConnectorSits, Consumer, Ends, Faults, Incoming, IsConnectorActor, IsOnlySender, LedgerCore, LedgerSits, LinkId, List, Middle, Option, Outgoing, Past, Reply, Risks, Saved, Some, SubscriberCore, SubscriberLeaves, SubscriberSits, ToBroker, ToConnector, ToLedger, ToSubscriber, Wiring, [], ap, append_assoc, arith, broker_seat, client_seat, connector_seat, first_consumer, fresh_endpoint, ledger_seat, length, length-map, length_push, links_of, made_clients, made_subscribers, map, map-map, places_of, refl, slice_get, slice_get-behind, slice_get-map, subscriber_seat, subst, suc, sym, with_scripts, works_of, ℕ, ◌++◌, ◌+◌, ◌-◌, ◌∙◌, ◌∷◌, ◌≡◌, ◌≤◌}
 use Rattle.std.specs.Option.{option_map}
-use Rattle.std.proofs.lemmas.List.{append_assoc, length-map, length_push}
-use Rattle.std.proofs.lemmas.List.Elements.{All-cons, All-head, All-nil, All-tail}
-use Rattle.std.proofs.lemmas.Option.{slice_get-map}
-use Rattle.std.proofs.lemmas.Simd.{map-map}
-use Rattle.cdc_broker_actors.specs.Broker.Turns.{first_consumer}
-use Rattle.cdc_ledger_actors.specs.Client.{ClientCore}
-use Rattle.cdc_connector_actor.specs.Connector.{IsConnectorActor, ConnectorCore}
-use Rattle.cdc_ledger_actors.specs.Ledger.{links_of, LedgerCore}
-use Rattle.cdc_broker_actors.specs.Subscriber.{SubscriberCore}
-use Rattle.cdc_broker_actors.specs.declared.broker.consumers.Consumer.{Consumer}
-use Rattle.cdc_laws.proofs.ListElements.{slice_get-behind}
-use Rattle.cdc_links.specs.Links.{Incoming, LinkId, Outgoing, fresh_endpoint}
-use Rattle.cdc_progress.specs.Records.{Saved}
-use Rattle.cdc_progress.specs.Stores.{Risks}
-use Rattle.cdc_traffic.specs.declared.messages.ToBroker.{ToBroker}
-use Rattle.cdc_traffic.specs.declared.messages.ToConnector.{ToConnector}
-use Rattle.cdc_traffic.specs.declared.messages.ToLedger.{ToLedger}
-use Rattle.cdc_traffic.specs.declared.messages.ToSubscriber.{ToSubscriber}
-use Rattle.cdc_traffic.specs.declared.pasts.Past.{Past}
-use Rattle.cdc_traffic.specs.declared.requests.Reply.{Reply}
-use Rattle.cdc_types.specs.declared.batches.Batch.{Batch}
-use Rattle.cdc_run.specs.SettledLinks.{IsOnlySender}
-use Rattle.cdc_run.specs.ClientMail.{AreClientsOf, ArePollsTo, AreWiredTo}
-use Rattle.cdc_run.specs.Made.{AreMade, made_clients, made_subscribers}
-use Rattle.cdc_run.specs.Parts.{works_of}
-use Rattle.cdc_ledger_actors.specs.Seats.{client_seat, ledger_seat}
-use Rattle.cdc_connector_actor.specs.Seats.{connector_seat}
-use Rattle.cdc_broker_actors.specs.Seats.{broker_seat, subscriber_seat}
-use Rattle.cdc_actors.specs.Ends.{ActorState}
-use Rattle.cdc_broker_actors.specs.Broker.{BrokerCore}
-use Rattle.cdc_run.specs.Streams.{AreJoined, Middle}
-use Rattle.cdc_run.specs.SubscriberMail.{AreSubscribersOf}
-use Rattle.cdc_run.specs.Tasks.{AreLeft, ClientLeaves, SubscriberLeaves, places_of, with_scripts}
-use Rattle.cdc_run.specs.Wirings.{AreSeated, BrokerSits, ClientSits, ConnectorSits, LedgerSits, SubscriberSits, Wiring}
-use Rattle.cdc_run.specs.declared.configs.Config.{Config}
-use Rattle.cdc_run.specs.declared.ends.Ends.{Ends}
-use Rattle.cdc_run.specs.declared.plans.Faults.{Faults}
 use Rattle.cdc_run.proofs.Leaving.{made_clients_left, made_subscribers_left}
 
 -- ---- actors that were made, once they have worked

@@ -1,21 +1,5 @@
 -- The ledger and the replies of a run, once all have finished.
-use Rattle.std.proofs.Common.{◌≡◌, ℕ, ◌+◌, ◌<◌, ◌≤◌, true, List, [], ◌∷◌, ◌++◌, refl, sym, ap, ◌∙◌, subst, length, map, arith}
-use Rattle.std.specs.Prelude.{All}
-use Rattle.std.specs.List.{AllZip}
-use Rattle.std.proofs.lemmas.List.{length-map}
-use Rattle.std.proofs.lemmas.List.Elements.{All-head, All-tail}
-use Rattle.cdc_ledger_actors.specs.Client.{ClientCore}
-use Rattle.cdc_ledger_actors.specs.Ledger.{ReceiveReplies, FinishedLedgersAreClosed, IsClosed, is_done, order_of}
-use Rattle.cdc_ledger_actors.specs.Orders.{named_replies_to}
-use Rattle.cdc_links.specs.Links.{CanSend, Outgoing, of_sender}
-use Rattle.cdc_traffic.specs.Following.{FollowsToLedger}
-use Rattle.cdc_traffic.specs.declared.messages.ToLedger.{ToLedger}
-use Rattle.cdc_traffic.specs.declared.pasts.Past.{Past}
-use Rattle.cdc_traffic.specs.declared.requests.Reply.{Reply}
-use Rattle.cdc_types.specs.declared.batches.Batch.{Batch}
-use Rattle.cdc_run.specs.SettledLinks.{IsAccounted}
-use Rattle.cdc_run.specs.Books.{AreReplied, BooksSettle, HaveFinished}
-use Rattle.cdc_run.specs.ClientReplies.{AreNumbered, ClientsAreReplied, HasSettled, IsOfClients, IsReplied, LedgerMail, OrdersAreOfClients}
+use Rattle.cdc_run.proofs.Words.{All, All-head, All-tail, AllZip, AreNumbered, AreReplied, Batch, BooksSettle, CanSend, ClientCore, ClientsAreReplied, FinishedLedgersAreClosed, FollowsToLedger, HasSettled, HaveFinished, IsAccounted, IsClosed, IsOfClients, IsReplied, LedgerMail, List, OrdersAreOfClients, Outgoing, Past, ReceiveReplies, Reply, ToLedger, [], ap, arith, is_done, length, length-map, map, named_replies_to, of_sender, order_of, refl, subst, sym, true, ℕ, ◌++◌, ◌+◌, ◌<◌, ◌∙◌, ◌∷◌, ◌≡◌, ◌≤◌}
 
 -- senders' endpoints with their clients' numbers
 numbered : (number : ℕ) (clients : List ClientCore) → HaveFinished number clients

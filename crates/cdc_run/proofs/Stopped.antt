@@ -1,12 +1,5 @@
 -- How a stop reports that an actor has stopped.
-use Rattle.std.proofs.Common.{◌≡◌, ◌∙◌, Some, refl, sym, ap, subst}
-use Rattle.std.specs.Prelude.{IfSome}
-use Rattle.cdc_actors.specs.Ends.{ActorState}
-use Rattle.cdc_actors.specs.Stops.{StopState}
-use Rattle.cdc_actor_work.specs.declared.faults.RunFault.{RunFault}
-use Rattle.cdc_actors.specs.declared.met.Met.TheVariants.{Fault, Unstarted}
-use Rattle.cdc_actor_work.specs.declared.places.Place.{Place}
-use Rattle.cdc_run.specs.Tasks.{HasStopped, Meets}
+use Rattle.cdc_run.proofs.Words.{ActorState, Fault, HasStopped, IfSome, Meets, Place, RunFault, Some, StopState, Unstarted, ap, refl, subst, sym, ◌∙◌, ◌≡◌}
 
 module _ {W Seat : Type 0} (seat_of : W → Seat) (place_of : W → Place) (K : W → RunFault → Type 0) (old : ActorState W)
     (stop : StopState) where

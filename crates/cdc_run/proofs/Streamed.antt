@@ -1,25 +1,5 @@
 -- What goes from the ledger to the subscribers of a run, once all have finished.
-use Rattle.std.proofs.Common.{◌≡◌, ℕ, suc, ◌+◌, true, List, [], ◌∷◌, ◌++◌, refl, sym, ap, ◌∙◌, subst, map, arith}
-use Rattle.std.specs.Prelude.{All, Option, Some, is_none, slice_get}
-use Rattle.std.proofs.lemmas.Bool.{and_parts}
-use Rattle.std.specs.List.{AllZip}
-use Rattle.std.proofs.lemmas.List.Elements.{All-head, All-tail}
-use Rattle.cdc_broker_actors.specs.Broker.{BrokerCore, IsBrokerActor}
-use Rattle.cdc_connector_actor.specs.Connector.{ConnectorCore, origin_of}
-use Rattle.cdc_ledger_actors.specs.Ledger.{LedgerCore}
-use Rattle.cdc_broker_actors.specs.Subscriber.{SubscriberCore}
-use Rattle.cdc_broker_actors.specs.declared.broker.consumers.Consumer.{Consumer}
-use Rattle.cdc_actors.specs.Ends.{ActorState}
-use Rattle.cdc_links.specs.Links.{CanSend, Incoming, IsAccount, Outgoing, of_sender}
-use Rattle.cdc_traffic.specs.Following.{FollowsToConnector}
-use Rattle.cdc_traffic.specs.declared.messages.ToBroker.{ToBroker}
-use Rattle.cdc_traffic.specs.declared.messages.ToConnector.{ToConnector}
-use Rattle.cdc_traffic.specs.declared.pasts.Past.{Past}
-use Rattle.cdc_run.specs.SettledLinks.{IsAccounted}
-use Rattle.cdc_run.specs.Passing.{AreThrough, EndsCome}
-use Rattle.cdc_run.specs.Parts.{works_of}
-use Rattle.cdc_run.specs.Streams.{AllCome, AreLeftBy, Middle}
-use Rattle.cdc_run.specs.SubscriberMail.{AreSubscribersOf}
+use Rattle.cdc_run.proofs.Words.{ActorState, All, All-head, All-tail, AllCome, AllZip, AreLeftBy, AreSubscribersOf, AreThrough, BrokerCore, CanSend, ConnectorCore, Consumer, EndsCome, FollowsToConnector, Incoming, IsAccount, IsAccounted, IsBrokerActor, LedgerCore, List, Middle, Option, Outgoing, Past, Some, SubscriberCore, ToBroker, ToConnector, [], and_parts, ap, arith, is_none, map, of_sender, origin_of, refl, slice_get, subst, suc, sym, true, works_of, ℕ, ◌++◌, ◌+◌, ◌∙◌, ◌∷◌, ◌≡◌}
 
 -- what an account states of an endpoint whose number is known
 its_own : {M N : Type 0} (entries : List (ℕ × (M × N))) (end : Outgoing M N) (number : ℕ) → end.number ≡ number

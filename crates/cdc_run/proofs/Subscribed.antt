@@ -1,54 +1,22 @@
 -- What a subscriber of a run has received, once all actors have finished.
-use Rattle.std.proofs.Common.{◌≡◌, ℕ, zero, suc, ◌+◌, ◌-◌, ◌<◌, ◌≤◌, Bool, true, false, List, [], ◌∷◌, ◌++◌, refl, sym, ap, ◌∙◌, subst, length, map, take, append-nil, inl, inr, cond, arith}
-use Rattle.std.specs.Prelude.{◌⊎◌, ◌||◌, Option, Some, None, Contains, filter, fold, slice_get}
-use Rattle.std.specs.List.{list_any}
+use Rattle.cdc_run.proofs.Words.{AskedClose, Bool, BrokerState, CanSend, ClosesAfter, ClosesWith, Contains, Contains-append_right, Contains-cons_cases, Contains-push_cases, Continues, DeliveriesAreReceived, Delivery, EndsOpen, Event, FollowsToConnector, HasAccepted, HasCome, HasDelivered, HasPassed, History, IsFaithful, IsLive, IsReplay, IsReplay-trans, Item, KeepsTo, List, None, Option, Packet, Passage, Past, PastsGoOn, PollRepliesAreReadings, QueueState, Reception, Some, SubscribersCome, ToConnector, UnaskedStayOpen, [], and_parts, ap, append-nil, applied, applied_of, arith, cases_Bool, cond, emitted, false, feed_after, filter, fold, has_ended, held_number, held_start, history_of, inl, inr, is_confirmed, is_end, last_named, length, length-append, length-map, line_after, list_any, map, none_there, queue, queue-line_after, received_by, refl, rises-emitted, shown_of, slice_get, slice_get-behind, subst, suc, sym, tags_sent, take, taken_after, taken_of, takes_item, true, zero, ℕ, ◌++◌, ◌+◌, ◌-◌, ◌<◌, ◌||◌, ◌∙◌, ◌∷◌, ◌≡◌, ◌≤◌, ◌⊎◌}
 use Rattle.std.proofs.Math.Seq.{take-length}
-use Rattle.std.proofs.lemmas.Bool.{and_parts, cases_Bool}
-use Rattle.std.proofs.lemmas.List.{length-append, length-map}
-use Rattle.std.proofs.lemmas.List.Elements.{Contains-append_right, Contains-push_cases}
-use Rattle.cdc_broker.specs.Broker.{BrokerState, HasAccepted}
 use Rattle.cdc_broker.specs.Packets.{is_taken, items_of}
-use Rattle.cdc_broker.specs.Queues.{QueueState}
-use Rattle.cdc_broker_actors.specs.Subscriber.{AskedClose, ClosesAfter, DeliveriesAreReceived, UnaskedStayOpen, received_by}
-use Rattle.cdc_laws.specs.Arrivals.{taken_after, taken_of}
-use Rattle.cdc_laws.specs.Brokers.{HasDelivered}
 use Rattle.cdc_laws.specs.ConnectorRuns.{Shown}
-use Rattle.cdc_laws.specs.Connectors.{IsLive, KeepsTo, held_number, held_start, shown_of}
 use Rattle.cdc_laws.specs.Deliveries.{deliveries, items_in}
-use Rattle.cdc_laws.specs.Faithful.{IsFaithful, applied}
 use Rattle.cdc_laws.specs.Receiving.{HasTaken, ReceivesFrom, IsTrafficOf, Traffic}
-use Rattle.cdc_laws.specs.Line.{feed_after, line_after, emitted}
 use Rattle.cdc_laws.specs.RunLaws.{SubscribersOfRunsAreFaithful}
 use Rattle.cdc_laws.specs.StepLaws.{ConnectorsMakeRuns}
 use Rattle.cdc_laws.proofs.Deliveries.{items_in-deliveries, length-deliveries}
-use Rattle.cdc_laws.proofs.Feeds.{queue-line_after, rises-emitted}
 use Rattle.cdc_laws.proofs.Receiving.{IsReplay-of_queue, IsReplay-of_run}
-use Rattle.cdc_laws.proofs.ListElements.{Contains-cons_cases, none_there, slice_get-behind}
 use Rattle.cdc_laws.proofs.Replays.{Contains-map, Contains-unmap}
 use Rattle.cdc_laws.proofs.Rising.{feed_after_rises}
 use Rattle.cdc_laws.proofs.Sessions.{IsPublished, IsPublished-sent, one_session}
 use Rattle.cdc_laws.proofs.Taking.{item_taken, taken_after-false, taken_after-true}
-use Rattle.cdc_ledger.specs.History.{History}
 use Rattle.cdc_ledger.specs.Sound.{IsSound}
-use Rattle.cdc_links.specs.Links.{CanSend}
-use Rattle.cdc_match.specs.Queue.{queue, takes_item}
 use Rattle.cdc_match.proofs.FilterLaws.{IsReplay-filter}
-use Rattle.cdc_message.specs.declared.items.Delivery.{Delivery}
-use Rattle.cdc_message.specs.declared.items.Item.{Item}
 use Rattle.cdc_message.specs.declared.items.Item.TheVariants.{Event as OfEvent, EndMark}
-use Rattle.cdc_message.specs.declared.packets.Packet.{Packet}
 use Rattle.cdc_message.specs.declared.packets.Packet.TheVariants.{Publish}
-use Rattle.cdc_message.specs.Replays.{IsReplay}
-use Rattle.cdc_message.proofs.ReplayLaws.{IsReplay-trans}
-use Rattle.cdc_laws.specs.Courses.{is_confirmed, tags_sent}
-use Rattle.cdc_subscriber.specs.Reception.{Reception, applied_of, has_ended, is_end}
-use Rattle.cdc_traffic.specs.Following.{FollowsToConnector, last_named}
-use Rattle.cdc_traffic.specs.Laws.{PastsGoOn, PollRepliesAreReadings}
-use Rattle.cdc_traffic.specs.Pasts.{Continues, history_of}
-use Rattle.cdc_traffic.specs.declared.messages.ToConnector.{ToConnector}
-use Rattle.cdc_traffic.specs.declared.pasts.Past.{Past}
-use Rattle.cdc_types.specs.declared.events.Event.{Event}
-use Rattle.cdc_run.specs.Subscribing.{ClosesWith, EndsOpen, HasCome, HasPassed, Passage, SubscribersCome}
 
 -- ---- lists
 

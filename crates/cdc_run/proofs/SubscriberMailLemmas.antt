@@ -1,12 +1,7 @@
 -- What the subscribers of a run leave behind.
-use Rattle.std.proofs.Common.{List, [], ◌∷◌, ◌++◌, sym, ap, ◌∙◌, map}
-use Rattle.std.proofs.lemmas.List.{map-append}
-use Rattle.cdc_actors.specs.Ends.{ActorState}
-use Rattle.std.proofs.lemmas.Simd.{map-map}
-use Rattle.cdc_broker_actors.specs.Subscriber.{ArePartsOf, SubscriberCore}
+use Rattle.cdc_run.proofs.Words.{ActorState, AreLeftOf, ArePartsOf, IsLeftBy, IsMoreLeft, List, SubscriberCore, [], ap, map, map-append, map-map, sym, works_of, ◌++◌, ◌∙◌, ◌∷◌}
 use Rattle.cdc_broker_actors.specs.declared.subscriber.parts.SubscriberParts.{SubscriberParts}
-use Rattle.cdc_run.specs.Parts.{AreLeftOf, works_of}
-use Rattle.cdc_run.specs.SubscriberMail.{HasAllOf, IsLeftBy, IsMoreLeft}
+use Rattle.cdc_run.specs.SubscriberMail.{HasAllOf}
 use Rattle.cdc_run.specs.declared.subscribers.SubscriberMail.{SubscriberMail}
 use Rattle.cdc_run.proofs.Apart.{left_of}
 

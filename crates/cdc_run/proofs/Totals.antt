@@ -1,27 +1,7 @@
 -- What the plan of faults counts, once the connector and the broker of a run have finished.
-use Rattle.std.proofs.Common.{◌≡◌, ◌==◌, ℕ, suc, ◌+◌, ◌-◌, true, false, List, [], ◌∷◌, ◌++◌, refl, sym, ap, ap₂, ◌∙◌, subst, length, map, arith}
-use Rattle.std.specs.Prelude.{All, Option, Some, slice_get, unwrap_or}
-use Rattle.std.specs.List.{list_all}
-use Rattle.std.proofs.lemmas.Bool.{and_parts}
-use Rattle.std.proofs.lemmas.List.Elements.{All-head, All-tail}
-use Rattle.cdc_broker.specs.Broker.{nobody, queue_of}
-use Rattle.cdc_broker.specs.Queues.{QueueState, empty_queue}
-use Rattle.cdc_broker_actors.specs.Broker.{BrokerCore, IsBrokerActor, dealings}
-use Rattle.cdc_actor_work.specs.Packets.{packets_in}
-use Rattle.cdc_connector_actor.specs.Connector.{ConnectorCore, IsConnectorActor, finish_if}
-use Rattle.cdc_actors.specs.Ends.{ActorState}
-use Rattle.cdc_broker_actors.specs.Seats.{broker_seat}
-use Rattle.cdc_broker_actors.specs.declared.broker.consumers.Consumer.{Consumer}
-use Rattle.cdc_links.specs.Links.{of_sender}
-use Rattle.cdc_links.proofs.Entries.{of_sender-append}
-use Rattle.cdc_match.specs.Queue.{queue}
-use Rattle.cdc_message.specs.declared.items.Item.{Item}
-use Rattle.cdc_message.specs.declared.packets.Packet.{Packet}
-use Rattle.cdc_traffic.specs.Following.{ends_to_broker, has_ended}
-use Rattle.cdc_traffic.specs.declared.messages.ToBroker.{ToBroker}
+use Rattle.cdc_run.proofs.Words.{ActorState, All, All-head, All-tail, ArePacketsTo, BrokerCore, ConnectorCore, Consumer, HasCounted, IsBrokerActor, IsConnectorActor, IsCountOf, Item, List, Option, Packet, QueueState, Some, ToBroker, [], accepted_of, and_parts, ap, ap₂, arith, broker_seat, dealings, empty_queue, ends_to_broker, false, finish_if, length, list_all, map, nobody, of_sender, of_sender-append, packets_in, queue, queue_of, refl, slice_get, subst, suc, sym, true, unwrap_or, ℕ, ◌++◌, ◌+◌, ◌-◌, ◌==◌, ◌∙◌, ◌∷◌, ◌≡◌}
+use Rattle.cdc_traffic.specs.Following.{has_ended}
 use Rattle.cdc_traffic.specs.declared.messages.ToBroker.TheVariants as to_broker
-use Rattle.cdc_run.specs.Counts.{HasCounted, IsCountOf, accepted_of}
-use Rattle.cdc_run.specs.Streams.{ArePacketsTo}
 use Rattle.cdc_run.specs.declared.counts.Counts.{Counts}
 
 -- of packets and then the last message whoever has received the last message has received all packets

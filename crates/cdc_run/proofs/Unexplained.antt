@@ -1,9 +1,6 @@
 -- The result of a run, of whose failure only the fault is kept.
-use Rattle.std.proofs.Common.{◌≡◌, sym, subst, IfOk}
-use Rattle.std.specs.Prelude.{Result, Ok, Err}
-use Rattle.cdc_actor_work.specs.declared.faults.RunFault.{RunFault}
+use Rattle.cdc_run.proofs.Words.{Err, Failure, IfOk, Ok, Result, RunFault, subst, sym, ◌≡◌}
 use Rattle.cdc_run.specs.Failures.{unexplained}
-use Rattle.cdc_run.specs.declared.failures.Failure.{Failure}
 
 module _ {R S : Type 0} (P : R → Type 0) where
   -- what is known of a report stays known

@@ -1,13 +1,6 @@
 -- The outcomes of jobs among which no stop counts: each job has finished.
-use Rattle.std.proofs.Common.{◌≡◌, ◌∙◌, refl, sym, ap, Bool, true, false, List, [], ◌∷◌, ◌++◌, Option, Some, None, Result, Ok, Err}
-use Rattle.std.specs.Prelude.{if◌then◌else◌}
-use Rattle.std.specs.List.{AllZip}
+use Rattle.cdc_run.proofs.Words.{AllZip, Bool, ComesTo, Err, List, Met, None, Ok, Option, Place, Result, Some, StopState, [], ap, false, finished_in, first_of, first_stop, if◌then◌else◌, is_gone, refl, sym, true, ◌++◌, ◌∙◌, ◌∷◌, ◌≡◌}
 use Rattle.std.proofs.lemmas.List.{append-nil}
-use Rattle.cdc_actors.specs.Stops.{StopState}
-use Rattle.cdc_actors.specs.declared.met.Met.{Met}
-use Rattle.cdc_actor_work.specs.declared.places.Place.{Place}
-use Rattle.cdc_run.specs.Jobs.{ComesTo}
-use Rattle.cdc_run.specs.Outcomes.{finished_in, first_of, first_stop, is_gone}
 
 -- whichever of two is chosen, it is one
 some_chosen : {A : Type 0} (b : Bool) (x y : A) → (if b then Some x else Some y) ≡ None → ⊥

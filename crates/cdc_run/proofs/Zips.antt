@@ -1,6 +1,5 @@
 -- Facts about the items of two lists, place by place.
-use Rattle.std.proofs.Common.{◌≡◌, subst, List, [], ◌∷◌, ◌++◌}
-use Rattle.std.specs.List.{AllZip}
+use Rattle.cdc_run.proofs.Words.{AllZip, List, [], subst, ◌++◌, ◌∷◌, ◌≡◌}
 
 -- one more of each
 pub zip_push : {A B : Type 0} (R : A → B → Type 0) (xs : List A) (ys : List B) (x : A) (y : B) → AllZip R xs ys → R x y

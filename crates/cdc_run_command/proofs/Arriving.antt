@@ -1,10 +1,8 @@
 -- What arrives at a subscriber of a run, one delivery after another.
-use Rattle.std.proofs.Common.{◌≡◌, ◌∙◌, ℕ, ◌+◌, List, [], ◌∷◌, ◌++◌, Some, drop, max, sym, ap, append_assoc}
+use Rattle.cdc_run_command.proofs.Words.{List, Received, Some, [], ap, append_assoc, arrival_after, arrived_from, drop, max, sym, ℕ, ◌++◌, ◌+◌, ◌∙◌, ◌∷◌, ◌≡◌}
 use Rattle.std.specs.List.{slice_get}
-use Rattle.cdc_run.specs.Arrival.{Arrival as Received}
 use Rattle.cdc_deliveries.specs.declared.arrivals.Arrival.{Arrival}
 use Rattle.cdc_deliveries.proofs.Walks.{drop_found}
-use Rattle.cdc_run_command.specs.Arrived.{arrival_after, arrived_from}
 
 -- with one more, what has arrived and what is left make the same as before
 pub one_arrives : (received : List Received) (place furthest : ℕ) (delivery : Received) (old new whole : List Arrival)

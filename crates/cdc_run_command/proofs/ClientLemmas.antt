@@ -1,27 +1,19 @@
 -- What holds of every script: it has a subscriber, and no more of them and no other clients than there may be.
-use Rattle.std.proofs.Common.{◌≡◌, ℕ, ◌+◌, ◌<◌, ◌≤◌, zero, suc, Bool, true, false, List, [], ◌∷◌, Some, None, Ok, Err, refl, ap, subst, length, arith}
-use Rattle.std.specs.Prelude.{◌==◌, ◌||◌, codes, find, not, Option, Result, if◌then◌else◌, nat_le, nat_lt, slice_get, unwrap_or}
-use Rattle.std.specs.List.{cons_option, take_while}
+use Rattle.cdc_run_command.proofs.Words.{Bool, CLIENTS, ClientBatch, Err, IsClient, IsRunnable, List, None, Numbered, Ok, Option, Result, SUBSCRIBERS, Script, Some, [], after_line, ap, arith, at_top, batches_of, bindings_of, codes, cons_option, false, find, if◌then◌else◌, length, lines_of, max_bytes, nat_le, nat_lt, nat_tests, not, numbered, refl, script_of, script_of_lines, script_stated, script_with, slice_get, statements, statements_from, subst, suc, take_while, true, unwrap_or, zero, ℕ, ◌+◌, ◌<◌, ◌==◌, ◌||◌, ◌∷◌, ◌≡◌, ◌≤◌}
 use Rattle.std.specs.Str.{bytes_eq}
-use Rattle.std.proofs.lemmas.Bool.Decides.{nat_tests}
 use Rattle.cdc_types.specs.Lines.{first_line}
-use Rattle.cdc_types.specs.declared.bounds.TheConstants.Limits.{CLIENTS, SUBSCRIBERS}
 use Rattle.cdc_script.specs.Faults.{◌>>=◌, bad_text, in_line, wrong}
 use Rattle.cdc_script.specs.Fields.{account_of, fields_of}
-use Rattle.cdc_script.specs.Scripts.{Numbered, after_line, at_top, batches_of, bindings_of, lines_of, max_bytes, numbered, script_of, script_of_lines, script_stated, script_with, statements, statements_from}
 use Rattle.cdc_script.specs.Statements.{account_line, after, bad_client, binding_line, binding_of, client_line, ended, line_states, lone_number, meaning, no_batch, number_word, subscriber_line, subscriber_stated, transfer_line, words_state}
 use Rattle.cdc_script.specs.Words.{Placed, is_clear, is_printable, lines, spoken}
 use Rattle.cdc_script.specs.declared.faults.FaultKind.TheVariants as kind
 use Rattle.cdc_script.specs.declared.faults.LineFault.{LineFault}
 use Rattle.cdc_script.specs.declared.fields.ItemKind.{ItemKind}
 use Rattle.cdc_script.specs.declared.fields.ItemKind.TheVariants as item
-use Rattle.cdc_script.specs.declared.scripts.ClientBatch.{ClientBatch}
-use Rattle.cdc_script.specs.declared.scripts.Script.{Script}
 use Rattle.cdc_script.specs.declared.scripts.ScriptLines.{ScriptLines}
 use Rattle.cdc_script.specs.declared.statements.Context.{Context}
 use Rattle.cdc_script.specs.declared.statements.Statement.{Statement}
 use Rattle.cdc_script.specs.declared.statements.Statement.TheVariants as states
-use Rattle.cdc_run_command.specs.Runnable.{IsClient, IsRunnable}
 
 -- a statement names only clients that may exist, and is a subscriber's only if there are fewer above it than there
 -- may be

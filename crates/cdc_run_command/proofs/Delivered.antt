@@ -1,27 +1,12 @@
 -- A run's report has what each subscriber of its script was delivered.
-use Rattle.std.proofs.Common.{◌≡◌, ◌∙◌, ℕ, suc, ◌+◌, ◌-◌, ◌<◌, true, false, List, [], ◌∷◌, None, Some, refl, sym, ap, arith, length, subst}
-use Rattle.std.specs.Prelude.{◌==◌, Bool, Option, if◌then◌else◌}
-use Rattle.std.specs.List.{AllZip, slice_get}
-use Rattle.std.proofs.lemmas.List.{length-map}
-use Rattle.std.proofs.lemmas.Option.{slice_get_within}
+use Rattle.cdc_run_command.proofs.Words.{AllZip, Bool, Config, Faults, List, None, Option, RanBy, RanFrom, Received, Report, Risks, Saved, Script, Setting, Some, [], ap, arith, deliveries_of, false, found_at, if◌then◌else◌, length, length-map, made_subscribers, refl, slice_get_within, subst, suc, sym, true, ℕ, ◌+◌, ◌-◌, ◌<◌, ◌==◌, ◌∙◌, ◌∷◌, ◌≡◌}
+use Rattle.std.specs.List.{slice_get}
 use Rattle.cdc_run.specs.Ends.{ActorState}
 use Rattle.cdc_run.specs.Subscriber.{SubscriberCore}
-use Rattle.cdc_run.specs.Arrival.{Arrival as Received}
 use Rattle.cdc_commands.specs.QueuePrinted.{binding_at}
-use Rattle.cdc_output.proofs.FoundElements.{found_at}
 use Rattle.cdc_run.specs.Links.{LinkId}
 use Rattle.cdc_match.specs.Arguments.{Arguments}
-use Rattle.cdc_progress.specs.Records.{Saved}
-use Rattle.cdc_progress.specs.Stores.{Risks}
-use Rattle.cdc_run.specs.Made.{made_subscribers}
-use Rattle.cdc_run.specs.Ran.{RanFrom}
-use Rattle.cdc_run.specs.Reports.{deliveries_of}
 use Rattle.cdc_run.specs.Tasks.{SubscriberLeaves}
-use Rattle.cdc_run.specs.declared.configs.Config.{Config}
-use Rattle.cdc_run.specs.declared.plans.Faults.{Faults}
-use Rattle.cdc_run.specs.declared.reports.Report.{Report}
-use Rattle.cdc_run_command.specs.Runs.{RanBy, Setting}
-use Rattle.cdc_script.specs.declared.scripts.Script.{Script}
 use Rattle.cdc_run.specs.ToBroker.{ToBroker}
 use Rattle.cdc_run.specs.ToSubscriber.{ToSubscriber}
 use Rattle.cdc_run.specs.Batch.{Batch}

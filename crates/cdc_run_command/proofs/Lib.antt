@@ -7,3 +7,4 @@ pub mod ReplyLemmas
 pub mod RunFaults
 pub mod RunLemmas
 pub mod ShareLemmas
+pub mod Words

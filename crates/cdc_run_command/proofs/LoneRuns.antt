@@ -1,37 +1,22 @@
 -- Runs in which one client submits all batches.
-use Rattle.std.proofs.Common.{◌≡◌, ◌==◌, ℕ, zero, suc, ◌+◌, ◌-◌, ◌<◌, Bool, true, List, [], ◌∷◌, ◌++◌, refl, sym, ap, ap₂, ◌∙◌, subst, map, length, eq-eqb, arith}
-use Rattle.std.specs.Prelude.{All, None, Option, Result, Some, cond, filter, fold, max}
+use Rattle.cdc_run_command.proofs.Words.{All, All-cons, All-head, All-nil, All-tail, AreCloses, AreMerged, AreSubscribed, Arguments, Batch, Bool, ClientBatch, History, List, None, Option, Reply, Result, Saved, Script, Some, SubscriberState, [], answered_lines, ap, ap₂, arith, batch_line, client_count, cond, empty_history, entries_of, eq-eqb, filter, fold, kept_text, length, map, max, own_of, owners_of, refl, replies_of, reply_lines, scripts_of, shares_from, subscriber_text, subst, suc, sym, true, zero, ℕ, ◌++◌, ◌+◌, ◌-◌, ◌<◌, ◌==◌, ◌∙◌, ◌∷◌, ◌≡◌}
 use Rattle.std.proofs.lemmas.Bool.{ne_eqb}
-use Rattle.std.proofs.lemmas.List.Elements.{All-cons, All-head, All-nil, All-tail}
 use Rattle.std.proofs.lemmas.Simd.{map-map}
 use Rattle.cdc_actors.specs.Connector.{first_origin}
 use Rattle.cdc_laws.specs.Connectors.{held_start}
 use Rattle.cdc_laws.specs.Line.{line_after}
 use Rattle.cdc_laws.proofs.Lines.{line_after-zero}
 use Rattle.cdc_ledger.specs.declared.errors.BatchError.{BatchError}
-use Rattle.cdc_ledger.specs.History.{History, empty_history}
 use Rattle.cdc_ledger.specs.Sound.{IsSound}
 use Rattle.cdc_ledger.proofs.KeptLaws.{IsSound-after_batches}
 use Rattle.cdc_ledger.proofs.SoundLaws.{IsSound-closed, IsSound-empty}
 use Rattle.cdc_ledger.specs.Submit.{after_batches, history_or, submit}
-use Rattle.cdc_script.specs.Arguments.{Arguments}
-use Rattle.cdc_progress.specs.Records.{Saved}
 use Rattle.cdc_run.specs.Books.{AreBooks}
 use Rattle.cdc_run.specs.Determined.{AllKeepTheLine, HaveNone, IsServedAlone, LoneClientsAreServedAlone, answers_from, kept_of_line}
-use Rattle.cdc_run.specs.Made.{AreCloses}
-use Rattle.cdc_run.specs.Reports.{AreSubscribed, replies_of}
-use Rattle.cdc_script.specs.declared.scripts.ClientBatch.{ClientBatch}
-use Rattle.cdc_script.specs.declared.scripts.Script.{Script}
-use Rattle.cdc_subscriber.specs.SubscriberState.{SubscriberState}
-use Rattle.cdc_subscriber.specs.Lines.{subscriber_text}
-use Rattle.cdc_traffic.specs.declared.requests.Reply.{Reply}
-use Rattle.cdc_types.specs.declared.batches.Batch.{Batch}
 use Rattle.cdc_types.specs.declared.batches.BatchResults.{BatchResults}
 use Rattle.cdc_commands.specs.Feeds.{subscribers_text}
 use Rattle.cdc_run_command.specs.LoneRuns.{LoneRunsPrintBooks}
 use Rattle.cdc_commands.specs.Printed.{answer, answers_to, printed_books}
-use Rattle.cdc_commands.specs.Report.{answered_lines, batch_line}
-use Rattle.cdc_run_command.specs.Runs.{AreMerged, client_count, entries_of, kept_text, own_of, owners_of, reply_lines, scripts_of, shares_from}
 
 -- ---- one client's own
 

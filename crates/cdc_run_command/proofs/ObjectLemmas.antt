@@ -1,14 +1,8 @@
 -- Replies that are printed as JSON lines, one after another.
-use Rattle.std.proofs.Common.{◌≡◌, ℕ, ◌+◌, ◌≤◌, List, [], ◌∷◌, ◌++◌, Some, refl, sym, ap, ◌∙◌, map, drop, length, append_assoc, append-nil}
+use Rattle.cdc_run_command.proofs.Words.{List, Reply, Some, [], ap, append-nil, append_assoc, drop, drop_all, drop_found, json_line, json_lines, length, map, numbered_values, refl, reply_values, sym, ℕ, ◌++◌, ◌+◌, ◌∙◌, ◌∷◌, ◌≡◌, ◌≤◌}
 use Rattle.std.specs.List.{slice_get}
-use Rattle.std.proofs.lemmas.List.{drop_all}
 use Rattle.serde_json.specs.Data.{Data}
-use Rattle.cdc_output.proofs.FoundElements.{drop_found}
 use Rattle.cdc_commands.specs.JsonValues.{batch_value}
-use Rattle.cdc_output.specs.Lines.{json_line, json_lines}
-use Rattle.cdc_run_command.specs.Private.Diagnostics.{numbered_values}
-use Rattle.cdc_run_command.specs.RunObjects.{reply_values}
-use Rattle.cdc_traffic.specs.declared.requests.Reply.{Reply}
 
 -- one more reply is printed
 pub reply_more : (all : List Reply) (place : ℕ) (reply : Reply) (now next whole : List ℕ)

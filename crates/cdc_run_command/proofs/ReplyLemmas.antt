@@ -1,15 +1,5 @@
 -- The replies to clients, put into the order of the script.
-use Rattle.std.proofs.Common.{◌≡◌, ◌≢◌, ℕ, ◌+◌, ◌-◌, ◌<◌, ◌≤◌, zero, suc, Bool, true, false, List, [], ◌∷◌, ◌++◌, Some, refl, sym, ap, ◌∙◌, subst, map, length, take, arith, inl, inr}
-use Rattle.std.specs.Prelude.{◌⊎◌, ◌==◌, All, filter, if◌then◌else◌, slice_get, slice_index_or, slice_set}
-use Rattle.std.specs.Option.{option_map}
-use Rattle.std.proofs.lemmas.List.{length-map, length-set, map-append, take_all}
-use Rattle.std.proofs.lemmas.Option.{get_or_from_slice_get, slice_get-map, slice_get_read, slice_get_within}
-use Rattle.cdc_traffic.specs.declared.requests.Reply.{Reply}
-use Rattle.cdc_run_command.specs.Private.Merging.{HasNext, TakesNext, numbered_lines}
-use Rattle.cdc_run_command.specs.ClientOrders.{IsOrderOf, times_in}
-use Rattle.cdc_commands.specs.Report.{batch_line}
-use Rattle.cdc_run_command.specs.Runs.{AreMerged, own_of, reply_lines}
-use Rattle.cdc_output.proofs.FoundElements.{found_at, take_found}
+use Rattle.cdc_run_command.proofs.Words.{All, AreMerged, Bool, HasNext, IsOrderOf, List, Reply, Some, TakesNext, [], ap, arith, batch_line, false, filter, found_at, get_or_from_slice_get, if◌then◌else◌, inl, inr, length, length-map, length-set, map, map-append, numbered_lines, option_map, own_of, refl, reply_lines, slice_get, slice_get-map, slice_get_read, slice_get_within, slice_index_or, slice_set, subst, suc, sym, take, take_all, take_found, times_in, true, zero, ℕ, ◌++◌, ◌+◌, ◌-◌, ◌<◌, ◌==◌, ◌∙◌, ◌∷◌, ◌≡◌, ◌≢◌, ◌≤◌, ◌⊎◌}
 use Rattle.cdc_run_command.proofs.ShareLemmas.{other_number, own_of-other, own_of-same, same_number, shares_are}
 
 -- ---- elements of lists

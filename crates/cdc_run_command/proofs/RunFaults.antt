@@ -1,17 +1,11 @@
 -- Why runs fail, as the program reports it.
-use Rattle.std.proofs.Common.{◌≡◌, ◌⊎◌, ℕ, Bool, List, Option, Some, None, inl, inr, refl, sym, ap, subst, ◌∙◌}
+use Rattle.cdc_run_command.proofs.Words.{Bool, Ending, Failed, IsWriteFault, List, None, Option, PrintsFailure, ProgramFault, Risks, RunFailed, Some, ap, inl, inr, refl, subst, sym, ℕ, ◌∙◌, ◌≡◌, ◌⊎◌}
 use Rattle.cdc_actors.specs.declared.met.Met.{Met}
 use Rattle.cdc_actor_work.specs.declared.places.Place.{Place}
-use Rattle.cdc_commands.specs.Outcomes.{IsWriteFault, PrintsFailure}
-use Rattle.cdc_commands.specs.declared.endings.Ending.{Ending}
-use Rattle.cdc_commands.specs.declared.endings.Ending.TheVariants.{Failed}
-use Rattle.cdc_output.specs.declared.faults.ProgramFault.{ProgramFault}
-use Rattle.cdc_progress.specs.Stores.{Risks}
 use Rattle.cdc_run.specs.Meeting.{IsRunFailure}
 use Rattle.cdc_run.specs.declared.failures.Failure.{Failure}
 use Rattle.cdc_run.specs.declared.failures.Failure.TheVariants as failure
 use Rattle.cdc_run_command.specs.Failed.{MayFail, StoppedSo, failed_of}
-use Rattle.cdc_run_command.specs.declared.failures.RunFailed.{RunFailed}
 
 -- whatever a run answers
 may_fail : {S : Type 0} (honest : Bool) (risks : Risks) (system n m : ℕ) (why : Failure S)

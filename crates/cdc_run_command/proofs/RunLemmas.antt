@@ -1,41 +1,11 @@
 -- A run of a script, and what is printed of it.
-use Rattle.std.proofs.Common.{◌≡◌, ◌∙◌, ℕ, ◌+◌, ◌≤◌, zero, suc, List, [], ◌∷◌, Some, None, Ok, Err, refl, sym, ap, subst, map, length, arith, inl, inr}
-use Rattle.std.specs.Prelude.{Bool, IfOk, IfSome, Option, Result, fold, max, slice_get, slice_index_or}
-use Rattle.std.specs.Option.{option_map}
-use Rattle.std.proofs.lemmas.List.{length-map}
-use Rattle.std.proofs.lemmas.Option.{get_or_from_slice_get, slice_get-map}
+use Rattle.cdc_run_command.proofs.Words.{AreSubscribed, Arguments, BadScript, BadSteps, BadWords, Batch, Bool, CLIENTS, ClientBatch, Config, Done, Ending, Err, Failed, Faults, HasRunOf, History, IfOk, IfSome, IsClient, IsOrderOf, IsPrinted, IsPrintedOf, IsRunnable, IsWriteFault, List, None, Ok, Option, Outcome, PrintsFailure, ProgramFault, RanFrom, Refused, Reply, Report, Result, Risks, RunCommandPrints, RunFailed, RunsTo, Saved, Script, Setting, Some, StatesScript, SubscriberState, Writes, [], ap, arith, client_count, entries_of, fold, found_at, get_or_from_slice_get, inl, inr, length, length-map, map, max, option_map, own_of, owners_of, refl, script_of, shares_from, slice_get, slice_get-map, slice_index_or, subst, suc, sym, times_in, zero, ℕ, ◌+◌, ◌∙◌, ◌∷◌, ◌≡◌, ◌≤◌}
 use Rattle.cdc_run.specs.BrokerPlan.{BrokerPlan}
-use Rattle.cdc_ledger.specs.History.{History}
-use Rattle.cdc_script.specs.Arguments.{Arguments}
-use Rattle.cdc_progress.specs.Records.{Saved}
-use Rattle.cdc_progress.specs.Stores.{Risks}
 use Rattle.cdc_run.specs.Counts.{MayCount}
-use Rattle.cdc_run.specs.Ran.{RanFrom}
-use Rattle.cdc_run.specs.Reports.{AreSubscribed}
-use Rattle.cdc_run.specs.declared.configs.Config.{Config}
 use Rattle.cdc_run.specs.declared.counts.Counts.{Counts}
-use Rattle.cdc_run.specs.declared.plans.Faults.{Faults}
-use Rattle.cdc_run.specs.declared.reports.Report.{Report}
-use Rattle.cdc_script.specs.Scripts.{script_of}
-use Rattle.cdc_script.specs.declared.scripts.ClientBatch.{ClientBatch}
-use Rattle.cdc_script.specs.declared.scripts.Script.{Script}
-use Rattle.cdc_subscriber.specs.SubscriberState.{SubscriberState}
-use Rattle.cdc_traffic.specs.declared.requests.Reply.{Reply}
-use Rattle.cdc_types.specs.declared.batches.Batch.{Batch}
-use Rattle.cdc_types.specs.declared.bounds.TheConstants.Limits.{CLIENTS}
-use Rattle.cdc_commands.specs.declared.endings.Ending.{Ending}
-use Rattle.cdc_commands.specs.declared.endings.Ending.TheVariants.{Done, Failed, Refused, BadScript, BadSteps, BadWords}
-use Rattle.cdc_output.specs.declared.faults.ProgramFault.{ProgramFault}
 use Rattle.cdc_commands.specs.FaultWords.{IsParsedAs}
-use Rattle.cdc_commands.specs.Outcomes.{IsPrinted, IsWriteFault, Outcome, PrintsFailure, Writes}
-use Rattle.cdc_run_command.specs.ClientOrders.{IsOrderOf, times_in}
-use Rattle.cdc_run_command.specs.Runnable.{IsClient, IsRunnable}
-use Rattle.cdc_run_command.specs.RunPrinted.{RunCommandPrints}
-use Rattle.cdc_run_command.specs.declared.failures.RunFailed.{RunFailed}
 use Rattle.cdc_run_command.specs.declared.reports.Ran.{Ran}
 use Rattle.cdc_run_command.specs.declared.run.RunOutput.{RunOutput}
-use Rattle.cdc_run_command.specs.Runs.{HasRunOf, IsPrintedOf, RunsTo, Setting, StatesScript, client_count, entries_of, own_of, owners_of, shares_from}
-use Rattle.cdc_output.proofs.FoundElements.{found_at}
 use Rattle.cdc_commands.proofs.OutputLemmas.{at_same_word, same_parsed}
 use Rattle.cdc_run_command.proofs.ShareLemmas.{length-own_of, length-shares_from, slice_get-shares_from}
 

@@ -1,11 +1,5 @@
 -- What belongs to clients, parted and put together again.
-use Rattle.std.proofs.Common.{◌≡◌, ◌≢◌, ℕ, ◌+◌, zero, suc, Bool, true, false, List, [], ◌∷◌, ◌++◌, Some, refl, sym, ap, ap₂, ◌∙◌, subst, map, length, append-nil, arith, inl, inr}
-use Rattle.std.specs.Prelude.{◌==◌, filter, not, if◌then◌else◌, slice_get}
-use Rattle.std.proofs.lemmas.Bool.Decides.{eqb_tells}
-use Rattle.std.proofs.lemmas.List.{map-append}
-use Rattle.std.proofs.lemmas.List.Elements.{filter-append}
-use Rattle.cdc_run_command.specs.ClientOrders.{times_in}
-use Rattle.cdc_run_command.specs.Runs.{own_of, shares_from}
+use Rattle.cdc_run_command.proofs.Words.{Bool, List, Some, [], ap, append-nil, ap₂, arith, eqb_tells, false, filter, filter-append, if◌then◌else◌, inl, inr, length, map, map-append, not, own_of, refl, shares_from, slice_get, subst, suc, sym, times_in, true, zero, ℕ, ◌++◌, ◌+◌, ◌==◌, ◌∙◌, ◌∷◌, ◌≡◌, ◌≢◌}
 
 -- a number is itself
 pub same_number : (a b : ℕ) → a ≡ b → (a == b) ≡ true

@@ -1,31 +1,8 @@
 -- The kept state of the actors after a step that leaves the store alone, and the state of the world that it
 -- represents.
-use Rattle.std.proofs.Common.{◌≡◌, ℕ, true, IsTrue, List, [], ◌∷◌, Option, Result, Ok, Err, refl, sym, ap, ◌∙◌, subst, map, length, replicate, arith}
+use Rattle.cdc_world.proofs.Words.{ActorParts, ActorsMove, ActorsStand, Arguments, BatchResults, BrokerState, CloseLedger, Did, Done, Err, HaveDelivered, History, IsOfActors, IsStepRisked, IsStoreCounted, IsTried, IsTrue, Kept_subscription, List, Moves, MovesBy, Next, NotEnabled, Ok, Option, OutOfMemory, Parts, Result, Risks, Saved, Stands, Step, StepError, Store, Submit, Submitted, WorldState, [], ap, arith, empty_actors, empty_broker, empty_queue, empty_subscription, length, length-map, length-replicate, map, new_subscription, new_world, next, none_there, parts_of, queue_for, refl, replicate, submit, subscription_parts, subst, sym, takes_memory, true, view_of, with_batch, with_ledger_closed, ℕ, ◌∙◌, ◌∷◌, ◌≡◌}
 use Rattle.std.specs.Result.{IsErrAnd}
-use Rattle.std.proofs.lemmas.List.{length-map, length-replicate}
-use Rattle.cdc_broker.specs.Broker.{BrokerState, empty_broker}
-use Rattle.cdc_broker.specs.Queues.{empty_queue}
-use Rattle.cdc_ledger.specs.History.{History}
-use Rattle.cdc_ledger.specs.Submit.{submit}
-use Rattle.cdc_match.specs.Arguments.{Arguments}
-use Rattle.cdc_progress.specs.Records.{Saved}
-use Rattle.cdc_progress.specs.Stores.{Risks}
 use Rattle.cdc_types.specs.declared.batches.Batch.{Batch}
-use Rattle.cdc_types.specs.declared.batches.BatchResults.{BatchResults}
-use Rattle.cdc_types.specs.declared.steps.Step.{Step}
-use Rattle.cdc_types.specs.declared.steps.Step.TheVariants.{Submit, CloseLedger}
-use Rattle.cdc_laws.proofs.ListElements.{none_there}
-use Rattle.cdc_world.specs.declared.steps.Did.{Did}
-use Rattle.cdc_world.specs.declared.steps.Did.TheVariants.{Submitted, Done}
-use Rattle.cdc_world.specs.declared.steps.StepError.{StepError}
-use Rattle.cdc_world.specs.declared.steps.StepError.TheVariants.{NotEnabled, Store, OutOfMemory}
-use Rattle.cdc_world.specs.Moves.{IsStoreCounted, Moves, MovesBy}
-use Rattle.cdc_world.specs.Next.{IsStepRisked, IsTried, Next, next, takes_memory, with_batch, with_ledger_closed}
-use Rattle.cdc_world.specs.declared.subscriptions.Subscription.{Subscription as Kept_subscription}
-use Rattle.cdc_world.specs.Parts.{ActorParts, Parts, subscription_parts}
-use Rattle.cdc_world.specs.Stands.{ActorsStand, HaveDelivered, Stands, parts_of, queue_for, view_of}
-use Rattle.cdc_world.specs.Turns.{ActorsMove, IsOfActors, empty_actors, empty_subscription}
-use Rattle.cdc_world.specs.Worlds.{WorldState, new_subscription, new_world}
 
 -- ---- of every step
 

@@ -1,21 +1,6 @@
 -- What is kept of the actors after a packet came to the broker.
-use Rattle.std.proofs.Common.{◌≡◌, ℕ, Bool, true, false, List, [], ◌∷◌, ◌++◌, Option, Some, Ok, Err, refl, sym, ap, ap₂, ◌∙◌, map}
+use Rattle.cdc_world.proofs.Words.{ActorParts, ActorsMove, ActorsStand, Arrive, Arrived, Bool, BrokerSide, BrokerState, ComesTo, Confirm, Connect, Err, Item, List, Ok, Option, OutOfMemory, Packet, Publish, Some, SubscribersStand, Subscription, WorldState, [], after_packet, ap, ap₂, broker_of, broker_parts, confirms_of, current_session-push, expected_after, expected_tag-push, false, is_taken, is_taken_at, items_of, map, next, numbered, queue_for, refl, session_after, sym, takes_packet, true, with_arrival, ℕ, ◌++◌, ◌∙◌, ◌∷◌, ◌≡◌}
 use Rattle.std.specs.declared.alloc.AllocError.{AllocError}
-use Rattle.cdc_broker.specs.Broker.{BrokerState, after_packet, takes_packet}
-use Rattle.cdc_broker.specs.Packets.{expected_after, is_taken, is_taken_at, items_of, session_after}
-use Rattle.cdc_message.specs.declared.items.Item.{Item}
-use Rattle.cdc_message.specs.declared.packets.Confirm.{Confirm}
-use Rattle.cdc_message.specs.declared.packets.Packet.{Packet}
-use Rattle.cdc_message.specs.declared.packets.Packet.TheVariants.{Connect, Publish}
-use Rattle.cdc_types.specs.declared.steps.Step.TheVariants.{Arrive}
-use Rattle.cdc_world.specs.declared.steps.Did.TheVariants.{Arrived}
-use Rattle.cdc_world.specs.declared.steps.StepError.TheVariants.{OutOfMemory}
-use Rattle.cdc_world.specs.Next.{confirms_of, next, with_arrival}
-use Rattle.cdc_world.specs.Parts.{ActorParts}
-use Rattle.cdc_world.specs.Stands.{ActorsStand, BrokerSide, SubscribersStand, broker_of, broker_parts, queue_for}
-use Rattle.cdc_world.specs.Turns.{ActorsMove, ComesTo}
-use Rattle.cdc_world.specs.Worlds.{Subscription, WorldState, numbered}
-use Rattle.cdc_laws.proofs.Taking.{current_session-push, expected_tag-push}
 use Rattle.cdc_world.proofs.ActorMoves.{done, exhausted, tried}
 use Rattle.cdc_world.proofs.QueueViews.{delivered_after, items_of-connected, items_of-published, queues_after}
 

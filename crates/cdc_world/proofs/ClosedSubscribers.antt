@@ -1,21 +1,6 @@
 -- No step, and so no play, changes what a closed subscriber has received, or any binding.
-use Rattle.std.proofs.Common.{◌≡◌, ◌⊎◌, ℕ, zero, suc, ◌-◌, Bool, true, false, Option, Some, Result, List, [], ◌∷◌, ◌++◌, refl, sym, ap, ◌∙◌, subst, inl, inr}
-use Rattle.std.specs.Prelude.{◌||◌, slice_get, slice_set, if◌then◌else◌}
-use Rattle.std.proofs.lemmas.Option.{same_Some}
-use Rattle.cdc_message.specs.declared.items.Delivery.{Delivery}
-use Rattle.cdc_message.specs.declared.packets.Packet.{Packet}
-use Rattle.cdc_progress.specs.Stores.{Risks}
-use Rattle.cdc_subscriber.specs.Reception.{Reception, has_ended}
-use Rattle.cdc_world.specs.declared.steps.Did.{Did}
-use Rattle.cdc_types.specs.declared.steps.Step.{Step}
-use Rattle.cdc_world.specs.declared.steps.StepError.{StepError}
-use Rattle.cdc_broker.specs.Packets.{is_taken}
+use Rattle.cdc_world.proofs.Words.{Bool, Delivery, Did, Going, List, Moves, Next, NextOver, NextPast, Option, Packet, Parts, PlayFixesClosedBy, PlaysBy, Reception, Result, Risks, Some, Step, StepError, StepFixesClosed, Subscription, WorldState, [], ap, false, has_ended, if◌then◌else◌, inl, inr, is_taken, next, numbered, refl, same_Some, slice_get, slice_set, subst, suc, sym, true, with_ack, with_arrival, with_break, with_close, with_delivery, with_numbered, with_rewind, with_subscription, with_taking, zero, ℕ, ◌++◌, ◌-◌, ◌||◌, ◌∙◌, ◌∷◌, ◌≡◌, ◌⊎◌}
 use Rattle.cdc_world.specs.Closed.{AllStay, Stays}
-use Rattle.cdc_world.specs.Moves.{Going, Moves, PlayFixesClosedBy, PlaysBy, StepFixesClosed}
-use Rattle.cdc_world.specs.Parts.{Parts}
-use Rattle.cdc_world.specs.Tries.{NextPast}
-use Rattle.cdc_world.specs.Next.{Next, NextOver, next, with_ack, with_arrival, with_break, with_close, with_delivery, with_rewind, with_subscription, with_taking}
-use Rattle.cdc_world.specs.Worlds.{Subscription, WorldState, numbered, with_numbered}
 use Rattle.cdc_world.proofs.NumberedElements.{numbered_from, numbered_parts}
 use Rattle.cdc_world.proofs.RelatedWorlds.{EachMove, Leaves, Relates, has_past, has_play, next_leaves, step_leaves}
 

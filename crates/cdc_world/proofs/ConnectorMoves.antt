@@ -1,34 +1,10 @@
 -- The kept state after each step of the connector, and the state of the world that it represents.
-use Rattle.std.proofs.Common.{◌≡◌, ℕ, Bool, true, false, List, [], ◌∷◌, ◌++◌, Option, Some, None, Result, Ok, Err, refl, sym, ap, ◌∙◌, subst, take, inl, inr}
-use Rattle.std.specs.Prelude.{◌⊎◌, ◌+◌, ◌==◌, IsTrue, is_some, option_map, if◌then◌else◌}
-use Rattle.cdc_ledger.specs.Events.{events}
-use Rattle.cdc_ledger.specs.History.{History}
-use Rattle.cdc_laws.specs.Log.{events_after}
-use Rattle.cdc_message.specs.declared.packets.Confirm.{Confirm}
-use Rattle.cdc_message.specs.declared.packets.Packet.{Packet}
-use Rattle.cdc_progress.specs.Records.{Saved}
-use Rattle.cdc_progress.specs.Stores.{IsRisked, MayRefuseSave, Risks}
+use Rattle.cdc_world.proofs.Words.{ActorParts, ActorsMove, ActorsStand, Answer, Bool, Confirm, Counted, Course, Crash, Done, Err, History, IsRisked, IsStepRisked, IsTried, IsTrue, List, MayRefuseSave, Moves, MovesBy, Next, None, NotEnabled, Offers, OffersAt, Ok, Option, Outcome, Packet, Parts, Poll, PollStep, PublishStep, Result, Risks, Save, Saved, Sends, SendsAt, SessionState, Some, Stands, StartError, Step, WorldState, [], after_answer, ap, begun, counts, events, events_after, false, if◌then◌else◌, inl, inr, is_some, last_session, loads, new_course, next, next_packet, next_poll, none_follow, numbered, option_map, progress_of, refl, saved_in, saves, start_after, start_refusal, store_refusal, subst, success, sym, take, takes_memory, true, uses_store, with_answer, with_crash, with_offer, with_packet, with_poll, with_progress, with_sent, with_session, ℕ, ◌++◌, ◌+◌, ◌==◌, ◌>>=◌, ◌∙◌, ◌∷◌, ◌≡◌, ◌⊎◌}
 use Rattle.cdc_progress.specs.StoreError.{StoreError}
 use Rattle.cdc_progress.specs.StoreError.TheVariants as store
-use Rattle.cdc_publisher.specs.Courses.{Course, after_answer, begun, last_session, new_course, next_packet, next_poll, progress_of, with_offer, with_sent}
-use Rattle.cdc_publisher.specs.SessionState.{SessionState}
 use Rattle.cdc_publisher.specs.Stands.{StandsFor, SessionStands}
 use Rattle.cdc_publisher.specs.Starts.{HasStarted, IsStartRisked, MayRefuseStart}
-use Rattle.cdc_publisher.specs.declared.errors.StartError.{StartError}
 use Rattle.cdc_publisher.specs.declared.errors.StartError.TheVariants as start
-use Rattle.cdc_publisher.specs.declared.session.Poll.{Poll}
-use Rattle.cdc_types.specs.declared.steps.Step.{Step}
-use Rattle.cdc_types.specs.declared.steps.Step.TheVariants.{Crash, Poll as PollStep, Publish as PublishStep, Answer, Save}
-use Rattle.cdc_world.specs.declared.steps.Did.TheVariants.{Counted, Done}
-use Rattle.cdc_world.specs.declared.steps.StepError.TheVariants.{NotEnabled}
-use Rattle.cdc_world.specs.Moves.{Moves, MovesBy}
-use Rattle.cdc_laws.specs.Readings.{none_follow}
-use Rattle.cdc_world.specs.Next.{IsStepRisked, IsTried, Next, Outcome, ◌>>=◌, counts, loads, next, saved_in, saves, start_after, success, takes_memory, uses_store, with_answer, with_crash, with_packet, with_poll, with_progress, with_session}
-use Rattle.cdc_world.specs.Parts.{ActorParts, Parts}
-use Rattle.cdc_world.specs.Refusals.{start_refusal, store_refusal}
-use Rattle.cdc_world.specs.Stands.{ActorsStand, Stands}
-use Rattle.cdc_world.specs.Turns.{ActorsMove, Offers, OffersAt, Sends, SendsAt}
-use Rattle.cdc_world.specs.Worlds.{WorldState, numbered}
 use Rattle.cdc_world.proofs.ActorMoves.{Moves-risked, done, unable}
 
 -- the course of a session that is there

@@ -1,12 +1,6 @@
 -- The store's count of failures over steps that are tried again.
-use Rattle.std.proofs.Common.{◌≤◌, ◌∙◌, ℕ, Result, Ok, Err, inl, inr, arith}
-use Rattle.cdc_progress.specs.Stores.{IsCounted}
+use Rattle.cdc_world.proofs.Words.{Did, Err, HaveTriesCounted, IsCounted, IsStoreCounted, IsStoreCountedPast, Ok, OutOfMemory, Result, StepError, Store, arith, inl, inr, ℕ, ◌∙◌, ◌≤◌}
 use Rattle.cdc_progress.specs.StoreError.TheVariants as store
-use Rattle.cdc_world.specs.Moves.{IsStoreCounted}
-use Rattle.cdc_world.specs.Tries.{HaveTriesCounted, IsStoreCountedPast}
-use Rattle.cdc_world.specs.declared.steps.Did.{Did}
-use Rattle.cdc_world.specs.declared.steps.StepError.{StepError}
-use Rattle.cdc_world.specs.declared.steps.StepError.TheVariants.{Store, OutOfMemory}
 
 -- a failure that counts takes nothing from the count
 counted_rises : (before after : ℕ) → IsCounted before after → before ≤ after

@@ -1,27 +1,13 @@
 -- Examples: what runs of a few steps make of small worlds.
-use Rattle.std.specs.Prelude.{ℕ, ◌≡◌, true, false, Option, Some, None, Ok, Err, List, [], ◌∷◌, ◌++◌, map}
-use Rattle.std.proofs.Common.{refl, inl, inr, arith}
+use Rattle.cdc_world.proofs.Words.{Ack, Answer, Arrive, Break, Close, CloseLedger, Crash, Done, Err, List, Next, NextPast, None, NotEnabled, Ok, Option, Refused, Rewind, Risks, Run, Save, Saved, Send, SessionsExhausted, Some, Start, StartAt, StartNotAllowed, Step, StepError, Store, Submit, SubscriberState, Take, WorldState, [], arith, false, inl, inr, kept_of, map, new_course, new_world, refl, run_of, saved, saved_from, true, ℕ, ◌++◌, ◌∷◌, ◌≡◌}
 use Rattle.cdc_types.specs.declared.accounts.NewAccount.{NewAccount}
 use Rattle.cdc_types.specs.declared.batches.Batch.TheVariants as batch
 use Rattle.cdc_types.specs.declared.transfers.NewTransfer.{NewTransfer}
 use Rattle.cdc_ledger.specs.declared.errors.BatchError.TheVariants.{LedgerClosed}
 use Rattle.cdc_match.specs.declared.pairs.Mode.TheVariants.{All}
-use Rattle.cdc_progress.specs.Records.{Saved, saved, saved_from}
-use Rattle.cdc_progress.specs.Stores.{Risks}
 use Rattle.cdc_progress.specs.StoreError.TheVariants.{WriteFault}
-use Rattle.cdc_publisher.specs.Courses.{new_course}
 use Rattle.cdc_subscriber.specs.declared.book.BookEntry.{BookEntry}
-use Rattle.cdc_subscriber.specs.Reception.{kept_of}
-use Rattle.cdc_subscriber.specs.SubscriberState.{SubscriberState}
-use Rattle.cdc_types.specs.declared.steps.Step.{Step}
-use Rattle.cdc_types.specs.declared.steps.Step.TheVariants.{Submit, CloseLedger, Start, StartAt, Crash, Poll, Publish, Arrive, Answer, Save, Send, Rewind, Break, Take, Ack, Close}
-use Rattle.cdc_world.specs.declared.steps.Did.TheVariants.{Done}
-use Rattle.cdc_world.specs.declared.steps.StepError.{StepError}
-use Rattle.cdc_world.specs.declared.steps.StepError.TheVariants.{NotEnabled, Refused, SessionsExhausted, StartNotAllowed, Store}
-use Rattle.cdc_world.specs.Next.{Next}
-use Rattle.cdc_world.specs.Runs.{Run, run_of}
-use Rattle.cdc_world.specs.Tries.{NextPast}
-use Rattle.cdc_world.specs.Worlds.{WorldState, new_world}
+use Rattle.cdc_types.specs.declared.steps.Step.TheVariants.{Poll, Publish}
 
 -- one subscriber, of every event, and a session that waits for one event at a time
 abbrev start : WorldState

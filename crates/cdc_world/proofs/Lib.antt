@@ -17,3 +17,4 @@ pub mod ServedWorlds
 pub mod SubscriberMoves
 pub mod TriedSteps
 pub mod WorkedRuns
+pub mod Words

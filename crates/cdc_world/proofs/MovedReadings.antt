@@ -1,10 +1,5 @@
 -- What readers of a world find of the subscriber of a number.
-use Rattle.std.proofs.Common.{◌≡◌, get_or, ℕ, zero, suc, ◌-◌, ◌<◌, ◌≤◌, List, [], ◌∷◌, Some, None, refl, ap, ◌∙◌, map, length, arith}
-use Rattle.std.proofs.lemmas.Option.{slice_get-get_or, slice_get_past}
-use Rattle.cdc_broker.specs.Broker.{BrokerState, queue_of}
-use Rattle.cdc_message.specs.declared.items.Item.{Item}
-use Rattle.cdc_world.specs.Stands.{QueueView, queue_for, view_of}
-use Rattle.cdc_world.specs.Worlds.{Finds, Subscription, numbered}
+use Rattle.cdc_world.proofs.Words.{BrokerState, Finds, Item, List, None, QueueView, Some, Subscription, [], ap, arith, get_or, length, map, numbered, queue_for, queue_of, refl, slice_get-get_or, slice_get_past, suc, view_of, zero, ℕ, ◌-◌, ◌<◌, ◌∙◌, ◌∷◌, ◌≡◌, ◌≤◌}
 use Rattle.cdc_world.proofs.NumberedElements.{numbered_parts, numbered_place}
 use Rattle.cdc_world.proofs.QueueViews.{view_read}
 

@@ -1,14 +1,7 @@
 -- Elements by their numbers, and by their places.
-use Rattle.std.proofs.Common.{◌≡◌, ℕ, ◌-◌, ◌<◌, ◌==◌, Bool, true, false, List, [], ◌∷◌, Some, None, zero, suc, refl, sym, ap, ◌∙◌, subst, length, map, get_or, inl, inr, arith}
-use Rattle.std.specs.Prelude.{Contains, nat_lt, option_map, if◌then◌else◌}
+use Rattle.cdc_world.proofs.Words.{Bool, Contains, Contains_slice_get, List, None, Some, [], ap, arith, cases_Bool, eqb-false, eqb-true, false, get_or, if◌then◌else◌, inl, inr, length, map, nat_lt, none-some, numbered, option_map, place_in, refl, slice_get-map, slice_get_past, slice_get_read, subscription_parts, subst, suc, sym, true, zero, ℕ, ◌-◌, ◌<◌, ◌==◌, ◌∙◌, ◌∷◌, ◌≡◌}
 use Rattle.std.specs.List.{slice_get}
-use Rattle.std.proofs.lemmas.Bool.{cases_Bool, eqb-true, eqb-false}
-use Rattle.std.proofs.lemmas.Option.{none-some, slice_get-map, slice_get_past, slice_get_read}
-use Rattle.cdc_laws.proofs.ListElements.{Contains_slice_get}
 use Rattle.cdc_world.specs.declared.subscriptions.Subscription.{Subscription}
-use Rattle.cdc_world.specs.Parts.{subscription_parts}
-use Rattle.cdc_world.specs.Turns.{place_in}
-use Rattle.cdc_world.specs.Worlds.{numbered}
 
 -- a number above 0 isn't 0
 above_none : (i : ℕ) → (suc i == 0) ≡ false

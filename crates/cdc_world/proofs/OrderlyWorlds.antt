@@ -1,17 +1,8 @@
 -- Whatever steps are taken, ledger, connector and broker keep what holds of them, so that what the broker took is a
 -- replay of the ledger's line.
-use Rattle.std.proofs.Common.{◌≡◌, ℕ, ◌-◌, true, List, [], ◌∷◌, ◌++◌, length, take, refl, sym, ap, ◌∙◌, subst, inl, inr, append-nil}
-use Rattle.std.specs.Prelude.{◌&&◌, not, nat_lt, Option, Some, None, Result, Ok, Err, Contains}
+use Rattle.cdc_world.proofs.Words.{Ack, Answer, Arguments, Arrive, BatchError, BatchResults, Break, Close, CloseLedger, Confirm, Connect, Contains, Contains-append_left, Contains-push, Contains-push_cases, Course, Crash, Err, History, IsAtStart, IsOrderly, IsReached, IsReplay, IsTried, List, Next, None, Ok, Option, Packet, Poll, PollStep, Publish, PublishStep, Reading, Result, Rewind, Save, Saved, Send, Some, Start, StartAt, StartError, Step, Submit, Subscription, Take, WorldState, [], after_answer, all_sent, ap, append-nil, begun, cases_Bool, cond_some, confirms_of, connector_in, empty_history, events, events_after, first_flight, inl, inr, is_taken, items_of, length, nat_lt, new_course, new_world, next, next_delivery, next_packet, next_poll, none-some, none_follow, none_there, not, numbered, progress_of, refl, same_Some, saved_in, saves, start_of, submit, subst, sym, take, taken_after-true, taken_items, true, unconfirmed, with_arrival, with_batch, with_offer, with_poll, with_sent, with_session, with_start, ℕ, ◌&&◌, ◌++◌, ◌-◌, ◌∙◌, ◌∷◌, ◌≡◌}
 use Rattle.std.specs.Option.{option_map}
-use Rattle.std.proofs.lemmas.Bool.{cases_Bool}
-use Rattle.std.proofs.lemmas.List.Elements.{Contains-append_left, Contains-push, Contains-push_cases}
-use Rattle.std.proofs.lemmas.Option.{cond_some, none-some, same_Some}
-use Rattle.cdc_broker.specs.Packets.{is_taken, items_of}
-use Rattle.cdc_ledger.specs.declared.errors.BatchError.{BatchError}
-use Rattle.cdc_ledger.specs.Events.{events}
-use Rattle.cdc_ledger.specs.History.{History, empty_history}
 use Rattle.cdc_ledger.specs.Sound.{IsSound}
-use Rattle.cdc_ledger.specs.Submit.{submit}
 use Rattle.cdc_ledger.proofs.KeptLaws.{IsSound-submit}
 use Rattle.cdc_ledger.proofs.SoundLaws.{IsSound-closed, IsSound-empty}
 use Rattle.cdc_laws.specs.Arrivals.{AreOfTaken, taken_of}
@@ -23,26 +14,7 @@ use Rattle.cdc_laws.proofs.Brokers.{AreOfTaken-confirmed, AreOfTaken-taken, take
 use Rattle.cdc_laws.proofs.Connectors.{IsConnectorRun-keeps, KeepsTo-begin, KeepsTo-confirm, KeepsTo-end, KeepsTo-goes_on, KeepsTo-half_started, KeepsTo-save, KeepsTo-sent, KeepsTo-start}
 use Rattle.cdc_laws.proofs.GoingOn.{GoesOn-closed, GoesOn-submit}
 use Rattle.cdc_laws.proofs.Offers.{KeepsTo-offer}
-use Rattle.cdc_laws.proofs.ListElements.{none_there}
-use Rattle.cdc_laws.proofs.Taking.{taken_after-true}
-use Rattle.cdc_laws.specs.Log.{events_after}
-use Rattle.cdc_match.specs.Arguments.{Arguments}
-use Rattle.cdc_message.specs.declared.packets.Confirm.{Confirm}
-use Rattle.cdc_message.specs.declared.packets.Packet.{Packet}
-use Rattle.cdc_message.specs.declared.packets.Packet.TheVariants.{Connect, Publish}
-use Rattle.cdc_message.specs.Replays.{IsReplay}
-use Rattle.cdc_progress.specs.Records.{Saved}
-use Rattle.cdc_publisher.specs.Courses.{Course, after_answer, all_sent, begun, new_course, next_packet, next_poll, progress_of, unconfirmed, with_offer, with_sent}
-use Rattle.cdc_publisher.specs.declared.errors.StartError.{StartError}
-use Rattle.cdc_publisher.specs.declared.session.Poll.{Poll}
 use Rattle.cdc_types.specs.Timestamps.{last_timestamp_from}
-use Rattle.cdc_types.specs.declared.batches.BatchResults.{BatchResults}
-use Rattle.cdc_types.specs.declared.steps.Step.{Step}
-use Rattle.cdc_types.specs.declared.steps.Step.TheVariants.{Submit, CloseLedger, Start, StartAt, Crash, Poll as PollStep, Publish as PublishStep, Arrive, Answer, Save, Send, Rewind, Break, Take, Ack, Close}
-use Rattle.cdc_world.specs.Orderly.{IsOrderly, connector_in}
-use Rattle.cdc_laws.specs.Readings.{Reading, none_follow}
-use Rattle.cdc_world.specs.Next.{IsAtStart, IsReached, IsTried, Next, confirms_of, first_flight, next, next_delivery, saved_in, saves, with_arrival, with_batch, with_poll, with_session, with_start}
-use Rattle.cdc_world.specs.Worlds.{Subscription, WorldState, new_world, numbered, start_of, taken_items}
 use Rattle.cdc_world.proofs.NumberedElements.{Contains_numbered}
 use Rattle.cdc_world.proofs.RelatedWorlds.{Keeps, Leaves, Leaves_on, Relates, next_leaves, reached_has}
 

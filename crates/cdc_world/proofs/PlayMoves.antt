@@ -1,19 +1,7 @@
 -- Steps that are all done, one more at a time, and where they stop.
-use Rattle.std.proofs.Common.{◌≡◌, ℕ, Option, Result, ◌+◌, ◌<◌, ◌≤◌, IsTrue, List, [], ◌∷◌, ◌++◌, Some, None, Ok, Err, refl, sym, ap, ◌∙◌, subst, length, take, drop, get_or, arith}
-use Rattle.std.specs.List.{list_any}
-use Rattle.std.proofs.lemmas.List.{drop_more, take_more}
+use Rattle.cdc_world.proofs.Words.{Did, DoesAll, Err, Going, IsTrue, List, MovesBy, NextOver, NextPast, None, Ok, Option, Parts, Plays, PlaysBy, Result, Risks, Some, Stands, Step, StepError, StopsAt, WorldState, [], ap, arith, drop, drop_more, get_or, length, list_any, loads, refl, subst, sym, take, take_more, ℕ, ◌++◌, ◌+◌, ◌<◌, ◌∙◌, ◌∷◌, ◌≡◌, ◌≤◌}
 use Rattle.std.proofs.Math.Seq.{drop-length}
 use Rattle.std.proofs.lemmas.List.Folds.{list_any_at}
-use Rattle.cdc_world.specs.declared.steps.Did.{Did}
-use Rattle.cdc_progress.specs.Stores.{Risks}
-use Rattle.cdc_types.specs.declared.steps.Step.{Step}
-use Rattle.cdc_world.specs.declared.steps.StepError.{StepError}
-use Rattle.cdc_world.specs.Next.{NextOver, loads}
-use Rattle.cdc_world.specs.Moves.{DoesAll, Going, MovesBy, Plays, PlaysBy, StopsAt}
-use Rattle.cdc_world.specs.Parts.{Parts}
-use Rattle.cdc_world.specs.Stands.{Stands}
-use Rattle.cdc_world.specs.Tries.{NextPast}
-use Rattle.cdc_world.specs.Worlds.{WorldState}
 
 -- so many of these steps are done
 pub record HasDone (Goes : Going) (p p' : Parts) (steps : List Step) (done : ℕ) : Type 0 where

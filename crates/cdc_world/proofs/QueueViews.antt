@@ -1,18 +1,6 @@
 -- The broker's queues as they represent the subscriptions: after an item was taken, and after one queue has changed.
-use Rattle.std.proofs.Common.{◌≡◌, ℕ, zero, suc, Bool, true, false, List, [], ◌∷◌, ◌++◌, Some, None, refl, sym, ap, ap₂, ◌∙◌, subst, map, append-nil}
-use Rattle.std.specs.Prelude.{Option, ◌-◌, option_map, slice_get, slice_set, unwrap_or, if◌then◌else◌}
-use Rattle.std.proofs.lemmas.Option.{same_Some, slice_get-map}
-use Rattle.cdc_broker.specs.Broker.{BrokerState, nobody, queue_of}
-use Rattle.cdc_broker.specs.Packets.{items_of}
-use Rattle.cdc_broker.specs.Queues.{QueueState, empty_queue, queued, with_item, item_for}
+use Rattle.cdc_world.proofs.Words.{Bool, BrokerState, Connect, HaveDelivered, Item, List, None, Option, Packet, Publish, QueueState, QueueView, Some, Subscription, WereDelivered, [], ap, append-nil, ap₂, empty_queue, false, if◌then◌else◌, item_for, items_of, items_of-push, map, nobody, option_map, queue_for, queue_of, queued, refl, same_Some, slice_get, slice_get-map, slice_set, subst, suc, sym, takes_item, true, unwrap_or, view_of, with_item, zero, ℕ, ◌++◌, ◌-◌, ◌∙◌, ◌∷◌, ◌≡◌}
 use Rattle.cdc_broker.proofs.Accepted.{filter_push}
-use Rattle.cdc_laws.proofs.Taking.{items_of-push}
-use Rattle.cdc_match.specs.Queue.{takes_item}
-use Rattle.cdc_message.specs.declared.items.Item.{Item}
-use Rattle.cdc_message.specs.declared.packets.Packet.{Packet}
-use Rattle.cdc_message.specs.declared.packets.Packet.TheVariants.{Connect, Publish}
-use Rattle.cdc_world.specs.Stands.{WereDelivered, HaveDelivered, QueueView, queue_for, view_of}
-use Rattle.cdc_world.specs.Worlds.{Subscription}
 use Rattle.cdc_world.proofs.NumberedElements.{slice_get_made}
 
 -- ---- an item is taken

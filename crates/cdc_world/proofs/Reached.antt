@@ -1,12 +1,7 @@
 -- What a subscriber may rely on in each world that steps lead to.
-use Rattle.std.proofs.Common.{◌≡◌, ℕ, Some}
+use Rattle.cdc_world.proofs.Words.{IsOrderly, IsReached, IsReplay, Some, Subscription, WorldState, kept_of, numbered, queue_in, start_of, taken_items, ℕ, ◌≡◌}
 use Rattle.cdc_laws.specs.Faithful.{IsFaithful, kept_from}
 use Rattle.cdc_laws.proofs.Faithful.{IsFaithful-queue, kept_of-queue}
-use Rattle.cdc_message.specs.Replays.{IsReplay}
-use Rattle.cdc_subscriber.specs.Reception.{kept_of}
-use Rattle.cdc_world.specs.Next.{IsReached}
-use Rattle.cdc_world.specs.Worlds.{Subscription, WorldState, numbered, queue_in, start_of, taken_items}
-use Rattle.cdc_world.specs.Orderly.{IsOrderly}
 use Rattle.cdc_world.proofs.OrderlyWorlds.{IsOrderly-reached, IsReplay-orderly}
 use Rattle.cdc_world.proofs.ServedSubscribers.{IsReplay-served}
 use Rattle.cdc_world.proofs.ServedWorlds.{AreQueued-reached}

@@ -1,16 +1,5 @@
 -- A world that steps lead to stays one as it goes on.
-use Rattle.std.proofs.Common.{ℕ, List, [], ◌∷◌, ◌++◌, refl, subst}
-use Rattle.std.specs.Prelude.{Option, Result}
-use Rattle.cdc_match.specs.Arguments.{Arguments}
-use Rattle.cdc_progress.specs.Records.{Saved}
-use Rattle.cdc_progress.specs.Stores.{Risks}
-use Rattle.cdc_world.specs.declared.steps.Did.{Did}
-use Rattle.cdc_types.specs.declared.steps.Step.{Step}
-use Rattle.cdc_world.specs.declared.steps.StepError.{StepError}
-use Rattle.cdc_world.specs.Next.{IsAtStart, IsReached, Leads, Next, NextOver}
-use Rattle.cdc_world.specs.Moves.{Going, IsPlay, IsPlayBy}
-use Rattle.cdc_world.specs.Tries.{NextPast}
-use Rattle.cdc_world.specs.Worlds.{WorldState, new_world}
+use Rattle.cdc_world.proofs.Words.{Arguments, Did, Going, IsAtStart, IsPlay, IsPlayBy, IsReached, Leads, List, Next, NextOver, NextPast, Option, Result, Risks, Saved, Step, StepError, WorldState, [], new_world, refl, subst, ℕ, ◌++◌, ◌∷◌}
 use Rattle.cdc_world.proofs.RelatedWorlds.{Keeps, Relates, has_past, has_play}
 
 -- before the first step

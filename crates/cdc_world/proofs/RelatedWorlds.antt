@@ -1,29 +1,7 @@
 -- What each step keeps, it keeps in a row, in a play and in every world that steps lead to.
-use Rattle.std.proofs.Common.{◌≡◌, true, Option, Some, None, Result, Ok, Err, ℕ, zero, suc, List, [], ◌∷◌, drop, take, refl, sym, ap, subst, inl, inr}
-use Rattle.std.specs.Prelude.{Contains}
-use Rattle.cdc_broker.specs.Packets.{is_taken}
-use Rattle.cdc_ledger.specs.declared.errors.BatchError.{BatchError}
-use Rattle.cdc_ledger.specs.History.{History}
-use Rattle.cdc_ledger.specs.Submit.{submit}
-use Rattle.cdc_message.specs.declared.items.Delivery.{Delivery}
-use Rattle.cdc_message.specs.declared.packets.Packet.{Packet}
-use Rattle.cdc_publisher.specs.Courses.{Course, begun, new_course, next_packet, next_poll}
-use Rattle.cdc_types.specs.declared.batches.BatchResults.{BatchResults}
-use Rattle.cdc_types.specs.declared.steps.Step.TheVariants.{Submit, CloseLedger, Start, StartAt, Crash, Poll as PollStep, Publish as PublishStep, Arrive, Answer, Save, Send, Rewind, Break, Take, Ack, Close}
+use Rattle.cdc_world.proofs.Words.{Ack, Answer, Arguments, Arrive, BatchError, BatchResults, Break, Close, CloseLedger, Contains, Course, Crash, Delivery, Did, DoesAll, Err, FailsTimes, Going, History, IsAtStart, IsPlayBy, IsReached, IsTried, Leads, List, Next, NextPast, None, Ok, Option, OutOfMemory, Outcome, Packet, PollStep, PublishStep, Result, Rewind, Risks, Save, Saved, Send, Some, Start, StartAt, StartError, Step, StepError, StopsAt, Store, Submit, Subscription, Take, WorldState, [], ap, begun, drop, first_flight, inl, inr, is_taken, new_course, new_world, next, next_delivery, next_packet, next_poll, numbered, refl, saves, submit, subst, suc, sym, take, true, with_ack, with_arrival, with_batch, with_break, with_close, with_delivery, with_rewind, with_session, with_start, with_subscription, with_taking, zero, ℕ, ◌>>=◌, ◌∷◌, ◌≡◌}
 use Rattle.cdc_world.proofs.NumberedElements.{Contains_numbered}
-use Rattle.cdc_match.specs.Arguments.{Arguments}
 use Rattle.cdc_progress.specs.StoreError.TheVariants as store
-use Rattle.cdc_progress.specs.Records.{Saved}
-use Rattle.cdc_progress.specs.Stores.{Risks}
-use Rattle.cdc_publisher.specs.declared.errors.StartError.{StartError}
-use Rattle.cdc_types.specs.declared.steps.Step.{Step}
-use Rattle.cdc_world.specs.declared.steps.Did.{Did}
-use Rattle.cdc_world.specs.declared.steps.StepError.{StepError}
-use Rattle.cdc_world.specs.declared.steps.StepError.TheVariants.{Store, OutOfMemory}
-use Rattle.cdc_world.specs.Moves.{DoesAll, Going, IsPlayBy, StopsAt}
-use Rattle.cdc_world.specs.Next.{IsAtStart, IsReached, IsTried, Leads, Next, Outcome, first_flight, next, next_delivery, saves, with_ack, with_arrival, with_batch, with_break, with_close, with_delivery, with_rewind, with_session, with_start, with_subscription, with_taking, ◌>>=◌}
-use Rattle.cdc_world.specs.Tries.{FailsTimes, NextPast}
-use Rattle.cdc_world.specs.Worlds.{Subscription, WorldState, new_world, numbered}
 
 -- ---- what a step leaves
 

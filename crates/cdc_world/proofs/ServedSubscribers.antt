@@ -1,25 +1,14 @@
 -- What holds for a subscriber and its queue is preserved when the queue gets an item, delivers or rewinds, and when
 -- the subscriber takes, acknowledges or closes.
-use Rattle.std.proofs.Common.{◌≡◌, ◌⊎◌, ℕ, ◌+◌, ◌<◌, ◌≤◌, max, Some, List, [], ◌∷◌, ◌++◌, length, get_or, take, refl, sym, ap, ap₂, ◌∙◌, subst, inl, inr, arith}
-use Rattle.std.specs.Prelude.{Contains}
-use Rattle.std.proofs.lemmas.Bool.{cases_lt}
-use Rattle.std.proofs.lemmas.List.{append_assoc, append-nil, get_or-take, length-take, map_push}
-use Rattle.std.proofs.lemmas.List.Elements.{Contains-append_left}
-use Rattle.cdc_broker.specs.Cursors.{delivery_at}
+use Rattle.cdc_world.proofs.Words.{Arguments, Contains, Contains-append_left, Delivery, IsPrefix, IsReplay, IsServed, Item, List, Some, Subscription, [], ap, append_assoc, ap₂, arith, cases_lt, delivery_at, first_flight, get_or, get_or-take, inl, inr, length, length-take, map_push, max, new_subscription, queue_at, refl, sent_to, subst, sym, take, with_ack, with_break, with_close, with_delivery, with_rewind, with_taking, ℕ, ◌++◌, ◌+◌, ◌<◌, ◌∙◌, ◌∷◌, ◌≡◌, ◌≤◌, ◌⊎◌}
+use Rattle.std.proofs.lemmas.List.{append-nil}
 use Rattle.cdc_laws.specs.Brokers.{HasDelivered}
 use Rattle.cdc_laws.specs.Deliveries.{deliveries}
 use Rattle.cdc_laws.proofs.Deliveries.{HasNoneTwice-deliveries, length-deliveries, position-deliveries}
 use Rattle.cdc_laws.proofs.Receiving.{HasTaken-close, HasTaken-next, HasTaken-nil, IsReplay-front, IsReplay-of_queue}
 use Rattle.cdc_laws.proofs.Queues.{HasDelivered-longer, HasDelivered-next, HasDelivered-nil, HasDelivered-rewound}
 use Rattle.cdc_laws.proofs.Replays.{Contains-unmap}
-use Rattle.cdc_match.specs.Arguments.{Arguments}
-use Rattle.cdc_message.specs.declared.items.Delivery.{Delivery}
-use Rattle.cdc_message.specs.declared.items.Item.{Item}
-use Rattle.cdc_message.specs.Replays.{IsPrefix, IsReplay}
 use Rattle.cdc_message.proofs.ReplayLaws.{IsReplay-Contains, IsReplay-earlier}
-use Rattle.cdc_world.specs.Next.{first_flight, with_ack, with_break, with_close, with_delivery, with_rewind, with_taking}
-use Rattle.cdc_world.specs.Served.{IsServed, queue_at, sent_to}
-use Rattle.cdc_world.specs.Worlds.{Subscription, new_subscription}
 
 -- nothing was delivered to a new subscriber, and it has missed nothing
 pub IsServed-new : (binding : Arguments) → IsServed [] (new_subscription binding)

@@ -1,18 +1,5 @@
 -- Whatever step is taken, each subscriber and its queue keep what holds of them.
-use Rattle.std.proofs.Common.{◌≡◌, ◌⊎◌, ℕ, zero, suc, ◌-◌, Bool, true, false, Option, Some, List, [], ◌∷◌, ◌++◌, map, refl, sym, ap, ◌∙◌, subst, inl, inr}
-use Rattle.std.specs.Prelude.{slice_get, slice_set}
-use Rattle.std.proofs.lemmas.List.Elements.{filter-append, filter_map-append}
-use Rattle.std.proofs.lemmas.Option.{same_Some}
-use Rattle.cdc_match.specs.Arguments.{Arguments}
-use Rattle.cdc_match.specs.Queue.{queue, takes_item}
-use Rattle.cdc_message.specs.declared.items.Item.{Item}
-use Rattle.cdc_message.specs.declared.packets.Packet.{Packet}
-use Rattle.cdc_progress.specs.Records.{Saved}
-use Rattle.cdc_types.specs.declared.steps.Step.{Step}
-use Rattle.cdc_broker.specs.Packets.{is_taken, items_of, packet_item}
-use Rattle.cdc_world.specs.Next.{IsReached, Next, next, with_ack, with_arrival, with_break, with_close, with_delivery, with_rewind, with_subscription, with_taking}
-use Rattle.cdc_world.specs.Served.{AreQueued, IsQueued, IsServed}
-use Rattle.cdc_world.specs.Worlds.{Subscription, WorldState, new_subscription, new_world, numbered, queue_in, with_numbered}
+use Rattle.cdc_world.proofs.Words.{AreQueued, Arguments, Bool, IsQueued, IsReached, IsServed, Item, List, Next, Option, Packet, Saved, Some, Step, Subscription, WorldState, [], ap, false, filter-append, filter_map-append, inl, inr, is_taken, items_of, map, new_subscription, new_world, next, numbered, packet_item, queue, queue_in, refl, same_Some, slice_get, slice_set, subst, suc, sym, takes_item, true, with_ack, with_arrival, with_break, with_close, with_delivery, with_numbered, with_rewind, with_subscription, with_taking, zero, ℕ, ◌++◌, ◌-◌, ◌∙◌, ◌∷◌, ◌≡◌, ◌⊎◌}
 use Rattle.cdc_world.proofs.NumberedElements.{numbered_from, numbered_parts, slice_get_made}
 use Rattle.cdc_world.proofs.RelatedWorlds.{EachMove, Keeps, Leaves, Relates, next_leaves, reached_has, step_leaves}
 use Rattle.cdc_world.proofs.ServedSubscribers.{IsServed-ack, IsServed-broken, IsServed-close, IsServed-longer, IsServed-new, IsServed-rewound, IsServed-sending, IsServed-taking}

@@ -1,31 +1,7 @@
 -- What is kept of the actors after a step of a subscriber and its queue.
-use Rattle.std.proofs.Common.{◌≡◌, ℕ, suc, ◌+◌, ◌-◌, ◌<◌, ◌==◌, max, Bool, true, false, List, [], ◌∷◌, ◌++◌, Option, Some, None, Result, Ok, Err, refl, sym, ap, ap₂, ◌∙◌, subst, map, length, drop, get_or, inl, inr, arith}
-use Rattle.std.specs.Prelude.{Contains, MatchResult, is_ok, nat_lt, not, ok_or, option_map, slice_set, if◌then◌else◌}
+use Rattle.cdc_world.proofs.Words.{Ack, ActorParts, ActorsMove, ActorsStand, Bool, Break, BrokerState, Close, Contains, Contains-push_cases, Counted, Cursor, DeliversAt, Delivery, Done, Err, HasClosed, HasTakenFirst, IsDelivered, Item, Kept_subscription, List, MatchResult, None, NotEnabled, Ok, Option, QueueState, QueueView, Reception, Result, Rewind, Send, Some, StepError, SubscriberState, Subscription, SubscriptionParts, Take, TakeError, TakesAt, Taking, Took, WereDelivered, WorldState, [], acknowledged, acknowledgement, after_ack, after_delivery, ap, ap₂, arith, delivery_at, drop, empty_queue, empty_subscription, false, first_flight, get_or, if◌then◌else◌, inl, inr, is_ok, is_unknown, kept_of, length, length-map, map, map-set, max, nat_lt, next, next_delivery, next_of_queue, next_reception, nobody, none_there, not, numbered, ok_or, option_map, parts_of, place_in, queue_for, queue_of, refl, rewound, rewound_queue, same_Some, slice_get-get_or, slice_set, subscription_parts, subst, suc, success, sym, taken_items, taking, true, view_of, with_ack, with_break, with_close, with_delivery, with_delivery_of, with_queue, with_rewind, with_subscription, with_taking, ℕ, ◌++◌, ◌+◌, ◌-◌, ◌<◌, ◌==◌, ◌>>=◌, ◌∙◌, ◌∷◌, ◌≡◌}
 use Rattle.std.specs.List.{slice_get}
-use Rattle.std.proofs.lemmas.List.{length-map, map-set}
-use Rattle.std.proofs.lemmas.List.Elements.{Contains-push_cases}
-use Rattle.std.proofs.lemmas.Option.{same_Some, slice_get-get_or}
-use Rattle.cdc_broker.specs.Broker.{BrokerState, nobody, queue_of, with_queue}
-use Rattle.cdc_broker.specs.Cursors.{Cursor, after_ack, after_delivery, delivery_at, rewound}
-use Rattle.cdc_broker.specs.Queues.{QueueState, acknowledged, empty_queue, is_unknown, next_delivery as next_of_queue, rewound_queue, with_delivery as with_delivery_of}
-use Rattle.cdc_laws.proofs.ListElements.{none_there}
-use Rattle.cdc_message.specs.declared.items.Delivery.{Delivery}
-use Rattle.cdc_message.specs.declared.items.Item.{Item}
 use Rattle.cdc_subscriber.specs.Answers.{TakesItem, answer_to}
-use Rattle.cdc_subscriber.specs.declared.errors.TakeError.{TakeError}
-use Rattle.cdc_subscriber.specs.declared.subscriber.Taking.{Taking}
-use Rattle.cdc_subscriber.specs.Reception.{Reception, kept_of, next as next_reception}
-use Rattle.cdc_subscriber.specs.SubscriberState.{SubscriberState}
-use Rattle.cdc_types.specs.declared.steps.Step.TheVariants.{Send, Rewind, Break, Take, Ack, Close}
-use Rattle.cdc_world.specs.declared.steps.Did.TheVariants.{Counted, Took, Done}
-use Rattle.cdc_world.specs.declared.steps.StepError.{StepError}
-use Rattle.cdc_world.specs.declared.steps.StepError.TheVariants.{NotEnabled}
-use Rattle.cdc_world.specs.declared.subscriptions.Subscription.{Subscription as Kept_subscription}
-use Rattle.cdc_world.specs.Next.{◌>>=◌, acknowledgement, first_flight, next, next_delivery, success, taking, with_ack, with_break, with_close, with_delivery, with_rewind, with_subscription, with_taking}
-use Rattle.cdc_world.specs.Parts.{ActorParts, SubscriptionParts, subscription_parts}
-use Rattle.cdc_world.specs.Stands.{ActorsStand, WereDelivered, IsDelivered, QueueView, parts_of, queue_for, view_of}
-use Rattle.cdc_world.specs.Turns.{ActorsMove, DeliversAt, HasClosed, HasTakenFirst, TakesAt, empty_subscription, place_in}
-use Rattle.cdc_world.specs.Worlds.{Subscription, WorldState, numbered, taken_items}
 use Rattle.cdc_world.proofs.NumberedElements.{Contains_numbered, numbered_place, place_is, slice_get_made, subscription_here}
 use Rattle.cdc_world.proofs.QueueViews.{delivered_here, delivered_set, set_found, set_same, view_read}
 use Rattle.cdc_world.proofs.ActorMoves.{done, exhausted, tried, unable}

@@ -1,15 +1,5 @@
 -- Tries of a step that failed, one more at a time, and the last one.
-use Rattle.std.proofs.Common.{◌≡◌, ℕ, suc, ◌+◌, ◌≤◌, false, IsTrue, Result, refl, subst, ◌∙◌, arith}
-use Rattle.cdc_progress.specs.Stores.{Risks}
-use Rattle.cdc_types.specs.declared.steps.Step.{Step}
-use Rattle.cdc_world.specs.declared.steps.Did.{Did}
-use Rattle.cdc_world.specs.declared.steps.StepError.{StepError}
-use Rattle.cdc_world.specs.Moves.{Moves}
-use Rattle.cdc_world.specs.Next.{NextOver, loads}
-use Rattle.cdc_world.specs.Parts.{Parts}
-use Rattle.cdc_world.specs.Stands.{Stands}
-use Rattle.cdc_world.specs.Tries.{FailsTimes, MovesPast, is_passing}
-use Rattle.cdc_world.specs.Worlds.{WorldState}
+use Rattle.cdc_world.proofs.Words.{Did, FailsTimes, IsTrue, Moves, MovesPast, NextOver, Parts, Result, Risks, Stands, Step, StepError, WorldState, arith, false, is_passing, loads, refl, subst, suc, ℕ, ◌+◌, ◌∙◌, ◌≡◌, ◌≤◌}
 
 -- a step was tried so often, and each try failed
 pub record HasFailed (p p' : Parts) (step : Step) (failed : ℕ) : Type 0 where

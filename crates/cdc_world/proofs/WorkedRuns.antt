@@ -1,11 +1,5 @@
 -- Steps in a row lead to the world that is left after them.
-use Rattle.std.proofs.Common.{◌≡◌, ℕ, List, [], ◌∷◌, take, add-one, refl}
-use Rattle.std.specs.Prelude.{None, Ok, Err}
-use Rattle.cdc_match.specs.Arguments.{Arguments}
-use Rattle.cdc_types.specs.declared.steps.Step.{Step}
-use Rattle.cdc_world.specs.Next.{IsReached, Leads, Outcome, next}
-use Rattle.cdc_world.specs.Runs.{Run, going_on, run_of}
-use Rattle.cdc_world.specs.Worlds.{WorldState, new_world}
+use Rattle.cdc_world.proofs.Words.{Arguments, Err, IsReached, Leads, List, None, Ok, Outcome, Run, Step, WorldState, [], add-one, going_on, new_world, next, refl, run_of, take, ℕ, ◌∷◌, ◌≡◌}
 
 -- one step, if those that follow lead to the world after them
 leads-on : (w : WorldState) (step : Step) (steps : List Step) (rest : WorldState → Run)

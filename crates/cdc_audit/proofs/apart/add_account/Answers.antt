@@ -1,5 +1,4 @@
-use Rattle.std.proofs.Common.{sym, subst, ◌∙◌}
-use Rattle.cdc_audit.specs.Standing.{IsTimeIndex}
+use Rattle.cdc_audit.proofs.Words.{IsTimeIndex, subst, sym, ◌∙◌}
 use Rattle.cdc_audit.proofs.ApartLemmas.{index-push, insert-new}
 use Rattle.cdc_audit.proofs.apart.add_account.Goals as goal
 

@@ -1,5 +1,4 @@
-use Rattle.std.proofs.Common.{◌++◌}
-use Rattle.cdc_audit.specs.Apart.{times_lines, together_lines}
+use Rattle.cdc_audit.proofs.Words.{times_lines, together_lines, ◌++◌}
 use Rattle.cdc_audit.proofs.StandLemmas.{either_is}
 use Rattle.cdc_audit.proofs.apart.apart_refusal.Goals as goal
 

@@ -1,6 +1,4 @@
-use Rattle.std.proofs.Common.{◌++◌}
-use Rattle.cdc_audit.specs.Apart.{apart_lines}
-use Rattle.cdc_audit.specs.Fields.{created_lines, fields_lines}
+use Rattle.cdc_audit.proofs.Words.{apart_lines, created_lines, fields_lines, ◌++◌}
 use Rattle.cdc_audit.proofs.StandLemmas.{either_is}
 use Rattle.cdc_audit.proofs.checks.fixed_refusal.Goals as goal
 

@@ -1,10 +1,4 @@
-use Rattle.cdc_audit.specs.Checks.{balances_lines, fixed_lines, transfer_lines}
-use Rattle.cdc_audit.specs.EventShapes.{shape_lines}
-use Rattle.cdc_audit.specs.Expiries.{expiry_lines}
-use Rattle.cdc_audit.specs.Limits.{limits_lines}
-use Rattle.cdc_audit.specs.Rules.{chain_lines, order_lines}
-use Rattle.cdc_audit.specs.Settling.{settling_lines}
-use Rattle.std.proofs.Common.{◌++◌}
+use Rattle.cdc_audit.proofs.Words.{balances_lines, chain_lines, expiry_lines, fixed_lines, limits_lines, order_lines, settling_lines, shape_lines, transfer_lines, ◌++◌}
 use Rattle.cdc_audit.proofs.StandLemmas.{either_is}
 use Rattle.cdc_audit.proofs.checks.refusal_by.Goals as goal
 

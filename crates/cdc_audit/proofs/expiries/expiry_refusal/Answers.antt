@@ -1,6 +1,4 @@
-use Rattle.std.proofs.Common.{◌∷◌, [], sym, ap₂, ◌∙◌}
-use Rattle.cdc_types.specs.Lines.{first_line}
-use Rattle.cdc_audit.specs.Expiries.{apart_line, expiry_lines, late_line}
+use Rattle.cdc_audit.proofs.Words.{[], apart_line, ap₂, expiry_lines, first_line, late_line, sym, ◌∙◌, ◌∷◌}
 use Rattle.cdc_audit.proofs.StandLemmas.{either_is}
 use Rattle.cdc_audit.proofs.expiries.expiry_refusal.Goals as goal
 

@@ -1,7 +1,5 @@
-use Rattle.std.proofs.Common.{◌++◌, []}
-use Rattle.std.specs.Prelude.{if◌then◌else◌}
-use Rattle.cdc_ledger.specs.Kinds.{stores}
-use Rattle.cdc_audit.specs.EventShapes.{account_lines, stored_lines}
+use Rattle.cdc_audit.proofs.Words.{[], if◌then◌else◌, stored_lines, stores, ◌++◌}
+use Rattle.cdc_audit.specs.EventShapes.{account_lines}
 use Rattle.cdc_audit.proofs.StandLemmas.{either_is}
 use Rattle.cdc_audit.proofs.shapes.shape_refusal.Goals as goal
 

@@ -1,6 +1,4 @@
-use Rattle.std.proofs.Common.{subst}
-use Rattle.std.specs.Prelude.{IfSome}
-use Rattle.cdc_audit.specs.Stops.{StepLeadsTo}
+use Rattle.cdc_audit.proofs.Words.{IfSome, StepLeadsTo, subst}
 use Rattle.cdc_audit.proofs.AuditLemmas.{goes_from, goes_keeps, goes_on, goes_stop, keeps_on_error}
 use Rattle.cdc_audit.proofs.streams.audit.Goals as goal
 

@@ -1,6 +1,4 @@
-use Rattle.std.proofs.Common.{None, subst}
-use Rattle.std.specs.Prelude.{IfOk}
-use Rattle.cdc_audit.specs.Stops.{LineLeadsTo}
+use Rattle.cdc_audit.proofs.Words.{IfOk, LineLeadsTo, None, subst}
 use Rattle.cdc_audit.proofs.AuditLemmas.{step_long, step_none, step_taken}
 use Rattle.cdc_audit.proofs.streams.audit_line.Goals as goal
 

@@ -1,6 +1,4 @@
-use Rattle.std.proofs.Common.{[]}
-use Rattle.std.specs.Prelude.{codes, decimal}
-use Rattle.cdc_audit.specs.Texts.{around}
+use Rattle.cdc_audit.proofs.Words.{[], around, codes, decimal}
 use Rattle.cdc_audit.proofs.TextLemmas.{on_ok_then, pieces}
 use Rattle.cdc_audit.proofs.texts.push_amount.Goals as goal
 

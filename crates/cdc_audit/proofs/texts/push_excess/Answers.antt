@@ -1,5 +1,4 @@
-use Rattle.std.specs.Prelude.{codes}
-use Rattle.cdc_audit.specs.Texts.{around, other_side_name, side_name}
+use Rattle.cdc_audit.proofs.Words.{around, codes, other_side_name, side_name}
 use Rattle.cdc_audit.proofs.TextLemmas.{on_ok_then, pieces}
 use Rattle.cdc_audit.proofs.texts.push_excess.Goals as goal
 

@@ -1,5 +1,4 @@
-use Rattle.std.specs.Prelude.{codes}
-use Rattle.cdc_audit.specs.Texts.{around}
+use Rattle.cdc_audit.proofs.Words.{around, codes}
 use Rattle.cdc_audit.proofs.TextLemmas.{on_ok_then, pieces}
 use Rattle.cdc_audit.proofs.texts.push_invalid.Goals as goal
 

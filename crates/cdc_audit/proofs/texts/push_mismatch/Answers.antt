@@ -1,5 +1,4 @@
-use Rattle.std.specs.Prelude.{codes, decimal}
-use Rattle.cdc_audit.specs.Texts.{around, field_name, unless_zero}
+use Rattle.cdc_audit.proofs.Words.{around, codes, decimal, field_name, unless_zero}
 use Rattle.cdc_audit.proofs.TextLemmas.{on_ok_then, pieces}
 use Rattle.cdc_audit.proofs.texts.push_mismatch.Goals as goal
 

@@ -1,5 +1,4 @@
-use Rattle.std.specs.Prelude.{codes}
-use Rattle.cdc_audit.specs.Texts.{refusal_name, refusal_text}
+use Rattle.cdc_audit.proofs.Words.{codes, refusal_name, refusal_text}
 use Rattle.cdc_audit.proofs.TextLemmas.{on_ok_then, pieces}
 use Rattle.cdc_audit.proofs.texts.push_refusal.Goals as goal
 

@@ -1,5 +1,4 @@
-use Rattle.std.proofs.Common.{subst}
-use Rattle.cdc_audit_state.specs.Rows.{GivesRow}
+use Rattle.cdc_audit_state.proofs.Words.{GivesRow, subst}
 use Rattle.cdc_audit_state.proofs.LoopLemmas.{reads_all, reads_begin, reads_more, reads_wrong}
 use Rattle.cdc_audit_state.proofs.parts.read_parts.Goals as goal
 

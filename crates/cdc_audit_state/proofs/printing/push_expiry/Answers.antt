@@ -1,7 +1,4 @@
-use Rattle.std.proofs.Common.{ap, append-nil, sym, ◌∙◌, ◌++◌}
-use Rattle.std.proofs.lemmas.Result.{on_ok_weaker}
-use Rattle.std.specs.Prelude.{codes}
-use Rattle.cdc_audit_state.specs.States.{event_line, expiry_rows, row_line, rows_text}
+use Rattle.cdc_audit_state.proofs.Words.{ap, append-nil, codes, event_line, expiry_rows, on_ok_weaker, row_line, rows_text, sym, ◌++◌, ◌∙◌}
 use Rattle.cdc_audit_state.proofs.printing.push_expiry.Goals as goal
 
 pub returns-in-Some : goal.returns-in-Some

@@ -1,6 +1,4 @@
-use Rattle.std.proofs.lemmas.Result.{on_ok_weaker}
-use Rattle.std.specs.Prelude.{◌++◌, codes}
-use Rattle.cdc_codec.specs.Texts.{spaced}
+use Rattle.cdc_audit_state.proofs.Words.{codes, on_ok_weaker, spaced, ◌++◌}
 use Rattle.cdc_audit_state.proofs.PrintingLemmas.{pieces}
 use Rattle.cdc_audit_state.proofs.printing.push_fields.Goals as goal
 

@@ -1,6 +1,4 @@
-use Rattle.std.proofs.lemmas.Result.{on_ok_weaker}
-use Rattle.cdc_subscriber.specs.Lines.{subscriber_text}
-use Rattle.cdc_audit_state.specs.States.{heading, state_text}
+use Rattle.cdc_audit_state.proofs.Words.{heading, on_ok_weaker, state_text, subscriber_text}
 use Rattle.cdc_audit_state.proofs.PrintingLemmas.{pieces}
 use Rattle.cdc_audit_state.proofs.printing.push_parts.Goals as goal
 

@@ -1,6 +1,4 @@
-use Rattle.std.proofs.Common.{◌≡◌, ◌++◌, take}
-use Rattle.std.specs.List.{flat_map}
-use Rattle.cdc_audit_state.specs.States.{time_line}
+use Rattle.cdc_audit_state.proofs.Words.{flat_map, take, time_line, ◌++◌, ◌≡◌}
 use Rattle.cdc_audit_state.proofs.printing.push_time_lines.Given as goal
 
 abbrev pub invariant-loop-timestamp : goal.invariant-loop-timestamp

@@ -1,5 +1,4 @@
-use Rattle.std.proofs.Common.{ap, sym, ◌∙◌, ◌++◌}
-use Rattle.std.proofs.lemmas.Result.{on_ok_weaker}
+use Rattle.cdc_audit_state.proofs.Words.{ap, on_ok_weaker, sym, ◌++◌, ◌∙◌}
 use Rattle.cdc_audit_state.proofs.PrintingLemmas.{times_text}
 use Rattle.cdc_audit_state.proofs.printing.push_times.Goals as goal
 

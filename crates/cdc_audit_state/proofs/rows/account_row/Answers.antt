@@ -1,5 +1,4 @@
-use Rattle.std.proofs.Common.{arith}
-use Rattle.cdc_audit_state.specs.Rows.{account_byte}
+use Rattle.cdc_audit_state.proofs.Words.{account_byte, arith}
 use Rattle.cdc_audit_state.proofs.RowLemmas.{account_reads, drop_less}
 use Rattle.cdc_audit_state.proofs.rows.account_row.Goals as goal
 

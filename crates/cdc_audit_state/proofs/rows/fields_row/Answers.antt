@@ -1,6 +1,4 @@
-use Rattle.std.proofs.Common.{◌^◌, ap, arith, length, subst}
-use Rattle.cdc_codec.specs.ReadBack.{ReadsNumber}
-use Rattle.cdc_audit_state.specs.Rows.{fields_byte}
+use Rattle.cdc_audit_state.proofs.Words.{ReadsNumber, ap, arith, fields_byte, length, subst, ◌^◌}
 use Rattle.cdc_audit_state.proofs.RowLemmas.{drop_less, fields_reads}
 use Rattle.cdc_audit_state.proofs.rows.fields_row.Goals as goal
 

@@ -1,6 +1,4 @@
-use Rattle.std.proofs.Common.{◌^◌, ap, arith, length, subst}
-use Rattle.cdc_codec.specs.ReadBack.{ReadsNumber}
-use Rattle.cdc_audit_state.specs.Rows.{plain_byte}
+use Rattle.cdc_audit_state.proofs.Words.{ReadsNumber, ap, arith, length, plain_byte, subst, ◌^◌}
 use Rattle.cdc_audit_state.proofs.RowLemmas.{drop_less, plain_reads}
 use Rattle.cdc_audit_state.proofs.rows.plain_row.Goals as goal
 

@@ -1,5 +1,4 @@
-use Rattle.std.proofs.Common.{◌++◌, ◌∷◌, ◌∙◌, ap, drop, refl}
-use Rattle.cdc_codec.specs.Texts.{spaced}
+use Rattle.cdc_audit_state.proofs.Words.{ap, drop, refl, spaced, ◌++◌, ◌∙◌, ◌∷◌}
 use Rattle.cdc_audit_state.proofs.RowLemmas.{same_fields}
 use Rattle.cdc_audit_state.proofs.rows.read_fields.Goals as goal
 

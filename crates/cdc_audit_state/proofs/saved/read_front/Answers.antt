@@ -1,6 +1,4 @@
-use Rattle.std.proofs.Common.{◌++◌, ◌∷◌, ◌∙◌, ap, arith, drop, refl}
-use Rattle.std.specs.Prelude.{codes}
-use Rattle.cdc_codec.specs.Texts.{spaced, yes_or_no}
+use Rattle.cdc_audit_state.proofs.Words.{ap, arith, codes, drop, refl, spaced, yes_or_no, ◌++◌, ◌∙◌, ◌∷◌}
 use Rattle.cdc_audit_state.proofs.SavedLemmas.{front_text}
 use Rattle.cdc_audit_state.proofs.saved.read_front.Goals as goal
 

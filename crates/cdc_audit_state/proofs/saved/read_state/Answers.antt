@@ -1,7 +1,4 @@
-use Rattle.std.proofs.Common.{◌∙◌, ap, subst, sym}
-use Rattle.std.proofs.lemmas.Bool.{false≢true}
-use Rattle.cdc_audit_state.specs.Parts.{GivesParts}
-use Rattle.cdc_audit_state.specs.States.{state_text}
+use Rattle.cdc_audit_state.proofs.Words.{GivesParts, ap, false≢true, state_text, subst, sym, ◌∙◌}
 use Rattle.cdc_audit_state.proofs.SavedLemmas.{reads_some, reads_state}
 use Rattle.cdc_audit_state.proofs.saved.read_state.Goals as goal
 

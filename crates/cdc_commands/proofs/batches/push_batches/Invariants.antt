@@ -1,5 +1,4 @@
-use Rattle.std.proofs.Common.{◌≡◌, ◌+◌, ◌++◌, drop}
-use Rattle.cdc_commands.specs.Printed.{answers_to, history_after}
+use Rattle.cdc_commands.proofs.Words.{answers_to, drop, history_after, ◌++◌, ◌+◌, ◌≡◌}
 use Rattle.cdc_commands.proofs.batches.push_batches.Given as goal
 
 abbrev pub invariant-loop-place : goal.invariant-loop-place

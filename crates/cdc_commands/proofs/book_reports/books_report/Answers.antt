@@ -1,10 +1,4 @@
-use Rattle.std.proofs.Common.{true, ◌≡◌, ◌<◌, ◌^◌, ◌∙◌, ap, ap₂, map, sym, subst, List, length}
-use Rattle.cdc_types.specs.declared.events.Event.{Event}
-use Rattle.cdc_ledger.specs.Events.{events}
-use Rattle.cdc_match.specs.Arguments.{Arguments}
-use Rattle.cdc_laws.specs.Line.{emitted}
-use Rattle.cdc_commands.specs.Feeds.{kept_by}
-use Rattle.cdc_commands.specs.Printed.{history_of}
+use Rattle.cdc_commands.proofs.Words.{Arguments, Event, List, ap, ap₂, emitted, events, history_of, kept_by, length, map, subst, sym, true, ◌<◌, ◌^◌, ◌∙◌, ◌≡◌}
 use Rattle.cdc_commands.proofs.HeldLaws.{few_of_script}
 use Rattle.cdc_commands.proofs.book_reports.books_report.Goals as goal
 

@@ -1,5 +1,4 @@
-use Rattle.std.proofs.Common.{Err, Ok}
-use Rattle.cdc_commands.specs.Printed.{PrintsScript}
+use Rattle.cdc_commands.proofs.Words.{Err, Ok, PrintsScript}
 use Rattle.cdc_commands.proofs.HeldLaws.{all_balances, whole_feeds}
 use Rattle.cdc_commands.proofs.OutputLemmas.{none_parsed, parsed_printed, writes_made}
 use Rattle.cdc_commands.proofs.books.books.Goals as goal

@@ -1,5 +1,4 @@
-use Rattle.std.proofs.lemmas.Result.{IfErr-weaker}
-use Rattle.cdc_commands.specs.Outcomes.{MayFailScript}
+use Rattle.cdc_commands.proofs.Words.{IfErr-weaker, MayFailScript}
 use Rattle.cdc_commands.proofs.OutputLemmas.{read_before, writes_made}
 use Rattle.cdc_commands.proofs.check.check_files.Goals as goal
 

@@ -1,9 +1,4 @@
-use Rattle.std.proofs.Common.{◌≡◌, ◌∙◌, ap, sym, Some, arith}
-use Rattle.std.specs.Prelude.{string_bytes}
-use Rattle.std.specs.List.{slice_get}
-use Rattle.cdc_commands.specs.Messages.{message_lines}
-use Rattle.cdc_output.proofs.FoundElements.{found_within}
-use Rattle.cdc_output.proofs.TextLemmas.{texts_more}
+use Rattle.cdc_commands.proofs.Words.{Some, ap, arith, found_within, message_lines, slice_get, string_bytes, sym, texts_more, ◌∙◌, ◌≡◌}
 use Rattle.cdc_commands.proofs.event_lines.event_lines.Goals as goal
 use Rattle.cdc_commands.proofs.event_lines.event_lines.Goals.{in-Some+in_ok-push_message, in_default}
 

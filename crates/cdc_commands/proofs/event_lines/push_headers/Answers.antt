@@ -1,7 +1,4 @@
-use Rattle.std.proofs.Common.{codes}
-use Rattle.std.specs.Prelude.{string_bytes}
-use Rattle.cdc_commands.specs.Messages.{kind_header, number_header}
-use Rattle.cdc_output.proofs.TextLemmas.{pieces}
+use Rattle.cdc_commands.proofs.Words.{codes, kind_header, number_header, pieces, string_bytes}
 use Rattle.cdc_commands.proofs.event_lines.push_headers.Goals as goal
 
 pub returns : goal.returns

@@ -1,7 +1,5 @@
-use Rattle.std.proofs.Common.{codes}
-use Rattle.std.specs.Prelude.{string_bytes}
+use Rattle.cdc_commands.proofs.Words.{codes, pieces, string_bytes}
 use Rattle.cdc_message.specs.Kinds.{kind_text}
-use Rattle.cdc_output.proofs.TextLemmas.{pieces}
 use Rattle.cdc_commands.proofs.event_lines.push_kind.Goals as goal
 
 pub returns : goal.returns

@@ -1,9 +1,5 @@
-use Rattle.std.proofs.Common.{codes, ◌++◌, ◌≡◌}
-use Rattle.std.specs.Prelude.{string_bytes}
-use Rattle.cdc_message.specs.Bodies.{body}
+use Rattle.cdc_commands.proofs.Words.{body, codes, headers_line, pieces, seconds_of, string_bytes, ◌++◌, ◌≡◌}
 use Rattle.cdc_message.specs.Headers.{headers_of_event}
-use Rattle.cdc_commands.specs.Messages.{headers_line, seconds_of}
-use Rattle.cdc_output.proofs.TextLemmas.{pieces}
 use Rattle.cdc_commands.proofs.event_lines.push_message.Goals as goal
 
 pub returns : goal.returns

@@ -1,5 +1,4 @@
-use Rattle.std.proofs.Common.{◌≡◌, [], map, take}
-use Rattle.cdc_commands.specs.Feeds.{kept_by}
+use Rattle.cdc_commands.proofs.Words.{[], kept_by, map, take, ◌≡◌}
 use Rattle.cdc_commands.proofs.feeding.new_subscribers.Given as goal
 
 abbrev pub invariant-loop : goal.invariant-loop

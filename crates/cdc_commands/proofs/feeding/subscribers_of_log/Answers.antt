@@ -1,14 +1,5 @@
-use Rattle.std.proofs.Common.{◌≡◌, ◌+◌, ◌<◌, ◌++◌, ◌∷◌, [], ◌∙◌, List, ap, map, sym, subst, take, arith}
-use Rattle.std.proofs.lemmas.List.{with_items_is}
-use Rattle.cdc_types.specs.declared.events.Event.{Event}
-use Rattle.cdc_types.specs.Widths.{max_64}
-use Rattle.cdc_broker.specs.Broker.{BrokerState}
-use Rattle.cdc_message.specs.declared.items.Item.{Item}
-use Rattle.cdc_message.specs.declared.items.Item.TheVariants.{Event as OfEvent}
-use Rattle.cdc_subscriber.specs.SubscriberState.{SubscriberState}
-use Rattle.cdc_commands.specs.Private.Takers.{AreFed}
+use Rattle.cdc_commands.proofs.Words.{AreFed, BrokerState, Event, Item, List, OfEvent, SubscriberState, [], ap, arith, found_within, map, max_64, subst, sym, take, with_items_is, ◌++◌, ◌+◌, ◌<◌, ◌∙◌, ◌∷◌, ◌≡◌}
 use Rattle.cdc_commands.proofs.FeedLemmas.{AreFedTo, AreFedTo-more}
-use Rattle.cdc_output.proofs.FoundElements.{found_within}
 use Rattle.cdc_commands.proofs.feeding.subscribers_of_log.Goals as goal
 use Rattle.cdc_commands.proofs.feeding.subscribers_of_log.Goals.{in-Some+in_ok-of+in_ok-feed, in_default}
 

@@ -1,10 +1,4 @@
-use Rattle.std.proofs.Common.{◌≡◌, ◌-◌, ◌<◌, ◌∙◌, Some, ap, sym, length, rules, arith}
-use Rattle.std.specs.Prelude.{Option}
-use Rattle.cdc_broker.specs.Broker.{queue_of, with_queue}
-use Rattle.cdc_broker.specs.Queues.{next_delivery, with_delivery}
-use Rattle.cdc_message.specs.declared.items.Delivery.{Delivery}
-use Rattle.cdc_subscriber.specs.Reception.{Reception, kept_of}
-use Rattle.cdc_commands.specs.Private.Takers.{receiving_delivery, with_taken}
+use Rattle.cdc_commands.proofs.Words.{Delivery, Option, Reception, Some, ap, arith, kept_of, length, next_delivery, queue_of, receiving_delivery, rules, sym, with_delivery, with_queue, with_taken, ◌-◌, ◌<◌, ◌∙◌, ◌≡◌}
 use Rattle.cdc_commands.proofs.TakerLemmas.{acknowledges}
 use Rattle.cdc_commands.proofs.feeding.take_next.Goals as goal
 

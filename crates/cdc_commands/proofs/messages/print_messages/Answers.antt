@@ -1,10 +1,4 @@
-use Rattle.std.proofs.Common.{◌<◌, ◌∙◌, List, [], ◌∷◌, ap, length, subst, true, arith}
-use Rattle.std.proofs.lemmas.Result.{on_err_weaker}
-use Rattle.cdc_ledger.specs.Events.{events}
-use Rattle.cdc_ledger.specs.History.{empty_history}
-use Rattle.cdc_types.specs.declared.events.Event.{Event}
-use Rattle.cdc_script.specs.declared.scripts.ClientBatch.{ClientBatch}
-use Rattle.cdc_commands.specs.Printed.{history_after}
+use Rattle.cdc_commands.proofs.Words.{ClientBatch, Event, List, [], ap, arith, empty_history, events, history_after, length, on_err_weaker, subst, true, ◌<◌, ◌∙◌, ◌∷◌}
 use Rattle.cdc_commands.proofs.messages.print_messages.Goals as goal
 
 -- if there is an event, there was a batch

@@ -1,8 +1,4 @@
-use Rattle.std.proofs.Common.{◌≡◌, ◌++◌, take}
-use Rattle.std.specs.Prelude.{string_bytes}
-use Rattle.std.specs.List.{flat_map}
-use Rattle.cdc_types.specs.Results.{account_number}
-use Rattle.cdc_codec.specs.Texts.{spaced}
+use Rattle.cdc_commands.proofs.Words.{account_number, flat_map, spaced, string_bytes, take, ◌++◌, ◌≡◌}
 use Rattle.cdc_commands.proofs.report.push_account_results.Given as goal
 
 abbrev pub invariant-loop-result : goal.invariant-loop-result

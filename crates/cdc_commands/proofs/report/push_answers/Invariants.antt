@@ -1,6 +1,4 @@
-use Rattle.std.proofs.Common.{◌≡◌, ◌++◌, take}
-use Rattle.std.specs.Prelude.{string_bytes}
-use Rattle.cdc_commands.specs.Report.{answered_lines}
+use Rattle.cdc_commands.proofs.Words.{answered_lines, string_bytes, take, ◌++◌, ◌≡◌}
 use Rattle.cdc_commands.proofs.report.push_answers.Given as goal
 
 abbrev pub invariant-loop-answered : goal.invariant-loop-answered

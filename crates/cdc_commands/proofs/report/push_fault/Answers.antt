@@ -1,8 +1,4 @@
-use Rattle.std.proofs.Common.{◌≡◌, codes, ◌++◌}
-use Rattle.std.specs.Prelude.{string_bytes}
-use Rattle.cdc_script.specs.Faults.{kind_name}
-use Rattle.cdc_codec.specs.Texts.{spaced}
-use Rattle.cdc_output.proofs.TextLemmas.{pieces}
+use Rattle.cdc_commands.proofs.Words.{codes, kind_name, pieces, spaced, string_bytes, ◌++◌, ◌≡◌}
 use Rattle.cdc_commands.proofs.report.push_fault.Goals as goal
 
 pub returns : goal.returns

@@ -1,5 +1,4 @@
-use Rattle.std.proofs.Common.{◌≡◌, ◌+◌, ◌++◌, drop}
-use Rattle.cdc_commands.specs.Private.Takers.{kept_text}
+use Rattle.cdc_commands.proofs.Words.{drop, kept_text, ◌++◌, ◌+◌, ◌≡◌}
 use Rattle.cdc_commands.proofs.report.push_subscribers.Given as goal
 
 abbrev pub invariant-loop-place : goal.invariant-loop-place

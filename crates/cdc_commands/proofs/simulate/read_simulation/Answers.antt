@@ -1,10 +1,4 @@
-use Rattle.std.proofs.Common.{[], Some}
-use Rattle.std.specs.Prelude.{option_map}
-use Rattle.std.proofs.lemmas.Result.{IfErr-weaker, IfOk-weaker}
-use Rattle.cdc_script.specs.StepFiles.{acts_of}
-use Rattle.cdc_commands.specs.declared.output.Output.{Output}
-use Rattle.cdc_commands.specs.Observed.{SawPlan}
-use Rattle.cdc_commands.specs.Outcomes.{IsSimulationFault, MayFailScript}
+use Rattle.cdc_commands.proofs.Words.{IfErr-weaker, IfOk-weaker, IsSimulationFault, MayFailScript, Output, SawPlan, Some, [], acts_of, option_map}
 use Rattle.cdc_commands.proofs.OutputLemmas.{made_of_bad_script, made_of_script, made_of_steps, may_fail}
 use Rattle.cdc_commands.proofs.simulate.read_simulation.Goals as goal
 

@@ -1,6 +1,4 @@
-use Rattle.std.proofs.Common.{Some, []}
-use Rattle.cdc_commands.specs.declared.output.Output.{Output}
-use Rattle.cdc_commands.specs.Observed.{SawPlan}
+use Rattle.cdc_commands.proofs.Words.{Output, SawPlan, Some, []}
 use Rattle.cdc_commands.proofs.OutputLemmas.{made_of_acts}
 use Rattle.cdc_commands.proofs.simulate.script_simulation.Goals as goal
 

@@ -1,9 +1,4 @@
-use Rattle.std.proofs.Common.{◌≡◌, List, [], None, Ok, Some, ap, refl, subst, sym}
-use Rattle.cdc_script.specs.declared.step_files.Act.{Act}
-use Rattle.cdc_commands.specs.Observed.{SawPlan}
-use Rattle.cdc_commands.specs.Outcomes.{Outcome}
-use Rattle.cdc_commands.specs.Simulated.{SimulationInput, of_acts}
-use Rattle.cdc_commands.specs.Simulations.{Plan}
+use Rattle.cdc_commands.proofs.Words.{Act, List, None, Ok, Outcome, Plan, SawPlan, SimulationInput, Some, [], ap, of_acts, refl, subst, sym, ◌≡◌}
 use Rattle.cdc_commands.proofs.OutputLemmas.{prints_after, prints_none}
 use Rattle.cdc_commands.proofs.simulate.steps_simulation.Goals as goal
 

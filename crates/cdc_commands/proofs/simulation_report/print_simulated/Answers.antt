@@ -1,6 +1,4 @@
-use Rattle.std.proofs.Common.{◌++◌, ◌∙◌, List, ℕ, ap, ap₂}
-use Rattle.cdc_commands.specs.declared.batches.Answered.{Answered}
-use Rattle.cdc_commands.specs.Report.{answered_lines}
+use Rattle.cdc_commands.proofs.Words.{Answered, List, answered_lines, ap, ap₂, ℕ, ◌++◌, ◌∙◌}
 use Rattle.cdc_commands.proofs.SimulationLemmas.{world_text}
 use Rattle.cdc_commands.proofs.simulation_report.print_simulated.Goals as goal
 

@@ -1,6 +1,4 @@
-use Rattle.std.proofs.Common.{◌<◌, ◌≤◌, length, arith}
-use Rattle.std.proofs.lemmas.List.{drop_all}
-use Rattle.cdc_output.proofs.FoundElements.{found_at}
+use Rattle.cdc_commands.proofs.Words.{arith, drop_all, found_at, length, ◌<◌, ◌≤◌}
 use Rattle.cdc_commands.proofs.SimulationLemmas.{numbered_found, printed_more, printed_whole}
 use Rattle.cdc_commands.proofs.simulation_report.push_subscriptions.Goals as goal
 

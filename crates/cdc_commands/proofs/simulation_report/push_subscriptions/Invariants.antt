@@ -1,7 +1,4 @@
-use Rattle.std.proofs.Common.{◌≡◌, ◌+◌, ◌++◌, drop}
-use Rattle.cdc_commands.specs.Simulations.{subscriptions_text}
-use Rattle.cdc_world.specs.Stands.{Stands}
-use Rattle.cdc_world.specs.Worlds.{WorldState}
+use Rattle.cdc_commands.proofs.Words.{Stands, WorldState, drop, subscriptions_text, ◌++◌, ◌+◌, ◌≡◌}
 use Rattle.cdc_commands.proofs.simulation_report.push_subscriptions.Given as goal
 
 abbrev pub invariant-loop-place : goal.invariant-loop-place

@@ -1,7 +1,5 @@
-use Rattle.std.proofs.Common.{◌≤◌, length, refl, subst, sym}
-use Rattle.std.proofs.lemmas.Result.{IfOk-weaker}
+use Rattle.cdc_commands.proofs.Words.{IfOk-weaker, PlaysActs, at_start, length, refl, subst, sym, ◌≤◌}
 use Rattle.cdc_world.specs.declared.world.Played.{Played}
-use Rattle.cdc_commands.specs.Simulations.{PlaysActs, at_start}
 use Rattle.cdc_commands.proofs.SimulationReached.{comes_seen, comes_to}
 use Rattle.cdc_commands.proofs.simulations.play_script.Goals as goal
 

@@ -1,11 +1,4 @@
-use Rattle.std.proofs.Common.{◌≡◌, ◌++◌, ◌∙◌, ap, ap₂, List, ℕ}
-use Rattle.cdc_ledger.specs.History.{empty_history}
-use Rattle.cdc_laws.specs.Line.{line}
-use Rattle.cdc_commands.specs.declared.batches.Answered.{Answered}
-use Rattle.cdc_commands.specs.Feeds.{subscribers_text}
-use Rattle.cdc_commands.specs.Printed.{answers_to, history_of}
-use Rattle.cdc_commands.specs.Private.Takers.{kept_text}
-use Rattle.cdc_commands.specs.Report.{answered_lines}
+use Rattle.cdc_commands.proofs.Words.{Answered, List, answered_lines, answers_to, ap, ap₂, empty_history, history_of, kept_text, line, subscribers_text, ℕ, ◌++◌, ◌∙◌, ◌≡◌}
 use Rattle.cdc_commands.proofs.TextLemmas.{kept_text-bindings}
 use Rattle.cdc_commands.proofs.text.print_books.Goals as goal
 

@@ -1,6 +1,4 @@
-use Rattle.std.proofs.Common.{◌∙◌, ◌++◌, ◌∷◌, List, ℕ, [], ap, append_assoc, map, sym, take}
-use Rattle.std.specs.Prelude.{slice_index, string_bytes}
-use Rattle.cdc_commands.specs.ShownWords.{shown_byte}
+use Rattle.cdc_commands.proofs.Words.{List, [], ap, append_assoc, map, shown_byte, slice_index, string_bytes, sym, take, ℕ, ◌++◌, ◌∙◌, ◌∷◌}
 use Rattle.cdc_commands.proofs.ShownWords.{one_more}
 use Rattle.cdc_commands.proofs.words.push_shown.Goals as goal
 

@@ -1,6 +1,4 @@
-use Rattle.std.proofs.Common.{◌≡◌, ◌++◌, map, take}
-use Rattle.std.specs.Prelude.{string_bytes}
-use Rattle.cdc_commands.specs.ShownWords.{shown_byte}
+use Rattle.cdc_commands.proofs.Words.{map, shown_byte, string_bytes, take, ◌++◌, ◌≡◌}
 use Rattle.cdc_commands.proofs.words.push_shown.Given as goal
 
 -- the bytes so far

@@ -1,5 +1,4 @@
-use Rattle.std.proofs.Common.{◌≡◌, drop, fold}
-use Rattle.cdc_deliveries.specs.Arrivals.{arriving, with_step}
+use Rattle.cdc_deliveries.proofs.Words.{arriving, drop, fold, with_step, ◌≡◌}
 use Rattle.cdc_deliveries.proofs.arrivals.arrivals_of.Given as goal
 
 -- what the steps that are left make of what has arrived is what all steps make

@@ -1,7 +1,6 @@
-use Rattle.std.proofs.Common.{◌≡◌, ◌==◌, ◌&&◌, refl, rules, tests}
+use Rattle.cdc_deliveries.proofs.Words.{refl, rules, subscriber_of, tests, ◌&&◌, ◌==◌, ◌≡◌}
 use Rattle.std.proofs.lemmas.Iterator.{YieldsList-from_slice}
 use Rattle.std.proofs.lemmas.Iterator.Consumers.{YieldsList-from_filter, count_from_yields_List}
-use Rattle.cdc_deliveries.specs.Arrivals.{subscriber_of}
 use Rattle.cdc_deliveries.specs.Counts.{applies_event, brings_event, count_with}
 use Rattle.cdc_deliveries.proofs.counts.count_of.Goals as goal
 

@@ -1,10 +1,4 @@
-use Rattle.std.proofs.Common.{◌∙◌, ◌≤◌, ℕ, ap, arith, length, refl}
-use Rattle.std.specs.Prelude.{string_bytes}
-use Rattle.std.proofs.lemmas.Option.{slice_get-get_or}
-use Rattle.std.specs.declared.alloc.Global.{Global}
-use Rattle.std.specs.declared.vec.Vec.{Vec}
-use Rattle.cdc_match.specs.Queue.{feed}
-use Rattle.cdc_subscriber.specs.Reception.{nothing}
+use Rattle.cdc_deliveries.proofs.Words.{Global, Vec, ap, arith, feed, length, nothing, refl, slice_get-get_or, string_bytes, ℕ, ◌∙◌, ◌≤◌}
 use Rattle.cdc_deliveries.proofs.ExpectedTexts.{all_expected, one_expected}
 use Rattle.cdc_deliveries.proofs.expected.expected_lines.Goals as goal
 

@@ -1,5 +1,4 @@
-use Rattle.cdc_match.specs.Queue.{feed}
-use Rattle.std.specs.Prelude.{string_bytes}
+use Rattle.cdc_deliveries.proofs.Words.{feed, string_bytes}
 use Rattle.cdc_deliveries.proofs.ExpectedTexts.{IsExpecting}
 use Rattle.cdc_deliveries.proofs.expected.expected_lines.Given as goal
 

@@ -1,5 +1,4 @@
-use Rattle.std.proofs.Common.{◌∙◌, ◌++◌, List, ℕ, ap, codes, decimal}
-use Rattle.std.specs.Prelude.{string_bytes}
+use Rattle.cdc_deliveries.proofs.Words.{List, ap, codes, decimal, string_bytes, ℕ, ◌++◌, ◌∙◌}
 use Rattle.cdc_deliveries.proofs.LineTexts.{entry_pieces, pieces}
 use Rattle.cdc_deliveries.proofs.expected.push_account.Goals as goal
 

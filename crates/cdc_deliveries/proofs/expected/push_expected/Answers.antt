@@ -1,7 +1,4 @@
-use Rattle.std.proofs.Common.{◌≡◌, ◌∙◌, ◌++◌, List, ℕ, ap, codes, decimal, map}
-use Rattle.std.specs.Prelude.{string_bytes}
-use Rattle.std.specs.List.{join_with_byte}
-use Rattle.cdc_deliveries.specs.Expected.{changed, entry_text, expected_line, result_text}
+use Rattle.cdc_deliveries.proofs.Words.{List, ap, changed, codes, decimal, entry_text, expected_line, join_with_byte, map, result_text, string_bytes, ℕ, ◌++◌, ◌∙◌, ◌≡◌}
 use Rattle.cdc_deliveries.proofs.LineTexts.{expected_pieces, pieces}
 use Rattle.cdc_deliveries.proofs.expected.push_expected.Goals as goal
 

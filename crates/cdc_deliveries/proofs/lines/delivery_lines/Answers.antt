@@ -1,7 +1,4 @@
-use Rattle.std.specs.Prelude.{string_bytes}
-use Rattle.std.proofs.lemmas.Option.{slice_get-get_or}
-use Rattle.cdc_match.specs.Queue.{feed}
-use Rattle.cdc_deliveries.specs.DeliveryLines.{delivery_text}
+use Rattle.cdc_deliveries.proofs.Words.{delivery_text, feed, slice_get-get_or, string_bytes}
 use Rattle.cdc_deliveries.proofs.LineTexts.{one_delivery}
 use Rattle.cdc_deliveries.proofs.lines.delivery_lines.Goals as goal
 

@@ -1,7 +1,4 @@
-use Rattle.std.proofs.Common.{◌≡◌, ◌+◌, ◌++◌, drop}
-use Rattle.std.specs.Prelude.{string_bytes}
-use Rattle.cdc_match.specs.Queue.{feed}
-use Rattle.cdc_deliveries.specs.DeliveryLines.{deliveries_from, delivery_text}
+use Rattle.cdc_deliveries.proofs.Words.{deliveries_from, delivery_text, drop, feed, string_bytes, ◌++◌, ◌+◌, ◌≡◌}
 use Rattle.cdc_deliveries.proofs.lines.delivery_lines.Given as goal
 
 -- the text so far, and the lines of the arrivals that are left, make the whole text

@@ -1,7 +1,4 @@
-use Rattle.std.proofs.Common.{◌≡◌, ◌∙◌, ◌++◌, List, ℕ, ap, codes, decimal}
-use Rattle.std.specs.Prelude.{string_bytes}
-use Rattle.std.specs.List.{join_with_byte}
-use Rattle.cdc_deliveries.specs.DeliveryLines.{content_members, delivery_line, flag_text}
+use Rattle.cdc_deliveries.proofs.Words.{List, ap, codes, content_members, decimal, delivery_line, flag_text, join_with_byte, string_bytes, ℕ, ◌++◌, ◌∙◌, ◌≡◌}
 use Rattle.cdc_deliveries.proofs.LineTexts.{delivery_pieces_of, pieces}
 use Rattle.cdc_deliveries.proofs.lines.push_delivery.Goals as goal
 

@@ -1,8 +1,4 @@
-use Rattle.std.proofs.Common.{◌≡◌, ◌∙◌, ◌++◌, List, ℕ, ap, codes, decimal}
-use Rattle.std.specs.Prelude.{string_bytes}
-use Rattle.cdc_message.specs.Bodies.{body}
-use Rattle.cdc_message.specs.Headers.{headers_of_event}
-use Rattle.cdc_queue_lines.specs.Lines.{headers_text, seconds_of}
+use Rattle.cdc_deliveries.proofs.Words.{List, ap, body, codes, decimal, headers_of_event, headers_text, seconds_of, string_bytes, ℕ, ◌++◌, ◌∙◌, ◌≡◌}
 use Rattle.cdc_deliveries.proofs.LineTexts.{content_pieces, pieces}
 use Rattle.cdc_deliveries.proofs.lines.push_message.Goals as goal
 

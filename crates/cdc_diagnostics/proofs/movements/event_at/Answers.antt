@@ -1,6 +1,4 @@
-use Rattle.std.proofs.Common.{◌∙◌, ◌<◌, ap, cond, eq-eqb, subst, sym}
-use Rattle.std.specs.Prelude.{None, Some}
-use Rattle.std.proofs.lemmas.Bool.{ne_eqb}
+use Rattle.cdc_diagnostics.proofs.Words.{None, Some, ap, cond, eq-eqb, ne_eqb, subst, sym, ◌<◌, ◌∙◌}
 use Rattle.cdc_diagnostics.proofs.Events.{event_at-after, event_at-place}
 use Rattle.cdc_diagnostics.proofs.movements.event_at.Goals as goal
 

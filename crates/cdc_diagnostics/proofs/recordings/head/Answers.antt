@@ -1,7 +1,4 @@
-use Rattle.std.proofs.Common.{◌∙◌, Bool, [], ap, sym}
-use Rattle.std.proofs.lemmas.List.{append-nil}
-use Rattle.cdc_diagnostics.specs.Diagrams.{diagram_head, diagram_text}
-use Rattle.cdc_diagnostics.specs.Recordings.{if_asked}
+use Rattle.cdc_diagnostics.proofs.Words.{Bool, [], ap, append-nil, diagram_head, diagram_text, if_asked, sym, ◌∙◌}
 use Rattle.cdc_diagnostics.proofs.recordings.head.Goals as goal
 
 -- a diagram of no steps is its head

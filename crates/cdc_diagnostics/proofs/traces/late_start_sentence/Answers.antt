@@ -1,6 +1,4 @@
-use Rattle.std.proofs.Common.{◌++◌, codes, decimal}
-use Rattle.std.proofs.lemmas.List.{append-nil}
-use Rattle.cdc_diagnostics.specs.Traces.{begin_text}
+use Rattle.cdc_diagnostics.proofs.Words.{append-nil, begin_text, codes, decimal, ◌++◌}
 use Rattle.cdc_diagnostics.proofs.traces.late_start_sentence.Goals as goal
 
 -- nothing follows the last number

@@ -1,5 +1,4 @@
-use Rattle.std.proofs.lemmas.List.{append-nil}
-use Rattle.cdc_diagnostics.specs.Traces.{lost_text}
+use Rattle.cdc_diagnostics.proofs.Words.{append-nil, lost_text}
 use Rattle.cdc_diagnostics.proofs.traces.lost_sentence.Goals as goal
 
 -- nothing follows the last number

@@ -1,20 +1,4 @@
-use Rattle.std.proofs.Common.{◌≡◌, ◌∙◌, ℕ, true, false, List, ◌∷◌, refl, sym, ap, subst, length, map, inr, rules, arith}
-use Rattle.std.specs.Prelude.{All}
-use Rattle.std.specs.List.{AllZip}
-use Rattle.std.proofs.lemmas.Simd.{map-map}
-use Rattle.cdc_ledger_actors.specs.Client.{ClientCore}
-use Rattle.cdc_ledger_actors.specs.Ledger.{order_of, LedgerCore, is_over}
-use Rattle.cdc_actors.specs.Ends.{ActorState, has_finished}
-use Rattle.cdc_ledger.specs.History.{History}
-use Rattle.cdc_links.specs.Links.{CanSend, Incoming, IsAccount, Outgoing}
-use Rattle.cdc_traffic.specs.Following.{FollowsToLedger}
-use Rattle.cdc_traffic.specs.declared.messages.ToLedger.{ToLedger}
-use Rattle.cdc_traffic.specs.declared.requests.Reply.{Reply}
-use Rattle.cdc_types.specs.declared.batches.Batch.{Batch}
-use Rattle.cdc_run.specs.SettledLinks.{IsAccounted}
-use Rattle.cdc_run.specs.Books.{AreBooks}
-use Rattle.cdc_run.specs.ClientMail.{AreClientsOf, HasFinishedWith}
-use Rattle.cdc_run.specs.Parts.{works_of}
+use Rattle.cdc_run.proofs.Words.{ActorState, All, AllZip, AreBooks, AreClientsOf, Batch, CanSend, ClientCore, FollowsToLedger, HasFinishedWith, History, Incoming, IsAccount, IsAccounted, LedgerCore, List, Outgoing, Reply, ToLedger, ap, arith, false, has_finished, inr, is_over, length, map, map-map, order_of, refl, rules, subst, sym, true, works_of, ℕ, ◌∙◌, ◌∷◌, ◌≡◌}
 use Rattle.cdc_run.proofs.ClientMailLemmas.{AreTogether, all_settled, as_many_senders, of_one_link, senders, together}
 use Rattle.cdc_run.proofs.Refused.{asked_more, passed_on}
 use Rattle.cdc_run.proofs.Zips.{same_zip}

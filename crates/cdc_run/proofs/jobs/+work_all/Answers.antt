@@ -1,5 +1,4 @@
-use Rattle.std.proofs.Common.{subst}
-use Rattle.cdc_run.specs.Jobs.{ComesTo}
+use Rattle.cdc_run.proofs.Words.{ComesTo, subst}
 use Rattle.cdc_run.proofs.Zips.{zip_push}
 use Rattle.cdc_run.proofs.jobs.+work_all.Goals as goal
 use Rattle.cdc_run.proofs.jobs.+work_all.Goals.{in-Ok, in-Err}

@@ -1,5 +1,4 @@
-use Rattle.std.proofs.Common.{◌≡◌}
-use Rattle.cdc_run.specs.Outcomes.{finished_in}
+use Rattle.cdc_run.proofs.Words.{finished_in, ◌≡◌}
 use Rattle.cdc_run.proofs.outcomes.finished.Given as goal
 
 -- those so far

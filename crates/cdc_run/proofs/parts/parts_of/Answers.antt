@@ -1,8 +1,4 @@
-use Rattle.std.proofs.Common.{◌≡◌, ◌∙◌, ◌+◌, ◌∷◌, [], ◌++◌, false, sym, subst, length, inr, refl, rules, arith}
-use Rattle.std.proofs.lemmas.Iterator.Adapters.{YieldsList-from_vec}
-use Rattle.std.proofs.lemmas.Iterator.Consumers.{YieldsList-turn}
-use Rattle.cdc_actors.specs.Ends.{has_finished}
-use Rattle.cdc_run.specs.Parts.{AreLeftOf, works_of}
+use Rattle.cdc_run.proofs.Words.{AreLeftOf, YieldsList-from_vec, YieldsList-turn, [], arith, false, has_finished, inr, length, refl, rules, subst, sym, works_of, ◌++◌, ◌+◌, ◌∙◌, ◌∷◌, ◌≡◌}
 use Rattle.cdc_run.proofs.Apart.{ends_push, left_count, left_push, unfit_end}
 use Rattle.cdc_run.proofs.parts.parts_of.Goals as goal
 use Rattle.cdc_run.proofs.parts.parts_of.Goals.{then-system-via-then-system, then-system-via-else-system+then-number}

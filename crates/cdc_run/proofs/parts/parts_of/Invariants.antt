@@ -1,5 +1,4 @@
-use Rattle.std.proofs.Common.{◌≡◌, vec_capacity, vec_len}
-use Rattle.cdc_run.specs.Parts.{AreActorsOf, AreLeftOf, works_of}
+use Rattle.cdc_run.proofs.Words.{AreActorsOf, AreLeftOf, vec_capacity, vec_len, works_of, ◌≡◌}
 use Rattle.cdc_run.proofs.parts.parts_of.Given as goal
 
 -- those so far, with room for all

@@ -1,6 +1,4 @@
-use Rattle.std.proofs.Common.{◌≡◌, ◌≤◌, ℕ, arith, subst}
-use Rattle.std.specs.Prelude.{◌⊎◌, Option}
-use Rattle.cdc_run.specs.Plans.{IsLeast, closes_of}
+use Rattle.cdc_run.proofs.Words.{IsLeast, Option, arith, closes_of, subst, ℕ, ◌≡◌, ◌≤◌, ◌⊎◌}
 use Rattle.cdc_run.proofs.Closes.{counts_so, least_begins, least_falls}
 use Rattle.cdc_run.proofs.plans.lesser.Goals as goal
 

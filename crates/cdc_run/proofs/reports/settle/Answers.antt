@@ -1,20 +1,4 @@
-use Rattle.std.proofs.Common.{◌≡◌, ◌∙◌, ℕ, true, false, List, refl, sym, ap, arith, subst, map, inr, rules}
-use Rattle.std.specs.Prelude.{is_none}
-use Rattle.std.proofs.lemmas.Bool.{and_parts, false≢true}
-use Rattle.std.proofs.lemmas.Simd.{map-map}
-use Rattle.cdc_broker_actors.specs.Subscriber.{SubscriberCore}
-use Rattle.cdc_ledger.specs.History.{History}
-use Rattle.cdc_links.specs.Links.{Outgoing}
-use Rattle.cdc_subscriber.specs.SubscriberState.{SubscriberState}
-use Rattle.cdc_traffic.specs.declared.messages.ToBroker.{ToBroker}
-use Rattle.cdc_run.specs.ClientMail.{HasFinishedWith as LedgerHasFinishedWith}
-use Rattle.cdc_run.specs.Parts.{works_of}
-use Rattle.cdc_run.specs.Reports.{AreFinished, AreSubscribed}
-use Rattle.cdc_broker_actors.specs.Seats.{broker_seat}
-use Rattle.cdc_actors.specs.Ends.{ActorState, has_finished}
-use Rattle.cdc_connector_actor.specs.Connector.{ConnectorCore}
-use Rattle.cdc_run.specs.Streams.{AllCome, ArePacketsTo, Middle}
-use Rattle.cdc_run.specs.SubscriberMail.{AreSubscribersOf, HasFinishedWith as BrokerHasFinishedWith}
+use Rattle.cdc_run.proofs.Words.{ActorState, AllCome, AreFinished, ArePacketsTo, AreSubscribed, AreSubscribersOf, BrokerHasFinishedWith, ConnectorCore, History, LedgerHasFinishedWith, List, Middle, Outgoing, SubscriberCore, SubscriberState, ToBroker, and_parts, ap, arith, broker_seat, false, false≢true, has_finished, inr, is_none, map, map-map, refl, rules, subst, sym, true, works_of, ℕ, ◌∙◌, ◌≡◌}
 use Rattle.cdc_run.proofs.Refused.{asked_more, passed_on}
 use Rattle.cdc_run.proofs.Reported.{all_subscribed, books_of, finished, finished_honest, left_by, start_known, streams_of}
 use Rattle.cdc_run.proofs.Seated.{AreBetween, joined, polls_to, wired}

@@ -1,7 +1,4 @@
-use Rattle.std.proofs.Common.{◌∙◌, ap, rules}
-use Rattle.std.proofs.lemmas.Iterator.Adapters.{YieldsList-from_vec}
-use Rattle.std.proofs.lemmas.Iterator.Consumers.{YieldsList-end}
-use Rattle.cdc_run.specs.Tasks.{Placed}
+use Rattle.cdc_run.proofs.Words.{Placed, YieldsList-end, YieldsList-from_vec, ap, rules, ◌∙◌}
 use Rattle.cdc_run.specs.declared.actors.Actor.TheVariants as actor
 use Rattle.cdc_run.proofs.Found.{Found, all_found, found_client, found_step, found_subscriber, is_there, of_parts, same_placed}
 use Rattle.cdc_run.proofs.runs.actors_of.Goals as goal

@@ -1,6 +1,5 @@
-use Rattle.std.proofs.Common.{◌∙◌, List, ap, subst, sym}
+use Rattle.cdc_run.proofs.Words.{Actor, AllZip, Leaves, List, Stops, ap, crosses, first_stop, subst, sym, ◌∙◌}
 use denote.Param.Send.{sendable}
-use Rattle.std.proofs.Crossing.{crosses}
 use Rattle.cdc_actors.proofs.ends.End.TheSendSync as end
 use Rattle.cdc_ledger_actors.proofs.ledger.cores.LedgerCore.TheSendSync as ledger
 use Rattle.cdc_ledger_actors.proofs.client.cores.ClientCore.TheSendSync as client
@@ -8,10 +7,6 @@ use Rattle.cdc_connector_actor.proofs.connector.cores.ConnectorCore.TheSendSync 
 use Rattle.cdc_broker_actors.proofs.subscriber.cores.SubscriberCore.TheSendSync as subscriber
 use Rattle.cdc_run.proofs.scripted.Scripted.TheSendSync as scripted
 use Rattle.cdc_run.proofs.Crossing.{core_crosses}
-use Rattle.std.specs.List.{AllZip}
-use Rattle.cdc_run.specs.Outcomes.{first_stop}
-use Rattle.cdc_run.specs.Tasks.{Leaves, Stops}
-use Rattle.cdc_run.specs.declared.actors.Actor.{Actor}
 use Rattle.cdc_run.proofs.Worked.{all_ended}
 use Rattle.cdc_run.proofs.runs.run_actors.Goals as goal
 

@@ -1,12 +1,4 @@
-use Rattle.std.proofs.Common.{◌≡◌, ◌∙◌, IfErr, subst, sym, List, length, map}
-use Rattle.std.specs.Prelude.{IsErrAnd}
-use Rattle.std.proofs.lemmas.List.{length-map}
-use Rattle.std.proofs.lemmas.Result.{err_from_is_err_and}
-use Rattle.cdc_types.specs.declared.batches.Batch.{Batch}
-use Rattle.cdc_run.specs.Meeting.{IsRunFailure}
-use Rattle.cdc_run.specs.Reports.{AreFinished}
-use Rattle.cdc_run.specs.Tasks.{places_of}
-use Rattle.cdc_run.specs.declared.failures.Failure.{Failure}
+use Rattle.cdc_run.proofs.Words.{AreFinished, Batch, Failure, IfErr, IsErrAnd, IsRunFailure, List, err_from_is_err_and, length, length-map, map, places_of, subst, sym, ◌∙◌, ◌≡◌}
 use Rattle.cdc_run.proofs.Counting.{has_failed, unsettled}
 use Rattle.cdc_run.proofs.Finished.{all_finished}
 use Rattle.cdc_run.proofs.Leaving.{are_left, in_places}

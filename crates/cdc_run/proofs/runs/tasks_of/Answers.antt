@@ -1,9 +1,4 @@
-use Rattle.std.proofs.Common.{◌∙◌, List, [], ◌∷◌, ◌++◌, ap, rules}
-use Rattle.std.proofs.lemmas.Iterator.{YieldsList-from_zip}
-use Rattle.std.proofs.lemmas.Iterator.Adapters.{YieldsList-from_vec}
-use Rattle.std.proofs.lemmas.Iterator.Consumers.{YieldsList-end}
-use Rattle.cdc_run.specs.Tasks.{places_of}
-use Rattle.cdc_run.specs.declared.tasks.Task.{Task}
+use Rattle.cdc_run.proofs.Words.{List, Task, YieldsList-end, YieldsList-from_vec, YieldsList-from_zip, [], ap, places_of, rules, ◌++◌, ◌∙◌, ◌∷◌}
 use Rattle.cdc_run.specs.declared.tasks.Task.TheVariants as task
 use Rattle.cdc_run.proofs.Listed.{all_listed, client_push, subscriber_push}
 use Rattle.cdc_run.proofs.runs.tasks_of.Goals as goal

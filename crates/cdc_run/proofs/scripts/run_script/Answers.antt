@@ -1,7 +1,4 @@
-use Rattle.std.proofs.Common.{◌∙◌, ap}
-use Rattle.cdc_actor_work.specs.Faults.{IsTurnFault}
-use Rattle.cdc_ledger_actors.specs.Seats.{client_seat}
-use Rattle.cdc_run.specs.Tasks.{client_place}
+use Rattle.cdc_run.proofs.Words.{IsTurnFault, ap, client_place, client_seat, ◌∙◌}
 use Rattle.cdc_run.proofs.Stopped.{has_met}
 use Rattle.cdc_run.proofs.scripts.run_script.Goals as goal
 

@@ -1,5 +1,4 @@
-use Rattle.std.proofs.Common.{◌≡◌, ◌++◌, false, map}
-use Rattle.cdc_ledger_actors.specs.Seats.{client_seat}
+use Rattle.cdc_run.proofs.Words.{client_seat, false, map, ◌++◌, ◌≡◌}
 use Rattle.cdc_run.proofs.scripts.run_script.Given as goal
 
 -- it has the same system and seat, hasn't finished, and has submitted the batches so far

@@ -1,8 +1,4 @@
-use Rattle.std.proofs.Common.{rules, ◌∙◌, [], ◌∷◌, ◌++◌, sym, append-nil}
-use Rattle.std.specs.List.{AllZip}
-use Rattle.std.proofs.lemmas.List.{nil_from_length}
-use Rattle.std.proofs.lemmas.Result.{on_ok_weaker}
-use Rattle.cdc_run.specs.SettledLinks.{IsAccounted, IsOnlySender}
+use Rattle.cdc_run.proofs.Words.{AllZip, IsAccounted, IsOnlySender, [], append-nil, nil_from_length, on_ok_weaker, rules, sym, ◌++◌, ◌∙◌, ◌∷◌}
 use Rattle.cdc_run.proofs.Zips.{none_before, same_zip, zip_push, zip_unpush}
 use Rattle.cdc_run.proofs.settled_links.+settle_each.Goals as goal
 

@@ -1,6 +1,4 @@
-use Rattle.std.proofs.Common.{subst}
-use Rattle.std.specs.Prelude.{All}
-use Rattle.cdc_links.specs.Links.{CanSend, IsAccount}
+use Rattle.cdc_run.proofs.Words.{All, CanSend, IsAccount, subst}
 use Rattle.cdc_run.proofs.settled_links.settle_link.Goals as goal
 
 pub returns-clause-account : goal.returns-clause-account

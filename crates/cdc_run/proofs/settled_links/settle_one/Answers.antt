@@ -1,5 +1,4 @@
-use Rattle.std.proofs.Common.{◌≡◌, ◌∙◌, [], ◌∷◌, ◌++◌, ap₂, subst}
-use Rattle.cdc_links.specs.Links.{IsAccount}
+use Rattle.cdc_run.proofs.Words.{IsAccount, [], ap₂, subst, ◌++◌, ◌∙◌, ◌∷◌, ◌≡◌}
 use Rattle.cdc_run.proofs.settled_links.settle_one.Goals as goal
 
 pub returns : goal.returns

@@ -1,5 +1,4 @@
-use Rattle.std.proofs.Common.{◌≡◌, ◌∙◌, [], ◌∷◌, ◌++◌, ap, subst}
-use Rattle.cdc_links.specs.Links.{IsAccount}
+use Rattle.cdc_run.proofs.Words.{IsAccount, [], ap, subst, ◌++◌, ◌∙◌, ◌∷◌, ◌≡◌}
 use Rattle.cdc_run.proofs.settled_links.settle_pair.Goals as goal
 
 pub returns-clause-account : goal.returns-clause-account

@@ -1,21 +1,5 @@
-use Rattle.std.proofs.Common.{◌≡◌, ◌∙◌, ℕ, ◌+◌, true, false, Option, List, [], ◌∷◌, refl, sym, ap, subst, length, map, inr, rules, arith}
-use Rattle.std.specs.Prelude.{All, Some, is_none, slice_get}
-use Rattle.std.specs.List.{AllZip}
-use Rattle.std.proofs.lemmas.Bool.{and_parts}
-use Rattle.std.proofs.lemmas.List.Elements.{All-cons, All-map}
-use Rattle.cdc_broker_actors.specs.Broker.{BrokerCore}
-use Rattle.cdc_broker_actors.specs.Subscriber.{SubscriberCore}
-use Rattle.cdc_broker_actors.specs.declared.broker.consumers.Consumer.{Consumer}
-use Rattle.cdc_actors.specs.Ends.{ActorState, has_finished}
-use Rattle.cdc_links.specs.Links.{CanSend, Incoming, IsAccount, Outgoing}
-use Rattle.cdc_traffic.specs.Following.{FollowsToConnector}
-use Rattle.cdc_traffic.specs.declared.messages.ToBroker.{ToBroker}
-use Rattle.cdc_traffic.specs.declared.messages.ToConnector.{ToConnector}
-use Rattle.cdc_traffic.specs.declared.pasts.Past.{Past}
-use Rattle.cdc_run.specs.SettledLinks.{IsAccounted}
-use Rattle.cdc_run.specs.Parts.{works_of}
-use Rattle.cdc_run.specs.Streams.{AreJoined, Middle}
-use Rattle.cdc_run.specs.SubscriberMail.{AreSubscribersOf, HasFinishedWith}
+use Rattle.cdc_run.proofs.Words.{ActorState, All, All-cons, All-map, AllZip, AreJoined, AreSubscribersOf, BrokerCore, CanSend, Consumer, FollowsToConnector, Incoming, IsAccount, IsAccounted, List, Middle, Option, Outgoing, Past, Some, SubscriberCore, ToBroker, ToConnector, [], and_parts, ap, arith, false, has_finished, inr, is_none, length, map, refl, rules, slice_get, subst, sym, true, works_of, ℕ, ◌+◌, ◌∙◌, ◌∷◌, ◌≡◌}
+use Rattle.cdc_run.specs.SubscriberMail.{HasFinishedWith}
 use Rattle.cdc_run.proofs.Refused.{asked_more, passed_on}
 use Rattle.cdc_run.proofs.Streamed.{all_come, packets_left, through}
 use Rattle.cdc_run.proofs.Zips.{same_zip}

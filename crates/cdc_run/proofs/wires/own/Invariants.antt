@@ -1,5 +1,4 @@
-use Rattle.std.proofs.Common.{◌≡◌, ◌≤◌, ◌-◌, vec_len, vec_capacity}
-use Rattle.cdc_run.specs.Wires.{AreOwn}
+use Rattle.cdc_run.proofs.Words.{AreOwn, vec_capacity, vec_len, ◌-◌, ◌≡◌, ◌≤◌}
 use Rattle.cdc_run.proofs.wires.own.Given as goal
 
 abbrev pub invariant-loop-alloc : goal.invariant-loop-alloc

@@ -1,10 +1,4 @@
-use Rattle.std.proofs.Common.{◌≡◌, ◌+◌, ◌∷◌, [], ◌++◌, length, ap, ◌∙◌, arith}
-use Rattle.std.proofs.lemmas.List.{length_push}
-use Rattle.cdc_links.specs.Links.{Incoming, Outgoing}
-use Rattle.cdc_traffic.specs.declared.messages.ToLedger.{ToLedger}
-use Rattle.cdc_traffic.specs.declared.pasts.Past.{Past}
-use Rattle.cdc_traffic.specs.declared.requests.Reply.{Reply}
-use Rattle.cdc_run.specs.Made.{made_clients}
+use Rattle.cdc_run.proofs.Words.{Incoming, Outgoing, Past, Reply, ToLedger, [], ap, arith, length, length_push, made_clients, ◌++◌, ◌+◌, ◌∙◌, ◌∷◌, ◌≡◌}
 use Rattle.cdc_run.proofs.ActorsMade.{client_more}
 use Rattle.cdc_run.proofs.Paired.{all_pairs, is_over, next_pair}
 use Rattle.cdc_run.proofs.wiring.make_clients.Goals as goal

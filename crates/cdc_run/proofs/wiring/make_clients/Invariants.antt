@@ -1,8 +1,4 @@
-use Rattle.std.proofs.Common.{◌≡◌, length, map, vec_len}
-use Rattle.cdc_links.specs.Links.{LinkId}
-use Rattle.cdc_traffic.specs.declared.messages.ToLedger.{ToLedger}
-use Rattle.cdc_run.specs.Made.{made_clients}
-use Rattle.cdc_run.specs.Wires.{fresh_from}
+use Rattle.cdc_run.proofs.Words.{LinkId, ToLedger, fresh_from, length, made_clients, map, vec_len, ◌≡◌}
 use Rattle.cdc_run.proofs.wiring.make_clients.Given as goal
 
 -- those so far

@@ -1,9 +1,4 @@
-use Rattle.std.proofs.Common.{◌≡◌, ◌+◌, ◌∷◌, [], ◌++◌, length, ap, subst, ◌∙◌, arith}
-use Rattle.std.proofs.lemmas.List.{length_push}
-use Rattle.cdc_links.specs.Links.{Incoming, Outgoing}
-use Rattle.cdc_traffic.specs.declared.messages.ToBroker.{ToBroker}
-use Rattle.cdc_traffic.specs.declared.messages.ToSubscriber.{ToSubscriber}
-use Rattle.cdc_run.specs.Made.{AreFreshSubscribers}
+use Rattle.cdc_run.proofs.Words.{AreFreshSubscribers, Incoming, Outgoing, ToBroker, ToSubscriber, [], ap, arith, length, length_push, subst, ◌++◌, ◌+◌, ◌∙◌, ◌∷◌, ◌≡◌}
 use Rattle.cdc_run.proofs.ActorsMade.{subscriber_more}
 use Rattle.cdc_run.proofs.Paired.{all_pairs, is_over, next_pair}
 use Rattle.cdc_run.proofs.wiring.make_subscribers.Goals as goal

@@ -1,8 +1,4 @@
-use Rattle.std.proofs.Common.{◌≡◌, length, map, vec_len}
-use Rattle.cdc_links.specs.Links.{LinkId}
-use Rattle.cdc_traffic.specs.declared.messages.ToBroker.{ToBroker}
-use Rattle.cdc_run.specs.Made.{AreFreshSubscribers}
-use Rattle.cdc_run.specs.Wires.{fresh_from}
+use Rattle.cdc_run.proofs.Words.{AreFreshSubscribers, LinkId, ToBroker, fresh_from, length, map, vec_len, ◌≡◌}
 use Rattle.cdc_run.proofs.wiring.make_subscribers.Given as goal
 
 -- those so far

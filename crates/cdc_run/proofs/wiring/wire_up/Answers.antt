@@ -1,11 +1,4 @@
-use Rattle.std.proofs.Common.{sym, ap, ◌∙◌, subst, arith, length, vec_len}
-use Rattle.std.specs.Prelude.{Option}
-use Rattle.cdc_links.specs.Links.{Outgoing}
-use Rattle.cdc_traffic.specs.declared.messages.ToBroker.{ToBroker}
-use Rattle.cdc_traffic.specs.declared.messages.ToConnector.{ToConnector}
-use Rattle.cdc_traffic.specs.declared.messages.ToLedger.{ToLedger}
-use Rattle.cdc_traffic.specs.declared.pasts.Past.{Past}
-use Rattle.cdc_run.specs.Wires.{AreWired, fresh_from}
+use Rattle.cdc_run.proofs.Words.{AreWired, Option, Outgoing, Past, ToBroker, ToConnector, ToLedger, ap, arith, fresh_from, length, subst, sym, vec_len, ◌∙◌}
 use Rattle.cdc_run.proofs.RunMade.{all_unused, are_made, as_many}
 use Rattle.cdc_run.proofs.wiring.wire_up.Goals as goal
 

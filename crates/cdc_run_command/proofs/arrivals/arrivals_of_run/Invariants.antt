@@ -1,5 +1,4 @@
-use Rattle.std.proofs.Common.{◌≡◌, ◌++◌, drop}
-use Rattle.cdc_run_command.specs.Arrived.{arrived, arrived_from}
+use Rattle.cdc_run_command.proofs.Words.{arrived, arrived_from, drop, ◌++◌, ◌≡◌}
 use Rattle.cdc_run_command.proofs.arrivals.arrivals_of_run.Given as goal
 
 -- what has arrived, and what the deliveries that are left make, are all that arrives

@@ -1,12 +1,4 @@
-use Rattle.std.proofs.Common.{◌≡◌, ◌∙◌, ℕ, List, Some, refl, ap, arith, length, subst, sym}
-use Rattle.std.specs.Prelude.{slice_get}
-use Rattle.std.proofs.lemmas.List.{length-map}
-use Rattle.cdc_run.specs.Reports.{HasRun, replies_of}
-use Rattle.cdc_script.specs.declared.scripts.ClientBatch.{ClientBatch}
-use Rattle.cdc_types.specs.declared.batches.Batch.{Batch}
-use Rattle.cdc_run_command.specs.ClientOrders.{IsOrderOf}
-use Rattle.cdc_run_command.specs.Runnable.{IsClient}
-use Rattle.cdc_run_command.specs.Runs.{client_count, entries_of, owners_of, shares_from}
+use Rattle.cdc_run_command.proofs.Words.{Batch, ClientBatch, HasRun, IsClient, IsOrderOf, List, Some, ap, arith, client_count, entries_of, length, length-map, owners_of, refl, replies_of, shares_from, slice_get, subst, sym, ℕ, ◌∙◌, ◌≡◌}
 use Rattle.cdc_run_command.proofs.RunFaults.{may_fail_so}
 use Rattle.cdc_run_command.proofs.RunLemmas.{clients_fit, counted_same, order_of_shares, ran_same, subscribed_same}
 use Rattle.cdc_run_command.proofs.ShareLemmas.{length-shares_from}

@@ -1,6 +1,4 @@
-use Rattle.std.proofs.Common.{refl}
-use Rattle.cdc_run_command.specs.RunPrinted.{RunCommandPrints}
-use Rattle.cdc_run_command.specs.Runs.{Setting, setting_of}
+use Rattle.cdc_run_command.proofs.Words.{RunCommandPrints, Setting, refl, setting_of}
 use Rattle.cdc_run_command.proofs.RunFaults.{stopped_so}
 use Rattle.cdc_run_command.proofs.RunLemmas.{none_ran, ran_printed, writes_failure, writes_text}
 use Rattle.cdc_run_command.proofs.run.run_command.Goals as goal

@@ -1,6 +1,4 @@
-use Rattle.std.proofs.Common.{◌≡◌, List, ℕ, None, Some, ap, subst}
-use Rattle.cdc_commands.specs.Outcomes.{Outcome}
-use Rattle.cdc_run_command.specs.Runs.{Setting, setting_of}
+use Rattle.cdc_run_command.proofs.Words.{List, None, Outcome, Setting, Some, ap, setting_of, subst, ℕ, ◌≡◌}
 use Rattle.cdc_run_command.proofs.RunLemmas.{prints_none}
 use Rattle.cdc_run_command.proofs.run.run_script.Goals as goal
 

@@ -1,12 +1,4 @@
-use Rattle.std.proofs.Common.{◌≡◌, ◌++◌, ◌∙◌, List, ℕ, ap, ap₂, map, subst, sym}
-use Rattle.cdc_run.specs.Reports.{replies_of}
-use Rattle.cdc_run_command.specs.Runs.{AreMerged}
-use Rattle.cdc_subscriber.specs.SubscriberState.{SubscriberState}
-use Rattle.cdc_traffic.specs.declared.requests.Reply.{Reply}
-use Rattle.cdc_output.specs.Lines.{json_lines, kept_values}
-use Rattle.cdc_run_command.specs.Private.Diagnostics.{numbered_values}
-use Rattle.cdc_run_command.specs.RunObjects.{reply_values}
-use Rattle.cdc_output.proofs.LineLemmas.{json_lines-append}
+use Rattle.cdc_run_command.proofs.Words.{AreMerged, List, Reply, SubscriberState, ap, ap₂, json_lines, json_lines-append, kept_values, map, numbered_values, replies_of, reply_values, subst, sym, ℕ, ◌++◌, ◌∙◌, ◌≡◌}
 use Rattle.cdc_run_command.proofs.ObjectLemmas.{values_numbered}
 use Rattle.cdc_run_command.proofs.run_objects.print_run_objects.Goals as goal
 

@@ -1,6 +1,4 @@
-use Rattle.std.proofs.Common.{refl}
-use Rattle.std.proofs.lemmas.Option.{slice_get_read}
-use Rattle.cdc_output.proofs.LineLemmas.{kept_more, kept_whole}
+use Rattle.cdc_run_command.proofs.Words.{kept_more, kept_whole, refl, slice_get_read}
 use Rattle.cdc_run_command.proofs.run_objects.push_kept.Goals as goal
 
 pub loop-place-preserved : goal.loop-place-preserved

@@ -1,5 +1,4 @@
-use Rattle.std.proofs.Common.{◌≡◌, ◌+◌, ◌++◌, drop}
-use Rattle.cdc_output.specs.Lines.{json_lines, kept_values}
+use Rattle.cdc_run_command.proofs.Words.{drop, json_lines, kept_values, ◌++◌, ◌+◌, ◌≡◌}
 use Rattle.cdc_run_command.proofs.run_objects.push_kept.Given as goal
 
 abbrev pub invariant-loop-place : goal.invariant-loop-place

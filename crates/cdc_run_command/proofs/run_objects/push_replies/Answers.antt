@@ -1,9 +1,4 @@
-use Rattle.std.proofs.Common.{◌≡◌, ◌∙◌, List, Some, ap, arith, map, refl}
-use Rattle.std.specs.Option.{option_map}
-use Rattle.std.specs.Prelude.{slice_get}
-use Rattle.std.proofs.lemmas.List.{length-map}
-use Rattle.std.proofs.lemmas.Option.{slice_get-map, slice_get_read}
-use Rattle.cdc_traffic.specs.declared.requests.Reply.{Reply}
+use Rattle.cdc_run_command.proofs.Words.{List, Reply, Some, ap, arith, length-map, map, option_map, refl, slice_get, slice_get-map, slice_get_read, ◌∙◌, ◌≡◌}
 use Rattle.cdc_run_command.proofs.ObjectLemmas.{reply_more, reply_whole}
 use Rattle.cdc_run_command.proofs.run_objects.push_replies.Goals as goal
 

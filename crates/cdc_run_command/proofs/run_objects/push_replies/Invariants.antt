@@ -1,6 +1,4 @@
-use Rattle.std.proofs.Common.{◌≡◌, ◌+◌, ◌++◌, drop, map}
-use Rattle.cdc_output.specs.Lines.{json_lines}
-use Rattle.cdc_run_command.specs.Private.Diagnostics.{numbered_values}
+use Rattle.cdc_run_command.proofs.Words.{drop, json_lines, map, numbered_values, ◌++◌, ◌+◌, ◌≡◌}
 use Rattle.cdc_run_command.proofs.run_objects.push_replies.Given as goal
 
 abbrev pub invariant-loop-place : goal.invariant-loop-place

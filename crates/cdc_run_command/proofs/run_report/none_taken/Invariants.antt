@@ -1,5 +1,4 @@
-use Rattle.std.proofs.Common.{◌≡◌, length}
-use Rattle.std.specs.Prelude.{All}
+use Rattle.cdc_run_command.proofs.Words.{All, length, ◌≡◌}
 use Rattle.cdc_run_command.proofs.run_report.none_taken.Given as goal
 
 abbrev pub invariant-loop : goal.invariant-loop

@@ -1,9 +1,4 @@
-use Rattle.std.proofs.Common.{◌≡◌, ◌++◌, ◌∙◌, List, ℕ, ap, ap₂, map, subst}
-use Rattle.cdc_run.specs.Reports.{replies_of}
-use Rattle.cdc_subscriber.specs.SubscriberState.{SubscriberState}
-use Rattle.cdc_traffic.specs.declared.requests.Reply.{Reply}
-use Rattle.cdc_run_command.specs.Private.Merging.{numbered_lines}
-use Rattle.cdc_run_command.specs.Runs.{AreMerged, kept_text, reply_lines}
+use Rattle.cdc_run_command.proofs.Words.{AreMerged, List, Reply, SubscriberState, ap, ap₂, kept_text, map, numbered_lines, replies_of, reply_lines, subst, ℕ, ◌++◌, ◌∙◌, ◌≡◌}
 use Rattle.cdc_run_command.proofs.ReplyLemmas.{lines_numbered}
 use Rattle.cdc_run_command.proofs.run_report.print_run.Goals as goal
 

@@ -1,9 +1,4 @@
-use Rattle.std.proofs.Common.{◌+◌, ◌++◌, ◌∙◌, List, ℕ, ap, append_assoc, drop, refl, sym}
-use Rattle.std.proofs.lemmas.Option.{slice_get_read}
-use Rattle.cdc_subscriber.specs.SubscriberState.{SubscriberState}
-use Rattle.cdc_subscriber.specs.Lines.{subscriber_text}
-use Rattle.cdc_run_command.specs.Runs.{kept_text}
-use Rattle.cdc_output.proofs.FoundElements.{drop_found}
+use Rattle.cdc_run_command.proofs.Words.{List, SubscriberState, ap, append_assoc, drop, drop_found, kept_text, refl, slice_get_read, subscriber_text, sym, ℕ, ◌++◌, ◌+◌, ◌∙◌}
 use Rattle.cdc_run_command.proofs.run_report.push_kept.Goals as goal
 
 pub loop-place-preserved : goal.loop-place-preserved

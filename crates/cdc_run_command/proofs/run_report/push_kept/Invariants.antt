@@ -1,5 +1,4 @@
-use Rattle.std.proofs.Common.{◌≡◌, ◌+◌, ◌++◌, drop}
-use Rattle.cdc_run_command.specs.Runs.{kept_text}
+use Rattle.cdc_run_command.proofs.Words.{drop, kept_text, ◌++◌, ◌+◌, ◌≡◌}
 use Rattle.cdc_run_command.proofs.run_report.push_kept.Given as goal
 
 abbrev pub invariant-loop-place : goal.invariant-loop-place

@@ -1,6 +1,4 @@
-use Rattle.std.proofs.Common.{◌∙◌, ap, map, sym}
-use Rattle.std.proofs.lemmas.List.{length-map, map-append}
-use Rattle.std.proofs.lemmas.Option.{slice_get-get_or}
+use Rattle.cdc_run_command.proofs.Words.{ap, length-map, map, map-append, slice_get-get_or, sym, ◌∙◌}
 use Rattle.cdc_run_command.proofs.ReplyLemmas.{found_more, found_none, has_next, merged_whole}
 use Rattle.cdc_run_command.proofs.run_report.replies_in_order.Goals as goal
 

@@ -1,12 +1,4 @@
-use Rattle.std.proofs.Common.{◌≡◌, ◌+◌, ◌++◌, ◌∙◌, List, Some, ℕ, ap, append-nil, append_assoc, arith, drop, map, refl, sym}
-use Rattle.std.specs.Option.{option_map}
-use Rattle.std.specs.Prelude.{slice_get, string_bytes}
-use Rattle.std.proofs.lemmas.List.{drop_all, length-map}
-use Rattle.std.proofs.lemmas.Option.{slice_get-map, slice_get_read}
-use Rattle.cdc_traffic.specs.declared.requests.Reply.{Reply}
-use Rattle.cdc_commands.specs.Report.{batch_line}
-use Rattle.cdc_output.proofs.FoundElements.{drop_found}
-use Rattle.cdc_run_command.specs.Private.Merging.{numbered_lines}
+use Rattle.cdc_run_command.proofs.Words.{List, Reply, Some, ap, append-nil, append_assoc, arith, batch_line, drop, drop_all, drop_found, length-map, map, numbered_lines, option_map, refl, slice_get, slice_get-map, slice_get_read, string_bytes, sym, ℕ, ◌++◌, ◌+◌, ◌∙◌, ◌≡◌}
 use Rattle.cdc_run_command.proofs.run_report.reply_text.Goals as goal
 
 pub loop-place-preserved : goal.loop-place-preserved

@@ -1,6 +1,4 @@
-use Rattle.std.proofs.Common.{◌≡◌, ◌+◌, ◌++◌, drop, map}
-use Rattle.std.specs.Prelude.{string_bytes}
-use Rattle.cdc_run_command.specs.Private.Merging.{numbered_lines}
+use Rattle.cdc_run_command.proofs.Words.{drop, map, numbered_lines, string_bytes, ◌++◌, ◌+◌, ◌≡◌}
 use Rattle.cdc_run_command.proofs.run_report.reply_text.Given as goal
 
 abbrev pub invariant-loop-place : goal.invariant-loop-place

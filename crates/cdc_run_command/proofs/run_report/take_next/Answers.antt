@@ -1,7 +1,4 @@
-use Rattle.std.proofs.Common.{◌<◌, ◌-◌, ◌∙◌, ap, arith, length, refl}
-use Rattle.std.specs.Option.{option_map}
-use Rattle.std.specs.Prelude.{vec_len}
-use Rattle.std.proofs.lemmas.Option.{slice_get-map, slice_get_read, slice_get_within}
+use Rattle.cdc_run_command.proofs.Words.{ap, arith, length, option_map, refl, slice_get-map, slice_get_read, slice_get_within, vec_len, ◌-◌, ◌<◌, ◌∙◌}
 use Rattle.cdc_run_command.proofs.ReplyLemmas.{found_inside, stands_within}
 use Rattle.cdc_run_command.proofs.run_report.take_next.Goals as goal
 

@@ -1,5 +1,4 @@
-use Rattle.std.proofs.Common.{◌≡◌}
-use Rattle.cdc_run_command.specs.Runs.{entries_of}
+use Rattle.cdc_run_command.proofs.Words.{entries_of, ◌≡◌}
 use Rattle.cdc_run_command.proofs.shares.entries_of.Given as goal
 
 abbrev pub invariant-loop-client : goal.invariant-loop-client

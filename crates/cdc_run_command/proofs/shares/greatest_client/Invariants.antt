@@ -1,5 +1,4 @@
-use Rattle.std.proofs.Common.{◌≡◌, take}
-use Rattle.cdc_run_command.specs.Runs.{client_count}
+use Rattle.cdc_run_command.proofs.Words.{client_count, take, ◌≡◌}
 use Rattle.cdc_run_command.proofs.shares.greatest_client.Given as goal
 
 abbrev pub invariant-loop-item : goal.invariant-loop-item

@@ -1,5 +1,4 @@
-use Rattle.std.proofs.Common.{◌≡◌, take}
-use Rattle.cdc_run_command.specs.Runs.{owners_of}
+use Rattle.cdc_run_command.proofs.Words.{owners_of, take, ◌≡◌}
 use Rattle.cdc_run_command.proofs.shares.owners.Given as goal
 
 abbrev pub invariant-loop-item : goal.invariant-loop-item

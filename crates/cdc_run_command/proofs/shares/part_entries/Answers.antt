@@ -1,7 +1,4 @@
-use Rattle.std.proofs.Common.{◌≡◌, ◌+◌, ◌∙◌, ◌++◌, ◌∷◌, [], List, ap, ap₂, arith, map, sym}
-use Rattle.std.proofs.lemmas.List.{map-append}
-use Rattle.cdc_types.specs.declared.batches.Batch.{Batch}
-use Rattle.cdc_run_command.specs.Runs.{own_of, shares_from}
+use Rattle.cdc_run_command.proofs.Words.{Batch, List, [], ap, ap₂, arith, map, map-append, own_of, shares_from, sym, ◌++◌, ◌+◌, ◌∙◌, ◌∷◌, ◌≡◌}
 use Rattle.cdc_run_command.proofs.ShareLemmas.{own_of-others, shares_from-more}
 use Rattle.cdc_run_command.proofs.shares.part_entries.Goals as goal
 

@@ -1,5 +1,4 @@
-use Rattle.std.proofs.Common.{◌≡◌, ◌<◌, ℕ, map}
-use Rattle.cdc_run_command.specs.Runs.{own_of, shares_from}
+use Rattle.cdc_run_command.proofs.Words.{map, own_of, shares_from, ℕ, ◌<◌, ◌≡◌}
 use Rattle.cdc_run_command.proofs.shares.part_entries.Given as goal
 
 abbrev pub invariant-loop-place : goal.invariant-loop-place

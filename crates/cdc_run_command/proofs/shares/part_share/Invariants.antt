@@ -1,6 +1,4 @@
-use Rattle.std.proofs.Common.{◌≡◌}
-use Rattle.std.specs.Prelude.{◌==◌, filter, not}
-use Rattle.cdc_run_command.specs.Runs.{own_of}
+use Rattle.cdc_run_command.proofs.Words.{filter, not, own_of, ◌==◌, ◌≡◌}
 use Rattle.cdc_run_command.proofs.shares.part_share.Given as goal
 
 -- those so far

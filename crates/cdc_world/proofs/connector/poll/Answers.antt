@@ -1,7 +1,5 @@
-use Rattle.std.proofs.Common.{◌≡◌, List, Option, Some, subst, sym, ◌∙◌}
-use Rattle.cdc_publisher.specs.SessionState.{poll_of}
+use Rattle.cdc_world.proofs.Words.{List, Option, Poll, Some, poll_of, subst, sym, ◌∙◌, ◌≡◌}
 use Rattle.cdc_publisher.specs.Offers.{IsOffered, IsReply}
-use Rattle.cdc_publisher.specs.declared.session.Poll.{Poll}
 use Rattle.cdc_types.specs.declared.events.Event.{Event}
 use Rattle.cdc_world.proofs.connector.poll.Goals as goal
 

@@ -1,7 +1,4 @@
-use Rattle.std.proofs.Common.{◌≡◌, ◌≤◌, map, replicate, vec_len}
-use Rattle.std.specs.Prelude.{vec_capacity}
-use Rattle.cdc_world.specs.Parts.{subscription_parts}
-use Rattle.cdc_world.specs.Turns.{empty_subscription}
+use Rattle.cdc_world.proofs.Words.{empty_subscription, map, replicate, subscription_parts, vec_capacity, vec_len, ◌≡◌, ◌≤◌}
 use Rattle.cdc_world.proofs.subscriptions.empty_subscriptions.Given as goal
 
 abbrev pub invariant-loop : goal.invariant-loop

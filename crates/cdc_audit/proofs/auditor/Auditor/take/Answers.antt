@@ -1,6 +1,4 @@
-use Rattle.std.proofs.Common.{ap, ◌∙◌}
-use Rattle.cdc_audit.specs.Foreign.{audited_event}
-use Rattle.cdc_audit.specs.Standing.{AuditorState}
+use Rattle.cdc_audit.proofs.Words.{AuditorState, ap, audited_event, ◌∙◌}
 use Rattle.cdc_audit.proofs.StandLemmas.{taken_accepted, taken_answer}
 use Rattle.cdc_audit.proofs.auditor.Auditor.take.Goals as goal
 

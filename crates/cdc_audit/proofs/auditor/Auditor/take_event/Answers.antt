@@ -1,11 +1,5 @@
-use Rattle.std.proofs.Common.{None, [], ◌∷◌, ◌++◌, ap, sym, subst, ◌∙◌}
+use Rattle.cdc_audit.proofs.Words.{AuditorState, Facts, IsTimeIndex, None, [], ap, expiry_or, first_line, lines, next_state, released, subst, sym, with_accounts, with_held, with_own, with_settled, without_settled, ◌++◌, ◌∙◌, ◌∷◌}
 use Rattle.cdc_message.specs.declared.items.Item.TheVariants as item
-use Rattle.cdc_subscriber.specs.Steps.{next_state}
-use Rattle.cdc_types.specs.Lines.{first_line}
-use Rattle.cdc_audit.specs.declared.checks.Facts.{Facts}
-use Rattle.cdc_audit.specs.Checks.{lines, released}
-use Rattle.cdc_audit.specs.Known.{expiry_or}
-use Rattle.cdc_audit.specs.Standing.{AuditorState, IsTimeIndex, with_accounts, with_held, with_own, with_settled, without_settled}
 use Rattle.cdc_audit.proofs.StandLemmas.{accepts, answers, times_ordered, unless_error}
 use Rattle.cdc_audit.proofs.auditor.Auditor.take_event.Goals as goal
 

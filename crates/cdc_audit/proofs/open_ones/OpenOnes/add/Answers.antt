@@ -1,8 +1,4 @@
-use Rattle.std.proofs.Common.{List, None, ◌≡◌, ◌++◌, ◌∷◌, ℕ, [], cond, refl, sym, ap, ◌∙◌}
-use Rattle.std.specs.Prelude.{◌==◌, is_some, nat_eq, not}
-use Rattle.indexmap.specs.IndexMap.{insert_entry}
-use Rattle.cdc_types.specs.declared.events.Event.{Event}
-use Rattle.cdc_audit.specs.Standing.{open_under}
+use Rattle.cdc_audit.proofs.Words.{Event, List, None, [], ap, cond, insert_entry, is_some, nat_eq, not, open_under, refl, sym, ℕ, ◌++◌, ◌==◌, ◌∙◌, ◌∷◌, ◌≡◌}
 use Rattle.cdc_audit.proofs.OpenLemmas.{index-added, insert-new, none_there, open_under-added}
 use Rattle.cdc_audit.proofs.open_ones.OpenOnes.add.Goals as goal
 

@@ -1,5 +1,4 @@
-use Rattle.std.proofs.Common.{None, subst, sym, ◌∙◌}
-use Rattle.cdc_audit.specs.Standing.{IsFirst, open_under}
+use Rattle.cdc_audit.proofs.Words.{IsFirst, None, open_under, subst, sym, ◌∙◌}
 use Rattle.cdc_audit.proofs.OpenLemmas.{first-none, first-some, no_first}
 use Rattle.cdc_audit.proofs.open_ones.OpenOnes.first.Goals as goal
 

@@ -1,10 +1,4 @@
-use Rattle.std.proofs.Common.{Some, None, cond, false, ◌≡◌, ◌++◌, ap, refl, ◌∙◌}
-use Rattle.std.specs.Prelude.{option_to_list}
-use Rattle.std.specs.Ordering.{is_eq}
-use Rattle.std.specs.BTreeSet.{contains}
-use Rattle.std.proofs.lemmas.Bool.{eq-eqb}
-use Rattle.cdc_audit.specs.declared.open_ones.Due.{Due}
-use Rattle.cdc_audit.specs.Standing.{due_cmp, open_under}
+use Rattle.cdc_audit.proofs.Words.{Due, None, Some, ap, cond, contains, due_cmp, eq-eqb, false, is_eq, open_under, option_to_list, refl, ◌++◌, ◌∙◌, ◌≡◌}
 use Rattle.cdc_audit.proofs.OpenLemmas.{index-removed, open_under-added}
 use Rattle.cdc_audit.proofs.open_ones.OpenOnes.take_back.Goals as goal
 

@@ -1,5 +1,4 @@
-use Rattle.std.proofs.Common.{◌∙◌, ap}
-use Rattle.cdc_output.specs.Lines.{json_lines}
+use Rattle.cdc_commands.proofs.Words.{ap, json_lines, ◌∙◌}
 use Rattle.cdc_commands.specs.JsonReports.{simulation_values}
 use Rattle.cdc_commands.proofs.json_form.JsonForm.simulation.Goals as goal
 

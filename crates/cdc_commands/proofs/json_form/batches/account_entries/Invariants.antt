@@ -1,6 +1,4 @@
-use Rattle.std.proofs.Common.{◌≡◌, map, take}
-use Rattle.cdc_commands.specs.JsonValues.{account_result}
-use Rattle.cdc_output.specs.Private.Sending.{entry_value}
+use Rattle.cdc_commands.proofs.Words.{account_result, entry_value, map, take, ◌≡◌}
 use Rattle.cdc_commands.proofs.json_form.batches.account_entries.Given as goal
 
 abbrev pub invariant-loop-result : goal.invariant-loop-result

@@ -1,6 +1,4 @@
-use Rattle.std.proofs.Common.{◌≡◌, ◌++◌, take}
-use Rattle.cdc_commands.specs.JsonValues.{answered_values}
-use Rattle.cdc_output.specs.Lines.{json_lines}
+use Rattle.cdc_commands.proofs.Words.{answered_values, json_lines, take, ◌++◌, ◌≡◌}
 use Rattle.cdc_commands.proofs.json_form.batches.push_answers.Given as goal
 
 abbrev pub invariant-loop-answered : goal.invariant-loop-answered

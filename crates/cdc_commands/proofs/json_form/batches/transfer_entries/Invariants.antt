@@ -1,6 +1,4 @@
-use Rattle.std.proofs.Common.{◌≡◌, map, take}
-use Rattle.cdc_commands.specs.JsonValues.{transfer_result}
-use Rattle.cdc_output.specs.Private.Sending.{entry_value}
+use Rattle.cdc_commands.proofs.Words.{entry_value, map, take, transfer_result, ◌≡◌}
 use Rattle.cdc_commands.proofs.json_form.batches.transfer_entries.Given as goal
 
 abbrev pub invariant-loop-result : goal.invariant-loop-result

@@ -1,13 +1,4 @@
-use Rattle.std.proofs.Common.{◌≡◌, ◌++◌, ◌∙◌, List, ℕ, ap₂, map, sym}
-use Rattle.cdc_ledger.specs.History.{empty_history}
-use Rattle.cdc_laws.specs.Line.{line}
-use Rattle.cdc_subscriber.specs.SubscriberState.{SubscriberState}
-use Rattle.cdc_commands.specs.declared.batches.Answered.{Answered}
-use Rattle.cdc_commands.specs.Feeds.{kept_by}
-use Rattle.cdc_commands.specs.Printed.{answers_to, history_of}
-use Rattle.cdc_commands.specs.JsonValues.{answered_values}
-use Rattle.cdc_output.specs.Lines.{json_lines, kept_values}
-use Rattle.cdc_output.proofs.LineLemmas.{json_lines-append}
+use Rattle.cdc_commands.proofs.Words.{Answered, List, SubscriberState, answered_values, answers_to, ap₂, empty_history, history_of, json_lines, json_lines-append, kept_by, kept_values, line, map, sym, ℕ, ◌++◌, ◌∙◌, ◌≡◌}
 use Rattle.cdc_commands.proofs.json_form.books.books_lines.Goals as goal
 
 pub returns : goal.returns

@@ -1,15 +1,7 @@
-use Rattle.std.proofs.Common.{◌≡◌, ◌+◌, ◌<◌, ◌≤◌, ◌++◌, ◌∙◌, Some, ap, arith, length, map}
+use Rattle.cdc_commands.proofs.Words.{Some, SubscriberState, Subscription, ap, arith, found_at, json_lines, kept_more, kept_of, kept_whole, length, length-map, map, slice_get-map, subscriber_values, ◌++◌, ◌+◌, ◌<◌, ◌∙◌, ◌≡◌, ◌≤◌}
 use Rattle.std.specs.Option.{option_map}
 use Rattle.std.specs.Prelude.{slice_get}
-use Rattle.std.proofs.lemmas.List.{length-map}
-use Rattle.std.proofs.lemmas.Option.{slice_get-map}
-use Rattle.cdc_subscriber.specs.Reception.{kept_of}
-use Rattle.cdc_subscriber.specs.SubscriberState.{SubscriberState}
-use Rattle.cdc_world.specs.Worlds.{Subscription}
-use Rattle.cdc_output.proofs.FoundElements.{found_at}
 use Rattle.cdc_commands.proofs.SimulationLemmas.{numbered_found}
-use Rattle.cdc_output.specs.Lines.{json_lines, subscriber_values}
-use Rattle.cdc_output.proofs.LineLemmas.{kept_more, kept_whole}
 use Rattle.cdc_commands.proofs.json_form.simulations.push_subscriptions.Goals as goal
 
 pub loop-place-preserved : goal.loop-place-preserved

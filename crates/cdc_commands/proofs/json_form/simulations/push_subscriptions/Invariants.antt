@@ -1,8 +1,4 @@
-use Rattle.std.proofs.Common.{◌≡◌, ◌+◌, ◌++◌, drop, map}
-use Rattle.cdc_subscriber.specs.Reception.{kept_of}
-use Rattle.cdc_world.specs.Stands.{Stands}
-use Rattle.cdc_world.specs.Worlds.{WorldState}
-use Rattle.cdc_output.specs.Lines.{json_lines, kept_values}
+use Rattle.cdc_commands.proofs.Words.{Stands, WorldState, drop, json_lines, kept_of, kept_values, map, ◌++◌, ◌+◌, ◌≡◌}
 use Rattle.cdc_commands.proofs.json_form.simulations.push_subscriptions.Given as goal
 
 abbrev pub invariant-loop-place : goal.invariant-loop-place

@@ -1,7 +1,4 @@
-use Rattle.std.proofs.Common.{refl, subst, sym}
-use Rattle.cdc_world.specs.Parts.{Parts}
-use Rattle.cdc_world.specs.Stands.{Stands}
-use Rattle.cdc_commands.specs.Private.Stages.{IsAt}
+use Rattle.cdc_commands.proofs.Words.{IsAt, Parts, Stands, refl, subst, sym}
 use Rattle.cdc_commands.proofs.SimulationLemmas.{stands_counted}
 use Rattle.cdc_commands.proofs.simulations.Simulation.finish.Goals as goal
 

@@ -1,5 +1,4 @@
-use Rattle.std.proofs.Common.{refl, sym, ◌∙◌, arith}
-use Rattle.std.proofs.lemmas.Option.{slice_get_read}
+use Rattle.cdc_commands.proofs.Words.{arith, refl, slice_get_read, sym, ◌∙◌}
 use Rattle.cdc_commands.proofs.SimulationLemmas.{stopped, went_on}
 use Rattle.cdc_commands.proofs.simulations.Simulation.play.Goals as goal
 

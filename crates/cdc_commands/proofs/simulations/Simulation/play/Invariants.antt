@@ -1,7 +1,5 @@
-use Rattle.std.proofs.Common.{◌≡◌, ◌≤◌, drop}
+use Rattle.cdc_commands.proofs.Words.{IsAt, Stage, drop, ◌≡◌, ◌≤◌}
 use Rattle.std.specs.Vec.Iter.{into_iter_items}
-use Rattle.cdc_commands.specs.Private.Stages.{IsAt}
-use Rattle.cdc_commands.specs.Simulations.{Stage}
 use Rattle.cdc_commands.proofs.SimulationLemmas.{HasCome, SawFrom}
 use Rattle.cdc_commands.proofs.simulations.Simulation.play.Given as goal
 

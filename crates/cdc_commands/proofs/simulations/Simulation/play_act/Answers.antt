@@ -1,9 +1,4 @@
-use Rattle.std.proofs.Common.{◌∙◌, ap, length, subst, sym}
-use Rattle.std.specs.Prelude.{OnErr}
-use Rattle.std.specs.List.{slice_get}
-use Rattle.std.proofs.lemmas.Result.{on_err_weaker}
-use Rattle.cdc_commands.specs.Private.Stages.{AbortsAt, SimulationParts}
-use Rattle.cdc_commands.specs.Simulations.{step_for}
+use Rattle.cdc_commands.proofs.Words.{AbortsAt, OnErr, SimulationParts, ap, length, on_err_weaker, slice_get, step_for, subst, sym, ◌∙◌}
 use Rattle.cdc_commands.proofs.SimulationLemmas.{act_answered, left_behind, next_batch, next_left, next_within}
 use Rattle.cdc_commands.proofs.simulations.Simulation.play_act.Goals as goal
 

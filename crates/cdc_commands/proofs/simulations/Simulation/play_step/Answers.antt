@@ -1,7 +1,4 @@
-use Rattle.std.proofs.Common.{Err, refl, subst, sym}
-use Rattle.cdc_progress.specs.Stores.{Risks}
-use Rattle.cdc_world.specs.Next.{NextOver}
-use Rattle.cdc_commands.specs.Private.Stages.{IsAt}
+use Rattle.cdc_commands.proofs.Words.{Err, IsAt, NextOver, Risks, refl, subst, sym}
 use Rattle.cdc_commands.proofs.SimulationLemmas.{step_done, step_refused, whatever_answered}
 use Rattle.cdc_commands.proofs.simulations.Simulation.play_step.Goals as goal
 

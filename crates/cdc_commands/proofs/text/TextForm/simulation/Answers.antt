@@ -1,6 +1,4 @@
-use Rattle.std.proofs.Common.{◌∙◌, ap}
-use Rattle.std.proofs.lemmas.Result.{IfOk-weaker}
-use Rattle.cdc_commands.specs.Simulations.{simulation_text}
+use Rattle.cdc_commands.proofs.Words.{IfOk-weaker, ap, simulation_text, ◌∙◌}
 use Rattle.cdc_commands.proofs.SimulationReached.{simulates}
 use Rattle.cdc_commands.proofs.text.TextForm.simulation.Goals as goal
 

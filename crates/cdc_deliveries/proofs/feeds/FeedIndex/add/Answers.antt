@@ -1,5 +1,4 @@
-use Rattle.std.proofs.Common.{◌≡◌, false, true}
-use Rattle.cdc_match.specs.Queue.{takes_event}
+use Rattle.cdc_deliveries.proofs.Words.{false, takes_event, true, ◌≡◌}
 use Rattle.cdc_queue_lines.proofs.StepLemmas.{takes_by}
 use Rattle.cdc_deliveries.proofs.IndexLemmas.{index_fed, index_passed}
 use Rattle.cdc_deliveries.proofs.feeds.FeedIndex.add.Goals as goal

@@ -1,6 +1,4 @@
-use Rattle.std.proofs.Common.{drop}
-use Rattle.cdc_match.specs.Queue.{feed}
-use Rattle.cdc_deliveries.specs.Indexes.{Indexes}
+use Rattle.cdc_deliveries.proofs.Words.{Indexes, drop, feed}
 use Rattle.cdc_deliveries.proofs.feeds.FeedIndex.new.Given as goal
 
 -- the index has the events so far

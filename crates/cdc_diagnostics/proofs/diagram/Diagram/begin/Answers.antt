@@ -1,5 +1,4 @@
-use Rattle.std.proofs.Common.{◌≡◌, ◌∙◌, ◌+◌, ◌++◌, List, ℕ, add-one, ap, append_assoc, codes, sym}
-use Rattle.cdc_diagnostics.specs.Diagrams.{diagram_head, participant, participants}
+use Rattle.cdc_diagnostics.proofs.Words.{List, add-one, ap, append_assoc, codes, diagram_head, participant, participants, sym, ℕ, ◌++◌, ◌+◌, ◌∙◌, ◌≡◌}
 use Rattle.cdc_diagnostics.proofs.diagram.Diagram.begin.Goals as goal
 
 -- one more subscriber

@@ -1,5 +1,4 @@
-use Rattle.std.proofs.Common.{◌++◌, List, ℕ}
-use Rattle.cdc_diagnostics.specs.Diagrams.{diagram_head}
+use Rattle.cdc_diagnostics.proofs.Words.{List, diagram_head, ℕ, ◌++◌}
 use Rattle.cdc_diagnostics.specs.Texts.{Holds}
 use Rattle.cdc_diagnostics.proofs.diagram.Diagram.begin.Given as goal
 

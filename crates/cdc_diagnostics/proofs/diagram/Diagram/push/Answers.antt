@@ -1,6 +1,4 @@
-use Rattle.std.proofs.Common.{◌++◌, List, ℕ, append_assoc, codes}
-use Rattle.cdc_diagnostics.specs.Sentences.{sentence_text}
-use Rattle.cdc_diagnostics.specs.Traces.{money_text, seen_of}
+use Rattle.cdc_diagnostics.proofs.Words.{List, append_assoc, codes, money_text, seen_of, sentence_text, ℕ, ◌++◌}
 use Rattle.cdc_diagnostics.proofs.diagram.Diagram.push.Goals as goal
 
 pub returns : goal.returns

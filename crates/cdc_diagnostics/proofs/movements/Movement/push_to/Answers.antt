@@ -1,5 +1,4 @@
-use Rattle.std.proofs.Common.{◌++◌, List, ℕ, append_assoc, codes, decimal}
-use Rattle.cdc_diagnostics.specs.Movements.{kind_text}
+use Rattle.cdc_diagnostics.proofs.Words.{List, append_assoc, codes, decimal, kind_text, ℕ, ◌++◌}
 use Rattle.cdc_diagnostics.proofs.movements.Movement.push_to.Goals as goal
 
 pub returns : goal.returns

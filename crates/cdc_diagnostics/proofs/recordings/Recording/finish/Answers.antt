@@ -1,5 +1,4 @@
-use Rattle.cdc_diagnostics.specs.Diagrams.{diagram_text}
-use Rattle.cdc_diagnostics.specs.Recordings.{if_asked}
+use Rattle.cdc_diagnostics.proofs.Words.{diagram_text, if_asked}
 use Rattle.cdc_diagnostics.proofs.recordings.Recording.finish.Goals as goal
 
 pub returns-clause-diagram : goal.returns-clause-diagram

@@ -1,8 +1,4 @@
-use Rattle.std.proofs.Common.{◌≡◌, ◌∙◌, ◌+◌, ◌++◌, ◌∷◌, [], ℕ, ap, arith, length, length-append, sym}
-use Rattle.cdc_commands.specs.Seen.{Seen}
-use Rattle.cdc_diagnostics.specs.Diagrams.{diagram_line, diagram_text}
-use Rattle.cdc_diagnostics.specs.Recordings.{if_asked, taken_after}
-use Rattle.cdc_diagnostics.specs.Traces.{taken_with, trace_line, trace_text}
+use Rattle.cdc_diagnostics.proofs.Words.{Seen, [], ap, arith, diagram_line, diagram_text, if_asked, length, length-append, sym, taken_after, taken_with, trace_line, trace_text, ℕ, ◌++◌, ◌+◌, ◌∙◌, ◌∷◌, ◌≡◌}
 use Rattle.cdc_diagnostics.proofs.OneMoreStep.{diagram_text-more, if_asked-more, taken_after-more, taken_after-most, trace_after-more}
 use Rattle.cdc_diagnostics.proofs.recordings.Recording.see.Goals as goal
 

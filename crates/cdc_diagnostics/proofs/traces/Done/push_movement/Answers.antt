@@ -1,12 +1,6 @@
-use Rattle.std.proofs.Common.{◌≡◌, ◌∙◌, ◌++◌, List, ℕ, ap, append_assoc, codes, sym}
-use Rattle.std.specs.Prelude.{Option, Some, option_map}
+use Rattle.cdc_diagnostics.proofs.Words.{Event, List, Moved, Option, Some, after_comma, ap, append_assoc, codes, event_at, event_moved, events, money_at, movement_of, movement_text, option_map, sym, ℕ, ◌++◌, ◌∙◌, ◌≡◌}
 use Rattle.std.specs.Option.{option_and_then}
-use Rattle.cdc_types.specs.declared.events.Event.{Event}
-use Rattle.cdc_ledger.specs.Events.{events}
-use Rattle.cdc_world.specs.declared.moved.Moved.{Moved}
 use Rattle.cdc_diagnostics.specs.declared.movements.Movement.{Movement}
-use Rattle.cdc_diagnostics.specs.Movements.{after_comma, event_at, movement_of, movement_text}
-use Rattle.cdc_diagnostics.specs.Traces.{event_moved, money_at}
 use Rattle.cdc_diagnostics.proofs.traces.Done.push_movement.Goals as goal
 
 -- what was moved is an event that has this movement

@@ -1,10 +1,4 @@
-use Rattle.std.proofs.Common.{◌≡◌, ◌≤◌, ◌∙◌, ℕ, List, ◌++◌, ap, codes, decimal, drop, length, refl, subst, sym}
-use Rattle.cdc_types.specs.declared.events.Event.{Event}
-use Rattle.cdc_types.specs.declared.steps.Step.{Step}
-use Rattle.cdc_types.specs.declared.steps.Step.TheVariants.{StartAt}
-use Rattle.cdc_ledger.specs.Events.{events}
-use Rattle.cdc_log.specs.Log.{events_after}
-use Rattle.cdc_diagnostics.specs.Traces.{begin_text, left_out, start_text}
+use Rattle.cdc_diagnostics.proofs.Words.{Event, List, StartAt, Step, ap, begin_text, codes, decimal, drop, events, events_after, left_out, length, refl, start_text, subst, sym, ℕ, ◌++◌, ◌∙◌, ◌≡◌, ◌≤◌}
 use Rattle.cdc_diagnostics.proofs.Events.{left_out-place}
 use Rattle.cdc_diagnostics.proofs.traces.Done.started_sentence.Goals as goal
 

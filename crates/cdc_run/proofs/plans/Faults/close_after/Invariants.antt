@@ -1,5 +1,4 @@
-use Rattle.std.proofs.Common.{take}
-use Rattle.cdc_run.specs.Plans.{IsLeastClose}
+use Rattle.cdc_run.proofs.Words.{IsLeastClose, take}
 use Rattle.cdc_run.proofs.plans.Faults.close_after.Given as goal
 
 -- it is the least of those so far

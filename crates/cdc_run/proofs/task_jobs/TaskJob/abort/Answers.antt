@@ -1,15 +1,5 @@
-use Rattle.std.proofs.Common.{ap, ◌∙◌}
-use Rattle.cdc_ledger_actors.specs.Client.{ClientCore}
-use Rattle.cdc_connector_actor.specs.Connector.SoFar.{IsFaultOf}
-use Rattle.cdc_actors.specs.Ends.{ActorState}
-use Rattle.cdc_actor_work.specs.Faults.{IsTurnFault}
-use Rattle.cdc_ledger_actors.specs.Seats.{client_seat, ledger_seat}
-use Rattle.cdc_connector_actor.specs.Seats.{connector_seat}
-use Rattle.cdc_broker_actors.specs.Seats.{broker_seat, subscriber_seat}
-use Rattle.cdc_actors.specs.Stops.{StopState}
-use Rattle.cdc_actors.specs.declared.met.Met.TheVariants.{Unstarted}
+use Rattle.cdc_run.proofs.Words.{ActorState, ClientCore, IsFaultOf, IsTurnFault, StopState, Unstarted, ap, broker_seat, client_place, client_seat, connector_seat, ledger_seat, subscriber_place, subscriber_seat, ◌∙◌}
 use Rattle.cdc_actor_work.specs.declared.places.Place.TheVariants as place
-use Rattle.cdc_run.specs.Tasks.{client_place, subscriber_place}
 use Rattle.cdc_run.proofs.Stopped.{aborted}
 use Rattle.cdc_run.proofs.task_jobs.TaskJob.abort.Goals as goal
 

@@ -1,6 +1,4 @@
-use Rattle.std.proofs.Common.{Ok, refl, sym, ◌∙◌}
-use Rattle.cdc_types.specs.declared.steps.Step.TheVariants.{Ack}
-use Rattle.cdc_world.specs.declared.steps.Did.TheVariants.{Counted}
+use Rattle.cdc_world.proofs.Words.{Ack, Counted, Ok, refl, sym, ◌∙◌}
 use Rattle.cdc_world.proofs.NumberedElements.{numbered_none, numbered_some}
 use Rattle.cdc_world.proofs.ActorMoves.{at_entry, at_entry_unchanged}
 use Rattle.cdc_world.proofs.SubscriberMoves.{ack_at, ack_at_none}

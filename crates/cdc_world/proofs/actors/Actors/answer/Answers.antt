@@ -1,6 +1,4 @@
-use Rattle.std.proofs.Common.{Ok, sym, ◌∙◌}
-use Rattle.cdc_types.specs.declared.steps.Step.TheVariants.{Answer}
-use Rattle.cdc_world.specs.declared.steps.Did.TheVariants.{Counted}
+use Rattle.cdc_world.proofs.Words.{Answer, Counted, Ok, sym, ◌∙◌}
 use Rattle.cdc_world.proofs.ConnectorMoves.{answer_done}
 use Rattle.cdc_world.proofs.NumberedElements.{numbered_some}
 use Rattle.cdc_world.proofs.ActorMoves.{at_entry}

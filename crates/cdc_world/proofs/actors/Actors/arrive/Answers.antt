@@ -1,7 +1,4 @@
-use Rattle.std.proofs.Common.{Ok, sym, ◌∙◌}
-use Rattle.cdc_types.specs.declared.steps.Step.TheVariants.{Arrive}
-use Rattle.cdc_world.specs.declared.steps.Did.TheVariants.{Arrived}
-use Rattle.cdc_world.specs.declared.steps.StepError.TheVariants.{OutOfMemory}
+use Rattle.cdc_world.proofs.Words.{Arrive, Arrived, Ok, OutOfMemory, sym, ◌∙◌}
 use Rattle.cdc_world.proofs.BrokerMoves.{arrive_done, arrive_refused}
 use Rattle.cdc_world.proofs.NumberedElements.{numbered_some}
 use Rattle.cdc_world.proofs.ActorMoves.{at_entry, at_entry_err}

@@ -1,6 +1,4 @@
-use Rattle.std.proofs.Common.{Ok, refl, sym, ◌∙◌}
-use Rattle.cdc_types.specs.declared.steps.Step.TheVariants.{Break}
-use Rattle.cdc_world.specs.declared.steps.Did.TheVariants.{Done}
+use Rattle.cdc_world.proofs.Words.{Break, Done, Ok, refl, sym, ◌∙◌}
 use Rattle.cdc_world.proofs.ActorMoves.{at_entry}
 use Rattle.cdc_world.proofs.SubscriberMoves.{break_at}
 use Rattle.cdc_world.proofs.actors.Actors.break_off.Goals as goal

@@ -1,6 +1,4 @@
-use Rattle.std.proofs.Common.{Ok, refl, sym, ◌∙◌}
-use Rattle.cdc_types.specs.declared.steps.Step.TheVariants.{Close}
-use Rattle.cdc_world.specs.declared.steps.Did.TheVariants.{Done}
+use Rattle.cdc_world.proofs.Words.{Close, Done, Ok, refl, sym, ◌∙◌}
 use Rattle.cdc_world.proofs.ActorMoves.{at_entry}
 use Rattle.cdc_world.proofs.SubscriberMoves.{close_at}
 use Rattle.cdc_world.proofs.actors.Actors.close.Goals as goal

@@ -1,6 +1,4 @@
-use Rattle.std.proofs.Common.{Ok}
-use Rattle.cdc_types.specs.declared.steps.Step.TheVariants.{CloseLedger}
-use Rattle.cdc_world.specs.declared.steps.Did.TheVariants.{Done}
+use Rattle.cdc_world.proofs.Words.{CloseLedger, Done, Ok}
 use Rattle.cdc_world.proofs.ActorMoves.{at_entry, close_done}
 use Rattle.cdc_world.proofs.actors.Actors.close_ledger.Goals as goal
 

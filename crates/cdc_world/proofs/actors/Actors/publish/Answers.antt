@@ -1,6 +1,5 @@
-use Rattle.std.proofs.Common.{Ok}
+use Rattle.cdc_world.proofs.Words.{Done, Ok}
 use Rattle.cdc_types.specs.declared.steps.Step.TheVariants.{Publish}
-use Rattle.cdc_world.specs.declared.steps.Did.TheVariants.{Done}
 use Rattle.cdc_world.proofs.ConnectorMoves.{publish_done}
 use Rattle.cdc_world.proofs.ActorMoves.{at_entry}
 use Rattle.cdc_world.proofs.actors.Actors.publish.Goals as goal

@@ -1,6 +1,4 @@
-use Rattle.std.proofs.Common.{Ok, refl, sym, ◌∙◌}
-use Rattle.cdc_types.specs.declared.steps.Step.TheVariants.{Rewind}
-use Rattle.cdc_world.specs.declared.steps.Did.TheVariants.{Done}
+use Rattle.cdc_world.proofs.Words.{Done, Ok, Rewind, refl, sym, ◌∙◌}
 use Rattle.cdc_world.proofs.ActorMoves.{at_entry}
 use Rattle.cdc_world.proofs.SubscriberMoves.{rewind_at}
 use Rattle.cdc_world.proofs.actors.Actors.rewind.Goals as goal

@@ -1,6 +1,4 @@
-use Rattle.std.proofs.Common.{Ok, refl, sym, ◌∙◌}
-use Rattle.cdc_types.specs.declared.steps.Step.TheVariants.{Send}
-use Rattle.cdc_world.specs.declared.steps.Did.TheVariants.{Done}
+use Rattle.cdc_world.proofs.Words.{Done, Ok, Send, refl, sym, ◌∙◌}
 use Rattle.cdc_world.proofs.ActorMoves.{at_entry, at_entry_err}
 use Rattle.cdc_world.proofs.SubscriberMoves.{send_at, send_at_refused}
 use Rattle.cdc_world.proofs.actors.Actors.send.Goals as goal

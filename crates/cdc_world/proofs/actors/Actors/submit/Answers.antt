@@ -1,6 +1,4 @@
-use Rattle.std.proofs.Common.{Ok}
-use Rattle.cdc_types.specs.declared.steps.Step.TheVariants.{Submit}
-use Rattle.cdc_world.specs.declared.steps.Did.TheVariants.{Submitted}
+use Rattle.cdc_world.proofs.Words.{Ok, Submit, Submitted}
 use Rattle.cdc_world.proofs.ActorMoves.{at_entry, submit_done}
 use Rattle.cdc_world.proofs.actors.Actors.submit.Goals as goal
 

@@ -1,6 +1,4 @@
-use Rattle.std.proofs.Common.{Ok, refl, sym, ◌∙◌}
-use Rattle.cdc_types.specs.declared.steps.Step.TheVariants.{Take}
-use Rattle.cdc_world.specs.declared.steps.Did.TheVariants.{Took}
+use Rattle.cdc_world.proofs.Words.{Ok, Take, Took, refl, sym, ◌∙◌}
 use Rattle.cdc_world.proofs.ActorMoves.{at_entry, at_entry_err}
 use Rattle.cdc_world.proofs.SubscriberMoves.{take_at, take_at_refused}
 use Rattle.cdc_world.proofs.actors.Actors.take.Goals as goal

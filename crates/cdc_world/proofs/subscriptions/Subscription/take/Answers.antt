@@ -1,9 +1,6 @@
-use Rattle.std.proofs.Common.{refl, subst, ◌∙◌, ap, ◌++◌, ◌∷◌, [], List, ℕ, Ok, Result, OnOk, arith, ◌<◌, length, ◌≡◌}
-use Rattle.cdc_world.specs.Parts.{subscription_parts}
+use Rattle.cdc_world.proofs.Words.{List, Ok, OnOk, Result, TakeError, Taking, [], ap, arith, kept_of, length, refl, subscription_parts, subst, ℕ, ◌++◌, ◌<◌, ◌∙◌, ◌∷◌, ◌≡◌}
 use Rattle.cdc_world.proofs.SubscriberMoves.{answered_is, mapped_ok, taken_is}
-use Rattle.cdc_subscriber.specs.declared.subscriber.Taking.{Taking}
-use Rattle.cdc_subscriber.specs.declared.errors.TakeError.{TakeError}
-use Rattle.cdc_subscriber.specs.Reception.{kept_of, next}
+use Rattle.cdc_subscriber.specs.Reception.{next}
 use Rattle.cdc_world.proofs.subscriptions.Subscription.take.Goals as goal
 
 pub returns : goal.returns

@@ -1,5 +1,4 @@
-use Rattle.std.proofs.Common.{◌∙◌}
-use Rattle.cdc_world.specs.Worlds.{taken_items}
+use Rattle.cdc_world.proofs.Words.{taken_items, ◌∙◌}
 use Rattle.cdc_world.proofs.MovedReadings.{acked_read}
 use Rattle.cdc_world.proofs.world.World.acked.Goals as goal
 

@@ -1,8 +1,4 @@
-use Rattle.std.proofs.Common.{Ok, Err, sym, ap, ◌∙◌}
-use Rattle.std.specs.Prelude.{option_copied}
-use Rattle.cdc_types.specs.declared.steps.Step.TheVariants.{Save}
-use Rattle.cdc_world.specs.declared.steps.Did.TheVariants.{Done}
-use Rattle.cdc_world.specs.Refusals.{store_refusal}
+use Rattle.cdc_world.proofs.Words.{Done, Err, Ok, Save, ap, option_copied, store_refusal, sym, ◌∙◌}
 use Rattle.cdc_world.proofs.ConnectorMoves.{save_done, save_failed, save_refused}
 use Rattle.cdc_world.proofs.ActorMoves.{Moves-risked, moves_entry, moves_entry_err}
 use Rattle.cdc_world.proofs.world.World.save.Goals as goal

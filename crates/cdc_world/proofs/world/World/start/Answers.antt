@@ -1,8 +1,4 @@
-use Rattle.std.proofs.Common.{Ok, sym, ap, ◌∙◌}
-use Rattle.std.specs.Prelude.{option_copied}
-use Rattle.cdc_world.specs.declared.steps.Did.TheVariants.{Done}
-use Rattle.cdc_world.specs.Next.{start_after}
-use Rattle.cdc_world.specs.Refusals.{start_refusal}
+use Rattle.cdc_world.proofs.Words.{Done, Ok, ap, option_copied, start_after, start_refusal, sym, ◌∙◌}
 use Rattle.cdc_world.proofs.ConnectorMoves.{none_of, start_done, start_failed, start_refused}
 use Rattle.cdc_world.proofs.ActorMoves.{Moves-risked, moves_entry, moves_entry_err}
 use Rattle.cdc_world.proofs.world.World.start.Goals as goal

@@ -1,6 +1,4 @@
-use Rattle.std.proofs.Common.{ap}
-use Rattle.cdc_types.specs.declared.steps.Step.TheVariants.{Save}
-use Rattle.cdc_world.specs.Parts.{Parts}
+use Rattle.cdc_world.proofs.Words.{Parts, Save, ap}
 use Rattle.cdc_world.proofs.ClosedSubscribers.{StepFixesClosed-moves}
 use Rattle.cdc_world.proofs.ActorMoves.{Moves-actors, counted_entry, moves_entry}
 use Rattle.cdc_world.proofs.world.World.step.Goals as goal

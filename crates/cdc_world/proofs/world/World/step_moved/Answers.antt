@@ -1,5 +1,4 @@
-use Rattle.std.proofs.Common.{◌∙◌, ap₂}
-use Rattle.std.specs.Option.{option_or}
+use Rattle.cdc_world.proofs.Words.{ap₂, option_or, ◌∙◌}
 use Rattle.cdc_world.proofs.world.World.step_moved.Goals as goal
 
 pub returns-in-Ok-clause-next : goal.returns-in-Ok-clause-next

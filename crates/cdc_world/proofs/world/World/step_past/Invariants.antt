@@ -1,5 +1,4 @@
-use Rattle.std.proofs.Common.{◌≤◌}
-use Rattle.cdc_world.specs.Tries.{HaveTriesCounted}
+use Rattle.cdc_world.proofs.Words.{HaveTriesCounted, ◌≤◌}
 use Rattle.cdc_world.proofs.TriedSteps.{HasFailed}
 use Rattle.cdc_world.proofs.world.World.step_past.Given as goal
 

@@ -1,6 +1,4 @@
-use Rattle.std.proofs.Common.{sym, ap, ◌∙◌, subst}
-use Rattle.cdc_world.specs.Parts.{Parts, SubscriptionParts, subscription_parts}
-use Rattle.cdc_world.specs.Stands.{ActorsStand}
+use Rattle.cdc_world.proofs.Words.{ActorsStand, Parts, SubscriptionParts, ap, subscription_parts, subst, sym, ◌∙◌}
 use Rattle.cdc_world.proofs.Reached.{faithful-reached, kept-reached}
 use Rattle.cdc_world.proofs.SubscriberMoves.{parts_read}
 use Rattle.cdc_world.proofs.world.World.subscriber.Goals as goal
