@@ -1,5 +1,5 @@
 -- A broker to which items are published, and subscribers that take each of them before the next one is published.
-use Rattle.cdc_commands.proofs.Words.{AreFed, Arguments, Bool, BrokerState, Delivery, EndMark, Event, Item, List, None, OfEvent, Option, QueueState, Some, SubscriberState, TakesDelivery, [], ap, append-nil, ap₂, arith, caught_up, connected, empty_broker, empty_queue, false, false≢true, filter-append, found_at, if◌then◌else◌, kept_by, kept_of, le-ltb, length, length-map, length-set, length_push, lt-ltb, map, map_push, max, max_64, nat_lt, next, next_delivery, nobody, nothing, option_map, published, queue, queue_of, queued, receiving, receiving_delivery, refl, rules, same_Some, slice_get_past, slice_set, subst, sym, take, take_all, take_found, takes_item, takes_packet, true, unwrap_or, with_item, with_taken, ℕ, ◌++◌, ◌+◌, ◌-◌, ◌<◌, ◌==◌, ◌||◌, ◌∙◌, ◌∷◌, ◌≡◌, ◌≤◌}
+use Rattle.cdc_commands.proofs.Terms.{AreFed, Arguments, Bool, BrokerState, Delivery, EndMark, Event, Item, List, None, OfEvent, Option, QueueState, Some, SubscriberState, TakesDelivery, [], ap, append-nil, ap₂, arith, caught_up, connected, empty_broker, empty_queue, false, false≢true, filter-append, found_at, if◌then◌else◌, kept_by, kept_of, le-ltb, length, length-map, length-set, length_push, lt-ltb, map, map_push, max, max_64, nat_lt, next, next_delivery, nobody, nothing, option_map, published, queue, queue_of, queued, receiving, receiving_delivery, refl, rules, same_Some, slice_get_past, slice_set, subst, sym, take, take_all, take_found, takes_item, takes_packet, true, unwrap_or, with_item, with_taken, ℕ, ◌++◌, ◌+◌, ◌-◌, ◌<◌, ◌==◌, ◌||◌, ◌∙◌, ◌∷◌, ◌≡◌, ◌≤◌}
 use Rattle.std.specs.Prelude.{slice_get}
 use Rattle.std.proofs.lemmas.List.Sums.{fold-append}
 use Rattle.cdc_broker.specs.Packets.{tag_after}

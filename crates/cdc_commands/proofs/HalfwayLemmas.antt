@@ -1,5 +1,5 @@
 -- A list that is made of another one, and made again by a loop, one element after another.
-use Rattle.cdc_commands.proofs.Words.{List, Some, [], ap, append-nil, ap₂, arith, drop, drop_all, length, map, refl, slice_set, suc, take, take_all, zero, ℕ, ◌++◌, ◌+◌, ◌∙◌, ◌∷◌, ◌≡◌, ◌≤◌}
+use Rattle.cdc_commands.proofs.Terms.{List, Some, [], ap, append-nil, ap₂, arith, drop, drop_all, length, map, refl, slice_set, suc, take, take_all, zero, ℕ, ◌++◌, ◌+◌, ◌∙◌, ◌∷◌, ◌≡◌, ◌≤◌}
 use Rattle.std.specs.Prelude.{slice_get}
 
 -- the first elements are made as they will be, the others as they were

@@ -1,5 +1,5 @@
 -- What a subscriber keeps that has taken its whole queue of a closed ledger.
-use Rattle.cdc_commands.proofs.Words.{AllByRecursion, Arguments, Bool, Event, History, IsFaithful, Item, List, Reception, Script, SubscriberState, [], ap, append-nil, applied, ap₂, arith, emitted, empty_history, event_of, events, false, feed, feed_of, filter, has_ended, history_after, history_of, if◌then◌else◌, kept_by, length, length-map, line, line_after, map, min, queue, received_of, receiving, refl, subst, sym, takes_event, true, ℕ, ◌+◌, ◌-◌, ◌<◌, ◌^◌, ◌∙◌, ◌∷◌, ◌≡◌, ◌≤◌}
+use Rattle.cdc_commands.proofs.Terms.{AllByRecursion, Arguments, Bool, Event, History, IsFaithful, Item, List, Reception, Script, SubscriberState, [], ap, append-nil, applied, ap₂, arith, emitted, empty_history, event_of, events, false, feed, feed_of, filter, has_ended, history_after, history_of, if◌then◌else◌, kept_by, length, length-map, line, line_after, map, min, queue, received_of, receiving, refl, subst, sym, takes_event, true, ℕ, ◌+◌, ◌-◌, ◌<◌, ◌^◌, ◌∙◌, ◌∷◌, ◌≡◌, ◌≤◌}
 use Rattle.cdc_types.specs.declared.events.Entry.{Entry}
 use Rattle.cdc_types.specs.Timestamps.{last_timestamp}
 use Rattle.cdc_ledger.specs.Sound as sound

@@ -9,4 +9,4 @@ pub mod TakerLemmas
 pub mod TextLemmas
 pub mod ReadingLemmas
 pub mod ShownWords
-pub mod Words
+pub mod Terms

@@ -1,5 +1,5 @@
 -- What a command writes of what it makes of its input.
-use Rattle.cdc_commands.proofs.Words.{Act, BadScript, BadSteps, BadWords, Done, Err, Failed, IfErr, IfOk, IfSome, IsGoodScript, IsParsedAs, IsPrinted, IsReadFault, IsSimulationFault, IsSomeAnd, IsWriteFault, List, MayFailScript, None, Ok, Option, Outcome, Output, Plan, PrintsAtWord, PrintsFailure, PrintsNone, PrintsPlan, PrintsScript, Refused, ReportsPlan, Result, Script, ScriptFault, SimulationInput, Some, StepError, Writes, [], acts_of, bytes_at, ending_of, inl, inr, of_acts, of_files, outcome_of, refusal_ending, script_of, subst, sym, ℕ, ◌∙◌, ◌≡◌}
+use Rattle.cdc_commands.proofs.Terms.{Act, BadScript, BadSteps, BadWords, Done, Err, Failed, IfErr, IfOk, IfSome, IsGoodScript, IsParsedAs, IsPrinted, IsReadFault, IsSimulationFault, IsSomeAnd, IsWriteFault, List, MayFailScript, None, Ok, Option, Outcome, Output, Plan, PrintsAtWord, PrintsFailure, PrintsNone, PrintsPlan, PrintsScript, Refused, ReportsPlan, Result, Script, ScriptFault, SimulationInput, Some, StepError, Writes, [], acts_of, bytes_at, ending_of, inl, inr, of_acts, of_files, outcome_of, refusal_ending, script_of, subst, sym, ℕ, ◌∙◌, ◌≡◌}
 use Rattle.cdc_script.specs.declared.faults.Span.{Span}
 use Rattle.cdc_commands.specs.declared.book_reports.ParsedBatches.{ParsedBatches}
 use Rattle.cdc_commands.specs.declared.books.BooksOutput.{BooksOutput}

@@ -1,5 +1,5 @@
 -- The word in error in a text that was read up to its limit.
-use Rattle.cdc_commands.proofs.Words.{Err, IfSome, IsParsedAs, List, None, Option, Result, ScriptFault, Some, acts_of, ap, append-nil, arith, bytes_at, cases_lt, inl, inr, length, max_bytes, nat_lt, nat_tests, refl, script_of, subst, sym, true, whole_fault, ℕ, ◌++◌, ◌<◌, ◌∙◌, ◌≡◌, ◌≤◌, ◌⊎◌}
+use Rattle.cdc_commands.proofs.Terms.{Err, IfSome, IsParsedAs, List, None, Option, Result, ScriptFault, Some, acts_of, ap, append-nil, arith, bytes_at, cases_lt, inl, inr, length, max_bytes, nat_lt, nat_tests, refl, script_of, subst, sym, true, whole_fault, ℕ, ◌++◌, ◌<◌, ◌∙◌, ◌≡◌, ◌≤◌, ◌⊎◌}
 use Rattle.std.specs.Io.KnownBytes.{Consumes, IsAtEnd}
 use Rattle.cdc_script.specs.declared.faults.FaultKind.TheVariants.{TooLong}
 

@@ -1,5 +1,5 @@
 -- Words of a file as they are shown.
-use Rattle.cdc_commands.proofs.Words.{All-cons, All-nil, Bool, IsUtf8, List, [], ap, append_assoc, arith, codes, if◌then◌else◌, length, map, map-append, nat_lt, nat_tests, shown_byte, shown_bytes, slice_index, sym, take, take_more, true, ℕ, ◌++◌, ◌+◌, ◌<◌, ◌∙◌, ◌∷◌, ◌≡◌}
+use Rattle.cdc_commands.proofs.Terms.{All-cons, All-nil, Bool, IsUtf8, List, [], ap, append_assoc, arith, codes, if◌then◌else◌, length, map, map-append, nat_lt, nat_tests, shown_byte, shown_bytes, slice_index, sym, take, take_more, true, ℕ, ◌++◌, ◌+◌, ◌<◌, ◌∙◌, ◌∷◌, ◌≡◌}
 use Rattle.std.proofs.lemmas.Str.{IsUtf8-from_ascii}
 use Rattle.std.proofs.lemmas.Str.Ascii.{IsAscii-from_all}
 use Rattle.cdc_commands.specs.declared.words.TheConstants.{MOST_SHOWN}

@@ -1,5 +1,5 @@
 -- Simulations, act by act, and the subscribers of a world, one after another.
-use Rattle.cdc_commands.proofs.Words.{Act, ActsTo, AnswersTo, ClientBatch, Err, History, IfOk, IsAt, IsReportOf, List, Next, NextOver, None, Ok, OnErr, Option, Parts, PlaysActs, Result, Seen, Simulated, SimulationParts, Some, Stage, Stands, Step, StepError, SubscriberState, Subscription, WorldState, [], after_act, answered_lines, ap, append-nil, append_assoc, ap₂, arith, did_answer, drop, drop_all, drop_more, false, false≢true, get_or, get_or_from_slice_get, if◌then◌else◌, inl, inr, is_some, kept_of, length, no_risks, numbered, option_map, pieces, progress_line, refl, refusal_line, rules, simulation_text, slice_get, slice_get_cases, slice_get_within, step_for, steps_line, subscriber_text, subscriptions_text, subst, sym, true, ℕ, ◌++◌, ◌+◌, ◌-◌, ◌<◌, ◌==◌, ◌∙◌, ◌∷◌, ◌≡◌, ◌≤◌, ◌⊎◌}
+use Rattle.cdc_commands.proofs.Terms.{Act, ActsTo, AnswersTo, ClientBatch, Err, History, IfOk, IsAt, IsReportOf, List, Next, NextOver, None, Ok, OnErr, Option, Parts, PlaysActs, Result, Seen, Simulated, SimulationParts, Some, Stage, Stands, Step, StepError, SubscriberState, Subscription, WorldState, [], after_act, answered_lines, ap, append-nil, append_assoc, ap₂, arith, did_answer, drop, drop_all, drop_more, false, false≢true, get_or, get_or_from_slice_get, if◌then◌else◌, inl, inr, is_some, kept_of, length, no_risks, numbered, option_map, pieces, progress_line, refl, refusal_line, rules, simulation_text, slice_get, slice_get_cases, slice_get_within, step_for, steps_line, subscriber_text, subscriptions_text, subst, sym, true, ℕ, ◌++◌, ◌+◌, ◌-◌, ◌<◌, ◌==◌, ◌∙◌, ◌∷◌, ◌≡◌, ◌≤◌, ◌⊎◌}
 use Rattle.std.specs.declared.alloc.AllocError.{AllocError}
 use Rattle.cdc_world.specs.declared.moved.Moved.{Moved}
 use Rattle.cdc_world.specs.declared.steps.Did.{Did}

@@ -1,5 +1,5 @@
 -- The world that a simulation comes to is one that steps lead to, so each of its subscribers is faithful.
-use Rattle.cdc_commands.proofs.Words.{Act, All, AnswersTo, Arguments, ClientBatch, ComesTo, Err, IsFaithful, IsReached, IsReportOf, Leads, List, None, Ok, Option, Plan, PlaysActs, Script, Seen, Simulated, Simulates, Some, Stage, Step, StepError, WorldState, [], ap, at_start, get_or, inl, inr, length, simulation_text, slice_get-get_or, start_of, step_for, subst, ℕ, ◌+◌, ◌∷◌, ◌≡◌}
+use Rattle.cdc_commands.proofs.Terms.{Act, All, AnswersTo, Arguments, ClientBatch, ComesTo, Err, IsFaithful, IsReached, IsReportOf, Leads, List, None, Ok, Option, Plan, PlaysActs, Script, Seen, Simulated, Simulates, Some, Stage, Step, StepError, WorldState, [], ap, at_start, get_or, inl, inr, length, simulation_text, slice_get-get_or, start_of, step_for, subst, ℕ, ◌+◌, ◌∷◌, ◌≡◌}
 use Rattle.cdc_world.proofs.Reached.{faithful-reached}
 use Rattle.cdc_commands.proofs.SimulationLemmas.{numbered_found}
 

@@ -1,5 +1,5 @@
 -- What a queue delivers next is taken and acknowledged.
-use Rattle.cdc_commands.proofs.Words.{Bool, BrokerState, List, QueueState, acknowledged, ap, ap₂, empty_queue, false, get_or-set_same, if◌then◌else◌, is_unknown, length, nobody, not, queue_of, refl, set-set, slice_set, true, unwrap_or-slice_get, with_ack, with_queue, ℕ, ◌-◌, ◌<◌, ◌∙◌, ◌≡◌}
+use Rattle.cdc_commands.proofs.Terms.{Bool, BrokerState, List, QueueState, acknowledged, ap, ap₂, empty_queue, false, get_or-set_same, if◌then◌else◌, is_unknown, length, nobody, not, queue_of, refl, set-set, slice_set, true, unwrap_or-slice_get, with_ack, with_queue, ℕ, ◌-◌, ◌<◌, ◌∙◌, ◌≡◌}
 
 -- the queue that was put into its place
 queue_of-with_queue : (s : BrokerState) (i : ℕ) (q : QueueState) → i - 1 < length s.queues

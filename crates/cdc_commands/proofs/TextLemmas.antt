@@ -1,5 +1,5 @@
 -- The lines of subscribers, one after another.
-use Rattle.cdc_commands.proofs.Words.{Arguments, Item, List, Some, SubscriberState, [], ap, append-nil, append_assoc, drop, drop_all, drop_found, kept_by, kept_text, length, map, refl, slice_get, subscriber_text, subscribers_text, sym, ℕ, ◌++◌, ◌+◌, ◌∙◌, ◌∷◌, ◌≡◌, ◌≤◌}
+use Rattle.cdc_commands.proofs.Terms.{Arguments, Item, List, Some, SubscriberState, [], ap, append-nil, append_assoc, drop, drop_all, drop_found, kept_by, kept_text, length, map, refl, slice_get, subscriber_text, subscribers_text, sym, ℕ, ◌++◌, ◌+◌, ◌∙◌, ◌∷◌, ◌≡◌, ◌≤◌}
 
 -- one more subscriber is printed
 pub kept_text-more : (all : List SubscriberState) (place : ℕ) (kept : SubscriberState) (now next whole : List ℕ)

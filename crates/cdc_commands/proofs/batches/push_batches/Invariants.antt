@@ -1,4 +1,4 @@
-use Rattle.cdc_commands.proofs.Words.{answers_to, drop, history_after, ◌++◌, ◌+◌, ◌≡◌}
+use Rattle.cdc_commands.proofs.Terms.{answers_to, drop, history_after, ◌++◌, ◌+◌, ◌≡◌}
 use Rattle.cdc_commands.proofs.batches.push_batches.Given as goal
 
 abbrev pub invariant-loop-place : goal.invariant-loop-place

@@ -1,4 +1,4 @@
-use Rattle.cdc_commands.proofs.Words.{Arguments, Event, List, ap, ap₂, emitted, events, history_of, kept_by, length, map, subst, sym, true, ◌<◌, ◌^◌, ◌∙◌, ◌≡◌}
+use Rattle.cdc_commands.proofs.Terms.{Arguments, Event, List, ap, ap₂, emitted, events, history_of, kept_by, length, map, subst, sym, true, ◌<◌, ◌^◌, ◌∙◌, ◌≡◌}
 use Rattle.cdc_commands.proofs.HeldLaws.{few_of_script}
 use Rattle.cdc_commands.proofs.book_reports.books_report.Goals as goal
 

@@ -1,4 +1,4 @@
-use Rattle.cdc_commands.proofs.Words.{Err, Ok, PrintsScript}
+use Rattle.cdc_commands.proofs.Terms.{Err, Ok, PrintsScript}
 use Rattle.cdc_commands.proofs.HeldLaws.{all_balances, whole_feeds}
 use Rattle.cdc_commands.proofs.OutputLemmas.{none_parsed, parsed_printed, writes_made}
 use Rattle.cdc_commands.proofs.books.books.Goals as goal

@@ -1,4 +1,4 @@
-use Rattle.cdc_commands.proofs.Words.{IfErr-weaker, MayFailScript}
+use Rattle.cdc_commands.proofs.Terms.{IfErr-weaker, MayFailScript}
 use Rattle.cdc_commands.proofs.OutputLemmas.{writes_made}
 use Rattle.cdc_commands.proofs.check.check.Goals as goal
 

@@ -1,4 +1,4 @@
-use Rattle.cdc_commands.proofs.Words.{Some, ap, arith, found_within, message_lines, slice_get, string_bytes, sym, texts_more, ◌∙◌, ◌≡◌}
+use Rattle.cdc_commands.proofs.Terms.{Some, ap, arith, found_within, message_lines, slice_get, string_bytes, sym, texts_more, ◌∙◌, ◌≡◌}
 use Rattle.cdc_commands.proofs.event_lines.event_lines.Goals as goal
 use Rattle.cdc_commands.proofs.event_lines.event_lines.Goals.{in-Some+in_ok-push_message, in_default}
 

@@ -1,4 +1,4 @@
-use Rattle.cdc_commands.proofs.Words.{codes, kind_header, number_header, pieces, string_bytes}
+use Rattle.cdc_commands.proofs.Terms.{codes, kind_header, number_header, pieces, string_bytes}
 use Rattle.cdc_commands.proofs.event_lines.push_headers.Goals as goal
 
 pub returns : goal.returns

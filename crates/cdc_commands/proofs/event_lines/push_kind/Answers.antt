@@ -1,4 +1,4 @@
-use Rattle.cdc_commands.proofs.Words.{codes, pieces, string_bytes}
+use Rattle.cdc_commands.proofs.Terms.{codes, pieces, string_bytes}
 use Rattle.cdc_message.specs.Kinds.{kind_text}
 use Rattle.cdc_commands.proofs.event_lines.push_kind.Goals as goal
 

@@ -1,4 +1,4 @@
-use Rattle.cdc_commands.proofs.Words.{body, codes, headers_line, pieces, seconds_of, string_bytes, ◌++◌, ◌≡◌}
+use Rattle.cdc_commands.proofs.Terms.{body, codes, headers_line, pieces, seconds_of, string_bytes, ◌++◌, ◌≡◌}
 use Rattle.cdc_message.specs.Headers.{headers_of_event}
 use Rattle.cdc_commands.proofs.event_lines.push_message.Goals as goal
 

@@ -1,4 +1,4 @@
-use Rattle.cdc_commands.proofs.Words.{arith, get_or, length, refl, slice_get-get_or, ◌<◌}
+use Rattle.cdc_commands.proofs.Terms.{arith, get_or, length, refl, slice_get-get_or, ◌<◌}
 use Rattle.cdc_commands.proofs.FeedLemmas.{IsFeeding-more, IsFeeding-none}
 use Rattle.cdc_commands.proofs.feeding.feed.Goals as goal
 

@@ -1,4 +1,4 @@
-use Rattle.cdc_commands.proofs.Words.{[], kept_by, map, take, ◌≡◌}
+use Rattle.cdc_commands.proofs.Terms.{[], kept_by, map, take, ◌≡◌}
 use Rattle.cdc_commands.proofs.feeding.new_subscribers.Given as goal
 
 abbrev pub invariant-loop : goal.invariant-loop

@@ -1,4 +1,4 @@
-use Rattle.cdc_commands.proofs.Words.{AreFed, BrokerState, Event, Item, List, OfEvent, SubscriberState, [], ap, arith, found_within, map, max_64, subst, sym, take, with_items_is, ◌++◌, ◌+◌, ◌<◌, ◌∙◌, ◌∷◌, ◌≡◌}
+use Rattle.cdc_commands.proofs.Terms.{AreFed, BrokerState, Event, Item, List, OfEvent, SubscriberState, [], ap, arith, found_within, map, max_64, subst, sym, take, with_items_is, ◌++◌, ◌+◌, ◌<◌, ◌∙◌, ◌∷◌, ◌≡◌}
 use Rattle.cdc_commands.proofs.FeedLemmas.{AreFedTo, AreFedTo-more}
 use Rattle.cdc_commands.proofs.feeding.subscribers_of_log.Goals as goal
 use Rattle.cdc_commands.proofs.feeding.subscribers_of_log.Goals.{in-Some+in_ok-of+in_ok-feed, in_default}

@@ -1,4 +1,4 @@
-use Rattle.cdc_commands.proofs.Words.{Delivery, Option, Reception, Some, ap, arith, kept_of, length, next_delivery, queue_of, receiving_delivery, rules, sym, with_delivery, with_queue, with_taken, ◌-◌, ◌<◌, ◌∙◌, ◌≡◌}
+use Rattle.cdc_commands.proofs.Terms.{Delivery, Option, Reception, Some, ap, arith, kept_of, length, next_delivery, queue_of, receiving_delivery, rules, sym, with_delivery, with_queue, with_taken, ◌-◌, ◌<◌, ◌∙◌, ◌≡◌}
 use Rattle.cdc_commands.proofs.TakerLemmas.{acknowledges}
 use Rattle.cdc_commands.proofs.feeding.take_next.Goals as goal
 

@@ -1,4 +1,4 @@
-use Rattle.cdc_commands.proofs.Words.{ClientBatch, Event, List, [], ap, arith, empty_history, events, history_after, length, on_err_weaker, subst, true, ◌<◌, ◌∙◌, ◌∷◌}
+use Rattle.cdc_commands.proofs.Terms.{ClientBatch, Event, List, [], ap, arith, empty_history, events, history_after, length, on_err_weaker, subst, true, ◌<◌, ◌∙◌, ◌∷◌}
 use Rattle.cdc_commands.proofs.messages.print_messages.Goals as goal
 
 -- if there is an event, there was a batch

@@ -1,4 +1,4 @@
-use Rattle.cdc_commands.proofs.Words.{account_number, flat_map, spaced, string_bytes, take, ◌++◌, ◌≡◌}
+use Rattle.cdc_commands.proofs.Terms.{account_number, flat_map, spaced, string_bytes, take, ◌++◌, ◌≡◌}
 use Rattle.cdc_commands.proofs.report.push_account_results.Given as goal
 
 abbrev pub invariant-loop-result : goal.invariant-loop-result

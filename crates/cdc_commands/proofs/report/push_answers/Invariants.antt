@@ -1,4 +1,4 @@
-use Rattle.cdc_commands.proofs.Words.{answered_lines, string_bytes, take, ◌++◌, ◌≡◌}
+use Rattle.cdc_commands.proofs.Terms.{answered_lines, string_bytes, take, ◌++◌, ◌≡◌}
 use Rattle.cdc_commands.proofs.report.push_answers.Given as goal
 
 abbrev pub invariant-loop-answered : goal.invariant-loop-answered

@@ -1,4 +1,4 @@
-use Rattle.cdc_commands.proofs.Words.{codes, kind_name, pieces, spaced, string_bytes, ◌++◌, ◌≡◌}
+use Rattle.cdc_commands.proofs.Terms.{codes, kind_name, pieces, spaced, string_bytes, ◌++◌, ◌≡◌}
 use Rattle.cdc_commands.proofs.report.push_fault.Goals as goal
 
 pub returns : goal.returns

@@ -1,4 +1,4 @@
-use Rattle.cdc_commands.proofs.Words.{arith, length, refl, slice_get_read, ◌<◌, ◌≤◌}
+use Rattle.cdc_commands.proofs.Terms.{arith, length, refl, slice_get_read, ◌<◌, ◌≤◌}
 use Rattle.cdc_commands.proofs.TextLemmas.{kept_text-more, kept_text-whole}
 use Rattle.cdc_commands.proofs.report.push_subscribers.Goals as goal
 

@@ -1,4 +1,4 @@
-use Rattle.cdc_commands.proofs.Words.{drop, kept_text, ◌++◌, ◌+◌, ◌≡◌}
+use Rattle.cdc_commands.proofs.Terms.{drop, kept_text, ◌++◌, ◌+◌, ◌≡◌}
 use Rattle.cdc_commands.proofs.report.push_subscribers.Given as goal
 
 abbrev pub invariant-loop-place : goal.invariant-loop-place

@@ -1,4 +1,4 @@
-use Rattle.cdc_commands.proofs.Words.{flat_map, spaced, string_bytes, take, transfer_number, ◌++◌, ◌≡◌}
+use Rattle.cdc_commands.proofs.Terms.{flat_map, spaced, string_bytes, take, transfer_number, ◌++◌, ◌≡◌}
 use Rattle.cdc_commands.proofs.report.push_transfer_results.Given as goal
 
 abbrev pub invariant-loop-result : goal.invariant-loop-result

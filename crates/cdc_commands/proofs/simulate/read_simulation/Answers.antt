@@ -1,4 +1,4 @@
-use Rattle.cdc_commands.proofs.Words.{IfErr-weaker, IfOk-weaker, IsSimulationFault, MayFailScript, Output, SawPlan, Some, [], acts_of, option_map}
+use Rattle.cdc_commands.proofs.Terms.{IfErr-weaker, IfOk-weaker, IsSimulationFault, MayFailScript, Output, SawPlan, Some, [], acts_of, option_map}
 use Rattle.cdc_commands.proofs.OutputLemmas.{made_of_bad_script, made_of_script, made_of_steps, may_fail}
 use Rattle.cdc_commands.proofs.simulate.read_simulation.Goals as goal
 

@@ -1,4 +1,4 @@
-use Rattle.cdc_commands.proofs.Words.{Output, SawPlan, Some, []}
+use Rattle.cdc_commands.proofs.Terms.{Output, SawPlan, Some, []}
 use Rattle.cdc_commands.proofs.OutputLemmas.{made_of_acts}
 use Rattle.cdc_commands.proofs.simulate.script_simulation.Goals as goal
 

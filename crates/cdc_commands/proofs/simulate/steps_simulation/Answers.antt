@@ -1,4 +1,4 @@
-use Rattle.cdc_commands.proofs.Words.{Act, List, None, Ok, Outcome, Plan, SawPlan, SimulationInput, Some, [], ap, of_acts, refl, subst, sym, ◌≡◌}
+use Rattle.cdc_commands.proofs.Terms.{Act, List, None, Ok, Outcome, Plan, SawPlan, SimulationInput, Some, [], ap, of_acts, refl, subst, sym, ◌≡◌}
 use Rattle.cdc_commands.proofs.OutputLemmas.{prints_after, prints_none}
 use Rattle.cdc_commands.proofs.simulate.steps_simulation.Goals as goal
 

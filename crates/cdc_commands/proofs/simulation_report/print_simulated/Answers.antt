@@ -1,4 +1,4 @@
-use Rattle.cdc_commands.proofs.Words.{Answered, List, answered_lines, ap, ap₂, ℕ, ◌++◌, ◌∙◌}
+use Rattle.cdc_commands.proofs.Terms.{Answered, List, answered_lines, ap, ap₂, ℕ, ◌++◌, ◌∙◌}
 use Rattle.cdc_commands.proofs.SimulationLemmas.{world_text}
 use Rattle.cdc_commands.proofs.simulation_report.print_simulated.Goals as goal
 

@@ -1,4 +1,4 @@
-use Rattle.cdc_commands.proofs.Words.{arith, drop_all, found_at, length, ◌<◌, ◌≤◌}
+use Rattle.cdc_commands.proofs.Terms.{arith, drop_all, found_at, length, ◌<◌, ◌≤◌}
 use Rattle.cdc_commands.proofs.SimulationLemmas.{numbered_found, printed_more, printed_whole}
 use Rattle.cdc_commands.proofs.simulation_report.push_subscriptions.Goals as goal
 

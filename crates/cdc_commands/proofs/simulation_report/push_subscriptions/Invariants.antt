@@ -1,4 +1,4 @@
-use Rattle.cdc_commands.proofs.Words.{Stands, WorldState, drop, subscriptions_text, ◌++◌, ◌+◌, ◌≡◌}
+use Rattle.cdc_commands.proofs.Terms.{Stands, WorldState, drop, subscriptions_text, ◌++◌, ◌+◌, ◌≡◌}
 use Rattle.cdc_commands.proofs.simulation_report.push_subscriptions.Given as goal
 
 abbrev pub invariant-loop-place : goal.invariant-loop-place

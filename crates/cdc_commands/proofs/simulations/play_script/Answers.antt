@@ -1,4 +1,4 @@
-use Rattle.cdc_commands.proofs.Words.{IfOk-weaker, PlaysActs, at_start, length, refl, subst, sym, ◌≤◌}
+use Rattle.cdc_commands.proofs.Terms.{IfOk-weaker, PlaysActs, at_start, length, refl, subst, sym, ◌≤◌}
 use Rattle.cdc_world.specs.declared.world.Played.{Played}
 use Rattle.cdc_commands.proofs.SimulationReached.{comes_seen, comes_to}
 use Rattle.cdc_commands.proofs.simulations.play_script.Goals as goal

@@ -1,4 +1,4 @@
-use Rattle.cdc_commands.proofs.Words.{Answered, List, answered_lines, answers_to, ap, ap₂, empty_history, history_of, kept_text, line, subscribers_text, ℕ, ◌++◌, ◌∙◌, ◌≡◌}
+use Rattle.cdc_commands.proofs.Terms.{Answered, List, answered_lines, answers_to, ap, ap₂, empty_history, history_of, kept_text, line, subscribers_text, ℕ, ◌++◌, ◌∙◌, ◌≡◌}
 use Rattle.cdc_commands.proofs.TextLemmas.{kept_text-bindings}
 use Rattle.cdc_commands.proofs.text.print_books.Goals as goal
 

@@ -1,4 +1,4 @@
-use Rattle.cdc_commands.proofs.Words.{IsUtf8, [], subst, sym, ℕ, ◌∷◌}
+use Rattle.cdc_commands.proofs.Terms.{IsUtf8, [], subst, sym, ℕ, ◌∷◌}
 use Rattle.cdc_commands.proofs.ShownWords.{shown_utf8}
 use Rattle.cdc_commands.proofs.words.push_byte.Goals as goal
 

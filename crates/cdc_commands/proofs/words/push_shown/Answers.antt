@@ -1,4 +1,4 @@
-use Rattle.cdc_commands.proofs.Words.{List, [], ap, append_assoc, map, shown_byte, slice_index, string_bytes, sym, take, ℕ, ◌++◌, ◌∙◌, ◌∷◌}
+use Rattle.cdc_commands.proofs.Terms.{List, [], ap, append_assoc, map, shown_byte, slice_index, string_bytes, sym, take, ℕ, ◌++◌, ◌∙◌, ◌∷◌}
 use Rattle.cdc_commands.proofs.ShownWords.{one_more}
 use Rattle.cdc_commands.proofs.words.push_shown.Goals as goal
 

@@ -1,4 +1,4 @@
-use Rattle.cdc_commands.proofs.Words.{map, shown_byte, string_bytes, take, ◌++◌, ◌≡◌}
+use Rattle.cdc_commands.proofs.Terms.{map, shown_byte, string_bytes, take, ◌++◌, ◌≡◌}
 use Rattle.cdc_commands.proofs.words.push_shown.Given as goal
 
 -- the bytes so far

@@ -1,4 +1,4 @@
-use Rattle.cdc_commands.proofs.Words.{ap, json_lines, ◌∙◌}
+use Rattle.cdc_commands.proofs.Terms.{ap, json_lines, ◌∙◌}
 use Rattle.cdc_commands.specs.JsonReports.{simulation_values}
 use Rattle.cdc_commands.proofs.json_form.JsonForm.simulation.Goals as goal
 

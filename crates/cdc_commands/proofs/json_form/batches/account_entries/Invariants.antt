@@ -1,4 +1,4 @@
-use Rattle.cdc_commands.proofs.Words.{account_result, entry_value, map, take, ◌≡◌}
+use Rattle.cdc_commands.proofs.Terms.{account_result, entry_value, map, take, ◌≡◌}
 use Rattle.cdc_commands.proofs.json_form.batches.account_entries.Given as goal
 
 abbrev pub invariant-loop-result : goal.invariant-loop-result

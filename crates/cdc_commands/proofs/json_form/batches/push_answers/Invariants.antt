@@ -1,4 +1,4 @@
-use Rattle.cdc_commands.proofs.Words.{answered_values, json_lines, take, ◌++◌, ◌≡◌}
+use Rattle.cdc_commands.proofs.Terms.{answered_values, json_lines, take, ◌++◌, ◌≡◌}
 use Rattle.cdc_commands.proofs.json_form.batches.push_answers.Given as goal
 
 abbrev pub invariant-loop-answered : goal.invariant-loop-answered

@@ -1,4 +1,4 @@
-use Rattle.cdc_commands.proofs.Words.{entry_value, map, take, transfer_result, ◌≡◌}
+use Rattle.cdc_commands.proofs.Terms.{entry_value, map, take, transfer_result, ◌≡◌}
 use Rattle.cdc_commands.proofs.json_form.batches.transfer_entries.Given as goal
 
 abbrev pub invariant-loop-result : goal.invariant-loop-result

@@ -1,4 +1,4 @@
-use Rattle.cdc_commands.proofs.Words.{Answered, List, SubscriberState, answered_values, answers_to, ap₂, empty_history, history_of, json_lines, json_lines-append, kept_by, kept_values, line, map, sym, ℕ, ◌++◌, ◌∙◌, ◌≡◌}
+use Rattle.cdc_commands.proofs.Terms.{Answered, List, SubscriberState, answered_values, answers_to, ap₂, empty_history, history_of, json_lines, json_lines-append, kept_by, kept_values, line, map, sym, ℕ, ◌++◌, ◌∙◌, ◌≡◌}
 use Rattle.cdc_commands.proofs.json_form.books.books_lines.Goals as goal
 
 pub returns : goal.returns

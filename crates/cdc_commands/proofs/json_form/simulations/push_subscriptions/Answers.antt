@@ -1,4 +1,4 @@
-use Rattle.cdc_commands.proofs.Words.{Some, SubscriberState, Subscription, ap, arith, found_at, json_lines, kept_more, kept_of, kept_whole, length, length-map, map, slice_get-map, subscriber_values, ◌++◌, ◌+◌, ◌<◌, ◌∙◌, ◌≡◌, ◌≤◌}
+use Rattle.cdc_commands.proofs.Terms.{Some, SubscriberState, Subscription, ap, arith, found_at, json_lines, kept_more, kept_of, kept_whole, length, length-map, map, slice_get-map, subscriber_values, ◌++◌, ◌+◌, ◌<◌, ◌∙◌, ◌≡◌, ◌≤◌}
 use Rattle.std.specs.Option.{option_map}
 use Rattle.std.specs.Prelude.{slice_get}
 use Rattle.cdc_commands.proofs.SimulationLemmas.{numbered_found}

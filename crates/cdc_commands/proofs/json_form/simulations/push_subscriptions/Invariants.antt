@@ -1,4 +1,4 @@
-use Rattle.cdc_commands.proofs.Words.{Stands, WorldState, drop, json_lines, kept_of, kept_values, map, ◌++◌, ◌+◌, ◌≡◌}
+use Rattle.cdc_commands.proofs.Terms.{Stands, WorldState, drop, json_lines, kept_of, kept_values, map, ◌++◌, ◌+◌, ◌≡◌}
 use Rattle.cdc_commands.proofs.json_form.simulations.push_subscriptions.Given as goal
 
 abbrev pub invariant-loop-place : goal.invariant-loop-place

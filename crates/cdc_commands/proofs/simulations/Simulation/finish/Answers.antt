@@ -1,4 +1,4 @@
-use Rattle.cdc_commands.proofs.Words.{IsAt, Parts, Stands, refl, subst, sym}
+use Rattle.cdc_commands.proofs.Terms.{IsAt, Parts, Stands, refl, subst, sym}
 use Rattle.cdc_commands.proofs.SimulationLemmas.{stands_counted}
 use Rattle.cdc_commands.proofs.simulations.Simulation.finish.Goals as goal
 

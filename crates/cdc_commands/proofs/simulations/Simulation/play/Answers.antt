@@ -1,4 +1,4 @@
-use Rattle.cdc_commands.proofs.Words.{arith, refl, slice_get_read, sym, ◌∙◌}
+use Rattle.cdc_commands.proofs.Terms.{arith, refl, slice_get_read, sym, ◌∙◌}
 use Rattle.cdc_commands.proofs.SimulationLemmas.{stopped, went_on}
 use Rattle.cdc_commands.proofs.simulations.Simulation.play.Goals as goal
 

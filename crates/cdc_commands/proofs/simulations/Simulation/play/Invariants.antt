@@ -1,4 +1,4 @@
-use Rattle.cdc_commands.proofs.Words.{IsAt, Stage, drop, ◌≡◌, ◌≤◌}
+use Rattle.cdc_commands.proofs.Terms.{IsAt, Stage, drop, ◌≡◌, ◌≤◌}
 use Rattle.std.specs.Vec.Iter.{into_iter_items}
 use Rattle.cdc_commands.proofs.SimulationLemmas.{HasCome, SawFrom}
 use Rattle.cdc_commands.proofs.simulations.Simulation.play.Given as goal

@@ -1,4 +1,4 @@
-use Rattle.cdc_commands.proofs.Words.{AbortsAt, OnErr, SimulationParts, ap, length, on_err_weaker, slice_get, step_for, subst, sym, ◌∙◌}
+use Rattle.cdc_commands.proofs.Terms.{AbortsAt, OnErr, SimulationParts, ap, length, on_err_weaker, slice_get, step_for, subst, sym, ◌∙◌}
 use Rattle.cdc_commands.proofs.SimulationLemmas.{act_answered, left_behind, next_batch, next_left, next_within}
 use Rattle.cdc_commands.proofs.simulations.Simulation.play_act.Goals as goal
 

@@ -1,4 +1,4 @@
-use Rattle.cdc_commands.proofs.Words.{Err, IsAt, NextOver, Risks, refl, subst, sym}
+use Rattle.cdc_commands.proofs.Terms.{Err, IsAt, NextOver, Risks, refl, subst, sym}
 use Rattle.cdc_commands.proofs.SimulationLemmas.{step_done, step_refused, whatever_answered}
 use Rattle.cdc_commands.proofs.simulations.Simulation.play_step.Goals as goal
 

@@ -1,4 +1,4 @@
-use Rattle.cdc_commands.proofs.Words.{IfOk-weaker, ap, simulation_text, ◌∙◌}
+use Rattle.cdc_commands.proofs.Terms.{IfOk-weaker, ap, simulation_text, ◌∙◌}
 use Rattle.cdc_commands.proofs.SimulationReached.{simulates}
 use Rattle.cdc_commands.proofs.text.TextForm.simulation.Goals as goal
 
