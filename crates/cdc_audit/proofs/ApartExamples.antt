@@ -1,5 +1,9 @@
 -- Streams in which an account was created at a timestamp that another account or an event has.
-use Rattle.cdc_audit.proofs.Words.{CreatedAtEvent, CreatedTogether, Event, EventAccount, SinglePhase, Some, [], codes, digits, follows_on, is_accepted, refl, refusal, refusal_text, true, ℕ, ◌∷◌, ◌≡◌}
+use Rattle.cdc_audit.proofs.Words.{CreatedAtEvent, CreatedTogether, Event, EventAccount, SinglePhase, Some, [], codes, is_accepted, refl, true, ℕ, ◌∷◌, ◌≡◌}
+use Rattle.cdc_audit.specs.Audits.{follows_on}
+use Rattle.cdc_audit.specs.Rules.{refusal}
+use Rattle.cdc_audit.specs.Texts.{refusal_text}
+use Rattle.std.specs.Fmt.{digits}
 
 -- an account that was created at this time
 abbrev shown : ℕ → ℕ → EventAccount

@@ -1,5 +1,6 @@
 -- What a first line makes of an audit.
-use Rattle.cdc_audit.proofs.Words.{AuditState, Audited, AuditorState, Audits, Bool, EndsAs, Err, IfOk, IfSome, IsSome, KeepsFirst, LineLeadsTo, List, None, Ok, OnErr, Option, Refusal, Result, Some, StandsFor, StepLeadsTo, [], ap, append-nil, append_assoc, audit_entries, audited_on, bytes_audited, entry_refusal, false, lines_audited, next_audit, refl, stop_at, subst, suc, sym, take, true, ℕ, ◌++◌, ◌+◌, ◌∙◌, ◌∷◌, ◌≡◌, ◌≢◌}
+use Rattle.cdc_audit.proofs.Words.{AuditState, Audited, AuditorState, Audits, Bool, EndsAs, Err, IfOk, IfSome, IsSome, KeepsFirst, LineLeadsTo, List, None, Ok, OnErr, Option, Refusal, Result, Some, StandsFor, StepLeadsTo, [], ap, append-nil, append_assoc, audited_on, bytes_audited, entry_refusal, false, lines_audited, next_audit, refl, stop_at, subst, suc, sym, take, true, ℕ, ◌++◌, ◌+◌, ◌∙◌, ◌∷◌, ◌≡◌, ◌≢◌}
+use Rattle.cdc_audit.specs.Audits.{audit_entries}
 use Rattle.cdc_follow.specs.declared.entries.Entry.{Entry}
 use Rattle.cdc_follow.specs.declared.errors.LineError.{LineError}
 use Rattle.cdc_follow.specs.declared.errors.LineError.TheVariants.{OutOfMemory, TooLong}

@@ -1,5 +1,9 @@
 -- Streams of a few events: one that is accepted, one that each rule refuses, and the texts of the refusals.
-use Rattle.cdc_audit.proofs.Words.{AccountField, AccountShape, AfterEnd, Amount, Balance, BrokenChain, CreatedLater, Event, EventAccount, EventKind, ExpiresApart, ExpiresLate, KnownId, Limit, NoTimeout, NotLater, NotPending, OneAccount, OtherFields, OtherKind, OtherTimestamp, Settled, SinglePhase, Some, TooHigh, TooLarge, TooLate, TooSoon, TransferShape, TwoPhaseExpired, TwoPhasePending, TwoPhasePosted, TwoPhaseVoided, [], codes, digits, entry_refusal, false, follows_on, is_accepted, max_128, refl, refusal, refusal_text, true, ℕ, ◌-◌, ◌^◌, ◌∷◌, ◌≡◌}
+use Rattle.cdc_audit.proofs.Words.{AccountField, AccountShape, AfterEnd, Amount, Balance, BrokenChain, CreatedLater, Event, EventAccount, EventKind, ExpiresApart, ExpiresLate, KnownId, Limit, NoTimeout, NotLater, NotPending, OneAccount, OtherFields, OtherKind, OtherTimestamp, Settled, SinglePhase, Some, TooHigh, TooLarge, TooLate, TooSoon, TransferShape, TwoPhaseExpired, TwoPhasePending, TwoPhasePosted, TwoPhaseVoided, [], codes, entry_refusal, false, is_accepted, max_128, refl, true, ℕ, ◌-◌, ◌^◌, ◌∷◌, ◌≡◌}
+use Rattle.cdc_audit.specs.Audits.{follows_on}
+use Rattle.cdc_audit.specs.Rules.{refusal}
+use Rattle.cdc_audit.specs.Texts.{refusal_text}
+use Rattle.std.specs.Fmt.{digits}
 use Rattle.cdc_types.specs.declared.results.AccountResult.TheVariants as account
 use Rattle.cdc_types.specs.declared.results.TransferResult.TheVariants as transfer
 use Rattle.cdc_follow.specs.declared.entries.Content.TheVariants as content

@@ -1,5 +1,6 @@
 -- An auditor's answer to an event, and what it stands for after it.
-use Rattle.cdc_audit.proofs.Words.{AfterEnd, AreInOrder, AuditState, AuditorState, Bool, Err, Event, EventAccount, Facts, FixedFields, IfOk, IsFirst, IsKnownOf, KnownId, List, None, NotPending, Ok, OnOk, Option, Refusal, Result, Settled, Some, StandsFor, Stored, [], account_lines, accounts_before, amount_in, ap, apart_lines, ap₂, arith, audited_event, balances_after, balances_lines, chain_lines, cond, created_lines, ends_in_chain, entry_refusal, event_lines, event_refusal, expiry_lines, expiry_or, facts_of, false, fields_lines, fields_under, first_due, first_line, fixed_lines, held, holds, is_err, is_linked, is_none, is_settled, is_some, is_stored, kept_after, last_expiry, last_timestamp, length, length-append, limits_lines, lines, ltb-true, max_64, min, nat_le, nat_lt, nat_tests, next_audit, next_state, not, nothing, open_under, option_or, order_lines, pending_amount, posted, refl, refusal, released, settled_event, settled_id, settles, settling_lines, shape_lines, stored_under, stores, subst, sym, times_before, times_known, times_of_account, transfer_lines, true, unwrap_or, was_settled, with_accounts, with_event, with_held, with_own, with_settled, without_settled, ℕ, ◌&&◌, ◌++◌, ◌+◌, ◌==◌, ◌∙◌, ◌∷◌, ◌≡◌}
+use Rattle.cdc_audit.proofs.Words.{AfterEnd, AreInOrder, AuditState, AuditorState, Bool, Err, Event, EventAccount, Facts, FixedFields, IfOk, IsFirst, IsKnownOf, KnownId, List, None, NotPending, Ok, OnOk, Option, Refusal, Result, Settled, Some, StandsFor, Stored, [], account_lines, accounts_before, amount_in, ap, apart_lines, ap₂, arith, audited_event, balances_after, balances_lines, chain_lines, cond, created_lines, ends_in_chain, entry_refusal, event_lines, event_refusal, expiry_lines, expiry_or, facts_of, false, fields_lines, fields_under, first_due, first_line, fixed_lines, held, holds, is_err, is_linked, is_none, is_settled, is_some, is_stored, kept_after, last_expiry, last_timestamp, length, length-append, limits_lines, lines, ltb-true, max_64, min, nat_le, nat_lt, nat_tests, next_audit, next_state, not, nothing, open_under, option_or, order_lines, pending_amount, posted, refl, released, settled_event, settled_id, settles, settling_lines, shape_lines, stored_under, stores, subst, sym, times_before, times_known, times_of_account, transfer_lines, true, unwrap_or, was_settled, with_accounts, with_event, with_held, with_own, with_settled, without_settled, ℕ, ◌&&◌, ◌++◌, ◌+◌, ◌==◌, ◌∙◌, ◌∷◌, ◌≡◌}
+use Rattle.cdc_audit.specs.Rules.{refusal}
 use Rattle.cdc_types.specs.declared.accounts.Balances.{Balances}
 use Rattle.cdc_types.specs.declared.bounds.TheConstants.Limits.{TIMESTAMP}
 use Rattle.cdc_types.proofs.Rising.{RiseFrom-push, last_timestamp_from-push}

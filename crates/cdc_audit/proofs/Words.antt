@@ -1,6 +1,6 @@
 -- The terms of std and of specifications that the proofs of this crate share.
 pub use Rattle.cdc_audit.specs.Apart.{account_at, accounts_before, apart_lines, has_time, times_before, times_known, times_lines, times_of, together_lines, with_shown}
-pub use Rattle.cdc_audit.specs.Audits.{AuditState, Audited, audit_entries, audited_on, bytes_audited, entry_refusal, event_refusal, follows_on, is_accepted, lines_audited, next_audit, stop_at, with_event}
+pub use Rattle.cdc_audit.specs.Audits.{AuditState, Audited, audited_on, bytes_audited, entry_refusal, event_refusal, is_accepted, lines_audited, next_audit, stop_at, with_event}
 pub use Rattle.cdc_audit.specs.Checks.{account_lines, amount_in, balances_lines, fixed_lines, lines, nothing, released, stored_by, transfer_lines, was_settled}
 pub use Rattle.cdc_audit.specs.EventShapes.{shape_lines, stored_lines}
 pub use Rattle.cdc_audit.specs.Expiries.{apart_line, can_expire, expiry_lines, first_due, first_of, goes_first, late_line, sooner_of}
@@ -8,11 +8,11 @@ pub use Rattle.cdc_audit.specs.Fields.{accounts_of, created_lines, fields_before
 pub use Rattle.cdc_audit.specs.Foreign.{audited_event}
 pub use Rattle.cdc_audit.specs.Known.{balances_after, ends_in_chain, expiry_or, is_linked, is_settled, is_stored, last_expiry, last_expiry_from, linked_from, open_event, pending_amount, pending_event, settled_id}
 pub use Rattle.cdc_audit.specs.Limits.{limits_lines}
-pub use Rattle.cdc_audit.specs.Rules.{chain_lines, event_lines, held, order_lines, posted, refusal, settled_event}
+pub use Rattle.cdc_audit.specs.Rules.{chain_lines, event_lines, held, order_lines, posted, settled_event}
 pub use Rattle.cdc_audit.specs.Settling.{expires_at, settling_lines}
 pub use Rattle.cdc_audit.specs.Standing.{AreInOrder, AuditorState, IsFirst, IsIndexOf, IsKnownOf, IsOnce, IsTimeIndex, StandsFor, due_cmp, due_of, facts_of, fields_under, is_due, kept_after, open_under, stored_under, times_of_account, with_accounts, with_held, with_open, with_own, with_settled, without_settled}
 pub use Rattle.cdc_audit.specs.Stops.{Audits, EndsAs, KeepsFirst, LineLeadsTo, StepLeadsTo}
-pub use Rattle.cdc_audit.specs.Texts.{around, field_name, fixed_name, other_side_name, refusal_name, refusal_text, side_name, unless_zero}
+pub use Rattle.cdc_audit.specs.Texts.{around, field_name, fixed_name, other_side_name, refusal_name, side_name, unless_zero}
 pub use Rattle.cdc_audit.specs.declared.checks.Facts.{Facts}
 pub use Rattle.cdc_audit.specs.declared.checks.Stored.{Stored}
 pub use Rattle.cdc_audit.specs.declared.fields.FixedFields.{FixedFields}
@@ -35,7 +35,6 @@ pub use Rattle.std.proofs.lemmas.Bool.{and_from, and_parts, cases_lt, eq-eqb, eq
 pub use Rattle.std.proofs.lemmas.Bool.Decides.{eqb_tells, nat_tests}
 pub use Rattle.std.proofs.lemmas.List.Folds.{find-append, list_any-append}
 pub use Rattle.std.specs.BTreeSet.{BTreeSet, IsLowerBound, btree_set_len, contains}
-pub use Rattle.std.specs.Fmt.{digits}
 pub use Rattle.std.specs.List.{AllByRecursion, flat_map, list_any}
 pub use Rattle.std.specs.Map.{lookup}
 pub use Rattle.std.specs.Option.{option_or}

@@ -1,5 +1,6 @@
 -- What the lines of a state that can be saved contain.
-use Rattle.cdc_audit_state.proofs.Words.{Account, AllByRecursion, AreDistinct, AuditorState, BookEntry, Bool, CanBeSaved, Event, FixedFields, IsByItsId, IsDistinct-head, IsDistinct-tail, List, None, Option, PartsState, Row, Some, Stored, [], account_line, and_parts, ap, append-nil, append_assoc, are_distinct, cond, eqb_swap, expiry_rows, false, fields_rows, flat_map, fold, ids_of, is_among, is_some, keys_of, known_rows, lookup, map, nat_eq, neither, no_parts, not, open_rows, open_under, parts_of, refl, row_line, rows_text, subst, sym, time_rows, transfer_rows, true, with_account, with_open, with_row, ℕ, ◌++◌, ◌==◌, ◌∙◌, ◌∷◌, ◌≡◌}
+use Rattle.cdc_audit_state.proofs.Words.{Account, AllByRecursion, AreDistinct, AuditorState, BookEntry, Bool, CanBeSaved, Event, FixedFields, IsByItsId, IsDistinct-head, IsDistinct-tail, List, None, Option, PartsState, Row, Some, Stored, [], account_line, and_parts, ap, append-nil, append_assoc, are_distinct, cond, eqb_swap, expiry_rows, false, fields_rows, flat_map, fold, ids_of, is_among, is_some, keys_of, known_rows, lookup, map, nat_eq, neither, no_parts, not, open_rows, open_under, parts_of, refl, rows_text, subst, sym, time_rows, transfer_rows, true, with_account, with_open, with_row, ℕ, ◌++◌, ◌==◌, ◌∙◌, ◌∷◌, ◌≡◌}
+use Rattle.cdc_audit_state.specs.States.{row_line}
 use Rattle.indexmap.specs.IndexMap.{insert_entry}
 
 -- the lines of accounts

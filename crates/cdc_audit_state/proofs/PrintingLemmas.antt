@@ -1,5 +1,6 @@
 -- The lines of a map's entries, one after another.
-use Rattle.cdc_audit_state.proofs.Words.{Event, FixedFields, List, Stored, [], ap, append-nil, append_assoc, codes, event_line, fields_line, fields_rows, flat_map, flat_map-append, open_rows, refl, row_line, rows_text, sym, time_line, time_rows, transfer_line, transfer_rows, ℕ, ◌++◌, ◌∙◌, ◌∷◌, ◌≡◌}
+use Rattle.cdc_audit_state.proofs.Words.{Event, FixedFields, List, Stored, [], ap, append-nil, append_assoc, codes, event_line, fields_line, fields_rows, flat_map, flat_map-append, open_rows, refl, rows_text, sym, time_line, time_rows, transfer_line, transfer_rows, ℕ, ◌++◌, ◌∙◌, ◌∷◌, ◌≡◌}
+use Rattle.cdc_audit_state.specs.States.{row_line}
 
 -- the lines of the entries that aren't left were pushed
 pub record Pushed {V : Type 0} (line : V → List ℕ) (all left : List V) (old new : List ℕ) : Type 0 where

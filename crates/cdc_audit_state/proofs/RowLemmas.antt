@@ -1,5 +1,6 @@
 -- The lines of a state's text, by their first bytes.
-use Rattle.cdc_audit_state.proofs.Words.{Account, BookEntry, Bool, Event, EventFits, Expired, Fields, FixedFields, IsEventLine, IsSomeAnd, List, Open, Option, Pending, Plain, ReadsFields, ReadsNumber, Row, RowFits, Settled, Stored, Time, Transfer, [], account_byte, and_parts, ap, append_assoc, arith, body, codes, drop, expired_byte, false, fields_byte, fields_numbers, first_of, in_quotes, is_in_line, join_with_byte, length, length-drop, list_all, member_text, narrow_member, nat_le, open_byte, pending_byte, plain_byte, refl, row_line, settled_byte, spaced, sym, time_byte, true, wide_member, ℕ, ◌&&◌, ◌++◌, ◌<◌, ◌^◌, ◌∙◌, ◌∷◌, ◌≡◌, ◌≢◌}
+use Rattle.cdc_audit_state.proofs.Words.{Account, BookEntry, Bool, Event, EventFits, Expired, Fields, FixedFields, IsEventLine, IsSomeAnd, List, Open, Option, Pending, Plain, ReadsFields, ReadsNumber, Row, RowFits, Settled, Stored, Time, Transfer, [], account_byte, and_parts, ap, append_assoc, arith, body, codes, drop, expired_byte, false, fields_byte, fields_numbers, first_of, in_quotes, is_in_line, join_with_byte, length, length-drop, list_all, member_text, narrow_member, nat_le, open_byte, pending_byte, plain_byte, refl, settled_byte, spaced, sym, time_byte, true, wide_member, ℕ, ◌&&◌, ◌++◌, ◌<◌, ◌^◌, ◌∙◌, ◌∷◌, ◌≡◌, ◌≢◌}
+use Rattle.cdc_audit_state.specs.States.{row_line}
 use Rattle.std.proofs.lemmas.List.Folds.{list_all-append}
 use Rattle.cdc_message.specs.Headers.{headers_of_event}
 use Rattle.cdc_follow.specs.SavedParts.{ReadsAccount}

@@ -1,5 +1,6 @@
 -- A state's text, part by part.
-use Rattle.cdc_audit_state.proofs.Words.{AllByRecursion, AuditorState, BookEntry, CanBeSaved, EntryFits, GivesParts, List, None, PartsState, Row, RowFits, Some, [], account_line, ap, append_assoc, codes, false, flat_map, flat_map-append, heading, known_rows, row_line, rows_text, spaced, state_text, subscriber_line, sym, yes_or_no, ℕ, ◌++◌, ◌∙◌, ◌∷◌, ◌≡◌}
+use Rattle.cdc_audit_state.proofs.Words.{AllByRecursion, AuditorState, BookEntry, CanBeSaved, EntryFits, GivesParts, List, None, PartsState, Row, RowFits, Some, [], account_line, ap, append_assoc, codes, false, flat_map, flat_map-append, heading, known_rows, row_line, rows_text, spaced, subscriber_line, sym, yes_or_no, ℕ, ◌++◌, ◌∙◌, ◌∷◌, ◌≡◌}
+use Rattle.cdc_audit_state.specs.States.{state_text}
 use Rattle.cdc_audit_state.specs.declared.saved.Front.{Front}
 use Rattle.cdc_audit_state.specs.Headings.{IsFront, ReadsFront}
 use Rattle.cdc_audit_state.proofs.PartLemmas.{account_rows, accounts_text, contained}

@@ -1,5 +1,6 @@
 -- Examples: what the definitions compute for small scripts.
-use Rattle.cdc_commands.proofs.Terms.{BadScript, Done, Err, Event, List, Ok, Outcome, Result, Script, ScriptFault, [], batch_line, body, codes, emitted, printed_books, printed_messages, refl, script_fault_line, script_of, subscribers_text, true, ℕ, ◌++◌, ◌∷◌, ◌≡◌}
+use Rattle.cdc_commands.proofs.Terms.{BadScript, Done, Err, Event, List, Ok, Outcome, Result, Script, ScriptFault, [], batch_line, codes, emitted, printed_books, printed_messages, refl, script_fault_line, script_of, subscribers_text, true, ℕ, ◌++◌, ◌∷◌, ◌≡◌}
+use Rattle.cdc_message.specs.Bodies.{body}
 use Rattle.std.specs.Fmt.{digits}
 use Rattle.cdc_types.specs.declared.batches.BatchResults.TheVariants as results
 use Rattle.cdc_types.specs.declared.events.EventAccount.{EventAccount}

@@ -1,4 +1,5 @@
-use Rattle.cdc_audit.proofs.Words.{codes, refusal_name, refusal_text}
+use Rattle.cdc_audit.proofs.Words.{codes, refusal_name}
+use Rattle.cdc_audit.specs.Texts.{refusal_text}
 use Rattle.cdc_audit.proofs.TextLemmas.{on_ok_then, pieces}
 use Rattle.cdc_audit.proofs.texts.push_refusal.Goals as goal
 

@@ -1,4 +1,5 @@
-use Rattle.cdc_audit_state.proofs.Words.{ap, append-nil, codes, event_line, expiry_rows, on_ok_weaker, row_line, rows_text, sym, ◌++◌, ◌∙◌}
+use Rattle.cdc_audit_state.proofs.Words.{ap, append-nil, codes, event_line, expiry_rows, on_ok_weaker, rows_text, sym, ◌++◌, ◌∙◌}
+use Rattle.cdc_audit_state.specs.States.{row_line}
 use Rattle.cdc_audit_state.proofs.printing.push_expiry.Goals as goal
 
 pub returns-in-Some : goal.returns-in-Some

@@ -1,4 +1,5 @@
-use Rattle.cdc_audit_state.proofs.Words.{heading, on_ok_weaker, state_text, subscriber_text}
+use Rattle.cdc_audit_state.proofs.Words.{heading, on_ok_weaker, subscriber_text}
+use Rattle.cdc_audit_state.specs.States.{state_text}
 use Rattle.cdc_audit_state.proofs.PrintingLemmas.{pieces}
 use Rattle.cdc_audit_state.proofs.printing.push_parts.Goals as goal
 

@@ -1,4 +1,5 @@
-use Rattle.cdc_deliveries.proofs.Words.{List, ap, changed, codes, decimal, entry_text, expected_line, join_with_byte, map, result_text, string_bytes, ℕ, ◌++◌, ◌∙◌, ◌≡◌}
+use Rattle.cdc_deliveries.proofs.Words.{List, ap, changed, codes, decimal, entry_text, join_with_byte, map, result_text, string_bytes, ℕ, ◌++◌, ◌∙◌, ◌≡◌}
+use Rattle.cdc_deliveries.specs.Expected.{expected_line}
 use Rattle.cdc_deliveries.proofs.LineTexts.{expected_pieces, pieces}
 use Rattle.cdc_deliveries.proofs.expected.push_expected.Goals as goal
 

@@ -1,4 +1,5 @@
-use Rattle.cdc_deliveries.proofs.Words.{List, ap, codes, content_members, decimal, delivery_line, flag_text, join_with_byte, string_bytes, ℕ, ◌++◌, ◌∙◌, ◌≡◌}
+use Rattle.cdc_deliveries.proofs.Words.{List, ap, codes, content_members, decimal, flag_text, join_with_byte, string_bytes, ℕ, ◌++◌, ◌∙◌, ◌≡◌}
+use Rattle.cdc_deliveries.specs.DeliveryLines.{delivery_line}
 use Rattle.cdc_deliveries.proofs.LineTexts.{delivery_pieces_of, pieces}
 use Rattle.cdc_deliveries.proofs.lines.push_delivery.Goals as goal
 
