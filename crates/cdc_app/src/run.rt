@@ -17,6 +17,7 @@ use cdc_deliveries::Asked;
 use cdc_output::{Json, ProgramFault, Text};
 use cdc_progress::{FileStore, MemoryStore, ProgressStore};
 use cdc_run_command::{Ran, RunEnded, RunForm, RunPlan, run_command};
+use std::alloc::AllocGlobal;
 use std::io;
 use std::sync::Wait;
 use std::thread::Threads;
