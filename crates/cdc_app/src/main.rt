@@ -1,29 +1,13 @@
 //! The program: a script in, and a report of its ledger, its messages or its subscribers' books out.
 #![tactic(auto)]
 
-ghost use Rattle.cdc_types.specs.Windows.{IsWindow};
-
-mod advice;
-mod audit;
-mod descriptors;
-mod diagnostics;
-mod follow;
-mod follow_advice;
-mod kept;
-mod kept_book;
-mod progress_advice;
-mod random;
-mod run;
-mod run_faults;
-mod run_places;
-mod run_traces;
-mod run_turns;
-mod simulation;
-mod sources;
-mod watched;
-
-use advice::{advise, advise_on_script, advise_on_steps, shown_name};
-use audit::run_audit;
+use cdc_app_inputs::{
+    EXPLAIN, Kept, Source, abort, advise, advise_on_script, advise_on_steps, hint, note,
+    open_standard, shown_name,
+};
+use cdc_app_runs::{WantedRun, run_on_threads};
+use cdc_app_simulations::{Wanted, run_random, run_simulation};
+use cdc_app_streams::{run_audit, run_follow};
 pub use cdc_arguments::options;
 use cdc_arguments::{Form, Options, OptionsFault};
 use cdc_audit_command::audit_status;
@@ -33,19 +17,12 @@ use cdc_commands::check::{check, check_files};
 pub use cdc_commands::messages::messages;
 use cdc_commands::queues::queue;
 pub use cdc_commands::simulate::simulate_command;
-use cdc_commands::{Ended, Ending, ParsedBatches, Tally, print_fault, print_text};
+use cdc_commands::{Ended, Ending, ParsedBatches, Tally, print_text};
+use cdc_diagnostics::books_lines;
 use cdc_follow_command::follow_status;
 use cdc_output::{Json, ProgramFault, Text};
 pub use cdc_run_command::run_command;
 pub use cdc_script::{read_script, read_steps};
-use descriptors::open_standard;
-use diagnostics::{EXPLAIN, explain_books, hint, note};
-use follow::run_follow;
-use kept::Kept;
-use random::run_random;
-use run::{WantedRun, run_on_threads};
-use simulation::{Wanted, run_simulation};
-use sources::Source;
 use std::alloc::{AllocError, AllocGlobal};
 use std::io::IsTerminal;
 use std::process::ExitCode;
@@ -213,6 +190,13 @@ fn run_books(rt: &HostRuntime, file: &str, explain: bool, form: Form) -> Ending 
     ending
 }
 
+/// Prints why each item of a script's batches wasn't accepted, and each batch that was refused.
+fn explain_books(rt: &HostRuntime, file: &str, parsed: ParsedBatches) {
+    if let Some(text) = books_lines(rt.alloc(), shown_name(file), parsed) {
+        let _ = eprint!(rt; "{text}");
+    }
+}
+
 /// Prints what wasn't accepted of a script's batches, and why, if that is asked for.
 fn diagnose_books(
     rt: &HostRuntime,
@@ -312,17 +296,6 @@ fn run_check(
 /// Prints help or the version.
 fn explain(rt: &HostRuntime, text: &str) -> Ending {
     let ending = print_text(&mut io::writer(rt), text.as_bytes(), Ending::Done);
-    advise(rt, ending);
-    ending
-}
-
-/// Prints the fault of a command that failed before it read a file.
-fn abort(rt: &HostRuntime, fault: ProgramFault, form: Form) -> Ending {
-    let mut writer = io::writer(rt);
-    let ending = match form {
-        Form::Text => print_fault(&Text, &mut writer, fault),
-        Form::Json => print_fault(&Json, &mut writer, fault),
-    };
     advise(rt, ending);
     ending
 }

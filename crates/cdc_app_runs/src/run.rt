@@ -2,15 +2,11 @@
 
 ghost use Rattle.cdc_run_command.specs.Plans.{IsPlan};
 
-use crate::abort;
-use crate::advice::{advise_on_run, shown_name};
-use crate::diagnostics::{EXPLAIN, explain_run, hint, note};
-use crate::kept::Kept;
+use crate::run_advice::{advise_on_run, explain_run};
 use crate::run_faults::{copy_faults, report_missed};
 use crate::run_traces::{report_counts, trace_run};
 use crate::run_turns::Turns;
-use crate::simulation::report_no_subscriber;
-use crate::sources::Source;
+use cdc_app_inputs::{EXPLAIN, Kept, Source, abort, hint, note, report_no_subscriber, shown_name};
 use cdc_arguments::{Form, RunDiagnostics};
 use cdc_commands::{Ended, Ending, Report};
 use cdc_deliveries::Asked;

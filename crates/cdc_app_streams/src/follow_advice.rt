@@ -1,7 +1,7 @@
 //! What standard error reports of a stream that is followed.
 
-use crate::advice::{advise_on_failure, shown_name};
 use crate::kept_book::{is_in_sqlite, path_of_book};
+use cdc_app_inputs::{advise_on_failure, shown_name};
 use cdc_follow::{Content, Entry, Follower, LineError, Stop};
 use cdc_follow_command::FollowEnding;
 use cdc_message::{DecodeError, Field, Part};

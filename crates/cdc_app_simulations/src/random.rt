@@ -3,11 +3,9 @@
 
 ghost use Rattle.cdc_types.specs.Windows.{IsWindow};
 
-use crate::advice::{advise_on_script, shown_name};
 use crate::diagnostics::{asked, can_draw, draw, is_reported};
-use crate::kept::{Kept, Seen};
-use crate::simulation::{Wanted, report_counts, report_no_subscriber};
-use crate::sources::Source;
+use crate::simulation::{Wanted, report_counts};
+use cdc_app_inputs::{Kept, Seen, Source, advise_on_script, report_no_subscriber, shown_name};
 use cdc_arguments::{Diagnostics, Form, STANDARD_ERROR};
 use cdc_commands::simulate::simulation_of_steps;
 use cdc_commands::{

@@ -1,10 +1,9 @@
 //! The command `follow`: a stream in, and its book out.
 
-use crate::advice::shown_name;
 use crate::follow_advice::{advise_on_book, advise_on_gaps, advise_on_stream};
 use crate::kept_book::KeptBook;
-use crate::sources::Stream;
 use crate::watched::Watched;
+use cdc_app_inputs::{Stream, shown_name};
 use cdc_arguments::{FollowPlan, Form};
 use cdc_commands::print_fault;
 use cdc_follow::Follower;

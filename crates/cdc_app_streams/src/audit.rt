@@ -1,8 +1,7 @@
 //! The command `audit`: a stream in, and whether a ledger can have published it.
 
-use crate::advice::{advise_on_failure, shown_name};
 use crate::follow_advice::{advise_on_line, unread};
-use crate::sources::Stream;
+use cdc_app_inputs::{Stream, advise_on_failure, shown_name};
 use cdc_arguments::{AuditPlan, Form};
 use cdc_audit::{AuditStop, Auditor};
 use cdc_audit_command::{

@@ -2,7 +2,7 @@
 
 use crate::run_faults::applied_by;
 use crate::run_turns::Turns;
-use crate::simulation::report_count;
+use cdc_app_inputs::report_count;
 use cdc_deliveries::Count;
 use cdc_diagnostics::{repeat_lines, story_lines, subscriber_line};
 use cdc_run::Report;

@@ -2,7 +2,7 @@
 
 ghost use Rattle.std.specs.Prelude.{◌≡◌};
 ghost use Rattle.std.specs.Option.{option_map};
-ghost use Rattle.cdc_app.specs.KeptBooks.{kept_text};
+ghost use Rattle.cdc_app_streams.specs.KeptBooks.{kept_text};
 
 use cdc_follow::BOOK_MARK;
 use cdc_progress::StoreError;
@@ -51,7 +51,7 @@ pub fn path_of_book(name: &str) -> &str {
 
 impl<'a> TextStore for KeptBook<'a> {
     ghost use Rattle.std.specs.Prelude.{◌≡◌};
-    ghost use Rattle.cdc_app.specs.KeptBooks.{kept_text};
+    ghost use Rattle.cdc_app_streams.specs.KeptBooks.{kept_text};
 
     ghost held = { kept_text };
 

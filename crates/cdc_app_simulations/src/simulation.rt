@@ -2,14 +2,15 @@
 
 ghost use Rattle.cdc_types.specs.Windows.{IsWindow};
 
-use crate::advice::{advise_on_steps, shown_name};
-use crate::diagnostics::{EXPLAIN, asked, can_draw, hint, is_reported, note, report_simulation};
-use crate::kept::Kept;
-use crate::sources::Source;
+use crate::diagnostics::{asked, can_draw, is_reported, report_simulation};
+use cdc_app_inputs::{
+    EXPLAIN, Kept, Source, advise_on_steps, hint, note, report_count, report_no_subscriber,
+    shown_name,
+};
 use cdc_arguments::{Diagnostics, Form};
 use cdc_commands::simulate::simulate_command;
 use cdc_commands::{Ended, Ending, Form as PrintForm, Report};
-use cdc_deliveries::{Asked, Both, Count, Recorder, count_of};
+use cdc_deliveries::{Asked, Both, Recorder, count_of};
 use cdc_diagnostics::Observation;
 use cdc_output::{Json, Text};
 use cdc_types::Limits;
@@ -140,15 +141,6 @@ fn print_in<F: PrintForm>(
     }
 }
 
-/// Reports that the script doesn't have the subscriber whose deliveries are asked for.
-pub fn report_no_subscriber(rt: &HostRuntime, deliveries: Option<Asked>) {
-    if let Some(Asked { subscriber, .. }) = deliveries {
-        let _ = eprintln!(rt;
-            "relayplum: --deliveries {subscriber}: the script has no such subscriber"
-        );
-    }
-}
-
 /// Reports how many of the deliveries that came to a subscriber up to its close it applied, for each subscriber that
 /// didn't apply all of them. The end mark doesn't count. Each line begins with `before`.
 pub fn report_counts(rt: &HostRuntime, recorder: &Recorder, before: &str) {
@@ -158,19 +150,5 @@ pub fn report_counts(rt: &HostRuntime, recorder: &Recorder, before: &str) {
     for subscriber in 1..Limits::SUBSCRIBERS + 1 {
         let count = count_of(steps.as_slice(), subscriber as u64);
         report_count(rt, subscriber, count, before);
-    }
-}
-
-/// Reports how many of the deliveries of events to this subscriber it applied, if it didn't apply all of them. The line
-/// begins with `before`.
-pub fn report_count(rt: &HostRuntime, subscriber: usize, count: Count, before: &str) {
-    let Count {
-        applied,
-        deliveries,
-    } = count;
-    if applied < deliveries {
-        let _ = eprintln!(rt;
-            "{before}relayplum: subscriber {subscriber} applied {applied} of {deliveries} deliveries"
-        );
     }
 }

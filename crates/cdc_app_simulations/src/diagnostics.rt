@@ -1,77 +1,15 @@
-//! What standard error reports of a command that succeeded, besides what it printed: why items weren't accepted, why
+//! What standard error reports of a simulation that succeeded, besides what it printed: why items weren't accepted, why
 //! a step was refused, and what each step did. If memory runs out on the way, nothing is reported. A write that fails
 //! is ignored, since the command has ended by then.
 
-use crate::advice::{is_reader_gone, shown_name};
+use cdc_app_inputs::is_reader_gone;
 use cdc_arguments::{Diagnostics, STANDARD_ERROR};
-use cdc_commands::{Ending, Notes, ParsedBatches, Tally};
-use cdc_diagnostics::{
-    Asked, Observed, RefusedStep, RunExplanation, Submitted, books_lines, notes_text,
-    run_explanation,
-};
-use cdc_run::Report;
-use cdc_script::ScriptLines;
+use cdc_commands::Ending;
+use cdc_diagnostics::{Asked, Observed, RefusedStep};
 use cdc_world::StepError;
 use std::fs;
 use std::fs::OpenOptions;
 use std::io::Read;
-
-/// Prints why each item of a script's batches wasn't accepted, and each batch that was refused.
-pub fn explain_books(rt: &HostRuntime, file: &str, parsed: ParsedBatches) {
-    if let Some(text) = books_lines(rt.alloc(), shown_name(file), parsed) {
-        let _ = eprint!(rt; "{text}");
-    }
-}
-
-/// Prints why each item of a script wasn't accepted in a run that came to this report, and why each batch was refused.
-/// These clients submitted the batches, and the batches and their requests stand in these lines.
-pub fn explain_run(
-    rt: &HostRuntime,
-    file: &str,
-    owners: &[u64],
-    lines: ScriptLines,
-    report: &Report,
-) {
-    let name = shown_name(file);
-    let submitted = Submitted {
-        owners,
-        order: report.order.as_slice(),
-        replies: report.replies.as_slice(),
-    };
-    match run_explanation(rt.alloc(), name, lines, submitted) {
-        Some(RunExplanation::Alone(text)) => {
-            let _ = eprint!(rt; "{text}");
-        }
-        Some(RunExplanation::InOrder(text)) => {
-            let _ = eprint!(rt;
-                "{name}: in the order in which the ledger took the clients' batches\n{text}"
-            );
-        }
-        None => {}
-    }
-}
-
-/// Names the flag that explains why items weren't accepted.
-pub const EXPLAIN: &str = "; --explain prints why";
-
-/// Reports how many items weren't accepted and how many batches were refused, if any was, and then `why`.
-pub fn hint(rt: &HostRuntime, tally: Tally, why: &str) {
-    let Tally { items, batches } = tally;
-    if items == 0 && batches == 0 {
-        return;
-    }
-    let _ = eprintln!(rt;
-        "relayplum: requests not accepted: {items}, batches refused: {batches}{why}"
-    );
-}
-
-/// Prints the notes on a valid script. If the batches of several clients come in any order, as in a run, no note is
-/// on their timestamps.
-pub fn note(rt: &HostRuntime, file: &str, notes: Notes, is_in_order: bool) {
-    if let Some(text) = notes_text(rt.alloc(), shown_name(file), notes, is_in_order) {
-        let _ = eprint!(rt; "{text}");
-    }
-}
 
 /// What these flags ask a simulation's observer for.
 pub fn asked(diagnostics: Diagnostics<'_>) -> Asked {

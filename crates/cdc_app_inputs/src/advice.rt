@@ -4,14 +4,10 @@ ghost use Rattle.std.specs.Prelude.{◌↔◌, ◌≡◌, IsTrue};
 ghost use Rattle.std.specs.IoError.{error_kind};
 
 use crate::kept::Seen;
-use crate::progress_advice::trouble;
-use crate::run_places::Shown;
-use cdc_actors::RunFault;
-use cdc_arguments::STANDARD_INPUT;
-use cdc_commands::Ending;
+use cdc_arguments::{Form, STANDARD_INPUT};
+use cdc_commands::{Ending, print_fault};
 use cdc_diagnostics::{script_fault_sentence, steps_fault_sentence};
-use cdc_output::ProgramFault;
-use cdc_run::{Met, Place};
+use cdc_output::{Json, ProgramFault, Text};
 use cdc_script::ScriptFault;
 use std::alloc::AllocError;
 use std::io;
@@ -20,6 +16,17 @@ use std::io::ErrorKind;
 /// Reports why a command failed that has read no file. If that can't be written, the exit status still shows it.
 pub fn advise(rt: &HostRuntime, ending: Ending) {
     let _ = advice(rt, shown_name(STANDARD_INPUT), ending);
+}
+
+/// Prints the fault of a command that failed before it read a file.
+pub fn abort(rt: &HostRuntime, fault: ProgramFault, form: Form) -> Ending {
+    let mut writer = io::writer(rt);
+    let ending = match form {
+        Form::Text => print_fault(&Text, &mut writer, fault),
+        Form::Json => print_fault(&Json, &mut writer, fault),
+    };
+    advise(rt, ending);
+    ending
 }
 
 /// Reports why a command failed that has read the file of this shown name.
@@ -56,51 +63,6 @@ pub fn advise_on_steps(rt: &HostRuntime, script: Seen<'_>, steps: Seen<'_>, endi
             let _ = advice(rt, steps.name, ending);
         }
         _ => advise_on_script(rt, script, ending),
-    }
-}
-
-/// The same for a run, whose progress is in the file of that name, or in memory. For a fault that an actor met, it
-/// also names the actor.
-pub fn advise_on_run(
-    rt: &HostRuntime,
-    script: Seen<'_>,
-    progress: Option<&str>,
-    stop: Option<(Place, Met)>,
-    ending: Ending,
-) {
-    match (ending, progress, stop) {
-        (Ending::Failed(ProgramFault::Store(error)), Some(saved), _) => {
-            let name = error.name();
-            let why = trouble(rt, saved, error);
-            let _ = eprintln!(rt; "{saved}: store: {name}: {why}");
-        }
-        (Ending::Failed(fault), _, Some((place, met))) => {
-            let _ = advice_on_place(rt, script, fault, place, met);
-        }
-        _ => advise_on_script(rt, script, ending),
-    }
-}
-
-/// Writes one line on a fault that the actor at a place met.
-fn advice_on_place(
-    rt: &HostRuntime,
-    script: Seen<'_>,
-    fault: ProgramFault,
-    place: Place,
-    met: Met,
-) -> io::Result<()> {
-    let end = Shown(place);
-    match (fault, met) {
-        (ProgramFault::OutOfMemory, Met::Unstarted) => {
-            eprintln!(rt; "relayplum: out_of_memory: no thread could be started for {end}")
-        }
-        (ProgramFault::OutOfMemory, Met::Fault(RunFault::OutOfMemory)) => {
-            eprintln!(rt; "relayplum: out_of_memory: no memory was left for {end}")
-        }
-        (ProgramFault::PeerGone, Met::Fault(RunFault::PeerGone)) => {
-            eprintln!(rt; "relayplum: peer_gone: another actor was gone while {end} talked to it")
-        }
-        _ => advice(rt, script.name, Ending::Failed(fault)),
     }
 }
 

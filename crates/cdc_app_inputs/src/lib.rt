@@ -1,0 +1,16 @@
+//! What the program's commands read, and what standard error reports of each of them.
+#![tactic(auto)]
+
+mod advice;
+mod descriptors;
+mod kept;
+mod notes;
+mod sources;
+
+pub use advice::{
+    abort, advise, advise_on_failure, advise_on_script, advise_on_steps, is_reader_gone, shown_name,
+};
+pub use descriptors::open_standard;
+pub use kept::{Kept, Seen};
+pub use notes::{EXPLAIN, hint, note, report_count, report_no_subscriber};
+pub use sources::{Source, Stream};

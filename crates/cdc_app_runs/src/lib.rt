@@ -1,0 +1,12 @@
+//! The command `run` as the program runs it: its files and its threads, and what standard error reports.
+#![tactic(auto)]
+
+mod progress_advice;
+mod run;
+mod run_advice;
+mod run_faults;
+mod run_places;
+mod run_traces;
+mod run_turns;
+
+pub use run::{WantedRun, run_on_threads};

@@ -1,0 +1,9 @@
+//! The command `simulate` as the program runs it: its files, and what standard error reports.
+#![tactic(auto)]
+
+mod diagnostics;
+mod random;
+mod simulation;
+
+pub use random::run_random;
+pub use simulation::{Wanted, run_simulation};

@@ -1,0 +1,11 @@
+//! The commands `follow` and `audit` as the program runs them: their files, and what standard error reports.
+#![tactic(auto)]
+
+mod audit;
+mod follow;
+mod follow_advice;
+mod kept_book;
+mod watched;
+
+pub use audit::run_audit;
+pub use follow::run_follow;
