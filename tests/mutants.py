@@ -133,8 +133,8 @@ def name_in(words):
     return names[-1] if names else "?"
 
 
-def arguments_in(words):
-    """Returns the names of a trait's arguments, each as name_in has it, put together."""
+def arguments_in(words, parameters=frozenset()):
+    """Returns the names of a trait's arguments and of theirs, each as name_in has it, put together, without parameters."""
     depth, parts = 0, []
     for word in words:
         if depth == 0 and word == "<" or depth == 1 and word == ",":
@@ -142,17 +142,20 @@ def arguments_in(words):
         depth += {"<": 1, ">": -1}.get(word, 0)
         if depth and parts and (depth, word) not in ((1, "<"), (1, ",")):
             parts[-1].append(word)
-    return "".join(map(name_in, parts))
+    names = ((name_in(part), arguments_in(part, parameters)) for part in parts)
+    return "".join(name + inner for name, inner in names if name not in parameters)
 
 
 def owner_of(words):
     """Returns the name under which a check prints the functions of an impl or a trait, whose head these words are."""
     if words[0] == "trait":
         return name_in(words[1:2])
-    words = words[1:]
+    words, parameters = words[1:], set()
     if words[:1] == ["<"]:
         depth = 0
         for at, word in enumerate(words):
+            if depth == 1 and words[at - 1] in ("<", ","):
+                parameters.add(word)
             depth += {"<": 1, ">": -1}.get(word, 0)
             if depth == 0:
                 words = words[at + 1 :]
@@ -161,7 +164,7 @@ def owner_of(words):
         words = words[: words.index("where")]
     if "for" in words:
         at = words.index("for")
-        return name_in(words[at + 1 :]) + name_in(words[:at]) + arguments_in(words[:at])
+        return name_in(words[at + 1 :]) + name_in(words[:at]) + arguments_in(words[:at], parameters)
     return name_in(words)
 
 

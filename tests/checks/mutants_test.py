@@ -967,6 +967,20 @@ def test_aliases(tree):
     assert text == "".join(f"{it}\n" for it in [*heads.values(), "{'End'}"]), text
 
 
+def test_owners(tree):
+    """The functions of a trait's impl bear the names of its type, of the trait and of the trait's arguments, without parameters."""
+    heads = {
+        "impl Display for Fault": "FaultDisplay",
+        "impl From < AllocError > for Fault": "FaultFromAllocError",
+        "impl < F : Form > Consumer < F > for Follower": "FollowerConsumer",
+        "impl < F , O : Observer < F > > Content < F , Both < Recorder , O > > for Asked": "AskedContentBothRecorder",
+    }
+    arguments = "import sys; sys.path.insert(0, 'tests'); import mutants as it\n"
+    arguments += f"for head in {[*heads]!r}: print(it.owner_of(head.split()))\n"
+    text = python(tree, arguments)
+    assert text == "".join(f"{it}\n" for it in heads.values()), text
+
+
 def entry_of(name, seconds):
     return baseline.Entry(name, None, seconds, 0, {})
 
