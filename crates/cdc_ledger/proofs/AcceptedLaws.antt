@@ -1,34 +1,9 @@
 -- What it takes that a request is accepted: no line of its table applies. Then its entry may come next.
-use Rattle.std.proofs.Common.{ℕ, ◌+◌, ◌<◌, ◌≤◌, Bool, true, false, not, ◌&&◌, ◌||◌, List, [], ◌∷◌, ◌++◌, ◌≡◌, ◌≢◌, Option, Some, None, refl, sym, ap, subst, ◌∙◌, arith}
-use Rattle.std.specs.Prelude.{◌==◌, if◌then◌else◌, nat_lt, nat_le}
-use Rattle.std.specs.List.{list_any}
-use Rattle.std.specs.Option.{IsSome}
+use Rattle.cdc_ledger.proofs.Words.{[], ◌++◌, ◌+◌, ◌<◌, ◌==◌, ◌∙◌, ◌∷◌, ◌≡◌, ◌≢◌, ◌≤◌, AccountResult, Balances, Bool, Entry, EventKind, Follows, HasAccounts, History, IsSome, IsSound, List, NewAccount, NewTransfer, None, Opened, Option, SinglePhase, Some, Stands, Transfer, TransferResult, TwoPhaseExpired, TwoPhasePending, TwoPhasePosted, TwoPhaseVoided, account_number, account_refused, account_shape_lines, ap, arith, as_asked, asks_for_two_kinds, balances, entry_of, expires, expires_at, expiry, false, filled, filled_by, filled_from, first_line, holds, if◌then◌else◌, is_other, is_over, is_pending_request, is_plain_request, is_post_request, is_void_request, kind_of, known_account_lines, known_transfer_lines, list_any, max_128, max_timestamp, nat_le, nat_lt, opened, or_own, plain_lines, posts, refl, resolved, resolves, settled_amount, settled_id, settles, settling_lines, some_by, stored, subst, sym, transfer_lines, transfer_number, transfer_shape_lines, true, voids, ℕ}
+use Rattle.std.proofs.Common.{not, ◌&&◌, ◌||◌}
 use Rattle.std.proofs.lemmas.Bool.{and_from, not-false, eqb-true, eq-eqb, ne_eqb, ltb-false, or_from, or_parts, false≢true}
-use Rattle.cdc_types.specs.declared.accounts.Balances.{Balances}
-use Rattle.cdc_types.specs.declared.accounts.NewAccount.{NewAccount}
-use Rattle.cdc_types.specs.declared.events.Entry.{Entry}
-use Rattle.cdc_types.specs.declared.events.EventKind.{EventKind}
-use Rattle.cdc_types.specs.declared.events.EventKind.TheVariants.{SinglePhase, TwoPhasePending, TwoPhasePosted, TwoPhaseVoided, TwoPhaseExpired}
-use Rattle.cdc_types.specs.declared.results.AccountResult.{AccountResult}
 use Rattle.cdc_types.specs.declared.results.AccountResult.TheVariants as account
-use Rattle.cdc_types.specs.declared.results.TransferResult.{TransferResult}
 use Rattle.cdc_types.specs.declared.results.TransferResult.TheVariants as transfer
-use Rattle.cdc_types.specs.declared.transfers.NewTransfer.{NewTransfer}
-use Rattle.cdc_types.specs.declared.transfers.Transfer.{Transfer}
-use Rattle.cdc_types.specs.Flags.{is_pending_request, is_post_request, is_void_request, is_plain_request}
-use Rattle.cdc_types.specs.Lines.{first_line}
-use Rattle.cdc_types.specs.Results.{account_number, transfer_number}
-use Rattle.cdc_types.specs.Shapes.{account_shape_lines, asks_for_two_kinds, transfer_shape_lines}
-use Rattle.cdc_types.specs.Widths.{max_128}
-use Rattle.cdc_ledger.specs.Balances.{balances, resolved, resolves, some_by}
-use Rattle.cdc_ledger.specs.Filling.{stored, filled, filled_by, filled_from, as_asked, or_own, settled_amount, expires_at}
-use Rattle.cdc_ledger.specs.Follows.{Follows}
-use Rattle.cdc_ledger.specs.History.{Opened, History, opened}
-use Rattle.cdc_ledger.specs.Kinds.{holds, settles, settled_id, posts, voids, expires}
-use Rattle.cdc_ledger.specs.Sound.{HasAccounts, Stands, IsSound}
-use Rattle.cdc_ledger.specs.Submit.{kind_of, entry_of}
-use Rattle.cdc_ledger.specs.Changes.{expiry}
-use Rattle.cdc_ledger.specs.Verdict.{max_timestamp, is_other, is_over, known_account_lines, account_refused, known_transfer_lines, plain_lines, settling_lines, transfer_lines}
 use Rattle.cdc_ledger.proofs.BalanceLaws.{balances_later, resolved_later}
 use Rattle.cdc_ledger.proofs.LineLaws.{first_line_append_none_parts, test_of, test_fails}
 use Rattle.cdc_ledger.proofs.StoredLaws.{stored_has}
@@ -44,8 +19,7 @@ pub accepted_account : (h : History) (a : NewAccount) → account_refused h a �
     → (first_line (account_shape_lines a) ≡ None) × (opened h a.id ≡ None)
 accepted_account h a none =
     let known : List (Bool × AccountResult) = known_account_lines (opened h a.id) a in
-    let parts : (first_line (account_shape_lines a) ≡ None) × (first_line known ≡ None) =
-    first_line_append_none_parts (account_shape_lines a) known none in
+    let parts = first_line_append_none_parts (account_shape_lines a) known none in
     (parts.0, known_account_none (opened h a.id) a parts.1)
 
 -- a transfer
@@ -70,10 +44,8 @@ no_line_parts : (h : History) (r : NewTransfer) (t : ℕ) → first_line (transf
     (first_line (own_lines h r t) ≡ None)
 no_line_parts h r t none =
     let known : List (Bool × TransferResult) = known_transfer_lines (stored h r.id) h r in
-    let parts : (first_line (transfer_shape_lines r) ≡ None) × (first_line (known ++ own_lines h r t) ≡ None) =
-    first_line_append_none_parts (transfer_shape_lines r) (known ++ own_lines h r t) none in
-    let two : (first_line known ≡ None) × (first_line (own_lines h r t) ≡ None) =
-    first_line_append_none_parts known (own_lines h r t) parts.1 in
+    let parts = first_line_append_none_parts (transfer_shape_lines r) (known ++ own_lines h r t) none in
+    let two = first_line_append_none_parts known (own_lines h r t) parts.1 in
     (parts.0, known_transfer_none (stored h r.id) h r two.0, two.1)
 
 -- the tests of a request's own fields, each of which fails
@@ -246,10 +218,8 @@ Follows-settling : (k : EventKind) (h : History) (r : NewTransfer) (t : ℕ) →
     → Follows h (entry_with k (filled_from passes.pending.transfer r t) t)
 Follows-settling k h r t sound later requested new passes =
     let x : Entry = passes.pending in
-    let debit : or_own r.debit_account_id x.transfer.debit_account_id ≡ x.transfer.debit_account_id =
-    own_given r.debit_account_id x.transfer.debit_account_id passes.debit in
-    let credit : or_own r.credit_account_id x.transfer.credit_account_id ≡ x.transfer.credit_account_id =
-    own_given r.credit_account_id x.transfer.credit_account_id passes.credit in
+    let debit = own_given r.debit_account_id x.transfer.debit_account_id passes.debit in
+    let credit = own_given r.credit_account_id x.transfer.credit_account_id passes.credit in
     let known : HasAccounts h x = stored_has (HasAccounts h) h r.pending_id x sound.known passes.there in
     let stands : Stands h x = stored_has (Stands h) h r.pending_id x sound.standing passes.there in
     record {
@@ -309,24 +279,21 @@ plain_kind : (pending post void : Bool) → not (post || void) ≡ true
     → settles
     (if pending then TwoPhasePending else if post then TwoPhasePosted else if void then TwoPhaseVoided else SinglePhase)
     ≡ false
-plain_kind true post void plain = refl
 plain_kind false true void plain = absurd (false≢true plain)
 plain_kind false false true plain = absurd (false≢true plain)
-plain_kind false false false plain = refl
+plain_kind pending post void plain = refl
 
 -- a request that isn't plain is a post or a void, and not both
 settling_kind : (pending post void : Bool) → not (post || void) ≡ false
     → ((pending && post) || (pending && void) || (post && void)) ≡ false
     → IsRequested
     (if pending then TwoPhasePending else if post then TwoPhasePosted else if void then TwoPhaseVoided else SinglePhase)
-settling_kind true true void plain one = absurd (false≢true (sym one))
-settling_kind true false true plain one = absurd (false≢true (sym one))
-settling_kind true false false plain one = absurd (false≢true (sym plain))
 settling_kind false true void plain one =
     record { settling = refl; holding = refl; named = λ x. refl; unexpired = λ same. cc }
 settling_kind false false true plain one =
     record { settling = refl; holding = refl; named = λ x. refl; unexpired = λ same. cc }
-settling_kind false false false plain one = absurd (false≢true (sym plain))
+settling_kind pending false false plain one = absurd (false≢true (sym plain))
+settling_kind true post void plain one = absurd (false≢true (sym one))
 
 -- a plain request that no shape line refuses debits one account and credits another
 apart_from : (r : NewTransfer) → is_plain_request r ≡ true
@@ -339,8 +306,7 @@ apart_from r plain line same =
 pub Follows-accepted : (h : History) (r : NewTransfer) (t : ℕ) → IsSound h → h.last < t
     → first_line (transfer_lines h r t) ≡ None → Follows h (entry_of h r t)
 Follows-accepted h r t sound later none =
-    let parts : (first_line (transfer_shape_lines r) ≡ None) × (stored h r.id ≡ None) ×
-    (first_line (own_lines h r t) ≡ None) = no_line_parts h r t none in
+    let parts = no_line_parts h r t none in
     by (is_plain_request r) refl (shape_passes r parts.0) parts.1 parts.2
   where
     by : (plain : Bool) → is_plain_request r ≡ plain → ShapePasses r → stored h r.id ≡ None

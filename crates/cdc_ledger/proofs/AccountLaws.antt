@@ -1,13 +1,6 @@
 -- The accounts with their balances after each change.
-use Rattle.std.proofs.Common.{ℕ, ◌<◌, ◌≤◌, List, [], ◌∷◌, ◌++◌, ◌≡◌, map, None, ap, ap₂, ◌∙◌, sym}
-use Rattle.std.specs.List.{AllByRecursion}
+use Rattle.cdc_ledger.proofs.Words.{[], ◌++◌, ◌<◌, ◌∙◌, ◌∷◌, ◌≡◌, ◌≤◌, Account, AllByRecursion, Entry, Follows, HasAccounts, History, IsSound, List, None, Opened, account_now, account_with, accounts_now, ap, ap₂, map, opened, sym, ℕ}
 use Rattle.std.proofs.lemmas.List.{map_push}
-use Rattle.cdc_types.specs.declared.accounts.Account.{Account}
-use Rattle.cdc_types.specs.declared.events.Entry.{Entry}
-use Rattle.cdc_ledger.specs.History.{Opened, History, opened}
-use Rattle.cdc_ledger.specs.Events.{accounts_now, account_now, account_with}
-use Rattle.cdc_ledger.specs.Follows.{Follows}
-use Rattle.cdc_ledger.specs.Sound.{HasAccounts, IsSound}
 use Rattle.cdc_ledger.proofs.Changes.{pushed, with_account, timed, IsUpTo, account_after, effect_of, no_balances}
 use Rattle.cdc_ledger.proofs.Elements.{AllByRecursion-every, map_same, map-map}
 use Rattle.cdc_ledger.proofs.BalanceLaws.{balances_later, balances-pushed, balances_none}

@@ -1,20 +1,10 @@
 -- Places of accounts, and what a change of the two accounts at two places makes of the list.
-use Rattle.std.proofs.Common.{ℕ, ◌<◌, ◌≤◌, ◌≡◌, ◌≢◌, true, false, List, [], ◌∷◌, Some, length, map, get_or, set, refl, ap, sym, ◌∙◌, arith}
-use Rattle.std.specs.Prelude.{◌==◌, nat_lt, find, All, unwrap_or, option_map, if◌then◌else◌}
-use Rattle.std.specs.List.{AllByRecursion, AllPairs}
+use Rattle.cdc_ledger.proofs.Words.{[], ◌<◌, ◌==◌, ◌∙◌, ◌∷◌, ◌≡◌, ◌≢◌, ◌≤◌, Account, All, AllByRecursion, AllPairs, AreApart, Balances, Effect, IsPlace, IsPlaced, List, Movement, Some, account_after, account_ids, accounts_after, ap, arith, credited_account, debited_account, effect_of_movement, false, find, get_or, if◌then◌else◌, length, map, nat_lt, no_balances, nobody, option_map, part, refl, set, shown_account, shown_as, shown_in, sym, true, unwrap_or, ℕ}
 use Rattle.std.proofs.lemmas.Bool.{ltb-true, ltb-false, eqb-true, eq-eqb, ne_eqb, eqb-false, false≢true}
 use Rattle.std.proofs.lemmas.List.{ext_get_or, length-set, length-map, get_or-map, get_or-set_same, get_or-set_other}
 use Rattle.std.proofs.lemmas.List.Elements.{All-nil, All-cons}
 use Rattle.std.proofs.lemmas.List.Kept.{AllPairs-cons}
 use Rattle.std.proofs.lemmas.List.Quantifiers.{position-Some}
-use Rattle.cdc_types.specs.declared.accounts.Account.{Account}
-use Rattle.cdc_types.specs.declared.accounts.Balances.{Balances}
-use Rattle.cdc_ledger.specs.Accounts.{no_balances, shown_as, shown_in}
-use Rattle.cdc_ledger.specs.Effects.{Effect, part, account_after}
-use Rattle.cdc_ledger.specs.Events.{nobody, shown_account}
-use Rattle.cdc_ledger.specs.declared.movements.Movement.{Movement}
-use Rattle.cdc_ledger.specs.Movements.{IsPlace, IsPlaced, account_ids, accounts_after, debited_account, credited_account, effect_of_movement}
-use Rattle.cdc_ledger.specs.Sound.{AreApart}
 use Rattle.cdc_ledger.proofs.PlaceLaws.{find-place}
 
 -- the account at its place

@@ -1,23 +1,8 @@
 -- Balances at a later timestamp, after one more entry, and of an account that no entry names.
-use Rattle.std.proofs.Common.{ℕ, ◌+◌, ◌-◌, ◌<◌, ◌≤◌, Bool, true, false, List, [], ◌∷◌, ◌++◌, ◌≡◌, Option, Some, None, refl, ap, ap₂, sym, subst, ◌∙◌, arith, le-leb, add-zero}
-use Rattle.std.specs.Prelude.{◌==◌, ◌&&◌, ◌||◌, not, nat_le, if◌then◌else◌, sum_by, option_map}
-use Rattle.std.specs.List.{AllByRecursion}
-use Rattle.std.specs.Option.{IsSome, is_some}
+use Rattle.cdc_ledger.proofs.Words.{[], ◌&&◌, ◌++◌, ◌+◌, ◌-◌, ◌<◌, ◌==◌, ◌||◌, ◌∙◌, ◌∷◌, ◌≡◌, ◌≤◌, AllByRecursion, AreApart, Balances, Bool, Entry, EventKind, Follows, HasAccounts, History, IsSome, IsSound, List, None, Option, Settles, SettlesOpen, SinglePhase, Some, Stands, Transfer, TwoPhaseExpired, TwoPhasePending, TwoPhasePosted, TwoPhaseVoided, add-zero, amount_of, ap, ap₂, arith, balances, credit_side, debit_side, expires, false, held_amount, holds, if◌then◌else◌, is_some, le-leb, moved_amount, nat_le, not, opened, option_map, posts, refl, resolved, resolves, settled_by, settled_id, settled_in, settles, share, stored, stored_ids, stored_in, stores, subst, sum_by, sym, true, voids, ℕ}
 use Rattle.std.proofs.lemmas.List.Folds.{list_any-append}
 use Rattle.std.proofs.lemmas.List.Sums.{sum_by_push, sum_by-cons}
 use Rattle.std.proofs.lemmas.Bool.{and_parts, and_right, eqb-true, eqb-false, eq-eqb, false≢true, ne_eqb, lt-leb}
-use Rattle.cdc_types.specs.declared.accounts.Balances.{Balances}
-use Rattle.cdc_types.specs.declared.events.Entry.{Entry}
-use Rattle.cdc_types.specs.declared.events.EventKind.{EventKind}
-use Rattle.cdc_types.specs.declared.events.EventKind.TheVariants.{SinglePhase, TwoPhasePending, TwoPhasePosted, TwoPhaseVoided, TwoPhaseExpired}
-use Rattle.cdc_types.specs.declared.transfers.Transfer.{Transfer}
-use Rattle.cdc_ledger.specs.History.{History, opened}
-use Rattle.cdc_ledger.specs.Kinds.{holds, stores, settles, settled_id, posts, voids, expires}
-use Rattle.cdc_ledger.specs.Balances.{balances, resolves, resolved, held_amount, moved_amount, share, debit_side, credit_side}
-use Rattle.cdc_ledger.specs.Effects.{amount_of, settled_by, settled_in}
-use Rattle.cdc_ledger.specs.Filling.{stored_in, stored}
-use Rattle.cdc_ledger.specs.Follows.{Follows, SettlesOpen}
-use Rattle.cdc_ledger.specs.Sound.{HasAccounts, AreApart, stored_ids, Settles, Stands, IsSound}
 use Rattle.cdc_ledger.proofs.Changes.{pushed, IsUpTo, part, balances_after_entry, effect_of, no_balances}
 use Rattle.cdc_ledger.proofs.Elements.{AllByRecursion-weaker, AllByRecursion-both, sum_by_same, sum_by_every, sum_by_zero, list_any_same, list_any_none}
 use Rattle.cdc_ledger.proofs.StoredLaws.{is_stored, stored_has, apart-cons}
@@ -164,11 +149,9 @@ first_alone false = refl
 -- a post, a void and an expiry in one form: each resolves the transfer whose id it names
 resolves_kind : (k : EventKind) (x p : Transfer)
     → (posts k x p || voids k x p || expires k x p) ≡ (settles k && (settled_id k x == p.id))
-resolves_kind SinglePhase x p = refl
-resolves_kind TwoPhasePending x p = refl
 resolves_kind TwoPhasePosted x p = first_alone (x.pending_id == p.id)
 resolves_kind TwoPhaseVoided x p = or_none (x.pending_id == p.id) false refl
-resolves_kind TwoPhaseExpired x p = refl
+resolves_kind k x p = refl
 
 -- the same of an entry, so that its kind needn't be looked at again
 pub resolves_is : (e : Entry) (p : Transfer) → resolves p e ≡ (settles e.kind && (settled_id e.kind e.transfer == p.id))
@@ -193,9 +176,7 @@ settled_by_is h e x is of = settled_kind e.kind h e.transfer x is of.named of.sh
 settled_kind_none : (k : EventKind) (h : History) (y : Transfer) → settles k ≡ false → settled_in k h y ≡ None
 settled_kind_none SinglePhase h y none = refl
 settled_kind_none TwoPhasePending h y none = refl
-settled_kind_none TwoPhasePosted h y none = absurd (false≢true (sym none))
-settled_kind_none TwoPhaseVoided h y none = absurd (false≢true (sym none))
-settled_kind_none TwoPhaseExpired h y none = absurd (false≢true (sym none))
+settled_kind_none k h y none = absurd (false≢true (sym none))
 
 -- so its entry releases nothing
 pub settled_by_none : (h : History) (e : Entry) → settles e.kind ≡ false → settled_by h e ≡ None
@@ -203,19 +184,13 @@ settled_by_none h e none = settled_kind_none e.kind h e.transfer none
 
 -- an entry that settles a pending transfer holds nothing back itself
 pub holds-settles : (k : EventKind) → settles k ≡ true → holds k ≡ false
-holds-settles SinglePhase is = refl
 holds-settles TwoPhasePending is = absurd (false≢true is)
-holds-settles TwoPhasePosted is = refl
-holds-settles TwoPhaseVoided is = refl
-holds-settles TwoPhaseExpired is = refl
+holds-settles k is = refl
 
 -- the entry of a pending transfer stored it, so that it is found by its id
 pub stores-holds : (k : EventKind) → holds k ≡ true → stores k ≡ true
-stores-holds SinglePhase is = absurd (false≢true is)
 stores-holds TwoPhasePending is = refl
-stores-holds TwoPhasePosted is = absurd (false≢true is)
-stores-holds TwoPhaseVoided is = absurd (false≢true is)
-stores-holds TwoPhaseExpired is = absurd (false≢true is)
+stores-holds k is = absurd (false≢true is)
 
 -- the transfers that are resolved right after an entry: those resolved before, and the one that it settles
 pub resolved_then : (h : History) (e : Entry) (p : Transfer) → IsUpTo h.last h → h.last < e.timestamp
@@ -270,8 +245,7 @@ module _ (id : ℕ) (before now : Entry → ℕ) where
       → (now y + sum_by now ys) + before x ≡ before y + sum_by before ys
   first_falls true y x ys is apart here falls rest there =
       let same : y ≡ x = cc in
-      let both : (stores y.kind ≡ true) × ((y.transfer.id == id) ≡ true) =
-      and_parts (stores y.kind) (y.transfer.id == id) is in
+      let both = and_parts (stores y.kind) (y.transfer.id == id) is in
       let others : AllByRecursion (λ z. is_stored id z ≡ false) ys =
       subst (λ n. AllByRecursion (λ z. is_stored n z ≡ false) ys) (eqb-true y.transfer.id id both.1)
       ((apart-cons y ys apart).1 both.0) in
@@ -298,17 +272,11 @@ module _ (id : ℕ) (before now : Entry → ℕ) where
 held_falls : (k : EventKind) (done same : Bool) (n : ℕ)
     → (if holds k && not (done || same) then n else 0)
     ≡ (if stores k && same then 0 else (if holds k && not done then n else 0))
-held_falls SinglePhase done true n = refl
-held_falls SinglePhase done false n = refl
 held_falls TwoPhasePending true true n = refl
-held_falls TwoPhasePending true false n = refl
 held_falls TwoPhasePending false true n = refl
-held_falls TwoPhasePending false false n = refl
-held_falls TwoPhasePosted done true n = refl
-held_falls TwoPhasePosted done false n = refl
-held_falls TwoPhaseVoided done true n = refl
-held_falls TwoPhaseVoided done false n = refl
 held_falls TwoPhaseExpired done same n = refl
+held_falls k done true n = refl
+held_falls k done same n = refl
 
 -- an entry that holds nothing any more has no share in the sum either
 share_falls : (sees gone : Bool) (n : ℕ)
@@ -345,11 +313,8 @@ module _ (h : History) (e : Entry) (a : ℕ) (sound : IsSound h) (follows : Foll
       (settles-holds e.kind is)
     where
       settles-holds : (k : EventKind) → holds k ≡ true → settles k ≡ false
-      settles-holds SinglePhase is = refl
       settles-holds TwoPhasePending is = refl
-      settles-holds TwoPhasePosted is = absurd (false≢true is)
-      settles-holds TwoPhaseVoided is = absurd (false≢true is)
-      settles-holds TwoPhaseExpired is = absurd (false≢true is)
+      settles-holds k is = absurd (false≢true is)
 
   -- it holds back its whole amount if it is pending
   own_held : (b : Bool) → holds e.kind ≡ b
@@ -465,8 +430,7 @@ module _ (h : History) (e : Entry) (a : ℕ) (sound : IsSound h) (follows : Foll
       → sum_by (right_after side) (h.entries ++ e ∷ []) + part (side e.transfer) a (effect_of h e).released
       ≡ sum_by (before side) h.entries + part (side e.transfer) a (effect_of h e).held
   pending_then side fits =
-      let all : sum_by (right_after side) (h.entries ++ e ∷ []) ≡ sum_by (right_after side) h.entries + part
-      (side e.transfer) a (effect_of h e).held = then_sum side in
+      let all = then_sum side in
       omega arith
 
   -- the posted sum grows by what is moved

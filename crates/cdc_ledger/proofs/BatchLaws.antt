@@ -1,16 +1,11 @@
 -- The answers to a batch, one chain at a time, and of a chain one item at a time: what the first ones leave, and what
 -- is left of them.
-use Rattle.std.proofs.Common.{ℕ, zero, suc, ◌+◌, ◌-◌, ◌<◌, ◌≤◌, ◌≡◌, Bool, true, false, List, [], ◌∷◌, ◌++◌, Option, Some, None, length, get_or, take, drop, refl, ap, ap₂, sym, ◌∙◌, subst, arith, add-zero, add-one, append_assoc, append-nil, length-drop}
-use Rattle.std.specs.Prelude.{◌&&◌, ◌==◌, if◌then◌else◌, is_some, replicate}
-use Rattle.std.specs.List.{AllByRecursion}
+use Rattle.cdc_ledger.proofs.Words.{[], ◌&&◌, ◌++◌, ◌+◌, ◌-◌, ◌<◌, ◌==◌, ◌∙◌, ◌∷◌, ◌≡◌, ◌≤◌, AllByRecursion, AreUnrefused, Bool, Entry, History, IsStopped, List, NewAccount, NewTransfer, None, Option, Rules, SinglePhase, Some, add-one, add-zero, ap, append-nil, append_assoc, ap₂, arith, as_asked, before_others, chains_from, chains_of, drop, false, get_or, history_after, if◌then◌else◌, in_front, is_none_left, items_from, length, length-drop, played, refl, refused_in_chain, replicate, subst, suc, sym, take, taken_all, timed, true, unvalidated, unvalidated_one, unwrap_or, zero, ℕ}
+use Rattle.std.specs.Prelude.{is_some}
 use Rattle.std.proofs.lemmas.Bool.{eq-eqb, ne_eqb}
 use Rattle.std.proofs.lemmas.List.{take_more, at_drop_more, at_drop_all, drop_all, length-take-le, take-append-drop, take_all}
 use Rattle.std.proofs.Math.Seq.{drop-drop, take-length, drop-length}
-use Rattle.cdc_types.specs.declared.accounts.NewAccount.{NewAccount}
-use Rattle.cdc_types.specs.declared.transfers.NewTransfer.{NewTransfer}
-use Rattle.cdc_ledger.specs.Chains.{Rules, chains_of, in_front, is_none_left, before_others, refused_in_chain, unvalidated, unvalidated_one, played, history_after, chains_from, items_from}
-use Rattle.cdc_ledger.specs.History.{History}
-use Rattle.cdc_ledger.specs.Stops.{AreUnrefused, IsStopped, taken_all}
+use Rattle.cdc_ledger.proofs.Elements.{AllByRecursion_push}
 
 -- the value that is read past the last request
 abbrev pub no_account : NewAccount
@@ -33,6 +28,10 @@ no_transfer = record {
   code = 0;
   flags = 0;
 }
+
+-- past the last entry
+abbrev pub no_entry : Entry
+no_entry = record { timestamp = 0; kind = SinglePhase; transfer = as_asked no_transfer 0 }
 
 -- ---- the end of the first chain
 
@@ -113,12 +112,27 @@ slice_to_end xs n = ap (λ m. take m (drop n xs)) (sym (length-drop n xs)) ∙ t
 pub slice_length : {X : Type 0} (xs : List X) (n : ℕ) → length (take (length xs - n) (drop n xs)) ≡ length xs - n
 slice_length xs n = ap length (slice_to_end xs n) ∙ length-drop n xs
 
+-- a slice of n elements from i on has n, if there are so many
+pub slice_size : {X : Type 0} (xs : List X) (i n : ℕ) → n ≤ length (take (length xs - i) (drop i xs))
+    → length (take (i + n - i) (drop i xs)) ≡ n
+slice_size xs i n within =
+    let left = slice_length xs i in
+    let long = length-drop i xs in
+    let span : i + n - i ≡ n = omega arith in
+    length-take-le (i + n - i) (drop i xs) (omega arith) ∙ span
+
 -- likewise of two parts as slices of the list
 pub AllByRecursion_parts : {X : Type 0} (P : X → Type 0) (xs : List X) (n : ℕ) → AllByRecursion P (take n xs)
     → AllByRecursion P (take (length xs - n) (drop n xs)) → AllByRecursion P xs
 AllByRecursion_parts P xs n front back =
     AllByRecursion_whole P xs n front
     (subst (AllByRecursion P) (slice_to_end xs n) back)
+
+-- of the first i elements and of the next one
+pub AllByRecursion_more : {X : Type 0} (P : X → Type 0) (xs : List X) (i : ℕ) (d : X) → i < length xs
+    → AllByRecursion P (take i xs) → P (get_or xs i d) → AllByRecursion P (take (i + 1) xs)
+AllByRecursion_more P xs i d inside front one =
+    subst (AllByRecursion P) (sym (take_more xs i d inside)) (AllByRecursion_push P (take i xs) (get_or xs i d) front one)
 
 -- what holds of the first i elements and of the n after them
 all_further : {X : Type 0} (P : X → Type 0) (i : ℕ) (xs : List X) (n m : ℕ) → m ≡ i + n
@@ -233,8 +247,7 @@ module _ {A R : Type 0} (rules : Rules A R) where
       let left : List A = drop (i + 1) chain in
       let is : refused_in_chain rules g a (is_none_left left) (t + i) ≡ None =
       ap (λ b. refused_in_chain rules g a b (t + i)) (sym (last_left chain i inside)) ∙ unrefused in
-      let own : rules.refused g a (t + i) ≡ None =
-      itself (rules.linked a && is_none_left left) (rules.refused g a (t + i)) is in
+      let own = itself (rules.linked a && is_none_left left) (rules.refused g a (t + i)) is in
       let same : g ≡ taken_all rules h t (take i chain) = on.made in
       record {
         rest = on.rest
@@ -277,6 +290,39 @@ module _ {A R : Type 0} (rules : Rules A R) where
       ∙ ap₂ (λ rs n. (rs, Some g)) (append-nil (replicate i rules.accepted)) all
       ∙ ap (λ n. (replicate n rules.accepted, Some g)) all
 
+  -- the answers to a chain that was accepted
+  pub accepted_results : (h : History) (t : ℕ) (chain : List A) (g : History) (before after : List R)
+      → IsStopped rules h t chain None g → after ≡ before ++ replicate (length chain) rules.accepted
+      → after ≡ before ++ (played rules h t chain).0
+  accepted_results h t chain g before after stopped same =
+      same ∙ ap (λ (q : List R × Option History). before ++ q.0) (sym stopped)
+
+  -- and the history after it
+  pub accepted_history : (h : History) (t : ℕ) (chain : List A) (g : History) → IsStopped rules h t chain None g
+      → g ≡ history_after rules h t chain
+  accepted_history h t chain g stopped =
+      sym (ap (λ (q : List R × Option History). unwrap_or q.1 (timed h (t + length chain - 1))) stopped)
+
+  -- the answers to a chain that failed: in front of the item, of the item, and of those behind it
+  pub failed_results : (h : History) (t : ℕ) (chain : List A) (i : ℕ) (r : R) (g : History)
+      (before front one after : List R) → IsStopped rules h t chain (Some (i, r)) g
+      → front ≡ before ++ replicate i rules.failed → one ≡ front ++ r ∷ []
+      → after ≡ one ++ unvalidated rules (take (length chain - (i + 1)) (drop (i + 1) chain))
+      → after ≡ before ++ (played rules h t chain).0
+  failed_results h t chain i r g before front one after stopped p q s =
+      let others = unvalidated rules (drop (i + 1) chain) in
+      s ∙ ap₂ (λ xs ys. xs ++ unvalidated rules ys) (q ∙ ap (λ xs. xs ++ r ∷ []) p) (slice_to_end chain (i + 1))
+      ∙ append_assoc (before ++ replicate i rules.failed) (r ∷ []) others
+      ∙ append_assoc before (replicate i rules.failed) (r ∷ others)
+      ∙ ap (λ (x : List R × Option History). before ++ x.0) (sym stopped.1)
+
+  -- it takes its timestamps alone
+  pub failed_history : (h : History) (t : ℕ) (chain : List A) (stop : ℕ × R) (g k : History) → 0 < length chain
+      → IsStopped rules h t chain (Some stop) g → k ≡ timed h (t + (length chain - 1)) → k ≡ history_after rules h t chain
+  failed_history h t chain stop g k some stopped same =
+      same ∙ ap (timed h) (omega arith)
+      ∙ sym (ap (λ (q : List R × Option History). unwrap_or q.1 (timed h (t + length chain - 1))) stopped.1)
+
   -- ---- items that aren't validated
 
   -- one more result
@@ -312,6 +358,21 @@ module _ {A R : Type 0} (rules : Rules A R) where
   alone_refused h t a refusal unlinked is =
       ap₂ (λ b o. before_others rules (if b && true then Some rules.unfinished else o) []
       (played rules (rules.taken h a t) (t + 1) [])) unlinked is
+
+  -- the history after it
+  pub after_accepted_alone : (h : History) (t : ℕ) (a : A) (g : History) → rules.linked a ≡ false
+      → rules.refused h a t ≡ None → g ≡ rules.taken h a t → g ≡ history_after rules h t (a ∷ [])
+  after_accepted_alone h t a g unlinked is same =
+      same ∙ sym (ap (λ (q : List R × Option History). unwrap_or q.1 (timed h (t + 1 - 1)))
+      (alone_accepted h t a unlinked is))
+
+  -- after a refused one
+  pub after_refused_alone : (h : History) (t : ℕ) (a : A) (refusal : R) (g : History) → rules.linked a ≡ false
+      → rules.refused h a t ≡ Some refusal → g ≡ timed h t → g ≡ history_after rules h t (a ∷ [])
+  after_refused_alone h t a refusal g unlinked is same =
+      same ∙ ap (timed h) (omega arith)
+      ∙ sym (ap (λ (q : List R × Option History). unwrap_or q.1 (timed h (t + 1 - 1)))
+      (alone_refused h t a refusal unlinked is))
 
   -- ---- the chains of a batch
 
@@ -394,8 +455,7 @@ module _ {A R : Type 0} (rules : Rules A R) where
   pub ItemsGoOn_all : (h : History) (t : ℕ) (all : List A) (i : ℕ) (done : List R) (now : History) → length all ≤ i
       → ItemsGoOn h t all i done now → items_from rules h t all ≡ (done, now)
   ItemsGoOn_all h t all i done now past goes =
-      let cut : items_from rules now (t + i) (drop i all) ≡ ([], now) =
-      at_drop_all (λ xs. items_from rules now (t + i) xs) all i past in
+      let cut = at_drop_all (λ xs. items_from rules now (t + i) xs) all i past in
       ap₂ (λ (rs : List R) (g : History). (rs, g))
       (sym goes.answers ∙ (ap (λ (q : List R × History). done ++ q.0) cut ∙ append-nil done))
       (sym goes.after ∙ ap (λ (q : List R × History). q.1) cut)

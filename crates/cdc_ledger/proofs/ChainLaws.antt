@@ -1,10 +1,5 @@
 -- What the chains of a batch keep of a history, whatever the rules of its items.
-use Rattle.std.proofs.Common.{ℕ, ◌+◌, ◌-◌, ◌<◌, ◌≤◌, ◌≡◌, Bool, true, false, List, [], ◌∷◌, Option, Some, None, length, refl, ◌∙◌, arith}
-use Rattle.std.specs.Prelude.{◌&&◌, if◌then◌else◌, IfSome, unwrap_or}
-use Rattle.cdc_ledger.specs.Chains.{Rules, chains_of, in_front, is_none_left, refused_in_chain, before_others, played, history_after, chains_from, items_from}
-use Rattle.cdc_ledger.specs.Changes.{timed}
-use Rattle.cdc_ledger.specs.History.{History}
-use Rattle.cdc_ledger.specs.Stops.{AreUnrefused, taken_all}
+use Rattle.cdc_ledger.proofs.Words.{[], ◌&&◌, ◌+◌, ◌-◌, ◌<◌, ◌∙◌, ◌∷◌, ◌≡◌, ◌≤◌, AreUnrefused, Bool, History, IfSome, List, None, Option, Rules, Some, arith, before_others, chains_from, chains_of, false, history_after, if◌then◌else◌, in_front, is_none_left, items_from, length, played, refl, refused_in_chain, taken_all, timed, true, unwrap_or, ℕ}
 
 -- how many items there are in these chains
 abbrev total : {A : Type 0} → List (List A) → ℕ

@@ -1,21 +1,8 @@
 -- The transfers that are due: how many there are, which is the first, and that the others are due once it expired.
-use Rattle.std.proofs.Common.{ℕ, ◌<◌, Bool, true, false, List, [], ◌∷◌, ◌++◌, ◌≡◌, length, map, refl, ap, ap₂, sym, ◌∙◌}
-use Rattle.std.specs.Prelude.{◌==◌, ◌&&◌, ◌||◌, not, nat_le, filter, if◌then◌else◌}
-use Rattle.std.specs.List.{AllByRecursion}
+use Rattle.cdc_ledger.proofs.Words.{[], ◌&&◌, ◌++◌, ◌<◌, ◌==◌, ◌||◌, ◌∙◌, ◌∷◌, ◌≡◌, AllByRecursion, Bool, Entry, History, IsSound, List, Transfer, Triple, ap, ap₂, due, expires_at, expiry, false, filter, holds, if◌then◌else◌, in_order_of_end, is_due, is_open, is_sooner, length, map, nat_le, not, open_triples, pushed, refl, resolved, stores, sym, triples_from, true, ℕ}
 use Rattle.std.proofs.lemmas.Bool.{eq-eqb, ne_eqb}
 use Rattle.std.proofs.lemmas.List.{append-nil, length-map, map-append}
 use Rattle.std.proofs.lemmas.List.Elements.{filter-append, filter_agree}
-use Rattle.cdc_expiry.specs.declared.triple.Triple.{Triple}
-use Rattle.cdc_types.specs.declared.events.Entry.{Entry}
-use Rattle.cdc_types.specs.declared.transfers.Transfer.{Transfer}
-use Rattle.cdc_ledger.specs.Balances.{resolved}
-use Rattle.cdc_ledger.specs.Changes.{pushed, expiry}
-use Rattle.cdc_ledger.specs.Due.{is_due, is_sooner, in_order_of_end, due}
-use Rattle.cdc_ledger.specs.Filling.{expires_at}
-use Rattle.cdc_ledger.specs.History.{History}
-use Rattle.cdc_ledger.specs.Kinds.{holds, stores}
-use Rattle.cdc_ledger.specs.OpenTriples.{is_open, triples_from, open_triples}
-use Rattle.cdc_ledger.specs.Sound.{IsSound}
 use Rattle.cdc_ledger.proofs.BalanceLaws.{resolved_then, stores-holds}
 use Rattle.cdc_ledger.proofs.DueOrder.{IsSoonest, in_order-soonest, length-in_order}
 use Rattle.cdc_ledger.proofs.IndexTriples.{filter-triples_from, length-triples_from}
@@ -34,11 +21,8 @@ is_ready h now e = is_open h e && nat_le (expires_at e.transfer) now
 ends_last : (held timed ended done : Bool)
     → (held && timed && ended && not done) ≡ ((held && timed && not done) && ended)
 ends_last true true true true = refl
-ends_last true true true false = refl
 ends_last true true false true = refl
-ends_last true true false false = refl
-ends_last true false ended done = refl
-ends_last false timed ended done = refl
+ends_last held timed ended done = refl
 
 -- a transfer is due if and only if it has a triple whose expiry time has come
 pub is_due-ready : (h : History) (now : ℕ) (e : Entry) → is_due h now e ≡ is_ready h now e
@@ -134,9 +118,8 @@ module _ (h : History) (now : ℕ) (e : Entry) (among : IsAmong h.entries e) whe
     -- an expiry of another transfer makes no difference
     unchanged : (held timed ended done now : Bool) → (held ≡ true → now ≡ false)
         → (held && timed && ended && not (done || now)) ≡ (held && timed && ended && not done)
-    unchanged true timed ended true now same = refl
     unchanged true timed ended false now same = ap (λ b. timed && ended && not b) (same refl)
-    unchanged false timed ended done now same = refl
+    unchanged held timed ended done now same = refl
 
     -- an entry that stored another id is due as before
     still : (y : Entry) → (stores y.kind ≡ true → IsOther e y) → is_due later now y ≡ is_due h now y
@@ -153,11 +136,8 @@ module _ (h : History) (now : ℕ) (e : Entry) (among : IsAmong h.entries e) whe
 
     -- what is resolved isn't due
     over : (held timed ended done now : Bool) → now ≡ true → (held && timed && ended && not (done || now)) ≡ false
-    over true true true true now is = refl
     over true true true false now is = ap not is
-    over true true false done now is = refl
-    over true false ended done now is = refl
-    over false timed ended done now is = refl
+    over held timed ended done now is = refl
 
     -- the one that expired isn't due any more
     itself_over : is_due later now e ≡ false

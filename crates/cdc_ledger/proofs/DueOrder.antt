@@ -1,11 +1,6 @@
 -- Transfers in the order of their expiry times: the soonest of all is first, and the rest are ordered as without it.
-use Rattle.std.proofs.Common.{ℕ, suc, Bool, true, false, List, [], ◌∷◌, ◌++◌, ◌≡◌, length, refl, ap, ◌∙◌, arith}
-use Rattle.std.specs.Prelude.{◌==◌, ◌&&◌, ◌||◌, nat_lt, if◌then◌else◌}
-use Rattle.std.specs.List.{AllByRecursion}
+use Rattle.cdc_ledger.proofs.Words.{[], ◌&&◌, ◌++◌, ◌==◌, ◌||◌, ◌∙◌, ◌∷◌, ◌≡◌, AllByRecursion, Bool, List, Transfer, ap, arith, expires_at, false, if◌then◌else◌, in_order_of_end, insert_by_end, is_sooner, length, nat_lt, refl, suc, true, ℕ}
 use Rattle.std.proofs.lemmas.Bool.Decides.{nat_tests}
-use Rattle.cdc_types.specs.declared.transfers.Transfer.{Transfer}
-use Rattle.cdc_ledger.specs.Due.{is_sooner, insert_by_end, in_order_of_end}
-use Rattle.cdc_ledger.specs.Filling.{expires_at}
 
 -- if one pair of timestamp and number is before another, the other isn't before it
 sooner_once : (a b s t : ℕ) → (nat_lt a b || ((a == b) && nat_lt s t)) ≡ true

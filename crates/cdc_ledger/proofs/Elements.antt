@@ -1,7 +1,5 @@
 -- What holds of each element, and what functions that agree on each element make of the list.
-use Rattle.std.proofs.Common.{ℕ, ◌+◌, Bool, false, List, [], ◌∷◌, ◌++◌, ◌≡◌, map, refl, ap, ap₂, sym, ◌∙◌}
-use Rattle.std.specs.Prelude.{sum_by, ◌||◌}
-use Rattle.std.specs.List.{AllByRecursion, list_any}
+use Rattle.cdc_ledger.proofs.Words.{[], ◌++◌, ◌+◌, ◌||◌, ◌∙◌, ◌∷◌, ◌≡◌, AllByRecursion, Bool, List, ap, ap₂, false, list_any, map, refl, sum_by, sym, ℕ}
 use Rattle.std.proofs.lemmas.List.Sums.{sum_by-cons}
 
 module _ {X : Type 0} where

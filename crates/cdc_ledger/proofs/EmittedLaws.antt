@@ -1,32 +1,6 @@
 -- The log and the index of a history stay correct.
-use Rattle.std.proofs.Common.{ℕ, ◌+◌, ◌<◌, ◌≤◌, ◌^◌, List, [], ◌∷◌, ◌++◌, ◌≡◌, true, false, Option, Result, Ok, Err, length, map, refl, ap, ap₂, sym, ◌∙◌, subst, arith}
-use Rattle.std.specs.Prelude.{IfSome}
-use Rattle.std.specs.List.{AllByRecursion}
-use Rattle.cdc_types.specs.declared.events.Entry.{Entry}
-use Rattle.cdc_types.specs.declared.events.Event.{Event}
-use Rattle.cdc_types.specs.declared.transfers.Transfer.{Transfer}
-use Rattle.cdc_types.specs.Timestamps.{last_timestamp_from, last_timestamp}
-use Rattle.cdc_types.specs.declared.accounts.NewAccount.{NewAccount}
+use Rattle.cdc_ledger.proofs.Words.{[], ◌++◌, ◌+◌, ◌<◌, ◌^◌, ◌∙◌, ◌∷◌, ◌≡◌, ◌≤◌, AllByRecursion, Answers, BatchError, BatchResults, BatchTooLarge, Emitted, Entry, Err, Event, Follows, History, IfSome, IsEmitted, IsNewTimestamp, IsSound, LedgerClosed, List, Movement, NewAccount, Ok, Option, OutOfMemory, Result, TimestampsExhausted, Transfer, account_rules, accounts_from, ap, ap₂, arith, base, ends_after, event_of, events, expires_at, false, index_of, is_past_the_end, last_timestamp, last_timestamp_from, length, map, max_timestamp, opened_by, opens, pushed, refl, settled_by, settled_transfer, subst, sym, taken, timed, true, with_account, ℕ}
 use Rattle.cdc_types.specs.declared.batches.Batch.TheVariants as batch
-use Rattle.cdc_types.specs.declared.batches.BatchResults.{BatchResults}
-use Rattle.cdc_expiry.specs.Triples.{IsNewTimestamp}
-use Rattle.cdc_ledger.specs.declared.errors.BatchError.{BatchError}
-use Rattle.cdc_ledger.specs.declared.errors.BatchError.TheVariants.{LedgerClosed, BatchTooLarge, TimestampsExhausted, OutOfMemory}
-use Rattle.cdc_ledger.specs.Answers.{Answers}
-use Rattle.cdc_ledger.specs.declared.movements.Movement.{Movement}
-use Rattle.cdc_ledger.specs.declared.emitted.Emitted.{Emitted}
-use Rattle.cdc_ledger.specs.Changes.{pushed, timed, with_account}
-use Rattle.cdc_ledger.specs.Effects.{settled_by}
-use Rattle.cdc_ledger.specs.Events.{event_of, events}
-use Rattle.cdc_ledger.specs.Filling.{expires_at}
-use Rattle.cdc_ledger.specs.Follows.{Follows}
-use Rattle.cdc_ledger.specs.History.{History}
-use Rattle.cdc_ledger.specs.Movements.{settled_transfer}
-use Rattle.cdc_ledger.specs.OpenTriples.{ends_after, index_of, opens}
-use Rattle.cdc_ledger.specs.Sound.{IsSound}
-use Rattle.cdc_ledger.specs.Submit.{account_rules, accounts_from, base, is_past_the_end, opened_by, taken}
-use Rattle.cdc_ledger.specs.EmittedHistory.{IsEmitted}
-use Rattle.cdc_ledger.specs.Verdict.{max_timestamp}
 use Rattle.cdc_ledger.proofs.AcceptedLaws.{accepted_account}
 use Rattle.cdc_ledger.proofs.ChainLaws.{items_from-keeps}
 use Rattle.cdc_ledger.proofs.EventLaws.{events-pushed, events-with_account}
@@ -140,19 +114,13 @@ pub IsEmitted-accounts : {A : Type 0} (shown : A → BatchResults) (h g : Histor
     (items : List NewAccount) (r : Result A BatchError) → IsSound h → IsEmitted h emitted
     → Answers shown h (batch.Accounts now items) r g → IsEmitted g emitted
 IsEmitted-accounts shown h g emitted now items (Ok results) sound is answers =
-    let parts : (is_past_the_end h now (length items) ≡ false) ×
-    (taken h (batch.Accounts now items) ≡ (shown results, g)) =
-    submit_parts h (batch.Accounts now items) (shown results, g) answers in
+    let parts = submit_parts h (batch.Accounts now items) (shown results, g) answers in
     let alike = emitted_accounts h (base h now) items sound (after_last h now)
     (within_end h now (length items) parts.0) in
     let made : (accounts_from h (base h now) items).1 ≡ g =
     ap (λ (a : BatchResults × History). a.1) parts.1 in
     subst (λ k. IsEmitted k emitted) made (IsEmitted-alike h (accounts_from h (base h now) items).1 emitted alike is)
-IsEmitted-accounts shown h g emitted now items (Err LedgerClosed) sound is answers =
-    subst (λ k. IsEmitted k emitted) (sym answers.1) is
-IsEmitted-accounts shown h g emitted now items (Err BatchTooLarge) sound is answers =
-    subst (λ k. IsEmitted k emitted) (sym answers.1) is
-IsEmitted-accounts shown h g emitted now items (Err TimestampsExhausted) sound is answers =
-    subst (λ k. IsEmitted k emitted) (sym answers.1) is
 IsEmitted-accounts shown h g emitted now items (Err OutOfMemory) sound is answers =
+    subst (λ k. IsEmitted k emitted) (sym answers.1) is
+IsEmitted-accounts shown h g emitted now items (Err e) sound is answers =
     subst (λ k. IsEmitted k emitted) (sym answers.1) is

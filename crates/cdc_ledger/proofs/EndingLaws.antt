@@ -1,27 +1,10 @@
 -- How pending transfers ended, once one more entry came.
-use Rattle.std.proofs.Common.{ℕ, zero, suc, ◌<◌, Bool, true, false, List, [], ◌∷◌, ◌++◌, ◌≤◌, ◌≡◌, Option, Some, None, get_or, length, map, set, refl, ap, ap₂, sym, ◌∙◌, arith}
-use Rattle.std.specs.Prelude.{◌==◌, ◌&&◌, ◌||◌, nat_le, if◌then◌else◌, option_map, IfSome}
-use Rattle.std.specs.List.{AllByRecursion, list_any, slice_get}
+use Rattle.cdc_ledger.proofs.Words.{[], ◌&&◌, ◌++◌, ◌<◌, ◌==◌, ◌||◌, ◌∙◌, ◌∷◌, ◌≡◌, ◌≤◌, AllByRecursion, Bool, Ending, Entry, EventKind, Follows, History, IfSome, IsSound, IsStoredAt, List, None, Open, Option, Pending, SinglePhase, Some, Transfer, TwoPhaseExpired, TwoPhasePending, TwoPhasePosted, TwoPhaseVoided, ap, ap₂, arith, ending_among, ending_by, ending_from, ending_of, endings_after, endings_of, expires, false, get_or, holds, if◌then◌else◌, length, list_any, map, nat_le, option_map, posts, refl, resolves, set, settled_by, settled_id, settles, stored, stores, suc, sym, true, voids, zero, ℕ}
+use Rattle.std.specs.List.{slice_get}
 use Rattle.std.proofs.lemmas.Bool.{and_right, false≢true, le-leb, ne_eqb, and_from, eq-eqb}
 use Rattle.std.proofs.lemmas.List.{length-map, map-append, map_push}
 use Rattle.std.proofs.lemmas.List.Folds.{list_any-append}
 use Rattle.std.proofs.lemmas.Option.{slice_get-get_or, slice_get-map, slice_get_within}
-use Rattle.cdc_types.specs.declared.events.Entry.{Entry}
-use Rattle.cdc_types.specs.declared.events.EventKind.{EventKind}
-use Rattle.cdc_types.specs.declared.events.EventKind.TheVariants.{SinglePhase, TwoPhasePending, TwoPhasePosted, TwoPhaseVoided, TwoPhaseExpired}
-use Rattle.cdc_types.specs.declared.transfers.Transfer.{Transfer}
-use Rattle.cdc_ledger.specs.declared.endings.Ending.{Ending}
-use Rattle.cdc_ledger.specs.declared.endings.Ending.TheVariants.{Open}
-use Rattle.cdc_ledger.specs.declared.movements.Pending.{Pending}
-use Rattle.cdc_ledger.specs.Balances.{resolves}
-use Rattle.cdc_ledger.specs.Effects.{settled_by}
-use Rattle.cdc_ledger.specs.Endings.{ending_from, ending_among, ending_of, ending_by, endings_of, endings_after}
-use Rattle.cdc_ledger.specs.Filling.{stored}
-use Rattle.cdc_ledger.specs.Follows.{Follows}
-use Rattle.cdc_ledger.specs.History.{History}
-use Rattle.cdc_ledger.specs.Kinds.{holds, posts, voids, expires, settles, settled_id, stores}
-use Rattle.cdc_ledger.specs.Movements.{IsStoredAt}
-use Rattle.cdc_ledger.specs.Sound.{IsSound}
 use Rattle.cdc_ledger.proofs.BalanceLaws.{holds-settles, resolved_none, resolves_is, settled_by_is, settled_by_none, stores-holds}
 use Rattle.cdc_ledger.proofs.Elements.{AllByRecursion-every, map_same}
 use Rattle.cdc_ledger.proofs.IndexKept.{settles-settled_by}
@@ -68,9 +51,8 @@ unended_from p t (e ∷ es) past none =
 
 -- one more entry may pass a test that none passed before
 or_last : (a b : Bool) → (a || (b || false)) ≡ (a || b)
-or_last true b = refl
 or_last false true = refl
-or_last false false = refl
+or_last a b = refl
 
 -- whether one of the entries passes, with one more
 any_pushed : (test : Entry → Bool) (es : List Entry) (e : Entry)
@@ -107,11 +89,10 @@ ending_kept es e p none =
 -- the ending that an entry causes is that of its kind
 ending_kind : (k : EventKind) (x p : Transfer) → (settles k && (settled_id k x == p.id)) ≡ true
     → ending_from (posts k x p) (voids k x p) (expires k x p) ≡ ending_by k
-ending_kind SinglePhase x p is = absurd (false≢true is)
-ending_kind TwoPhasePending x p is = absurd (false≢true is)
 ending_kind TwoPhasePosted x p is = ap (λ b. ending_from b false false) is
 ending_kind TwoPhaseVoided x p is = ap (λ b. ending_from false b false) is
 ending_kind TwoPhaseExpired x p is = ap (λ b. ending_from false false b) is
+ending_kind k x p is = absurd (false≢true is)
 
 -- an entry that settles a transfer that was open gives it this ending
 ending_new : (es : List Entry) (e : Entry) (p : Transfer) → IsUnended es p
@@ -248,9 +229,8 @@ module _ (h : History) (e : Entry) (sound : IsSound h) (follows : Follows h e) w
       ap (stored h) (sym (ap (λ (q : Transfer). q.id) same) ∙ it.same_id) ∙ unended.settles.named in
       let one : found.0 ≡ x = let two : stored h p.transfer.id ≡ Some found.0 = found.2 in cc in
       let at = at_place h.entries p.place x (found.1 ∙ ap (λ y. Some y) one) in
-      let ends : (settles e.kind && (settled_id e.kind e.transfer == x.transfer.id)) ≡ true =
-      and_from (settles e.kind) (settled_id e.kind e.transfer == x.transfer.id) settling
-      (eq-eqb (settled_id e.kind e.transfer) x.transfer.id (sym it.same_id)) in
+      let ends = and_from (settles e.kind) (settled_id e.kind e.transfer == x.transfer.id) settling (eq-eqb (settled_id
+      e.kind e.transfer) x.transfer.id (sym it.same_id)) in
       let ended : ending_of all x ≡ ending_by e.kind =
       ap (λ b. if b then ending_among all x.transfer else Open) unended.settles.pending
       ∙ ending_new h.entries e x.transfer

@@ -1,15 +1,7 @@
 -- The events after one more entry or account, and their timestamps.
-use Rattle.std.proofs.Common.{◌<◌, ◌≤◌, [], ◌∷◌, ◌++◌, ◌≡◌, ap, ap₂, ◌∙◌, arith}
-use Rattle.std.specs.Prelude.{unwrap_or, Option}
-use Rattle.std.specs.List.{AllByRecursion}
+use Rattle.cdc_ledger.proofs.Words.{[], ◌++◌, ◌<◌, ◌∙◌, ◌∷◌, ◌≡◌, ◌≤◌, AllByRecursion, Balances, Entry, Event, HasAccounts, History, Opened, ap, ap₂, arith, balances, event_of, events, nobody, opened, shown_account, shown_transfer, unwrap_or}
+use Rattle.std.specs.Prelude.{Option}
 use Rattle.std.proofs.lemmas.List.{map_push}
-use Rattle.cdc_types.specs.declared.events.Entry.{Entry}
-use Rattle.cdc_types.specs.declared.events.Event.{Event}
-use Rattle.cdc_types.specs.declared.accounts.Balances.{Balances}
-use Rattle.cdc_ledger.specs.History.{Opened, History, opened}
-use Rattle.cdc_ledger.specs.Balances.{balances}
-use Rattle.cdc_ledger.specs.Events.{event_of, events, shown_account, shown_transfer, nobody}
-use Rattle.cdc_ledger.specs.Sound.{HasAccounts}
 use Rattle.cdc_ledger.proofs.Changes.{pushed, with_account, IsUpTo}
 use Rattle.cdc_ledger.proofs.Elements.{AllByRecursion-weaker, map_same}
 use Rattle.cdc_ledger.proofs.BalanceLaws.{balances-pushed_before}

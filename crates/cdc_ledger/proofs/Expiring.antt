@@ -1,16 +1,5 @@
 -- A pulse on its way: some of what was due expired, and what is due now is the rest.
-use Rattle.std.proofs.Common.{ℕ, ◌+◌, ◌<◌, Option, Some, None, List, [], ◌∷◌, ◌≡◌, ◌≢◌, length, refl, ap, sym, subst, ◌∙◌, arith}
-use Rattle.std.specs.Option.{IsSome}
-use Rattle.cdc_types.specs.declared.transfers.Transfer.{Transfer}
-use Rattle.cdc_expiry.specs.declared.triple.Triple.{Triple}
-use Rattle.cdc_expiry.specs.Triples.{Triples, due_at, IsLeast}
-use Rattle.cdc_ledger.specs.Changes.{pushed, expiry}
-use Rattle.cdc_ledger.specs.Due.{due}
-use Rattle.cdc_ledger.specs.Follows.{IsDueNext}
-use Rattle.cdc_ledger.specs.History.{History}
-use Rattle.cdc_ledger.specs.OpenTriples.{index_of}
-use Rattle.cdc_ledger.specs.Sound.{IsSound}
-use Rattle.cdc_ledger.specs.Submit.{expiries_from}
+use Rattle.cdc_ledger.proofs.Words.{[], ◌+◌, ◌<◌, ◌∙◌, ◌∷◌, ◌≡◌, ◌≢◌, Entry, History, IsDueNext, IsLeast, IsSome, IsSound, IsStoredAt, List, None, Option, Some, Transfer, Triple, Triples, ap, arith, due, due_at, expiries_from, expiry, get_or, index_of, length, pushed, refl, subst, sym, ℕ}
 use Rattle.cdc_ledger.proofs.AcceptedLaws.{Follows-expiry}
 use Rattle.cdc_ledger.proofs.IndexKept.{due-none}
 use Rattle.cdc_ledger.proofs.IndexNext.{IsNext, IsNext-least}
@@ -56,10 +45,25 @@ IsNext-answer g s now answer x sound kept least is =
     IsNext-least g now x sound (subst (λ a. IsLeast (due_at (index_of g) now) a) is
     (subst (λ u. IsLeast (due_at u now) answer) kept least))
 
--- its transfer may expire at any later timestamp, and then the others are due
-pub IsDueNext-next : (g : History) (now : ℕ) (x : Triple) → IsSound g → (next : IsNext g now x)
-    → IsDueNext g now next.found.entry.transfer
-IsDueNext-next g now x sound next = record {
-  follows = λ t. Follows-expiry g next.found.entry t sound next.found.stored next.found.pending next.found.unsettled;
-  first = next.first;
-}
+-- the entry that is read at the slot of the answer
+module _ (g : History) (s : Triples) (now : ℕ) (answer : Option Triple) (x : Triple) (sound : IsSound g)
+    (kept : s ≡ index_of g) (least : IsLeast (due_at s now) answer) (is : answer ≡ Some x) (es : List Entry)
+    (same : es ≡ g.entries) (d : Entry) where
+  -- the triple is that of the transfer that expires next
+  next : IsNext g now x
+  next = IsNext-answer g s now answer x sound kept least is
+
+  -- so the slot is inside
+  pub slot-inside : x.slot < length es
+  slot-inside = rw same next.found.within
+
+  -- the transfer may expire at any later timestamp, and then the others are due
+  pub IsDueNext-read : IsDueNext g now (get_or es x.slot d).transfer
+  IsDueNext-read = rw (same, next.found.at d) (record {
+    follows = λ t. Follows-expiry g next.found.entry t sound next.found.stored next.found.pending next.found.unsettled;
+    first = next.first;
+  })
+
+  -- it is stored there
+  pub IsStoredAt-read : IsStoredAt g (get_or es x.slot d).transfer.id x.slot
+  IsStoredAt-read = rw (same, next.found.at d) (next.found.entry, next.found.there, next.found.stored)

@@ -1,9 +1,5 @@
 -- Accounts that are found among those that the ledger keeps.
-use Rattle.std.proofs.Common.{ℕ, Bool, true, false, cond, List, [], ◌∷◌, ◌≡◌, Option, Some, refl, ap, ◌∙◌, map}
-use Rattle.std.specs.Prelude.{◌==◌, find, option_map}
-use Rattle.cdc_types.specs.declared.accounts.Account.{Account}
-use Rattle.cdc_ledger.specs.Events.{account_now, accounts_now}
-use Rattle.cdc_ledger.specs.History.{History, opened}
+use Rattle.cdc_ledger.proofs.Words.{[], ◌==◌, ◌∙◌, ◌∷◌, ◌≡◌, Account, Bool, History, List, Option, Some, account_now, accounts_now, ap, cond, false, find, map, opened, option_map, refl, true, ℕ}
 
 module _ {A B : Type 0} (p : B → Bool) (f : A → B) where
   -- the first element passes and is found, or the search goes on, before the change as after it

@@ -1,24 +1,10 @@
 -- The set that an index keeps after each change of a history, and what its answers imply about the due transfers.
-use Rattle.std.proofs.Common.{ℕ, ◌<◌, ◌≤◌, ◌^◌, Bool, true, false, Option, Some, None, List, [], ◌∷◌, ◌≡◌, length, refl, ap, sym, ◌∙◌, arith, subst, ⊎_elim}
-use Rattle.std.specs.Prelude.{nat_le, filter, not, ◌==◌, if◌then◌else◌, IfSome}
+use Rattle.cdc_ledger.proofs.Words.{[], ⊎_elim, ◌<◌, ◌==◌, ◌^◌, ◌∙◌, ◌∷◌, ◌≡◌, ◌≤◌, Bool, Entry, Follows, History, IfSome, IsLeast, IsNewTimestamp, IsSound, List, None, Opened, Option, Settles, Some, Stands, Transfer, Triples, ap, arith, due, due_at, ends_after, expires_at, false, filter, holds, if◌then◌else◌, index_of, is_open, length, max_timestamp, nat_le, not, open_triples, opens, pushed, refl, settled_by, settled_id, settles, stores, subst, sym, triple_at, true, without, ℕ}
 use Rattle.std.specs.FinSet as set
 use Rattle.std.specs.List.{All}
 use Rattle.std.proofs.lemmas.Bool.{and_parts, cases_eq, eqb-false, not-true}
 use Rattle.std.proofs.lemmas.List.Elements.{All-from_recursion}
-use Rattle.cdc_types.specs.declared.events.Entry.{Entry}
-use Rattle.cdc_types.specs.declared.transfers.Transfer.{Transfer}
-use Rattle.cdc_expiry.specs.Triples.{Triples, due_at, IsLeast, IsNewTimestamp, without}
 use Rattle.cdc_expiry.proofs.Lists.{set_of-push, without-set_of, due_at-set_of, due_count-set_of, IsNewTimestamp-set_of, IsLeastOf-set_of}
-use Rattle.cdc_ledger.specs.Changes.{pushed}
-use Rattle.cdc_ledger.specs.Due.{due}
-use Rattle.cdc_ledger.specs.Effects.{settled_by}
-use Rattle.cdc_ledger.specs.Filling.{expires_at}
-use Rattle.cdc_ledger.specs.Follows.{Follows}
-use Rattle.cdc_ledger.specs.History.{Opened, History}
-use Rattle.cdc_ledger.specs.Kinds.{holds, stores, settles, settled_id}
-use Rattle.cdc_ledger.specs.OpenTriples.{ends_after, index_of, is_open, opens, open_triples, triple_at}
-use Rattle.cdc_ledger.specs.Sound.{IsSound, Settles, Stands}
-use Rattle.cdc_ledger.specs.Verdict.{max_timestamp}
 use Rattle.cdc_ledger.proofs.BalanceLaws.{settled_by_is, settled_by_none, stores-holds}
 use Rattle.cdc_ledger.proofs.DueLaws.{length-due}
 use Rattle.cdc_ledger.proofs.IndexLaws.{open_triples-later, open_triples-other, open_triples-pending, open_triples-settling}
@@ -74,8 +60,7 @@ IsSettled-settled_by h e p follows some = by_settling (settles e.kind) refl
     by_settling : (b : Bool) → settles e.kind ≡ b → IsSettled h e p
     by_settling true is =
         let unsettled = follows.settling is in
-        let named : settled_by h e ≡ Some unsettled.pending.transfer =
-        settled_by_is h e unsettled.pending is unsettled.settles in
+        let named = settled_by_is h e unsettled.pending is unsettled.settles in
         record { is = is; x = unsettled.pending; settled = unsettled.settles; own = cc }
     by_settling false isnt = let none : settled_by h e ≡ None = settled_by_none h e isnt in cc
 

@@ -1,17 +1,7 @@
 -- The triples of a history after each of its changes.
-use Rattle.std.proofs.Common.{ℕ, ◌+◌, ◌<◌, ◌≤◌, Bool, true, false, List, [], ◌∷◌, ◌++◌, ◌≡◌, length, refl, ap, ap₂, sym, ◌∙◌, arith}
-use Rattle.std.specs.Prelude.{◌==◌, ◌&&◌, ◌||◌, not, filter, if◌then◌else◌}
-use Rattle.std.specs.List.{AllByRecursion}
+use Rattle.cdc_ledger.proofs.Words.{[], ◌&&◌, ◌++◌, ◌+◌, ◌<◌, ◌==◌, ◌||◌, ◌∙◌, ◌∷◌, ◌≡◌, ◌≤◌, AllByRecursion, Bool, Entry, Follows, History, IsSound, List, Opened, Settles, ap, ap₂, arith, false, filter, holds, if◌then◌else◌, is_open, length, not, open_triples, opens, pushed, refl, resolved, settled_id, settles, stores, sym, triple_at, true, ℕ}
 use Rattle.std.proofs.lemmas.Bool.{and_from, and_right, eq-eqb, ne_eqb}
 use Rattle.std.proofs.lemmas.List.{append-nil}
-use Rattle.cdc_types.specs.declared.events.Entry.{Entry}
-use Rattle.cdc_ledger.specs.Balances.{resolved}
-use Rattle.cdc_ledger.specs.Changes.{pushed}
-use Rattle.cdc_ledger.specs.Follows.{Follows}
-use Rattle.cdc_ledger.specs.History.{Opened, History}
-use Rattle.cdc_ledger.specs.Kinds.{holds, stores, settles, settled_id}
-use Rattle.cdc_ledger.specs.OpenTriples.{is_open, opens, triple_at, open_triples}
-use Rattle.cdc_ledger.specs.Sound.{IsSound, Settles}
 use Rattle.cdc_ledger.proofs.IndexTriples.{triples_from-push, triples_from-same, filter-triples_from}
 use Rattle.cdc_ledger.proofs.BalanceLaws.{holds-settles, resolved_later, resolved_none, resolved_then, stores-holds}
 use Rattle.cdc_ledger.proofs.Pending.{All-from_around, Around-weaker, IsOther, IsOther-around, IsStored, IsStored-found}
@@ -56,8 +46,7 @@ or_none false c none = none
 -- a new pending transfer isn't resolved yet, so it has a triple if and only if it has a timeout
 new_open : (held timed done : Bool) → (held ≡ true → done ≡ false) → (held && timed && not done) ≡ (held && timed)
 new_open true true done fresh = ap not (fresh refl)
-new_open true false done fresh = refl
-new_open false timed done fresh = refl
+new_open held timed done fresh = refl
 
 module _ (h : History) (e : Entry) (sound : IsSound h) (follows : Follows h e) (after : h.last < e.timestamp)
     (unsettling : settles e.kind ≡ false) where
@@ -105,10 +94,8 @@ module _ (h : History) (e : Entry) (sound : IsSound h) (follows : Follows h e) (
 -- resolved now and not before: the one that this entry names
 taken_out : (held timed done now same : Bool) → (held ≡ true → now ≡ same)
     → (held && timed && not (done || now)) ≡ ((held && timed && not done) && not same)
-taken_out true true true now same alike = refl
 taken_out true true false now same alike = ap not (alike refl)
-taken_out true false done now same alike = refl
-taken_out false timed done now same alike = refl
+taken_out held timed done now same alike = refl
 
 module _ (h : History) (e x : Entry) (sound : IsSound h) (after : h.last < e.timestamp) (is : settles e.kind ≡ true)
     (settled : Settles h e x) where

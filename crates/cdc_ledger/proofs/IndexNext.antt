@@ -1,25 +1,11 @@
 -- The entry that an index's answer names: it is the one whose pending transfer expires first.
-use Rattle.std.proofs.Common.{ℕ, ◌+◌, ◌<◌, Bool, true, false, Some, List, [], ◌∷◌, ◌++◌, ◌≡◌, ◌≢◌, length, refl, ap, ap₂, sym, ◌∙◌, arith, subst}
-use Rattle.std.specs.Prelude.{◌==◌, ◌&&◌, ◌||◌, not, nat_lt, nat_le, filter, slice_get, slice_index_or}
-use Rattle.std.specs.List.{AllByRecursion, Contains}
-use Rattle.std.specs.Ordering.{is_le}
+use Rattle.cdc_ledger.proofs.Words.{[], ◌&&◌, ◌++◌, ◌+◌, ◌<◌, ◌==◌, ◌||◌, ◌∙◌, ◌∷◌, ◌≡◌, ◌≢◌, AllByRecursion, Bool, Contains, Entry, History, IsLeast, IsSound, List, Some, Triple, ap, ap₂, arith, due, due_at, expires_at, expiry, false, filter, holds, index_of, is_due, is_le, is_open, is_sooner, length, nat_le, nat_lt, not, open_triples, pushed, refl, resolved, slice_get, slice_index_or, stored, stores, subst, sym, triple_at, triple_cmp, true, ℕ}
 use Rattle.std.proofs.lemmas.Bool.{and_parts}
 use Rattle.std.proofs.lemmas.Bool.Decides.{nat_tests}
 use Rattle.std.proofs.lemmas.List.{length-append}
 use Rattle.std.proofs.lemmas.List.Elements.{All-contains, All-contains_itself, All-filter, recursion_from_All}
 use Rattle.std.proofs.Math.Seq.{get_or-append_seam}
-use Rattle.cdc_types.specs.declared.events.Entry.{Entry}
-use Rattle.cdc_expiry.specs.declared.triple.Triple.{Triple}
-use Rattle.cdc_expiry.specs.Triples.{triple_cmp, due_at, IsLeast}
 use Rattle.cdc_expiry.proofs.Lists.{due_at-set_of, IsLeastOf, IsLeastOf-set_of}
-use Rattle.cdc_ledger.specs.Balances.{resolved}
-use Rattle.cdc_ledger.specs.Changes.{pushed, expiry}
-use Rattle.cdc_ledger.specs.Due.{is_due, is_sooner, due}
-use Rattle.cdc_ledger.specs.Filling.{stored, expires_at}
-use Rattle.cdc_ledger.specs.History.{History}
-use Rattle.cdc_ledger.specs.Kinds.{holds, stores}
-use Rattle.cdc_ledger.specs.OpenTriples.{index_of, is_open, open_triples, triple_at}
-use Rattle.cdc_ledger.specs.Sound.{IsSound}
 use Rattle.cdc_ledger.proofs.BalanceLaws.{stores-holds}
 use Rattle.cdc_ledger.proofs.DueLaws.{due-first, due-rest, is_due-ready, is_ready, ready_triples, ready_triples-filter}
 use Rattle.cdc_ledger.proofs.IndexTimes.{holds-open}
@@ -48,8 +34,7 @@ unresolved h e = third (holds e.kind) (not (e.transfer.timeout == 0)) (resolved 
     third : (a b c : Bool) → (a && b && not c) ≡ true → c ≡ false
     third true true true all = sym all
     third true true false all = refl
-    third true false c all = cc
-    third false b c all = cc
+    third a b c all = cc
 
 module _ (h : History) (t : Triple) (sound : IsSound h) (of : IsOf (is_open h) 0 h.entries t) where
   -- the slot is the number of entries before the triple's own
@@ -155,14 +140,12 @@ contains_filtered keep xs x there =
 pub IsNext-least : (h : History) (now : ℕ) (t : Triple) → IsSound h → IsLeast (due_at (index_of h) now) (Some t)
     → IsNext h now t
 IsNext-least h now t sound least =
-    let of_filter : IsLeastOf (filter (λ u. nat_le u.expires_at now) (open_triples h)) (Some t) =
-    IsLeastOf-set_of (filter (λ u. nat_le u.expires_at now) (open_triples h)) (Some t)
-    (subst (λ s. IsLeast s (Some t)) (due_at-set_of (open_triples h) now) least) in
+    let of_filter = IsLeastOf-set_of (filter (λ u. nat_le u.expires_at now) (open_triples h)) (Some t) (subst (λ s.
+    IsLeast s (Some t)) (due_at-set_of (open_triples h) now) least) in
     let of_list : IsLeastOf (ready_triples h now) (Some t) =
     subst (λ xs. IsLeastOf xs (Some t)) (ready_triples-filter h now) of_filter in
     let of : IsOf (is_ready h now) 0 h.entries t = IsOf-contained (is_ready h now) 0 h.entries t of_list.0 in
-    let first : AllByRecursion (λ u. is_le (triple_cmp t u) ≡ true) (ready_triples h now) =
-    recursion_from_All (λ u. is_le (triple_cmp t u) ≡ true) (ready_triples h now) of_list.1 in
+    let first = recursion_from_All (λ u. is_le (triple_cmp t u) ≡ true) (ready_triples h now) of_list.1 in
     record {
       found = found h now t sound of first;
       contained = contains_filtered (λ u. nat_le u.expires_at now) (open_triples h) t of_filter.0;

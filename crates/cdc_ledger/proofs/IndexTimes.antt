@@ -1,16 +1,7 @@
 -- The timestamps of triples: no two are the same, and none is later than the history's last timestamp.
-use Rattle.std.proofs.Common.{ℕ, ◌+◌, ◌<◌, ◌≤◌, Bool, true, false, List, [], ◌∷◌, ◌≡◌, ◌≢◌, refl, arith}
-use Rattle.std.specs.Prelude.{◌==◌, ◌&&◌, not, if◌then◌else◌}
-use Rattle.std.specs.List.{All, AllByRecursion}
+use Rattle.cdc_ledger.proofs.Words.{[], ◌&&◌, ◌+◌, ◌<◌, ◌==◌, ◌∷◌, ◌≡◌, ◌≢◌, ◌≤◌, AllByRecursion, Bool, Entry, History, IsSound, List, RiseFrom, Stands, TimestampsDiffer, Triple, arith, false, holds, if◌then◌else◌, is_open, not, open_triples, refl, resolved, triple_at, triples_from, true, ℕ}
+use Rattle.std.specs.List.{All}
 use Rattle.std.proofs.lemmas.List.Elements.{All-from_recursion}
-use Rattle.cdc_types.specs.declared.events.Entry.{Entry}
-use Rattle.cdc_expiry.specs.declared.triple.Triple.{Triple}
-use Rattle.cdc_expiry.specs.Triples.{TimestampsDiffer}
-use Rattle.cdc_ledger.specs.History.{History}
-use Rattle.cdc_ledger.specs.OpenTriples.{is_open, triple_at, triples_from, open_triples}
-use Rattle.cdc_ledger.specs.Sound.{IsSound, RiseFrom, Stands}
-use Rattle.cdc_ledger.specs.Kinds.{holds}
-use Rattle.cdc_ledger.specs.Balances.{resolved}
 use Rattle.cdc_ledger.proofs.Elements.{AllByRecursion-both, AllByRecursion-weaker}
 use Rattle.cdc_ledger.proofs.IndexTriples.{triples_from-All}
 use Rattle.cdc_ledger.proofs.BalanceLaws.{stores-holds}

@@ -1,10 +1,5 @@
 -- The triples of entries: one more entry, another test, a filter, and which entry a triple is of.
-use Rattle.std.proofs.Common.{ℕ, zero, suc, ◌+◌, ◌<◌, Bool, true, false, List, [], ◌∷◌, ◌++◌, ◌≡◌, ◌⊎◌, length, refl, ap, ap₂, sym, ◌∙◌, arith, inl, inr, ⊎_elim}
-use Rattle.std.specs.Prelude.{◌&&◌, if◌then◌else◌, filter, slice_index_or}
-use Rattle.std.specs.List.{AllByRecursion, Contains}
-use Rattle.cdc_expiry.specs.declared.triple.Triple.{Triple}
-use Rattle.cdc_types.specs.declared.events.Entry.{Entry}
-use Rattle.cdc_ledger.specs.OpenTriples.{triple_at, triples_from}
+use Rattle.cdc_ledger.proofs.Words.{[], ⊎_elim, ◌&&◌, ◌++◌, ◌+◌, ◌<◌, ◌∙◌, ◌∷◌, ◌≡◌, ◌⊎◌, AllByRecursion, Bool, Contains, Entry, List, Triple, ap, ap₂, arith, false, filter, if◌then◌else◌, inl, inr, length, refl, slice_index_or, suc, sym, triple_at, triples_from, true, zero, ℕ}
 
 -- a triple, if the test passes
 abbrev here_if : Bool → Triple → List Triple

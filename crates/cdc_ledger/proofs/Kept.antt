@@ -1,18 +1,6 @@
 -- What is kept of the tables stays kept.
-use Rattle.std.proofs.Common.{ℕ, ◌≤◌, [], ◌∷◌, ◌++◌, ◌≡◌, Some, None, ap, ◌∙◌, length, sym, subst, map}
-use Rattle.std.specs.Prelude.{◌==◌, if◌then◌else◌}
+use Rattle.cdc_ledger.proofs.Words.{[], ◌++◌, ◌==◌, ◌∙◌, ◌∷◌, ◌≡◌, ◌≤◌, History, Inside, IsKept, IsSound, NewAccount, None, Opened, Some, account_place, accounts_now, ap, endings_of, fresh_account, history_of, if◌then◌else◌, length, map, max_timestamp, opened, opened_as, place_of, stored_place, subst, sym, with_account, ℕ}
 use Rattle.std.proofs.lemmas.List.{map_push}
-use Rattle.cdc_types.specs.declared.accounts.NewAccount.{NewAccount}
-use Rattle.cdc_ledger.specs.declared.tables.Tables.TheInside.{Inside}
-use Rattle.cdc_ledger.specs.Accounts.{opened_as, fresh_account}
-use Rattle.cdc_ledger.specs.Changes.{with_account}
-use Rattle.cdc_ledger.specs.Endings.{endings_of}
-use Rattle.cdc_ledger.specs.Events.{accounts_now}
-use Rattle.cdc_ledger.specs.History.{History, Opened, opened}
-use Rattle.cdc_ledger.specs.PlacesById.{account_place, place_of, stored_place}
-use Rattle.cdc_ledger.specs.Sound.{IsSound}
-use Rattle.cdc_ledger.specs.Tables.{IsKept, history_of}
-use Rattle.cdc_ledger.specs.Verdict.{max_timestamp}
 use Rattle.cdc_ledger.proofs.AccountLaws.{accounts_now-timed, accounts_now-with_account}
 use Rattle.cdc_ledger.proofs.PlaceLaws.{accounts_placed-opened}
 use Rattle.cdc_ledger.proofs.SoundLaws.{IsSound-timed, IsSound-with_account}

@@ -1,20 +1,8 @@
 -- A whole batch keeps what holds of every history, whatever the verdicts are.
-use Rattle.std.proofs.Common.{ℕ, ◌+◌, ◌-◌, ◌<◌, ◌≤◌, Bool, false, List, [], ◌∷◌, ◌≡◌, Option, Some, None, Result, Ok, Err, ◌||◌, refl, sym, subst, arith, length, ⊎_elim}
-use Rattle.std.specs.Prelude.{◌==◌, if◌then◌else◌, nat_lt}
+use Rattle.cdc_ledger.proofs.Words.{[], ⊎_elim, ◌+◌, ◌-◌, ◌<◌, ◌==◌, ◌∷◌, ◌≡◌, ◌≤◌, Batch, BatchError, BatchResults, BatchTooLarge, Bool, Err, History, IsLegal, IsSound, LedgerClosed, List, NewAccount, NewTransfer, None, Ok, Option, Result, Some, TimestampsExhausted, account_rules, accounts_from, after_batches, answered, arith, base, batch_error_number, due, empty_history, entry_of, false, history_or, if◌then◌else◌, is_past_the_end, is_too_large, items_of, length, max_timestamp, nat_lt, opened_by, refl, refusal_of, submit, subst, sym, taken, time, transfer_rules, transfers_from, ℕ}
+use Rattle.std.proofs.Common.{◌||◌}
 use Rattle.std.proofs.lemmas.Bool.{and_cases, ltb-false}
-use Rattle.cdc_types.specs.declared.accounts.NewAccount.{NewAccount}
-use Rattle.cdc_types.specs.declared.batches.Batch.{Batch}
 use Rattle.cdc_types.specs.declared.batches.Batch.TheVariants as batch
-use Rattle.cdc_types.specs.declared.batches.BatchResults.{BatchResults}
-use Rattle.cdc_types.specs.declared.transfers.NewTransfer.{NewTransfer}
-use Rattle.cdc_ledger.specs.declared.errors.BatchError.{BatchError}
-use Rattle.cdc_ledger.specs.declared.errors.BatchError.TheVariants.{LedgerClosed, BatchTooLarge, TimestampsExhausted}
-use Rattle.cdc_ledger.specs.BatchErrors.{batch_error_number}
-use Rattle.cdc_ledger.specs.Due.{due}
-use Rattle.cdc_ledger.specs.History.{History, empty_history}
-use Rattle.cdc_ledger.specs.Sound.{IsSound}
-use Rattle.cdc_ledger.specs.Submit.{opened_by, entry_of, account_rules, transfer_rules, accounts_from, transfers_from, base, time, items_of, is_too_large, is_past_the_end, refusal_of, taken, answered, submit, history_or, after_batches, IsLegal}
-use Rattle.cdc_ledger.specs.Verdict.{max_timestamp}
 use Rattle.cdc_ledger.proofs.AcceptedLaws.{accepted_account, Follows-accepted}
 use Rattle.cdc_ledger.proofs.ChainLaws.{items_from-keeps}
 use Rattle.cdc_ledger.proofs.LineLaws.{test_fails}
@@ -70,8 +58,7 @@ answered_parts (Some error) answer found e = cc
 pub submit_parts : (h : History) (b : Batch) (answer : BatchResults × History) → submit h b ≡ Ok answer
     → (is_past_the_end h (time b) (items_of h b) ≡ false) × (taken h b ≡ answer)
 submit_parts h b answer e =
-    let parts : (refusal_of h b ≡ None) × (taken h b ≡ answer) =
-    answered_parts (refusal_of h b) (taken h b) answer e in
+    let parts = answered_parts (refusal_of h b) (taken h b) answer e in
     let lines : List (Bool × BatchError) =
     (h.closed, LedgerClosed) ∷ (is_too_large b, BatchTooLarge) ∷
     (is_past_the_end h (time b) (items_of h b), TimestampsExhausted) ∷ [] in
@@ -81,18 +68,15 @@ submit_parts h b answer e =
 pub IsSound-submit : (h : History) (b : Batch) (answer : BatchResults × History) → IsSound h → submit h b ≡ Ok answer
     → IsSound answer.1
 IsSound-submit h (batch.Accounts now items) answer sound e =
-    let parts : (is_past_the_end h now (length items) ≡ false) ×
-    (taken h (batch.Accounts now items) ≡ answer) = submit_parts h (batch.Accounts now items) answer e in
+    let parts = submit_parts h (batch.Accounts now items) answer e in
     subst (λ (a : BatchResults × History). IsSound a.1) parts.1
     (IsSound-accounts_from h (base h now) items sound (after_last h now) (within_end h now (length items) parts.0))
 IsSound-submit h (batch.Transfers now items) answer sound e =
-    let parts : (is_past_the_end h now (length items) ≡ false) ×
-    (taken h (batch.Transfers now items) ≡ answer) = submit_parts h (batch.Transfers now items) answer e in
+    let parts = submit_parts h (batch.Transfers now items) answer e in
     subst (λ (a : BatchResults × History). IsSound a.1) parts.1
     (IsSound-transfers_from h (base h now) items sound (after_last h now) (within_end h now (length items) parts.0))
 IsSound-submit h (batch.Pulse now) answer sound e =
-    let parts : (is_past_the_end h now (length (due h now)) ≡ false) × (taken h (batch.Pulse now) ≡ answer) =
-    submit_parts h (batch.Pulse now) answer e in
+    let parts = submit_parts h (batch.Pulse now) answer e in
     subst (λ (a : BatchResults × History). IsSound a.1) parts.1
     (IsSound-pulse h now (base h now) sound (after_last h now) (within_end h now (length (due h now)) parts.0))
 

@@ -1,20 +1,5 @@
 -- What the answer to a batch keeps of the ledger's history.
-use Rattle.std.proofs.Common.{◌≡◌, Result, Ok, Err, Option, Some, None, ℕ, ◌+◌, ◌≤◌, refl, ap, sym, subst}
-use Rattle.std.specs.Prelude.{IfSome, OnOk, option_map}
-use Rattle.cdc_types.specs.declared.accounts.Account.{Account}
-use Rattle.cdc_types.specs.declared.accounts.Balances.{Balances}
-use Rattle.cdc_types.specs.declared.batches.Batch.{Batch}
-use Rattle.cdc_types.specs.declared.batches.BatchResults.{BatchResults}
-use Rattle.cdc_types.specs.Widths.{max_128}
-use Rattle.cdc_ledger.specs.declared.errors.BatchError.{BatchError}
-use Rattle.cdc_ledger.specs.declared.errors.BatchError.TheVariants.{LedgerClosed, BatchTooLarge, TimestampsExhausted, OutOfMemory}
-use Rattle.cdc_ledger.specs.Answers.{Answers}
-use Rattle.cdc_ledger.specs.Balances.{balances}
-use Rattle.cdc_ledger.specs.Events.{account_now}
-use Rattle.cdc_ledger.specs.Fits.{BatchFits}
-use Rattle.cdc_ledger.specs.History.{History, Opened, opened}
-use Rattle.cdc_ledger.specs.Balances.{IsBounded}
-use Rattle.cdc_ledger.specs.Submit.{IsLegal}
+use Rattle.cdc_ledger.proofs.Words.{◌+◌, ◌≡◌, ◌≤◌, Account, Answers, Balances, Batch, BatchError, BatchFits, BatchResults, BatchTooLarge, Err, History, IfSome, IsBounded, IsLegal, LedgerClosed, None, Ok, OnOk, Opened, Option, OutOfMemory, Result, Some, TimestampsExhausted, account_now, ap, balances, max_128, opened, option_map, refl, subst, sym, ℕ}
 use Rattle.cdc_ledger.proofs.LegalLaws.{IsLegal-submit}
 use Rattle.cdc_ledger.proofs.OpenedLaws.{opened_id}
 
@@ -28,10 +13,8 @@ module _ {A : Type 0} (shown : A → BatchResults) (h g : History) (b : Batch) w
   pub IsLegal-answered : (r : Result A BatchError) → IsLegal h → OnOk r (BatchFits b) → Answers shown h b r g
       → IsLegal g
   IsLegal-answered (Ok results) legal fit answers = IsLegal-submit h g b (shown results) fit legal answers
-  IsLegal-answered (Err LedgerClosed) legal fit answers = subst IsLegal (sym answers.1) legal
-  IsLegal-answered (Err BatchTooLarge) legal fit answers = subst IsLegal (sym answers.1) legal
-  IsLegal-answered (Err TimestampsExhausted) legal fit answers = subst IsLegal (sym answers.1) legal
   IsLegal-answered (Err OutOfMemory) legal fit answers = subst IsLegal (sym answers.1) legal
+  IsLegal-answered (Err e) legal fit answers = subst IsLegal (sym answers.1) legal
 
 -- an account that was found by an id shows the balances of that id
 balances_found : (h : History) (id : ℕ) (found : Option Opened) → opened h id ≡ found

@@ -1,15 +1,6 @@
 -- Histories that batches make.
-use Rattle.std.proofs.Common.{false, ◌≡◌, Option, Some, None, Ok, List, [], ◌∷◌, ◌++◌, refl, ap, sym, ◌∙◌}
-use Rattle.std.specs.Prelude.{◌||◌}
+use Rattle.cdc_ledger.proofs.Words.{[], ◌++◌, ◌||◌, ◌∙◌, ◌∷◌, ◌≡◌, Batch, BatchError, BatchFits, BatchResults, BatchTooLarge, Extends, History, IsLegal, LedgerClosed, List, None, Ok, Option, Some, TimestampsExhausted, after_batches, answered, ap, batch_error_number, closed_if, empty_history, false, history_or, is_past_the_end, is_too_large, items_of, refl, refusal_of, submit, sym, taken, time}
 use Rattle.std.proofs.lemmas.Bool.{or_parts}
-use Rattle.cdc_types.specs.declared.batches.Batch.{Batch}
-use Rattle.cdc_types.specs.declared.batches.BatchResults.{BatchResults}
-use Rattle.cdc_ledger.specs.declared.errors.BatchError.{BatchError}
-use Rattle.cdc_ledger.specs.declared.errors.BatchError.TheVariants.{LedgerClosed, BatchTooLarge, TimestampsExhausted}
-use Rattle.cdc_ledger.specs.BatchErrors.{batch_error_number}
-use Rattle.cdc_ledger.specs.Fits.{BatchFits}
-use Rattle.cdc_ledger.specs.History.{History, empty_history}
-use Rattle.cdc_ledger.specs.Submit.{submit, refusal_of, is_too_large, is_past_the_end, time, items_of, taken, answered, history_or, after_batches, closed_if, Extends, IsLegal}
 use Rattle.cdc_ledger.proofs.Elements.{AllByRecursion_push}
 use Rattle.cdc_ledger.proofs.LineLaws.{test_fails}
 

@@ -1,3 +1,4 @@
+pub mod Words
 pub mod Changes
 mod Examples
 pub mod Elements

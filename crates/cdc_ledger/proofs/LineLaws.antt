@@ -1,8 +1,5 @@
 -- The first line of two tables, one after the other, and the test of a line by its result.
-use Rattle.std.proofs.Common.{ℕ, Bool, true, false, Option, Some, None, List, [], ◌∷◌, ◌++◌, ◌≡◌, ◌∙◌, refl, ap}
-use Rattle.std.specs.Prelude.{◌==◌, if◌then◌else◌}
-use Rattle.std.specs.Option.{option_or}
-use Rattle.cdc_types.specs.Lines.{first_line}
+use Rattle.cdc_ledger.proofs.Words.{[], ◌++◌, ◌==◌, ◌∙◌, ◌∷◌, ◌≡◌, Bool, List, None, Option, Some, ap, false, first_line, if◌then◌else◌, option_or, refl, true, ℕ}
 
 module _ {R : Type 0} where
   -- if the first line applies it decides, whether tables follow or not

@@ -1,14 +1,8 @@
 -- Which account is opened once there is one more.
-use Rattle.std.proofs.Common.{ℕ, Bool, true, false, List, [], ◌∷◌, ◌++◌, ◌≡◌, Option, Some, None, ◌≢◌, map, refl, ap, sym, subst, ◌∙◌}
-use Rattle.std.specs.Prelude.{if◌then◌else◌, ◌==◌, find}
-use Rattle.std.specs.Option.{option_or, IsSome, is_some}
-use Rattle.std.specs.List.{AllByRecursion}
+use Rattle.cdc_ledger.proofs.Words.{[], ◌++◌, ◌==◌, ◌∙◌, ◌∷◌, ◌≡◌, ◌≢◌, AllByRecursion, AreApart, Bool, Entry, HasAccounts, History, IsSome, List, None, Opened, Option, Some, ap, false, find, if◌then◌else◌, is_some, map, opened, option_or, refl, subst, sym, true, ℕ}
 use Rattle.std.proofs.lemmas.List.Folds.{find-append}
 use Rattle.std.proofs.lemmas.Bool.{eqb-true, eqb-false}
 use Rattle.std.proofs.lemmas.List.{map_push}
-use Rattle.cdc_types.specs.declared.events.Entry.{Entry}
-use Rattle.cdc_ledger.specs.History.{Opened, History, opened}
-use Rattle.cdc_ledger.specs.Sound.{HasAccounts, AreApart}
 use Rattle.cdc_ledger.proofs.Changes.{with_account}
 use Rattle.cdc_ledger.proofs.Elements.{AllByRecursion_push}
 

@@ -1,16 +1,7 @@
 -- An entry leaves the balances of every account that it doesn't name, even if it settles a pending transfer.
-use Rattle.std.proofs.Common.{ℕ, ◌<◌, ◌≤◌, ◌+◌, Bool, true, false, ◌∷◌, [], ◌++◌, ◌≡◌, ◌≢◌, Option, Some, refl, sym, ap, ap₂, ◌∙◌, arith, add-zero}
-use Rattle.std.specs.Prelude.{◌==◌, ◌&&◌, ◌||◌, not, nat_le, if◌then◌else◌, sum_by}
-use Rattle.std.specs.List.{AllByRecursion}
+use Rattle.cdc_ledger.proofs.Words.{[], ◌&&◌, ◌++◌, ◌+◌, ◌<◌, ◌==◌, ◌||◌, ◌∙◌, ◌∷◌, ◌≡◌, ◌≢◌, ◌≤◌, AllByRecursion, Bool, Entry, History, IsSound, Option, Settles, Some, Stands, Transfer, add-zero, ap, ap₂, arith, balances, credit_side, debit_side, false, held_amount, holds, if◌then◌else◌, moved_amount, nat_le, not, refl, resolved, resolves, settled_id, settles, share, stored, stores, sum_by, sym, true, ℕ}
 use Rattle.std.proofs.lemmas.Bool.{and_parts, and_right, eqb-true, ne_eqb, false≢true}
 use Rattle.std.proofs.lemmas.List.Sums.{sum_by_push}
-use Rattle.cdc_types.specs.declared.events.Entry.{Entry}
-use Rattle.cdc_types.specs.declared.transfers.Transfer.{Transfer}
-use Rattle.cdc_ledger.specs.Balances.{balances, resolves, resolved, held_amount, moved_amount, share, debit_side, credit_side}
-use Rattle.cdc_ledger.specs.Filling.{stored}
-use Rattle.cdc_ledger.specs.History.{History}
-use Rattle.cdc_ledger.specs.Kinds.{holds, stores, settles, settled_id}
-use Rattle.cdc_ledger.specs.Sound.{Settles, Stands, IsSound}
 use Rattle.cdc_ledger.proofs.BalanceLaws.{same_balances, resolved_later, resolved-pushed, resolves_is, stores-holds, seen_alike, moved_agree, held_by}
 use Rattle.cdc_ledger.proofs.Changes.{pushed, IsUpTo}
 use Rattle.cdc_ledger.proofs.Elements.{AllByRecursion-weaker, AllByRecursion-both, sum_by_same}
@@ -29,8 +20,7 @@ module _ (h : History) (sound : IsSound h) where
   settled_entry : (e x y : Entry) → Settles h e y → stored h x.transfer.id ≡ Some x
       → (settled_id e.kind e.transfer == x.transfer.id) ≡ true → y ≡ x
   settled_entry e x y of found same =
-      let ids : settled_id e.kind e.transfer ≡ x.transfer.id =
-      eqb-true (settled_id e.kind e.transfer) x.transfer.id same in
+      let ids = eqb-true (settled_id e.kind e.transfer) x.transfer.id same in
       let both : ◌≡◌ {A = Option Entry} (Some y) (Some x) = sym of.named ∙ (ap (stored h) ids ∙ found) in
       cc
 

@@ -1,14 +1,7 @@
 -- The entries of a sound history: the position of an entry among the others; no two of them stored one id, and no two
 -- have one timestamp.
-use Rattle.std.proofs.Common.{ℕ, ◌<◌, ◌≤◌, Bool, true, false, Some, List, [], ◌∷◌, ◌++◌, ◌≡◌, ◌≢◌, refl, ap, sym, subst, ◌∙◌, arith}
-use Rattle.std.specs.Prelude.{◌==◌, ◌&&◌, find, if◌then◌else◌}
-use Rattle.std.specs.List.{AllByRecursion}
+use Rattle.cdc_ledger.proofs.Words.{[], ◌&&◌, ◌++◌, ◌<◌, ◌==◌, ◌∙◌, ◌∷◌, ◌≡◌, ◌≢◌, ◌≤◌, AllByRecursion, AreApart, Bool, Entry, History, IsSound, List, RiseFrom, Some, Stands, ap, arith, false, find, if◌then◌else◌, refl, stored, stored_ids, stores, subst, sym, true, ℕ}
 use Rattle.std.proofs.lemmas.Bool.{and_from, and_parts, and_right, both_ways, eqb-true, eqb-false, eq-eqb, ne_eqb}
-use Rattle.cdc_types.specs.declared.events.Entry.{Entry}
-use Rattle.cdc_ledger.specs.Filling.{stored}
-use Rattle.cdc_ledger.specs.History.{History}
-use Rattle.cdc_ledger.specs.Kinds.{stores}
-use Rattle.cdc_ledger.specs.Sound.{AreApart, IsSound, RiseFrom, Stands, stored_ids}
 use Rattle.cdc_ledger.proofs.Elements.{AllByRecursion-both, AllByRecursion-weaker}
 use Rattle.cdc_ledger.proofs.StoredLaws.{apart-cons, is_stored, stored_each}
 
@@ -139,8 +132,7 @@ other_ids e (x ∷ front) back is apart =
     turned : (b : Bool) → stores x.kind ≡ b
         → (stores x.kind ≡ true → AllByRecursion (HasOtherId x) (front ++ e ∷ back)) → HasOtherId e x
     turned true stored others =
-        let other : (stores e.kind && (e.transfer.id == x.transfer.id)) ≡ false = here (HasOtherId x) e front back
-        (others stored) in
+        let other = here (HasOtherId x) e front back (others stored) in
         id_turned (stores x.kind) e.transfer.id x.transfer.id
         (ap (λ b. b && (e.transfer.id == x.transfer.id)) (sym is) ∙ other)
     turned false stored others = ap (λ b. b && (x.transfer.id == e.transfer.id)) stored

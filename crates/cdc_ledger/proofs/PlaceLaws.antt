@@ -1,19 +1,11 @@
 -- A map from ids to places answers what a search of the list would, also once the list has one more element.
-use Rattle.std.proofs.Common.{ℕ, suc, ◌+◌, ◌≤◌, Bool, true, false, cond, List, [], ◌∷◌, ◌++◌, ◌≡◌, Option, Some, None, get_or, length, refl, ap, ap₂, sym, ◌∙◌, arith}
-use Rattle.std.specs.Prelude.{◌==◌, ◌&&◌, if◌then◌else◌, find, nat_lt, option_map, position}
-use Rattle.std.specs.List.{position_from, position_or_len, slice_get}
+use Rattle.cdc_ledger.proofs.Words.{[], ◌&&◌, ◌++◌, ◌+◌, ◌==◌, ◌∙◌, ◌∷◌, ◌≡◌, ◌≤◌, Account, Bool, Entry, History, List, None, Option, PlacesById, Some, account_now, account_place, accounts_now, ap, ap₂, arith, cond, false, find, get_or, if◌then◌else◌, length, nat_lt, opened, option_map, place_of, position, position_from, position_or_len, refl, stored, stored_place, stores, suc, sym, true, ℕ}
+use Rattle.std.specs.List.{slice_get}
 use Rattle.std.proofs.lemmas.Bool.{eqb-true, and_parts, false≢true, ltb-false}
 use Rattle.std.proofs.lemmas.Iterator.Adapters.{position_from-zero}
 use Rattle.std.proofs.lemmas.List.Folds.{find_at}
 use Rattle.std.proofs.lemmas.List.Quantifiers.{position-Some}
 use Rattle.std.proofs.lemmas.Option.{slice_get-get_or, slice_get_past}
-use Rattle.cdc_types.specs.declared.accounts.Account.{Account}
-use Rattle.cdc_types.specs.declared.events.Entry.{Entry}
-use Rattle.cdc_ledger.specs.Events.{account_now, accounts_now}
-use Rattle.cdc_ledger.specs.Filling.{stored}
-use Rattle.cdc_ledger.specs.History.{History, opened}
-use Rattle.cdc_ledger.specs.Kinds.{stores}
-use Rattle.cdc_ledger.specs.PlacesById.{PlacesById, place_of, account_place, stored_place}
 use Rattle.cdc_ledger.proofs.Found.{find-same}
 
 -- the index that a search returns is the one at which it stopped

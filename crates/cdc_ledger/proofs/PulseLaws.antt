@@ -1,21 +1,7 @@
 -- A pulse preserves what holds of every history: each transfer that is due may expire, and so may the others after
 -- it.
-use Rattle.std.proofs.Common.{ℕ, ◌+◌, ◌<◌, ◌≤◌, Bool, true, false, List, [], ◌∷◌, ◌≡◌, ◌≢◌, Some, map, refl, sym, ap, ap₂, ◌∙◌, subst, arith, length}
-use Rattle.std.specs.Prelude.{◌==◌, ◌&&◌, ◌||◌, not, nat_le, filter, if◌then◌else◌}
-use Rattle.std.specs.List.{AllByRecursion}
+use Rattle.cdc_ledger.proofs.Words.{[], ◌&&◌, ◌+◌, ◌<◌, ◌==◌, ◌||◌, ◌∙◌, ◌∷◌, ◌≡◌, ◌≢◌, ◌≤◌, AllByRecursion, AreApart, Bool, Entry, Follows, History, IsSound, List, Some, Transfer, ap, ap₂, arith, due, expires_at, expiries_from, expiry, false, filter, holds, if◌then◌else◌, in_order_of_end, insert_by_end, is_due, is_sooner, length, map, max_timestamp, nat_le, not, refl, resolved, stored, stored_ids, stores, subst, sym, true, ℕ}
 use Rattle.std.proofs.lemmas.Bool.{and_parts, not-true, ne_eqb, eqb-false}
-use Rattle.cdc_types.specs.declared.events.Entry.{Entry}
-use Rattle.cdc_types.specs.declared.transfers.Transfer.{Transfer}
-use Rattle.cdc_ledger.specs.Balances.{resolved}
-use Rattle.cdc_ledger.specs.Changes.{expiry}
-use Rattle.cdc_ledger.specs.Due.{is_due, is_sooner, insert_by_end, in_order_of_end, due}
-use Rattle.cdc_ledger.specs.Filling.{stored, expires_at}
-use Rattle.cdc_ledger.specs.Follows.{Follows}
-use Rattle.cdc_ledger.specs.History.{History}
-use Rattle.cdc_ledger.specs.Kinds.{holds, stores}
-use Rattle.cdc_ledger.specs.Sound.{AreApart, stored_ids, IsSound}
-use Rattle.cdc_ledger.specs.Submit.{expiries_from}
-use Rattle.cdc_ledger.specs.Verdict.{max_timestamp}
 use Rattle.cdc_ledger.proofs.AcceptedLaws.{Follows-expiry}
 use Rattle.cdc_ledger.proofs.BalanceLaws.{resolved_then, stores-holds}
 use Rattle.cdc_ledger.proofs.Changes.{pushed}

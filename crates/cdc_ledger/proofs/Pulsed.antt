@@ -1,19 +1,6 @@
 -- What a pulse answers: a refusal, how many expired, or that memory ran out.
-use Rattle.std.proofs.Common.{ℕ, Bool, true, false, Some, None, Result, Ok, Err, [], ◌∷◌, ◌≡◌, ◌<◌, length, refl, ap, ap₂, sym, subst, ◌∙◌}
-use Rattle.std.specs.Result.{IsErrAnd, IsOk}
-use Rattle.cdc_types.specs.declared.batches.Batch.TheVariants.{Pulse}
-use Rattle.cdc_types.specs.declared.batches.BatchResults.TheVariants.{Pulsed}
-use Rattle.cdc_types.specs.Lines.{first_line}
-use Rattle.cdc_expiry.specs.Triples.{Triples, due_at}
+use Rattle.cdc_ledger.proofs.Words.{[], ◌<◌, ◌∙◌, ◌∷◌, ◌≡◌, Answers, BatchError, BatchResults, BatchTooLarge, Bool, Err, History, IsErrAnd, IsOk, IsSound, LedgerClosed, None, Ok, OutOfMemory, Pulse, Pulsed, Result, Some, TimestampsExhausted, Triples, answered, ap, ap₂, base, due, due_at, expiries_from, false, first_line, index_of, is_past_the_end, length, refl, refusal_at, submit, subst, sym, true, ℕ}
 use Rattle.std.specs.FinSet as set
-use Rattle.cdc_ledger.specs.declared.errors.BatchError.{BatchError}
-use Rattle.cdc_ledger.specs.declared.errors.BatchError.TheVariants.{LedgerClosed, BatchTooLarge, TimestampsExhausted, OutOfMemory}
-use Rattle.cdc_ledger.specs.Answers.{Answers}
-use Rattle.cdc_ledger.specs.Due.{due}
-use Rattle.cdc_ledger.specs.History.{History}
-use Rattle.cdc_ledger.specs.OpenTriples.{index_of}
-use Rattle.cdc_ledger.specs.Sound.{IsSound}
-use Rattle.cdc_ledger.specs.Submit.{answered, base, expiries_from, is_past_the_end, refusal_at, submit}
 use Rattle.cdc_ledger.proofs.IndexKept.{due_count-index_of}
 
 -- the count of an index that is kept is that of what is due
@@ -26,42 +13,26 @@ due_count-kept h s now count sound kept counted =
 -- the checks of a whole batch never refuse it as out of memory
 never_memory : (a b c : Bool)
     → first_line ((a, LedgerClosed) ∷ (b, BatchTooLarge) ∷ (c, TimestampsExhausted) ∷ []) ≡ Some OutOfMemory → ⊥
-never_memory true b c wrong = cc
-never_memory false true c wrong = cc
-never_memory false false true wrong = cc
 never_memory false false false wrong = cc
+never_memory a b c wrong = cc
 
 module _ (h : History) (now count : ℕ) (counted : count ≡ length (due h now)) where
+  -- what the pulse does if nothing refuses it: all due transfers expire
+  abbrev all_expire : BatchResults × History
+  all_expire = (Pulsed (length (due h now)), expiries_from h (base h now) (due h now))
+
   -- the pulse is answered by the count of what is due, which the index gives
-  by_refusal : submit h (Pulse now)
-      ≡ answered (refusal_at h false now count) (Pulsed (length (due h now)), expiries_from h (base h now) (due h now))
-  by_refusal = ap (λ n. answered (refusal_at h false now n)
-      (Pulsed (length (due h now)), expiries_from h (base h now) (due h now))) (sym counted)
+  by_refusal : submit h (Pulse now) ≡ answered (refusal_at h false now count) all_expire
+  by_refusal = ap (λ n. answered (refusal_at h false now n) all_expire) (sym counted)
 
   -- a refusal that the count leads to is the answer, and the history stays
   pub pulse-refused : (e : BatchError) → refusal_at h false now count ≡ Some e → Answers Pulsed h (Pulse now) (Err e) h
-  pulse-refused LedgerClosed refused = (
-    by_refusal
-        ∙ ap (λ r. answered r (Pulsed (length (due h now)), expiries_from h (base h now) (due h now))) refused,
-    refl,
-  )
-  pulse-refused BatchTooLarge refused = (
-    by_refusal
-        ∙ ap (λ r. answered r (Pulsed (length (due h now)), expiries_from h (base h now) (due h now))) refused,
-    refl,
-  )
-  pulse-refused TimestampsExhausted refused = (
-    by_refusal
-        ∙ ap (λ r. answered r (Pulsed (length (due h now)), expiries_from h (base h now) (due h now))) refused,
-    refl,
-  )
   pulse-refused OutOfMemory refused = absurd (never_memory h.closed false (is_past_the_end h now count) refused)
+  pulse-refused e refused = (by_refusal ∙ ap (λ r. answered r all_expire) refused, refl)
 
   -- if none of them refuses it, all due transfers expire
-  taken : refusal_at h false now count ≡ None
-      → submit h (Pulse now) ≡ Ok (Pulsed (length (due h now)), expiries_from h (base h now) (due h now))
-  taken unrefused = by_refusal ∙ ap (λ r. answered r
-      (Pulsed (length (due h now)), expiries_from h (base h now) (due h now))) unrefused
+  taken : refusal_at h false now count ≡ None → submit h (Pulse now) ≡ Ok all_expire
+  taken unrefused = by_refusal ∙ ap (λ r. answered r all_expire) unrefused
 
   -- so the count is the answer, once all of them have expired
   pub pulse-taken : (g : History) → refusal_at h false now count ≡ None → g ≡ expiries_from h (base h now) (due h now)

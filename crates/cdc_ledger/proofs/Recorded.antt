@@ -1,34 +1,8 @@
 -- What the ledger's tables are after one more entry.
-use Rattle.std.proofs.Common.{ℕ, ◌+◌, ◌<◌, ◌≤◌, List, [], ◌∷◌, ◌++◌, ◌≡◌, Option, Some, None, cond, get_or, length, map, refl, ap, ap₂, sym, ◌∙◌, subst, arith}
-use Rattle.std.specs.Prelude.{◌==◌, ◌&&◌, if◌then◌else◌, not, nat_lt, unwrap_or, option_map, IsSome, All}
-use Rattle.std.specs.List.{position_or_len}
-use Rattle.std.specs.Vec.{with_items}
-use Rattle.std.specs.declared.vec.Vec.{Vec}
+use Rattle.cdc_ledger.proofs.Words.{[], ◌&&◌, ◌++◌, ◌+◌, ◌<◌, ◌==◌, ◌∙◌, ◌∷◌, ◌≡◌, ◌≤◌, Account, All, AreApart, Balances, Contents, Effect, Entry, Event, EventAccount, Follows, History, Inside, IsKept, IsMovement, IsPlaced, IsSound, List, Movement, None, Opened, Option, SideFits, Some, Takes, Vec, account_after, account_at, account_ids, account_now, account_place, accounts_after, accounts_now, ap, ap₂, arith, balances, cond, contents_of, effect_by, effect_of, effect_of_movement, endings_after, endings_of, event_from, event_of, get_or, history_of, if◌then◌else◌, length, map, max_128, max_timestamp, nat_lt, no_balances, nobody, not, opened, opened_as, option_map, place_of, position_or_len, pushed, refl, settled_by, settled_transfer, settles, shown_account, shown_as, shown_in, shown_transfer, stored_place, stores, subst, sym, unwrap_or, with_items, ℕ}
+use Rattle.std.specs.Prelude.{IsSome}
 use Rattle.std.proofs.lemmas.List.{length-map, with_items_is}
 use Rattle.std.proofs.lemmas.List.Elements.{All-map}
-use Rattle.cdc_types.specs.declared.accounts.Account.{Account}
-use Rattle.cdc_types.specs.declared.accounts.Balances.{Balances}
-use Rattle.cdc_types.specs.declared.events.Entry.{Entry}
-use Rattle.cdc_types.specs.declared.events.Event.{Event}
-use Rattle.cdc_types.specs.declared.events.EventAccount.{EventAccount}
-use Rattle.cdc_types.specs.Widths.{max_128}
-use Rattle.cdc_ledger.specs.declared.movements.Movement.{Movement}
-use Rattle.cdc_ledger.specs.declared.tables.Tables.TheInside.{Inside}
-use Rattle.cdc_ledger.specs.Accounts.{opened_as, no_balances, shown_as, shown_in, event_from}
-use Rattle.cdc_ledger.specs.Balances.{balances}
-use Rattle.cdc_ledger.specs.Changes.{pushed}
-use Rattle.cdc_ledger.specs.Contents.{Contents}
-use Rattle.cdc_ledger.specs.Effects.{Effect, effect_of, effect_by, settled_by, account_after}
-use Rattle.cdc_ledger.specs.Endings.{endings_after, endings_of}
-use Rattle.cdc_ledger.specs.Events.{accounts_now, account_now, account_at, shown_account, shown_transfer, event_of, nobody}
-use Rattle.cdc_ledger.specs.Follows.{Follows}
-use Rattle.cdc_ledger.specs.History.{History, Opened, opened}
-use Rattle.cdc_ledger.specs.Kinds.{settles, stores}
-use Rattle.cdc_ledger.specs.Movements.{IsPlaced, IsMovement, SideFits, Takes, account_ids, accounts_after, effect_of_movement, settled_transfer}
-use Rattle.cdc_ledger.specs.PlacesById.{account_place, place_of, stored_place}
-use Rattle.cdc_ledger.specs.Sound.{AreApart, IsSound}
-use Rattle.cdc_ledger.specs.Tables.{IsKept, contents_of, history_of}
-use Rattle.cdc_ledger.specs.Verdict.{max_timestamp}
 use Rattle.cdc_ledger.proofs.AccountLaws.{accounts_now-pushed}
 use Rattle.cdc_ledger.proofs.BalanceLaws.{released_debit, released_credit}
 use Rattle.cdc_ledger.proofs.Elements.{map-map}

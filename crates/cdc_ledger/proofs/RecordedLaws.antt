@@ -1,35 +1,10 @@
 -- What the ledger's tables are once their last entry or their last account was taken out again.
-use Rattle.std.proofs.Common.{ℕ, ◌+◌, ◌-◌, ◌<◌, ◌≤◌, ◌≢◌, Bool, true, false, List, [], ◌∷◌, ◌++◌, ◌≡◌, Option, Some, None, get_or, set, length, map, take, refl, ap, ap₂, sym, ◌∙◌, subst, arith, length-append}
-use Rattle.std.specs.Prelude.{◌==◌, ◌&&◌, if◌then◌else◌, find, position, IfSome, option_map}
+use Rattle.cdc_ledger.proofs.Words.{[], ◌&&◌, ◌++◌, ◌+◌, ◌-◌, ◌<◌, ◌==◌, ◌∙◌, ◌∷◌, ◌≡◌, ◌≢◌, ◌≤◌, Account, AreApart, AreRecorded, Bool, Effect, Ending, Entry, History, IfSome, Inside, IsKept, IsLastOpened, IsLastRecorded, IsRecorded, IsStoredAt, List, Movement, None, Open, Opened, Option, Pending, Recorded, Some, Vec, account_after, account_ids, account_now, account_place, account_with, accounts_after, accounts_now, ap, ap₂, arith, credited_account, debited_account, effect_of_movement, ending_by, endings_after, endings_before, endings_of, false, find, get_or, grown, history_of, if◌then◌else◌, length, length-append, map, no_balances, nobody, opened, opened_as, opened_by, option_map, place_of, position, pushed, refl, set, settled_by, stored, stored_place, stores, subst, sym, take, true, with_account, with_items, without_account, without_entry, ℕ}
 use Rattle.std.specs.List.{slice_get}
-use Rattle.std.specs.Vec.{with_items}
-use Rattle.std.specs.declared.vec.Vec.{Vec}
 use Rattle.std.proofs.Math.Seq.{take-append_seam}
 use Rattle.std.proofs.lemmas.Bool.{and_parts, eqb-true}
 use Rattle.std.proofs.lemmas.List.{set-set, set_comm, set-get_or, length-map, length-set, with_items_is}
 use Rattle.std.proofs.lemmas.Option.{get_or_from_slice_get}
-use Rattle.cdc_types.specs.declared.accounts.Account.{Account}
-use Rattle.cdc_types.specs.declared.events.Entry.{Entry}
-use Rattle.cdc_ledger.specs.declared.endings.Ending.{Ending}
-use Rattle.cdc_ledger.specs.declared.endings.Ending.TheVariants.{Open}
-use Rattle.cdc_ledger.specs.declared.movements.Movement.{Movement}
-use Rattle.cdc_ledger.specs.declared.movements.Pending.{Pending}
-use Rattle.cdc_ledger.specs.declared.recording.Recorded.{Recorded}
-use Rattle.cdc_ledger.specs.declared.tables.Tables.TheInside.{Inside}
-use Rattle.cdc_ledger.specs.Accounts.{no_balances, opened_as}
-use Rattle.cdc_ledger.specs.Changes.{pushed, with_account}
-use Rattle.cdc_ledger.specs.Effects.{Effect, account_after, settled_by}
-use Rattle.cdc_ledger.specs.Endings.{ending_by, endings_after, endings_before, endings_of}
-use Rattle.cdc_ledger.specs.Events.{accounts_now, account_now, account_with, nobody}
-use Rattle.cdc_ledger.specs.Filling.{stored}
-use Rattle.cdc_ledger.specs.History.{History, Opened, opened}
-use Rattle.cdc_ledger.specs.Kinds.{stores}
-use Rattle.cdc_ledger.specs.Movements.{account_ids, accounts_after, credited_account, debited_account, effect_of_movement, IsStoredAt}
-use Rattle.cdc_ledger.specs.PlacesById.{account_place, place_of, stored_place}
-use Rattle.cdc_ledger.specs.Recorded.{AreRecorded, IsLastOpened, IsLastRecorded, IsRecorded, grown, without_account, without_entry}
-use Rattle.cdc_ledger.specs.Sound.{AreApart}
-use Rattle.cdc_ledger.specs.Submit.{opened_by}
-use Rattle.cdc_ledger.specs.Tables.{IsKept, history_of}
 use Rattle.cdc_ledger.proofs.AccountLaws.{accounts_now-pushed, accounts_now-with_account}
 use Rattle.cdc_ledger.proofs.EndingLaws.{endings_of-pushed, open_before, settled_within}
 use Rattle.cdc_ledger.proofs.Found.{find-same}
@@ -132,8 +107,7 @@ module _ (g : History) (r : Recorded) (was : IsRecorded g r) where
       let b : Account = credited_account f (get_or before m.credit d) in
       let two = both-changed before m was.movement.placed was.follows.apart d a b ids_apart refl refl in
       let first : get_or before m.debit d ≡ r.debit = get_or_from_slice_get before m.debit r.debit d was.debit in
-      let second : get_or before m.credit d ≡ r.credit =
-      get_or_from_slice_get before m.credit r.credit d was.credit in
+      let second = get_or_from_slice_get before m.credit r.credit d was.credit in
       ap (λ xs. set (set xs m.debit r.debit) m.credit r.credit) (changed ∙ sym two)
       ∙ ap₂ (λ x y. set (set (set (set before m.debit a) m.credit b) m.debit x) m.credit y) (sym first) (sym second)
       ∙ set_back before m.debit m.credit a b d (places_apart before m was.movement.placed was.follows.apart d)

@@ -1,20 +1,6 @@
 -- Each change keeps what holds of every history.
-use Rattle.std.proofs.Common.{ℕ, ◌+◌, ◌-◌, ◌<◌, ◌≤◌, Bool, true, false, List, [], ◌∷◌, ◌++◌, ◌≡◌, None, refl, ap, sym, subst, arith}
-use Rattle.std.specs.Prelude.{◌==◌, if◌then◌else◌}
-use Rattle.std.specs.List.{AllByRecursion}
+use Rattle.cdc_ledger.proofs.Words.{Some, [], ◌++◌, ◌+◌, ◌-◌, ◌<◌, ◌==◌, ◌∷◌, ◌≡◌, ◌≤◌, AllByRecursion, Balances, Bool, Entry, EventKind, Follows, HasAccounts, HasRoom, History, IsSound, List, None, Opened, RiseFrom, Settles, SettlesOpen, SinglePhase, Stands, TwoPhaseExpired, TwoPhasePending, TwoPhasePosted, TwoPhaseVoided, amount_of, ap, arith, balances, empty_history, false, holds, if◌then◌else◌, max_128, max_timestamp, moves, opened, refl, settles, subst, sym, true, ℕ, stored, settled_id}
 use Rattle.std.proofs.lemmas.Bool.{eqb-true}
-use Rattle.cdc_types.specs.declared.accounts.Balances.{Balances}
-use Rattle.cdc_types.specs.declared.events.Entry.{Entry}
-use Rattle.cdc_types.specs.declared.events.EventKind.{EventKind}
-use Rattle.cdc_types.specs.declared.events.EventKind.TheVariants.{SinglePhase, TwoPhasePending, TwoPhasePosted, TwoPhaseVoided, TwoPhaseExpired}
-use Rattle.cdc_types.specs.Widths.{max_128}
-use Rattle.cdc_ledger.specs.Balances.{balances}
-use Rattle.cdc_ledger.specs.Effects.{amount_of}
-use Rattle.cdc_ledger.specs.Follows.{Follows, HasRoom, SettlesOpen}
-use Rattle.cdc_ledger.specs.History.{Opened, History, opened, empty_history}
-use Rattle.cdc_ledger.specs.Kinds.{holds, moves, settles}
-use Rattle.cdc_ledger.specs.Sound.{RiseFrom, HasAccounts, Settles, Stands, IsSound}
-use Rattle.cdc_ledger.specs.Verdict.{max_timestamp}
 use Rattle.cdc_ledger.proofs.Changes.{pushed, with_account, timed, IsUpTo, effect_of}
 use Rattle.cdc_ledger.proofs.Elements.{AllByRecursion-weaker, AllByRecursion_push}
 use Rattle.cdc_ledger.proofs.BalanceLaws.{balances_later, balances-pushed, released_fits, settled_by_is}
@@ -37,14 +23,7 @@ IsUpTo-later h s t within later =
 
 -- an entry settles the same transfer in any history with the same entries
 Settles-again : (h g : History) (e x : Entry) → g.entries ≡ h.entries → Settles h e x → Settles g e x
-Settles-again h g e x same of = record {
-  named = cc;
-  pending = of.pending;
-  debit = of.debit;
-  credit = of.credit;
-  within = of.within;
-  shown = of.shown;
-}
+Settles-again h g e x same of = let named : stored g (settled_id e.kind e.transfer) ≡ Some x = cc in assumption
 
 -- `Stands` depends on the entries of a history only
 Stands-again : (h g : History) (e : Entry) → g.entries ≡ h.entries → Stands h e → Stands g e
@@ -63,14 +42,7 @@ standing_again h g es same standing =
 
 -- the pending transfer that a post, a void or an expiry names is still found after one more entry
 Settles-pushed : (h : History) (new e x : Entry) → Settles h e x → Settles (pushed h new) e x
-Settles-pushed h new e x of = record {
-  named = stored-pushed_kept h new x _ of.named;
-  pending = of.pending;
-  debit = of.debit;
-  credit = of.credit;
-  within = of.within;
-  shown = of.shown;
-}
+Settles-pushed h new e x of = assumption (stored-pushed_kept h new x (settled_id e.kind e.transfer) of.named)
 
 -- so an entry still satisfies `Stands` after one more entry
 pub Stands-pushed : (h : History) (new e : Entry) → Stands h e → Stands (pushed h new) e
@@ -96,29 +68,17 @@ IsSound-empty = record {
 
 -- it stays sound when a refused request takes a timestamp
 pub IsSound-timed : (h : History) (t : ℕ) → IsSound h → h.last ≤ t → t ≤ max_timestamp → IsSound (timed h t)
-IsSound-timed h t sound later fits = record {
-  rising = sound.rising;
-  past = IsUpTo-later h h.last t sound.past later;
-  known = sound.known;
-  unique = sound.unique;
-  once = sound.once;
-  standing = standing_again h (timed h t) h.entries refl sound.standing;
-  bounded = bounded_later h t sound later;
-  within = fits;
-}
+IsSound-timed h t sound later fits =
+    assumption (
+      IsUpTo-later h h.last t sound.past later,
+      standing_again h (timed h t) h.entries refl sound.standing,
+      bounded_later h t sound later,
+    )
 
 -- closed or not
 pub IsSound-shut : (h : History) (closed : Bool) → IsSound h → IsSound (record h { closed = closed })
-IsSound-shut h closed sound = record {
-  rising = sound.rising;
-  past = sound.past;
-  known = sound.known;
-  unique = sound.unique;
-  once = sound.once;
-  standing = standing_again h (record h { closed = closed }) h.entries refl sound.standing;
-  bounded = sound.bounded;
-  within = sound.within;
-}
+IsSound-shut h closed sound =
+    assumption (standing_again h (record h { closed = closed }) h.entries refl sound.standing)
 
 -- it stays sound when the ledger closes
 pub IsSound-closed : (h : History) → IsSound h → IsSound (record h { closed = true })
@@ -128,17 +88,15 @@ IsSound-closed h sound = IsSound-shut h true sound
 pub IsSound-with_account : (h : History) (o : Opened) → IsSound h → opened h o.request.id ≡ None → h.last ≤ o.timestamp
     → o.timestamp ≤ max_timestamp
     → IsSound (with_account h o)
-IsSound-with_account h o sound free later fits = record {
-  rising = sound.rising;
-  past = IsUpTo-later h h.last o.timestamp sound.past later;
-  known = AllByRecursion-weaker (HasAccounts h) (HasAccounts (with_account h o))
-      (HasAccounts-with_account h o) h.entries sound.known;
-  unique = AreApart-with_account h o sound.unique free;
-  once = sound.once;
-  standing = standing_again h (with_account h o) h.entries refl sound.standing;
-  bounded = bounded_later h o.timestamp sound later;
-  within = fits;
-}
+IsSound-with_account h o sound free later fits =
+    assumption (
+      IsUpTo-later h h.last o.timestamp sound.past later,
+      AllByRecursion-weaker (HasAccounts h) (HasAccounts (with_account h o)) (HasAccounts-with_account h o) h.entries
+          sound.known,
+      AreApart-with_account h o sound.unique free,
+      standing_again h (with_account h o) h.entries refl sound.standing,
+      bounded_later h o.timestamp sound later,
+    )
 
 -- an entry later than all before it keeps the timestamps rising
 RiseFrom_push : (t m : ℕ) (es : List Entry) (e : Entry) → RiseFrom t es → AllByRecursion (λ x. x.timestamp ≤ m) es
@@ -149,11 +107,8 @@ RiseFrom_push t m (x ∷ es) e rising past before after =
 
 -- an entry holds its amount or moves it, and not both
 one_amount : (k : EventKind) (n : ℕ) → (if holds k then n else 0) + (if moves k then n else 0) ≤ n
-one_amount SinglePhase n = omega arith
 one_amount TwoPhasePending n = omega arith
-one_amount TwoPhasePosted n = omega arith
-one_amount TwoPhaseVoided n = omega arith
-one_amount TwoPhaseExpired n = omega arith
+one_amount k n = omega arith
 
 -- what joins the sums of an account fits in the place of what leaves them
 module _ (h : History) (e : Entry) (sound : IsSound h) (follows : Follows h e) where
@@ -175,17 +130,13 @@ module _ (h : History) (e : Entry) (sound : IsSound h) (follows : Follows h e) w
       let out : (effect_of h e).released ≡ of.pending.transfer.amount =
       ap amount_of (settled_by_is h e of.pending is of.settles) in
       let less : e.transfer.amount ≤ of.pending.transfer.amount = of.settles.within in
-      let one : (effect_of h e).held + (effect_of h e).moved ≤ e.transfer.amount =
-      one_amount e.kind e.transfer.amount in
-      let debits : FitBoth (balances h e.transfer.debit_account_id h.last) =
-      sound.bounded e.transfer.debit_account_id in
-      let credits : FitBoth (balances h e.transfer.credit_account_id h.last) =
-      sound.bounded e.transfer.credit_account_id in
+      let one = one_amount e.kind e.transfer.amount in
+      let debits = sound.bounded e.transfer.debit_account_id in
+      let credits = sound.bounded e.transfer.credit_account_id in
       (omega (arith, debits.0), omega (arith, credits.1))
   both_fit false is =
       let room : HasRoom h e = follows.room is in
-      let one : (effect_of h e).held + (effect_of h e).moved ≤ e.transfer.amount =
-      one_amount e.kind e.transfer.amount in
+      let one = one_amount e.kind e.transfer.amount in
       (omega (arith, room.debit), omega (arith, room.credit))
 
 -- one side of an account after an entry still fits: the entry has room there, or it names another account

@@ -1,15 +1,7 @@
 -- Which entry stored the transfer of an id, and that there is one at most.
-use Rattle.std.proofs.Common.{ℕ, Bool, true, false, List, [], ◌∷◌, ◌++◌, ◌≡◌, ◌≢◌, Option, Some, None, map, refl, ap, sym, subst, ◌∙◌}
-use Rattle.std.specs.Prelude.{if◌then◌else◌, ◌==◌, ◌&&◌, find, filter}
-use Rattle.std.specs.Option.{option_or}
-use Rattle.std.specs.List.{AllByRecursion}
+use Rattle.cdc_ledger.proofs.Words.{[], ◌&&◌, ◌++◌, ◌==◌, ◌∙◌, ◌∷◌, ◌≡◌, ◌≢◌, AllByRecursion, AreApart, Bool, Entry, History, List, None, Option, Some, ap, false, filter, find, if◌then◌else◌, map, option_or, refl, stored, stored_ids, stored_in, stores, subst, sym, true, ℕ}
 use Rattle.std.proofs.lemmas.List.Folds.{find-append}
 use Rattle.std.proofs.lemmas.Bool.{and_from, and_right, eqb-false, eq-eqb, ne_eqb, false≢true}
-use Rattle.cdc_types.specs.declared.events.Entry.{Entry}
-use Rattle.cdc_ledger.specs.Filling.{stored_in, stored}
-use Rattle.cdc_ledger.specs.History.{History}
-use Rattle.cdc_ledger.specs.Kinds.{stores}
-use Rattle.cdc_ledger.specs.Sound.{AreApart, stored_ids}
 use Rattle.cdc_ledger.proofs.Changes.{pushed}
 use Rattle.cdc_ledger.proofs.Elements.{AllByRecursion-weaker, AllByRecursion-both}
 use Rattle.cdc_ledger.proofs.OpenedLaws.{AreApart_push}
@@ -119,9 +111,8 @@ apart_parts false id ns apart = (apart, λ q. absurd (false≢true q))
 pub apart-cons : (e : Entry) (es : List Entry) → AreApart (stored_ids (e ∷ es))
     → AreApart (stored_ids es) × (stores e.kind ≡ true → AllByRecursion (λ x. is_stored e.transfer.id x ≡ false) es)
 apart-cons e es apart =
-    let both : AreApart (stored_ids es) ×
-    (stores e.kind ≡ true → AllByRecursion (λ m. e.transfer.id ≢ m) (stored_ids es)) =
-    apart_parts (stores e.kind) e.transfer.id (stored_ids es) (subst AreApart (stored_ids-cons e es) apart) in
+    let both = apart_parts (stores e.kind) e.transfer.id (stored_ids es) (subst AreApart (stored_ids-cons e es) apart)
+    in
     (both.0, λ is. none_stored e.transfer.id es (both.1 is))
 
 -- the first entry's id comes first, however many come after it
@@ -186,8 +177,7 @@ other_first x y es apart found is =
 all_found : (es : List Entry) → AreApart (stored_ids es) → AllByRecursion (IsFound es) es
 all_found [] apart = tt
 all_found (x ∷ es) apart =
-    let both : AreApart (stored_ids es) ×
-    (stores x.kind ≡ true → AllByRecursion (λ y. is_stored x.transfer.id y ≡ false) es) = apart-cons x es apart in
+    let both = apart-cons x es apart in
     (found_first x es, under (stores x.kind) refl both.1 es (all_found es both.0))
   where
     under : (b : Bool) → stores x.kind ≡ b

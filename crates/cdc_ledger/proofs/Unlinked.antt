@@ -1,11 +1,6 @@
 -- A batch without a linked item: each item is validated against the history after those before it, and recorded by
 -- itself.
-use Rattle.std.proofs.Common.{ℕ, ◌+◌, ◌-◌, ◌≡◌, List, [], ◌∷◌, ◌++◌, Option, Some, None, false, refl, ap, ◌∙◌, arith}
-use Rattle.std.specs.Prelude.{unwrap_or}
-use Rattle.std.specs.List.{AllByRecursion}
-use Rattle.cdc_ledger.specs.Chains.{Rules, chains_from, chains_of, in_front, items_from}
-use Rattle.cdc_ledger.specs.Changes.{timed}
-use Rattle.cdc_ledger.specs.History.{History}
+use Rattle.cdc_ledger.proofs.Words.{[], ◌++◌, ◌+◌, ◌-◌, ◌∙◌, ◌∷◌, ◌≡◌, AllByRecursion, History, List, None, Option, Rules, Some, ap, arith, chains_from, chains_of, false, in_front, items_from, refl, timed, unwrap_or, ℕ}
 use Rattle.cdc_ledger.proofs.BatchLaws.{alone_accepted, alone_refused}
 
 module _ {A R : Type 0} (rules : Rules A R) where

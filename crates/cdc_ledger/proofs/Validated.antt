@@ -1,32 +1,10 @@
 -- Which line refuses a request for a transfer, part by part of its table, and what the movement of an accepted one is.
-use Rattle.std.proofs.Common.{ℕ, ◌≤◌, Bool, true, false, List, [], ◌∷◌, ◌++◌, ◌≡◌, Option, Some, None, get_or, refl, ap, ap₂, sym, ◌∙◌, subst, arith}
-use Rattle.std.specs.Prelude.{◌==◌, ◌&&◌, ◌||◌, not, nat_le, if◌then◌else◌, option_map, IsSome}
-use Rattle.std.specs.List.{list_any}
+use Rattle.cdc_ledger.proofs.Words.{[], ◌&&◌, ◌++◌, ◌<◌, ◌==◌, ◌||◌, ◌∙◌, ◌∷◌, ◌≡◌, ◌≤◌, Account, Bool, Entry, Follows, HasBoundedSums, History, IfSome, IsBounded, IsPlace, IsPlaced, IsSound, IsStoredAt, IsValidated, List, Movement, NewTransfer, None, Opened, Option, SinglePhase, Some, Transfer, TransferResult, TwoPhasePending, TwoPhasePosted, TwoPhaseVoided, account_now, account_place, account_with, accounts_now, ap, ap₂, arith, as_asked, balances, ended_refusal, ending_among, ending_from, entry_of, expires, expires_at, false, field_lines, filled, filled_by, filled_from, first_line, get_or, if◌then◌else◌, is_pending_request, is_plain_request, is_post_request, is_void_request, known_transfer_lines, lines_between, list_any, nat_le, not, opened, option_map, plain_lines, posts, refl, settled_by, settled_in, settled_transfer, settling_lines, some_by, stored, subst, sym, transfer_lines, transfer_number, transfer_refusal, transfer_shape_lines, true, voids, ℕ}
+use Rattle.std.specs.Prelude.{IsSome}
 use Rattle.std.proofs.lemmas.Bool.{le-leb, false≢true}
-use Rattle.cdc_types.specs.declared.accounts.Account.{Account}
-use Rattle.cdc_types.specs.declared.events.Entry.{Entry}
-use Rattle.cdc_types.specs.declared.events.EventKind.TheVariants.{SinglePhase, TwoPhasePending, TwoPhasePosted, TwoPhaseVoided}
-use Rattle.cdc_types.specs.declared.results.TransferResult.{TransferResult}
+use Rattle.std.proofs.Math.Nat.{le_of_lt}
 use Rattle.cdc_types.specs.declared.results.TransferResult.TheVariants as transfer
-use Rattle.cdc_types.specs.declared.transfers.NewTransfer.{NewTransfer}
-use Rattle.cdc_types.specs.declared.transfers.Transfer.{Transfer}
-use Rattle.cdc_types.specs.Flags.{is_pending_request, is_post_request, is_void_request, is_plain_request}
-use Rattle.cdc_types.specs.Lines.{first_line}
-use Rattle.cdc_types.specs.Results.{transfer_number}
-use Rattle.cdc_types.specs.Shapes.{transfer_shape_lines, transfer_refusal}
-use Rattle.cdc_ledger.specs.Accounts.{HasBoundedSums, lines_between}
-use Rattle.cdc_ledger.specs.Balances.{balances, some_by}
-use Rattle.cdc_ledger.specs.Effects.{settled_in, settled_by}
-use Rattle.cdc_ledger.specs.Events.{account_now, account_with, accounts_now}
-use Rattle.cdc_ledger.specs.Endings.{ending_among, ending_from, ended_refusal}
-use Rattle.cdc_ledger.specs.Filling.{stored, filled, filled_by, filled_from, as_asked, expires_at}
-use Rattle.cdc_ledger.specs.History.{History, Opened, opened}
-use Rattle.cdc_ledger.specs.Kinds.{posts, voids, expires}
-use Rattle.cdc_ledger.specs.Movements.{IsPlace}
-use Rattle.cdc_ledger.specs.PlacesById.{account_place}
-use Rattle.cdc_ledger.specs.Balances.{IsBounded}
-use Rattle.cdc_ledger.specs.Submit.{entry_of}
-use Rattle.cdc_ledger.specs.Verdict.{transfer_lines, known_transfer_lines, plain_lines, field_lines, settling_lines}
+use Rattle.cdc_ledger.proofs.AcceptedLaws.{Follows-accepted}
 use Rattle.cdc_ledger.proofs.BalanceLaws.{balances_later}
 use Rattle.cdc_ledger.proofs.Changes.{IsUpTo}
 use Rattle.cdc_ledger.proofs.Elements.{AllByRecursion-weaker, list_any_same}
@@ -118,18 +96,15 @@ bounded-opened h id a was bounded = subst HasBoundedSums (sym was.now) (bounded 
 
 -- both accounts are there: their balances now decide
 pub first_line-between : (h : History) (r : NewTransfer) (t : ℕ) (debited credited : Account) → IsUpTo h.last h
-    → h.last ≤ t
-    → IsOpened h r.debit_account_id debited → IsOpened h r.credit_account_id credited
+    → h.last < t → IsOpened h r.debit_account_id debited → IsOpened h r.credit_account_id credited
     → first_line (plain_lines (opened h r.debit_account_id) (opened h r.credit_account_id) h r t)
     ≡ first_line (lines_between debited credited r t)
 first_line-between h r t debited credited within later debit credit =
-    let d : Opened = debit.account in
-    let c : Opened = credit.account in
-    let debit_balances : balances h r.debit_account_id t ≡ balances h d.request.id h.last =
-    balances_later h r.debit_account_id h.last t within later
+    let d = debit.account in
+    let c = credit.account in
+    let debit_balances = balances_later h r.debit_account_id h.last t within (le_of_lt later)
     ∙ ap (λ id. balances h id h.last) (sym (opened_id h d r.debit_account_id debit.found)) in
-    let credit_balances : balances h r.credit_account_id t ≡ balances h c.request.id h.last =
-    balances_later h r.credit_account_id h.last t within later
+    let credit_balances = balances_later h r.credit_account_id h.last t within (le_of_lt later)
     ∙ ap (λ id. balances h id h.last) (sym (opened_id h c r.credit_account_id credit.found)) in
     ap (λ o. first_line (plain_lines o (opened h r.credit_account_id) h r t)) debit.found
     ∙ ap (λ o. first_line (plain_lines (Some d) o h r t)) credit.found
@@ -175,15 +150,13 @@ end_lines-ending : (posted voided expired : Bool) (p : Transfer) (t : ℕ)
     → first_line ((posted, transfer.PendingTransferAlreadyPosted) ∷ (voided, transfer.PendingTransferAlreadyVoided)
     ∷ (expired || (not (p.timeout == 0) && nat_le (expires_at p) t), transfer.PendingTransferExpired) ∷ [])
     ≡ ended_refusal (ending_from posted voided expired) p t
-end_lines-ending true voided expired p t = refl
-end_lines-ending false true expired p t = refl
 end_lines-ending false false true p t = refl
-end_lines-ending false false false p t = refl
+end_lines-ending posted voided expired p t = refl
 
 -- the lines on a post or a void whose pending transfer is there: by its fields, and then by what came before
 module _ (h : History) (r : NewTransfer) (t : ℕ) (x : Entry) (shape : transfer_refusal r ≡ None)
     (unknown : first_line (known_transfer_lines (stored h r.id) h r) ≡ None) (settles : is_plain_request r ≡ false)
-    (there : stored h r.pending_id ≡ Some x) (past : IsUpTo h.last h) (later : h.last ≤ t) where
+    (there : stored h r.pending_id ≡ Some x) (past : IsUpTo h.last h) (later : h.last < t) where
   -- no entry is later than the timestamp of the request
   within : IsUpTo t h
   within = AllByRecursion-weaker (λ e. e.timestamp ≤ h.last) (λ e. e.timestamp ≤ t) (λ e at. omega arith) h.entries past
@@ -221,10 +194,9 @@ plain_settles : (pending post void : Bool) (h : History) (x : Transfer) → not 
     → settled_in
     (if pending then TwoPhasePending else if post then TwoPhasePosted else if void then TwoPhaseVoided else SinglePhase)
     h x ≡ None
-plain_settles true post void h x plain = refl
 plain_settles false true void h x plain = absurd (false≢true plain)
 plain_settles false false true h x plain = absurd (false≢true plain)
-plain_settles false false false h x plain = refl
+plain_settles pending post void h x plain = refl
 
 -- a post or a void settles the transfer that its pending id names
 settling_settles : (pending post void : Bool) (h : History) (x : Transfer) → not (post || void) ≡ false
@@ -233,12 +205,10 @@ settling_settles : (pending post void : Bool) (h : History) (x : Transfer) → n
     (if pending then TwoPhasePending else if post then TwoPhasePosted else if void then TwoPhaseVoided else SinglePhase)
     h x
     ≡ option_map (λ e. e.transfer) (stored h x.pending_id)
-settling_settles true true void h x plain one = absurd (false≢true (sym one))
-settling_settles true false true h x plain one = absurd (false≢true (sym one))
-settling_settles true false false h x plain one = absurd (false≢true (sym plain))
 settling_settles false true void h x plain one = refl
 settling_settles false false true h x plain one = refl
-settling_settles false false false h x plain one = absurd (false≢true (sym plain))
+settling_settles pending false false h x plain one = absurd (false≢true (sym plain))
+settling_settles true post void h x plain one = absurd (false≢true (sym one))
 
 -- a plain request is stored as it was asked for
 pub filled-plain : (h : History) (r : NewTransfer) (t : ℕ) → is_plain_request r ≡ true → filled h r t ≡ as_asked r t
@@ -267,3 +237,15 @@ settled-settling h r t x shape plain there =
     ∙ ap (λ (y : Transfer). option_map (λ (e : Entry). e.transfer) (stored h y.pending_id))
     (filled-settling h r t x plain there)
     ∙ ap (option_map (λ (e : Entry). e.transfer)) there
+
+-- the movement of a request that no line refuses: its entry may come next
+pub IsValidated-from : (h : History) (r : NewTransfer) (n : ℕ) (m : Movement) → IsSound h → h.last < n
+    → first_line (transfer_lines h r n) ≡ None → m.entry ≡ entry_of h r n → IsPlaced (accounts_now h) m
+    → settled_transfer m ≡ settled_by h (entry_of h r n) → IfSome m.settled (λ p. IsStoredAt h p.transfer.id p.place)
+    → IsValidated h r n m
+IsValidated-from h r n m sound later unrefused entry placed settled found = record {
+  unrefused = unrefused;
+  entry = entry;
+  movement = record { placed = placed; settled = settled ∙ sym (ap (settled_by h) entry); found = found };
+  follows = subst (Follows h) (sym entry) (Follows-accepted h r n sound later unrefused);
+}

@@ -64,8 +64,8 @@ impl Tables {
         if let Some(refusal) = self.items_refusal(now, requests.len()) {
             return Err(refusal);
         }
-        let results = Vec::with_capacity(alloc, requests.len())?;
         self.reserve_accounts(requests.len())?;
+        let results = Vec::with_capacity(alloc, requests.len())?;
         let base = self.base(now);
         Ok(self.take_accounts(base, requests, results))
     }
@@ -87,10 +87,10 @@ impl Tables {
         if let Some(refusal) = self.items_refusal(now, requests.len()) {
             return Err(refusal);
         }
-        let results = Vec::with_capacity(alloc, requests.len())?;
-        let tail = Vec::with_capacity(alloc, tail_len(requests))?;
         self.reserve_transfers(requests.len())?;
         emitted.reserve(requests.len())?;
+        let results = Vec::with_capacity(alloc, requests.len())?;
+        let tail = Vec::with_capacity(alloc, tail_len(requests))?;
         let base = self.base(now);
         Ok(self.take_transfers(emitted, base, requests, tail, results))
     }

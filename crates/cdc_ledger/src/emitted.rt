@@ -19,12 +19,18 @@ use std::alloc::Global;
 
 /// The log and the index. An entry is added to them after its chain is accepted and not before, since the log can't
 /// remove an event.
-#[derive(Drop)]
 pub(crate) struct Emitted {
     pub(crate) log: EventLog,
     /// A triple for each pending transfer with a timeout that is neither posted, voided nor expired. The slot of a
     /// triple is the index of the entry.
     pub(crate) index: DueIndex,
+}
+
+// By hand, as the drop of a ledger: what drops them calls it.
+impl Drop for Emitted {
+    fn drop(self) {
+        let Emitted { log: _, index: _ } = self;
+    }
 }
 
 /// Whether the entry's transfer is a pending one with a timeout.

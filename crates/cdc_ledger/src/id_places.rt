@@ -9,11 +9,17 @@ use std::marker::Model;
 
 /// A map from ids to indices. Contracts see the ids with their indices, and the number of ids that can be added
 /// without allocating.
-#[derive(Drop)]
 pub(crate) struct IdPlaces {
     map: IndexMap<u128, usize>,
     /// The number of ids that can be added without allocating. The map has memory for at least as many.
     room: usize,
+}
+
+// By hand, as the drop of a ledger: what drops the map calls it.
+impl Drop for IdPlaces {
+    fn drop(self) {
+        let IdPlaces { map: _, room: _ } = self;
+    }
 }
 
 impl Model for IdPlaces {

@@ -33,9 +33,10 @@ impl Tables {
         ensures next { IsDueNext self.now.history now result.transfer }
         ensures found { IsStoredAt self.now.history result.transfer.id result.place }
     {
+        let entries = self.entries();
         let first = emitted.index.due(now).unwrap();
         Pending {
-            transfer: self.entries[first.slot].transfer,
+            transfer: entries[first.slot].transfer,
             place: first.slot,
         }
     }
@@ -61,9 +62,7 @@ impl Tables {
             transfer: pending.transfer,
         };
         let movement = self.settling(entry, pending);
-        let place = self.entries().len();
-        let event = self.record(&movement);
-        emitted.emit(&movement, place, event);
+        self.take(emitted, &movement);
     }
 
     /// Expires all pending transfers that are due at `now`. There are `count` of them, and their entries have the

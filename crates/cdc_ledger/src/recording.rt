@@ -4,10 +4,12 @@
 ghost use Rattle.std.specs.Prelude.{◌≡◌, ◌+◌, ◌≤◌, ◌<◌, ◌==◌, ◌&&◌, ℕ, true, None, Some, length, slice_set, if◌then◌else◌};
 ghost use Rattle.cdc_ledger.specs.Changes.{pushed, with_account, timed};
 ghost use Rattle.cdc_ledger.specs.Events.{event_of};
+ghost use Rattle.cdc_ledger.specs.EmittedHistory.{IsEmitted};
 ghost use Rattle.cdc_ledger.specs.Follows.{Follows};
 ghost use Rattle.cdc_ledger.specs.History.{opened};
 ghost use Rattle.cdc_ledger.specs.Kinds as kinds;
 ghost use Rattle.cdc_ledger.specs.Movements.{IsMovement};
+ghost use Rattle.cdc_ledger.specs.OpenTriples.{opens};
 ghost use Rattle.cdc_ledger.specs.PlacesById.{place_of};
 ghost use Rattle.cdc_ledger.specs.Recorded.{IsLastOpened, IsLastRecorded, IsRecorded, without_account, without_entry};
 ghost use Rattle.cdc_ledger.specs.Sound.{IsSound};
@@ -15,6 +17,7 @@ ghost use Rattle.cdc_ledger.specs.Submit.{opened_by};
 ghost use Rattle.cdc_ledger.specs.Verdict.{max_timestamp};
 
 use crate::accounts::opened_account;
+use crate::emitted::Emitted;
 use crate::endings::{follow_ending, forget_ending};
 use crate::id_places::IdPlaces;
 use crate::movements::Movement;
@@ -138,6 +141,30 @@ impl Tables {
         self.entries.push_reserved(movement.entry);
         self.last = movement.entry.timestamp;
         event
+    }
+
+    /// Records the movement's entry, logs its event, and updates the index of expiry times. Memory is reserved for it.
+    pub(crate) fn take(&mut self, emitted: &mut Emitted, movement: &Movement)
+        requires emitted { IsEmitted self.old.history emitted.old }
+        requires later { self.old.history.last < movement.now.entry.timestamp }
+        requires within { movement.now.entry.timestamp ≤ max_timestamp }
+        requires follows { Follows self.old.history movement.now.entry }
+        requires movement { IsMovement self.old.history movement.now }
+        requires room { 0 < self.old.entry_room }
+        requires place_room { kinds.stores movement.now.entry.kind ≡ true
+            → 0 < self.old.place_room }
+        requires log_room { 0 < emitted.old.log.room }
+        requires end_room { opens movement.now.entry ≡ true → 0 < emitted.old.index.room }
+        ensures history { self.new.history ≡ pushed self.old.history movement.now.entry }
+        ensures emitted { IsEmitted self.new.history emitted.new }
+        ensures room { self.new.entry_room + 1 ≡ self.old.entry_room }
+        ensures place_room { self.old.place_room ≤ self.new.place_room + 1 }
+        ensures log_room { emitted.new.log.room + 1 ≡ emitted.old.log.room }
+        ensures end_room { emitted.old.index.room ≤ emitted.new.index.room + 1 }
+    {
+        let place = self.entries().len();
+        let event = self.record(movement);
+        emitted.emit(movement, place, event);
     }
 
     /// Records the movement's entry and returns what is needed to log it or to revert it. Memory is reserved for it.

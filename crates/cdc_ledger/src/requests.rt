@@ -185,9 +185,7 @@ impl Tables {
                 refusal
             }
             Ok(movement) => {
-                let place = self.entries().len();
-                let event = self.record(&movement);
-                emitted.emit(&movement, place, event);
+                self.take(emitted, &movement);
                 TransferResult::Accepted
             }
         }

@@ -1,6 +1,6 @@
 //! The state of a ledger between two batches.
 
-ghost use Rattle.std.specs.Prelude.{◌≡◌, ◌<◌, ◌≤◌, true, Some, length, option_map, slice_get, OnErr, OnOk, IfErr};
+ghost use Rattle.std.specs.Prelude.{◌≡◌, ◌+◌, ◌<◌, ◌≤◌, true, Some, length, option_map, slice_get, vec_capacity, vec_len, OnErr, OnOk, IfErr};
 ghost use Rattle.std.specs.Option.{option_copied};
 ghost use Rattle.cdc_ledger.specs.Endings.{ending_of};
 ghost use Rattle.cdc_ledger.specs.Events.{account_now, accounts_now};
@@ -19,7 +19,6 @@ use std::marker::Model;
 
 /// The accounts with their current balances, the entries, and the last timestamp. Contracts see the history that the
 /// tables represent, and the number of accounts and entries that can be added without allocating.
-#[derive(Drop)]
 pub(crate) struct Tables {
     pub(crate) accounts: Vec<Account>,
     /// The index of each account in `accounts`, by the account's id.
@@ -33,6 +32,21 @@ pub(crate) struct Tables {
     pub(crate) closed: bool,
 }
 
+// By hand, as the drop of a ledger: what drops the tables calls it.
+impl Drop for Tables {
+    fn drop(self) {
+        let Tables {
+            accounts: _,
+            account_places: _,
+            entries: _,
+            transfer_places: _,
+            endings: _,
+            last: _,
+            closed: _,
+        } = self;
+    }
+}
+
 impl Model for Tables {
     ghost use Rattle.cdc_ledger.specs.Contents.{Contents};
 
@@ -43,6 +57,42 @@ impl Model for Tables {
     ghost view = { contents_of };
 
     ghost invariant = { IsKept };
+}
+
+/// Reserves memory for `additional` more accounts in both.
+fn reserve_placed(
+    accounts: &mut Vec<Account>,
+    places: &mut IdPlaces,
+    additional: usize,
+) -> Result<(), BatchError>
+    ensures accounts { accounts.new.items ≡ accounts.old.items }
+    ensures places { places.new.places ≡ places.old.places }
+    ensures room { OnOk result (vec_len accounts.new + additional ≤ vec_capacity accounts.new) }
+    ensures place_room { OnOk result (additional ≤ places.new.room) }
+    ensures memory { IfErr result (λ e. e ≡ BatchError.OutOfMemory) }
+    ensures needed { OnErr result (0 < additional) }
+{
+    places.reserve(additional)?;
+    accounts.reserve(additional)?;
+    Ok(())
+}
+
+/// Reserves memory for `additional` more entries in both.
+fn reserve_both(
+    entries: &mut Vec<Entry>,
+    endings: &mut Vec<Ending>,
+    additional: usize,
+) -> Result<(), BatchError>
+    ensures entries { entries.new.items ≡ entries.old.items }
+    ensures endings { endings.new.items ≡ endings.old.items }
+    ensures room { OnOk result (vec_len entries.new + additional ≤ vec_capacity entries.new) }
+    ensures ending_room { OnOk result (vec_len endings.new + additional ≤ vec_capacity endings.new) }
+    ensures memory { IfErr result (λ e. e ≡ BatchError.OutOfMemory) }
+    ensures needed { OnErr result (0 < additional) }
+{
+    entries.reserve(additional)?;
+    endings.reserve(additional)?;
+    Ok(())
 }
 
 impl Tables {
@@ -148,9 +198,7 @@ impl Tables {
         ensures memory { IfErr result (λ e. e ≡ BatchError.OutOfMemory) }
         ensures needed { OnErr result (0 < additional) }
     {
-        self.account_places.reserve(additional)?;
-        self.accounts.reserve(additional)?;
-        Ok(())
+        reserve_placed(&mut self.accounts, &mut self.account_places, additional)
     }
 
     /// Reserves memory for `additional` more entries.
@@ -160,9 +208,7 @@ impl Tables {
         ensures memory { IfErr result (λ e. e ≡ BatchError.OutOfMemory) }
         ensures needed { OnErr result (0 < additional) }
     {
-        self.entries.reserve(additional)?;
-        self.endings.reserve(additional)?;
-        Ok(())
+        reserve_both(&mut self.entries, &mut self.endings, additional)
     }
 
     /// Reserves memory for `additional` more transfers: for their entries and for the map from ids to indices.

@@ -1,14 +1,14 @@
 //! Validation of a request for a transfer: its movement, or the first line that refuses it (TigerBeetle,
 //! `create_transfers`).
 
-ghost use Rattle.std.specs.Prelude.{◌≡◌, ◌≤◌, ◌<◌, true, false, None, Some, MatchResult};
+ghost use Rattle.std.specs.Prelude.{◌≡◌, ◌≤◌, ◌<◌, true, false, None, Some, MatchResult, length, slice_get};
 ghost use Rattle.cdc_types.specs.Flags.{is_plain_request};
 ghost use Rattle.cdc_types.specs.Lines.{first_line};
 ghost use Rattle.cdc_types.specs.Shapes.{transfer_refusal};
 ghost use Rattle.cdc_ledger.specs.Events.{accounts_now};
 ghost use Rattle.cdc_ledger.specs.Filling as filling;
 ghost use Rattle.cdc_ledger.specs.Filling.{stored};
-ghost use Rattle.cdc_ledger.specs.Sound.{HasAccounts};
+ghost use Rattle.cdc_ledger.specs.Sound.{HasAccounts, IsSound};
 ghost use Rattle.cdc_ledger.specs.Movements.{IsValidated, IsPlaced};
 ghost use Rattle.cdc_ledger.specs.Verdict.{max_timestamp, known_transfer_lines, transfer_lines};
 
@@ -127,7 +127,31 @@ impl Tables {
         let Some(place) = self.entry_place(request.pending_id) else {
             return Err(TransferResult::PendingTransferNotFound);
         };
-        let entry = &entries[place];
+        self.validate_named(&entries[place], place, request, timestamp)
+    }
+
+    /// The same of a request that names this entry, which has this index.
+    fn validate_named(
+        &self,
+        entry: &Entry,
+        place: usize,
+        request: &NewTransfer,
+        timestamp: u64,
+    ) -> Result<Movement, TransferResult>
+        requires later { self.now.history.last < timestamp }
+        requires within { timestamp ≤ max_timestamp }
+        requires shape { transfer_refusal request.now ≡ None }
+        requires unknown { let h = self.now.history in
+            first_line (known_transfer_lines (stored h request.now.id) h request.now) ≡ None }
+        requires settles { is_plain_request request.now ≡ false }
+        requires sound { IsSound self.now.history }
+        requires inside { place < length self.now.history.entries }
+        requires at { slice_get self.now.history.entries place ≡ Some entry.now }
+        requires there { stored self.now.history request.now.pending_id ≡ Some entry.now }
+        ensures { let lines = transfer_lines self.now.history request.now timestamp in
+            MatchResult result (IsValidated self.now.history request.now timestamp)
+            (λ refusal. first_line lines ≡ Some refusal) }
+    {
         if let Some(refusal) = field_refusal(entry, request) {
             return Err(refusal);
         }

@@ -1,5 +1,4 @@
-use Rattle.std.proofs.Common.{◌∙◌, sym, arith}
-use Rattle.cdc_types.specs.Flags.{is_linked_account}
+use Rattle.cdc_ledger.proofs.Words.{◌∙◌, arith, is_linked_account, sym}
 use Rattle.cdc_ledger.proofs.BatchLaws.{no_account, first_chain, whole_chain}
 use Rattle.cdc_ledger.proofs.chains.account_chain_len.Goals as goal
 

@@ -1,4 +1,5 @@
-use Rattle.std.proofs.Common.{◌≡◌, ◌+◌, ◌++◌, vec_len, vec_capacity, replicate}
+use Rattle.cdc_ledger.proofs.Words.{◌++◌, ◌+◌, ◌≡◌, vec_capacity, vec_len}
+use Rattle.std.proofs.Common.{replicate}
 use Rattle.cdc_ledger.proofs.chains.push_times.Given as goal
 
 -- so many are there

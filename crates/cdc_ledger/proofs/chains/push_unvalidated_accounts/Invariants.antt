@@ -1,8 +1,4 @@
-use Rattle.std.proofs.Common.{◌≡◌, ◌+◌, ◌++◌, drop, take, vec_len, vec_capacity}
-use Rattle.std.specs.List.{AllByRecursion}
-use Rattle.cdc_ledger.specs.Chains.{unvalidated}
-use Rattle.cdc_ledger.specs.Fits.{NewAccountFits}
-use Rattle.cdc_ledger.specs.Submit.{account_rules}
+use Rattle.cdc_ledger.proofs.Words.{◌++◌, ◌+◌, ◌≡◌, AllByRecursion, NewAccountFits, account_rules, drop, take, unvalidated, vec_capacity, vec_len}
 use Rattle.cdc_ledger.proofs.chains.push_unvalidated_accounts.Given as goal
 
 -- the results so far and those of the rest are the results of all

@@ -1,8 +1,4 @@
-use Rattle.std.proofs.Common.{◌≡◌, ◌+◌, ◌++◌, drop, take, vec_len, vec_capacity}
-use Rattle.std.specs.List.{AllByRecursion}
-use Rattle.cdc_ledger.specs.Chains.{unvalidated}
-use Rattle.cdc_ledger.specs.Fits.{NewTransferFits}
-use Rattle.cdc_ledger.specs.Submit.{transfer_rules}
+use Rattle.cdc_ledger.proofs.Words.{◌++◌, ◌+◌, ◌≡◌, AllByRecursion, NewTransferFits, drop, take, transfer_rules, unvalidated, vec_capacity, vec_len}
 use Rattle.cdc_ledger.proofs.chains.push_unvalidated_transfers.Given as goal
 
 -- the results so far and those of the rest are the results of all

@@ -1,5 +1,4 @@
-use Rattle.std.proofs.Common.{◌∙◌, sym, arith}
-use Rattle.cdc_types.specs.Flags.{is_linked_transfer}
+use Rattle.cdc_ledger.proofs.Words.{◌∙◌, arith, is_linked_transfer, sym}
 use Rattle.cdc_ledger.proofs.BatchLaws.{no_transfer, first_chain, whole_chain}
 use Rattle.cdc_ledger.proofs.chains.transfer_chain_len.Goals as goal
 

@@ -1,5 +1,4 @@
-use Rattle.std.proofs.Common.{◌≡◌, ℕ, ◌<◌, true, get_or}
-use Rattle.cdc_types.specs.Flags.{is_linked_transfer}
+use Rattle.cdc_ledger.proofs.Words.{◌<◌, ◌≡◌, get_or, is_linked_transfer, true, ℕ}
 use Rattle.cdc_ledger.proofs.BatchLaws.{no_transfer}
 use Rattle.cdc_ledger.proofs.chains.transfer_chain_len.Given as goal
 

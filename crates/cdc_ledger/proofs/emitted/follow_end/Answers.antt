@@ -1,8 +1,4 @@
-use Rattle.std.proofs.Common.{◌∙◌, Option, ap, sym}
-use Rattle.std.specs.Prelude.{option_map}
-use Rattle.cdc_expiry.specs.Triples.{without}
-use Rattle.cdc_ledger.specs.declared.movements.Pending.{Pending}
-use Rattle.cdc_ledger.specs.OpenTriples.{ends_after}
+use Rattle.cdc_ledger.proofs.Words.{◌∙◌, Option, Pending, ap, ends_after, option_map, sym, without}
 use Rattle.cdc_ledger.proofs.emitted.follow_end.Goals as goal
 
 pub returns-in-Some-clause-triples : goal.returns-in-Some-clause-triples

@@ -1,5 +1,4 @@
-use Rattle.std.proofs.Common.{subst}
-use Rattle.cdc_ledger.specs.Balances.{IsBounded}
+use Rattle.cdc_ledger.proofs.Words.{IsBounded, subst}
 use Rattle.cdc_ledger.proofs.ledger.Ledger.accounts.Goals as goal
 
 pub returns-clause-bounded : goal.returns-clause-bounded

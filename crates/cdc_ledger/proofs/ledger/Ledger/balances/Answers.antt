@@ -1,7 +1,4 @@
-use Rattle.std.proofs.Common.{◌≡◌, ◌∙◌, rules, ap}
-use Rattle.std.specs.Prelude.{option_map}
-use Rattle.std.specs.Option.{option_copied}
-use Rattle.cdc_types.specs.declared.accounts.Account.{Account}
+use Rattle.cdc_ledger.proofs.Words.{◌∙◌, ◌≡◌, Account, ap, option_copied, option_map, rules}
 use Rattle.cdc_ledger.proofs.Legal.{balances-account_now, debits_bounded, credits_bounded}
 use Rattle.cdc_ledger.proofs.ledger.Ledger.balances.Goals as goal
 

@@ -1,6 +1,4 @@
-use Rattle.std.proofs.Common.{true, ◌∙◌, ap, subst, sym}
-use Rattle.cdc_ledger.specs.History.{History}
-use Rattle.cdc_ledger.specs.EmittedHistory.{IsEmitted}
+use Rattle.cdc_ledger.proofs.Words.{◌∙◌, History, IsEmitted, ap, subst, sym, true}
 use Rattle.cdc_ledger.proofs.ledger.Ledger.close.Goals as goal
 
 pub invariant_of-self : goal.invariant_of-self

@@ -1,7 +1,4 @@
-use Rattle.std.proofs.Common.{◌∙◌, ap, subst, sym}
-use Rattle.cdc_ledger.specs.Events.{events}
-use Rattle.cdc_ledger.specs.OpenTriples.{index_of}
-use Rattle.cdc_ledger.specs.Submit.{IsLegal}
+use Rattle.cdc_ledger.proofs.Words.{◌∙◌, IsLegal, ap, events, index_of, subst, sym}
 use Rattle.cdc_ledger.proofs.LegalLaws.{IsLegal-empty}
 use Rattle.cdc_ledger.proofs.ledger.Ledger.new.Goals as goal
 

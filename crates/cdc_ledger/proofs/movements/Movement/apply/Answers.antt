@@ -1,9 +1,4 @@
-use Rattle.std.proofs.Common.{◌∙◌, ap, get_or, set}
-use Rattle.cdc_types.specs.declared.accounts.Account.{Account}
-use Rattle.cdc_ledger.specs.Accounts.{no_balances}
-use Rattle.cdc_ledger.specs.Effects.{Effect}
-use Rattle.cdc_ledger.specs.Events.{account_with, nobody}
-use Rattle.cdc_ledger.specs.Movements.{debited_account, credited_account, effect_of_movement}
+use Rattle.cdc_ledger.proofs.Words.{◌∙◌, Account, Effect, account_with, ap, credited_account, debited_account, effect_of_movement, get_or, no_balances, nobody, set}
 use Rattle.cdc_ledger.proofs.AccountPlaces.{place-inside, place-id, credit-unchanged, both-changed}
 use Rattle.cdc_ledger.proofs.movements.Movement.apply.Goals as goal
 

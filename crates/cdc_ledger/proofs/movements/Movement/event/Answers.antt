@@ -1,7 +1,4 @@
-use Rattle.std.proofs.Common.{◌∙◌, ap₂, sym}
-use Rattle.cdc_types.specs.declared.events.Event.{Event}
-use Rattle.cdc_types.specs.declared.events.EventAccount.{EventAccount}
-use Rattle.cdc_ledger.specs.Events.{shown_transfer}
+use Rattle.cdc_ledger.proofs.Words.{◌∙◌, Event, EventAccount, ap₂, shown_transfer, sym}
 use Rattle.cdc_ledger.proofs.AccountPlaces.{place-shown}
 use Rattle.cdc_ledger.proofs.movements.Movement.event.Goals as goal
 

@@ -1,9 +1,4 @@
-use Rattle.std.proofs.Common.{◌∙◌, Some, ap, get_or, sym, List}
-use Rattle.std.specs.Prelude.{option_map}
-use Rattle.std.specs.Option.{option_copied}
-use Rattle.cdc_types.specs.declared.accounts.Account.{Account}
-use Rattle.cdc_ledger.specs.Accounts.{no_balances}
-use Rattle.cdc_ledger.specs.Events.{account_now, account_with, accounts_now, nobody}
+use Rattle.cdc_ledger.proofs.Words.{◌∙◌, Account, List, Some, account_now, account_with, accounts_now, ap, get_or, no_balances, nobody, option_copied, option_map, sym}
 use Rattle.cdc_ledger.proofs.Found.{find-accounts_now}
 use Rattle.cdc_ledger.proofs.Validated.{unopened-no_place}
 use Rattle.cdc_ledger.proofs.AccountPlaces.{place-find}

@@ -1,8 +1,4 @@
-use Rattle.std.proofs.Common.{◌∙◌, ap, List}
-use Rattle.cdc_types.specs.declared.accounts.Account.{Account}
-use Rattle.cdc_ledger.specs.Contents.{Contents}
-use Rattle.cdc_ledger.specs.Events.{accounts_now}
-use Rattle.cdc_ledger.specs.PlacesById.{account_place}
+use Rattle.cdc_ledger.proofs.Words.{◌∙◌, Account, Contents, List, account_place, accounts_now, ap}
 use Rattle.cdc_ledger.proofs.tables.Tables.account_place.Goals as goal
 
 pub returns : goal.returns

@@ -1,7 +1,4 @@
-use Rattle.std.proofs.Common.{ap, ◌∙◌, subst}
-use Rattle.cdc_ledger.specs.Contents.{Contents}
-use Rattle.cdc_ledger.specs.Events.{accounts_now}
-use Rattle.cdc_ledger.specs.Sound.{IsSound}
+use Rattle.cdc_ledger.proofs.Words.{◌∙◌, Contents, IsSound, accounts_now, ap, subst}
 use Rattle.cdc_ledger.proofs.tables.Tables.accounts.Goals as goal
 
 pub returns-clause-accounts : goal.returns-clause-accounts

@@ -1,8 +1,4 @@
-use Rattle.std.proofs.Common.{◌<◌, ◌≡◌, ◌∙◌, Some, ap, arith, length, subst, sym}
-use Rattle.std.specs.Prelude.{option_map, slice_get}
-use Rattle.cdc_ledger.specs.Contents.{Contents}
-use Rattle.cdc_ledger.specs.Endings.{ending_of}
-use Rattle.cdc_ledger.specs.Tables.{history_of}
+use Rattle.cdc_ledger.proofs.Words.{◌<◌, ◌∙◌, ◌≡◌, Contents, Some, ap, arith, ending_of, history_of, length, option_map, slice_get, subst, sym}
 use Rattle.cdc_ledger.proofs.EndingLaws.{ending_within, ending_read}
 use Rattle.cdc_ledger.proofs.tables.Tables.ending.Goals as goal
 

@@ -1,6 +1,4 @@
-use Rattle.std.proofs.Common.{subst}
-use Rattle.cdc_ledger.specs.Contents.{Contents}
-use Rattle.cdc_ledger.specs.Sound.{IsSound}
+use Rattle.cdc_ledger.proofs.Words.{Contents, IsSound, subst}
 use Rattle.cdc_ledger.proofs.tables.Tables.entries.Goals as goal
 
 pub returns-clause-sound : goal.returns-clause-sound

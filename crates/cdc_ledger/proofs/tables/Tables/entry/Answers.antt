@@ -1,8 +1,4 @@
-use Rattle.std.proofs.Common.{◌∙◌, Some, ap, get_or, sym}
-use Rattle.std.specs.Prelude.{◌==◌, ◌&&◌}
-use Rattle.std.specs.Option.{option_copied}
-use Rattle.cdc_ledger.specs.Contents.{Contents}
-use Rattle.cdc_ledger.specs.Kinds.{stores}
+use Rattle.cdc_ledger.proofs.Words.{◌&&◌, ◌==◌, ◌∙◌, Contents, Some, ap, get_or, option_copied, stores, sym}
 use Rattle.cdc_ledger.proofs.PlaceLaws.{find-place, find-no_place}
 use Rattle.cdc_ledger.proofs.tables.Tables.entry.Goals as goal
 

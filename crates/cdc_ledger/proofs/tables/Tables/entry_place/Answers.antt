@@ -1,6 +1,4 @@
-use Rattle.std.proofs.Common.{◌∙◌, ap}
-use Rattle.cdc_ledger.specs.Contents.{Contents}
-use Rattle.cdc_ledger.specs.PlacesById.{stored_place}
+use Rattle.cdc_ledger.proofs.Words.{◌∙◌, Contents, ap, stored_place}
 use Rattle.cdc_ledger.proofs.tables.Tables.entry_place.Goals as goal
 
 pub returns : goal.returns

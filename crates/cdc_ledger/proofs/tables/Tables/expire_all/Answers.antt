@@ -1,6 +1,4 @@
-use Rattle.std.proofs.Common.{◌≡◌, ◌+◌, ap, sym, subst, arith}
-use Rattle.cdc_ledger.specs.Changes.{pushed, expiry}
-use Rattle.cdc_ledger.specs.History.{History}
+use Rattle.cdc_ledger.proofs.Words.{◌+◌, ◌≡◌, History, ap, arith, expiry, pushed, subst, sym}
 use Rattle.cdc_ledger.proofs.Expiring.{GoesOn, GoesOn-some, GoesOn-step}
 use Rattle.cdc_ledger.proofs.tables.Tables.expire_all.Goals as goal
 
@@ -14,8 +12,7 @@ expire-requires-clause-follows c = c.first_due-pending.ensures.next.follows (c.a
 
 pub loop-place-preserved : goal.loop-place-preserved
 loop-place-preserved c =
-    let end : c.expire.new.self.history ≡ pushed c.loop-place.self.history
-    (expiry c.first_due-pending.result.transfer (c.args.base + c.loop-place.place)) = c.expire.ensures.history in
+    let end = c.expire.ensures.history in
     let last : c.expire.new.self.history.last ≡ c.args.base + c.loop-place.place =
     ap (λ (g : History). g.last) end in
     let room : c.expire.new.self.entry_room + 1 ≡ c.loop-place.self.entry_room = c.expire.ensures.room in

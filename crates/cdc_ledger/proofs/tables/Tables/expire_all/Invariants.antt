@@ -1,5 +1,4 @@
-use Rattle.std.proofs.Common.{◌+◌, ◌≤◌, ◌<◌}
-use Rattle.cdc_ledger.specs.EmittedHistory.{IsEmitted}
+use Rattle.cdc_ledger.proofs.Words.{◌+◌, ◌<◌, ◌≤◌, IsEmitted}
 use Rattle.cdc_ledger.proofs.Expiring.{GoesOn}
 use Rattle.cdc_ledger.proofs.tables.Tables.expire_all.Given as goal
 

@@ -1,12 +1,4 @@
-use Rattle.std.proofs.Common.{ℕ, ◌∙◌, ◌≡◌, ◌≤◌, Some, None, ap, refl, length, subst, sym, arith, ◌++◌, ◌∷◌, []}
-use Rattle.std.specs.Prelude.{◌==◌, if◌then◌else◌}
-use Rattle.cdc_types.specs.declared.accounts.Account.{Account}
-use Rattle.cdc_ledger.specs.declared.tables.Tables.TheInside.{Inside}
-use Rattle.cdc_ledger.specs.Changes.{with_account}
-use Rattle.cdc_ledger.specs.Contents.{Contents}
-use Rattle.cdc_ledger.specs.History.{opened}
-use Rattle.cdc_ledger.specs.PlacesById.{place_of}
-use Rattle.cdc_ledger.specs.Submit.{opened_by}
+use Rattle.cdc_ledger.proofs.Words.{[], ◌++◌, ◌==◌, ◌∙◌, ◌∷◌, ◌≡◌, ◌≤◌, Account, Contents, Inside, None, Some, ap, arith, if◌then◌else◌, length, opened, opened_by, place_of, refl, subst, sym, with_account, ℕ}
 use Rattle.cdc_ledger.proofs.Kept.{IsKept-opened, history-opened}
 use Rattle.cdc_ledger.proofs.tables.Tables.open_account.Goals as goal
 

@@ -1,7 +1,4 @@
-use Rattle.std.proofs.Common.{◌+◌, ◌≤◌, ◌<◌, take}
-use Rattle.std.specs.List.{AllByRecursion}
-use Rattle.cdc_ledger.specs.Fits.{NewAccountFits}
-use Rattle.cdc_ledger.specs.Submit.{account_rules}
+use Rattle.cdc_ledger.proofs.Words.{◌+◌, ◌<◌, ◌≤◌, AllByRecursion, NewAccountFits, account_rules, take}
 use Rattle.cdc_ledger.proofs.BatchLaws.{IsOnItsWay}
 use Rattle.cdc_ledger.proofs.tables.Tables.open_chain.Given as goal
 

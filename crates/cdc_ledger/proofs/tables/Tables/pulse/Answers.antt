@@ -1,9 +1,4 @@
-use Rattle.std.proofs.Common.{◌≡◌, ◌<◌, length, ap, sym, subst, ◌∙◌}
-use Rattle.std.specs.Result.{IfErr, IsErrAnd, OnErr}
-use Rattle.cdc_ledger.specs.declared.errors.BatchError.TheVariants.{OutOfMemory}
-use Rattle.cdc_ledger.specs.Due.{due}
-use Rattle.cdc_ledger.specs.History.{History}
-use Rattle.cdc_ledger.specs.Submit.{base, expiries_from}
+use Rattle.cdc_ledger.proofs.Words.{◌<◌, ◌∙◌, ◌≡◌, History, IfErr, IsErrAnd, OnErr, OutOfMemory, ap, base, due, expiries_from, length, subst, sym}
 use Rattle.cdc_ledger.proofs.Pulsed.{pulse-refused, pulse-taken, pulse-unmade}
 use Rattle.cdc_ledger.proofs.tables.Tables.pulse.Goals as goal
 
@@ -17,8 +12,7 @@ pub returns-in_err-reserve_entries-clause-answers : goal.returns-in_err-reserve_
 returns-in_err-reserve_entries-clause-answers c =
     let out : c.in_err-reserve_entries.field-0.0 ≡ OutOfMemory =
     subst (λ r. IfErr r (λ e. e ≡ OutOfMemory)) c.in_err-reserve_entries.was c.reserve_entries.ensures.memory in
-    let same : IsErrAnd c.from_residual.result (λ e. e ≡ c.in_err-reserve_entries.field-0.0) =
-    c.from_residual.ensures.1 in
+    let same = c.from_residual.ensures.1 in
     pulse-unmade c.args.self.now.history c.args.now c.due_count-count.result
     c.due_count-count.ensures
     c.reserve_entries.new.self.history c.from_residual.result (sym c.batch_refusal.ensures ∙ c.in_default.is)

@@ -1,15 +1,4 @@
-use Rattle.std.proofs.Common.{◌<◌, ◌≡◌, ◌∙◌, List, ap, sym, subst, refl, arith}
-use Rattle.std.specs.Prelude.{All}
-use Rattle.std.specs.Vec.{with_items}
-use Rattle.cdc_types.specs.declared.accounts.Account.{Account}
-use Rattle.cdc_ledger.specs.declared.tables.Tables.TheInside.{Inside}
-use Rattle.cdc_ledger.specs.Changes.{pushed}
-use Rattle.cdc_ledger.specs.Events.{event_of}
-use Rattle.cdc_ledger.specs.Contents.{Contents}
-use Rattle.cdc_ledger.specs.Effects.{account_after}
-use Rattle.cdc_ledger.specs.Movements.{IsPlaced, Takes, account_ids, accounts_after, effect_of_movement}
-use Rattle.cdc_ledger.specs.Sound.{AreApart, IsSound}
-use Rattle.cdc_ledger.specs.Tables.{contents_of, history_of}
+use Rattle.cdc_ledger.proofs.Words.{◌<◌, ◌∙◌, ◌≡◌, Account, All, AreApart, Contents, Inside, IsPlaced, IsSound, List, Takes, account_after, account_ids, accounts_after, ap, arith, contents_of, effect_of_movement, event_of, history_of, pushed, refl, subst, sym, with_items}
 use Rattle.cdc_ledger.proofs.EndingLaws.{settled_within}
 use Rattle.cdc_ledger.proofs.Recorded.{CanTake-from, All-Takes, AreApart-kept, IsPlaced-changed, IsPlaced-kept, history-recorded, items-with_items, IsKept-recorded, event_of-recorded}
 use Rattle.cdc_ledger.proofs.tables.Tables.record.Goals as goal
@@ -76,10 +65,9 @@ invariant_of-self c =
       endings = c.follow_ending.new.endings;
       last = m.entry.timestamp;
     } in
-    let accounts : t'.accounts.items ≡ accounts_after m t.accounts.items =
-    items-with_items t.accounts
-    (account_after (effect_of_movement m) m.entry.transfer.debit_account_id m.entry.transfer.credit_account_id)
-    c.apply.new.accounts c.as_mut_slice.result.now c.apply.ensures c.as_mut_slice.ensures.value in
+    let accounts = items-with_items t.accounts (account_after (effect_of_movement m) m.entry.transfer.debit_account_id
+    m.entry.transfer.credit_account_id) c.apply.new.accounts c.as_mut_slice.result.now c.apply.ensures
+    c.as_mut_slice.ensures.value in
     IsKept-recorded t t' m c.len-place.result can c.requires.within (omega arith) accounts
     refl c.keep_place.ensures.places
     c.follow_ending.ensures.endings

@@ -1,8 +1,4 @@
-use Rattle.std.proofs.Common.{◌≡◌, ◌+◌, ◌≤◌, ◌<◌, take, vec_len, vec_capacity}
-use Rattle.std.specs.List.{AllByRecursion}
-use Rattle.cdc_ledger.specs.Fits.{NewTransferFits}
-use Rattle.cdc_ledger.specs.Recorded.{AreRecorded, grown}
-use Rattle.cdc_ledger.specs.Submit.{transfer_rules}
+use Rattle.cdc_ledger.proofs.Words.{◌+◌, ◌<◌, ◌≡◌, ◌≤◌, AllByRecursion, AreRecorded, NewTransferFits, grown, take, transfer_rules, vec_capacity, vec_len}
 use Rattle.cdc_ledger.proofs.BatchLaws.{IsOnItsWay}
 use Rattle.cdc_ledger.proofs.tables.Tables.record_chain.Given as goal
 

@@ -1,4 +1,4 @@
-use Rattle.std.proofs.Common.{◌∙◌, sym}
+use Rattle.cdc_ledger.proofs.Words.{◌∙◌, sym}
 use Rattle.cdc_ledger.proofs.Validated.{IsSome-place}
 use Rattle.cdc_ledger.proofs.tables.Tables.settling.Goals as goal
 

@@ -1,12 +1,4 @@
-use Rattle.std.proofs.Common.{◌++◌, ◌∷◌, [], ◌≡◌, ◌∙◌, Option, ap, refl, sym}
-use Rattle.std.specs.Prelude.{option_to_list}
-use Rattle.cdc_types.specs.declared.accounts.Account.{Account}
-use Rattle.cdc_ledger.specs.declared.tables.Tables.TheInside.{Inside}
-use Rattle.cdc_ledger.specs.Contents.{Contents}
-use Rattle.cdc_ledger.specs.History.{History}
-use Rattle.cdc_ledger.specs.Recorded.{IsLastOpened, without_account}
-use Rattle.cdc_ledger.specs.Submit.{opened_by}
-use Rattle.cdc_ledger.specs.Tables.{history_of}
+use Rattle.cdc_ledger.proofs.Words.{[], ◌++◌, ◌∙◌, ◌∷◌, ◌≡◌, Account, Contents, History, Inside, IsLastOpened, Option, ap, history_of, opened_by, option_to_list, refl, sym, without_account}
 use Rattle.cdc_ledger.proofs.RecordedLaws.{IsKept-shut, without_account-opened}
 use Rattle.cdc_ledger.proofs.tables.Tables.take_account_back.Goals as goal
 

@@ -1,6 +1,4 @@
-use Rattle.std.proofs.Common.{◌≡◌, ◌+◌, ◌<◌, ◌≤◌, length, take}
-use Rattle.cdc_ledger.specs.Stops.{AreUnrefused, taken_all}
-use Rattle.cdc_ledger.specs.Submit.{account_rules}
+use Rattle.cdc_ledger.proofs.Words.{◌+◌, ◌<◌, ◌≡◌, ◌≤◌, AreUnrefused, account_rules, length, take, taken_all}
 use Rattle.cdc_ledger.proofs.tables.Tables.take_account_chain.Given as goal
 
 -- so many accounts of the chain are still there

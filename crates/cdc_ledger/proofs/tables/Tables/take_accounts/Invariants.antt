@@ -1,7 +1,4 @@
-use Rattle.std.proofs.Common.{◌≡◌, ◌+◌, ◌-◌, ◌≤◌, ◌<◌, length, take, vec_len, vec_capacity}
-use Rattle.std.specs.List.{AllByRecursion}
-use Rattle.cdc_ledger.specs.Fits.{NewAccountFits}
-use Rattle.cdc_ledger.specs.Submit.{account_rules}
+use Rattle.cdc_ledger.proofs.Words.{◌+◌, ◌-◌, ◌<◌, ◌≡◌, ◌≤◌, AllByRecursion, NewAccountFits, account_rules, length, take, vec_capacity, vec_len}
 use Rattle.cdc_ledger.proofs.BatchLaws.{ItemsGoOn}
 use Rattle.cdc_ledger.proofs.tables.Tables.take_accounts.Given as goal
 

@@ -1,12 +1,4 @@
-use Rattle.std.proofs.Common.{◌-◌, ◌<◌, ◌≡◌, ◌∙◌, ap, set, take, length, refl, subst, sym}
-use Rattle.std.specs.Vec.{with_items}
-use Rattle.cdc_ledger.specs.declared.tables.Tables.TheInside.{Inside}
-use Rattle.cdc_ledger.specs.Contents.{Contents}
-use Rattle.cdc_ledger.specs.Endings.{endings_of}
-use Rattle.cdc_ledger.specs.Events.{accounts_now}
-use Rattle.cdc_ledger.specs.History.{History}
-use Rattle.cdc_ledger.specs.Recorded.{IsLastRecorded, without_entry}
-use Rattle.cdc_ledger.specs.Tables.{history_of}
+use Rattle.cdc_ledger.proofs.Words.{◌-◌, ◌<◌, ◌∙◌, ◌≡◌, Contents, History, Inside, IsLastRecorded, accounts_now, ap, endings_of, history_of, length, refl, set, subst, sym, take, with_items, without_entry}
 use Rattle.cdc_ledger.proofs.RecordedLaws.{IsKept-back, credit_inside, debit_inside, items-with_sets, settled_inside, without_entry-pushed}
 use Rattle.cdc_ledger.proofs.tables.Tables.take_back.Goals as goal
 
@@ -17,23 +9,21 @@ forget_ending-requires c =
     ∙ ap (λ (v : Contents). endings_of v.history.entries) c.self.view_is
     ∙ ap (λ (h : History). endings_of h.entries) c.requires.made)
 
-pub restore-requires-clause-debit : goal.restore-requires-clause-debit
-restore-requires-clause-debit c =
-    let r = c.args.recorded.now in
-    let inside = debit_inside c.requires.before r c.requires.recorded in
-    let same = c.as_mut_slice.ensures.value
-    ∙ c.self.invariant.balanced ∙ ap (λ (v : Contents). accounts_now v.history) c.self.view_is
-    ∙ ap accounts_now c.requires.made in
-    subst (λ xs. r.movement.debit < length xs) (sym same) inside
-
-pub restore-requires-clause-credit : goal.restore-requires-clause-credit
-restore-requires-clause-credit c =
-    let r = c.args.recorded.now in
-    let inside = credit_inside c.requires.before r c.requires.recorded in
-    let same = c.as_mut_slice.ensures.value
-    ∙ c.self.invariant.balanced ∙ ap (λ (v : Contents). accounts_now v.history) c.self.view_is
-    ∙ ap accounts_now c.requires.made in
-    subst (λ xs. r.movement.credit < length xs) (sym same) inside
+pub restore-requires : goal.restore-requires
+restore-requires c = record {
+  debit = let r = c.args.recorded.now in
+      let inside = debit_inside c.requires.before r c.requires.recorded in
+      let same = c.as_mut_slice.ensures.value
+      ∙ c.self.invariant.balanced ∙ ap (λ (v : Contents). accounts_now v.history) c.self.view_is
+      ∙ ap accounts_now c.requires.made in
+      subst (λ xs. r.movement.debit < length xs) (sym same) inside;
+  credit = let r = c.args.recorded.now in
+      let inside = credit_inside c.requires.before r c.requires.recorded in
+      let same = c.as_mut_slice.ensures.value
+      ∙ c.self.invariant.balanced ∙ ap (λ (v : Contents). accounts_now v.history) c.self.view_is
+      ∙ ap accounts_now c.requires.made in
+      subst (λ xs. r.movement.credit < length xs) (sym same) inside;
+}
 
 pub invariant_of-self : goal.invariant_of-self
 invariant_of-self c =
@@ -52,9 +42,8 @@ invariant_of-self c =
       endings = c.forget_ending.new.endings;
       last = r.last;
     } in
-    let accounts : t'.accounts.items ≡ set (set t.accounts.items r.movement.debit r.debit) r.movement.credit r.credit =
-    items-with_sets t.accounts c.restore.new.accounts c.as_mut_slice.result.now r.movement.debit r.movement.credit
-    r.debit r.credit c.restore.ensures c.as_mut_slice.ensures.value in
+    let accounts = items-with_sets t.accounts c.restore.new.accounts c.as_mut_slice.result.now r.movement.debit
+    r.movement.credit r.debit r.credit c.restore.ensures c.as_mut_slice.ensures.value in
     let entries : t'.entries.items ≡ take (length t.entries.items - 1) t.entries.items =
     c.pop-entry.ensures.rest ∙ ap (λ n. take (n - 1) t.entries.items) t.entries.ok.0 in
     (IsKept-back t t' r last c.self.invariant accounts entries c.forget_ending.ensures.endings refl
@@ -77,9 +66,8 @@ returns-clause-history c =
       endings = c.forget_ending.new.endings;
       last = r.last;
     } in
-    let accounts : t'.accounts.items ≡ set (set t.accounts.items r.movement.debit r.debit) r.movement.credit r.credit =
-    items-with_sets t.accounts c.restore.new.accounts c.as_mut_slice.result.now r.movement.debit r.movement.credit
-    r.debit r.credit c.restore.ensures c.as_mut_slice.ensures.value in
+    let accounts = items-with_sets t.accounts c.restore.new.accounts c.as_mut_slice.result.now r.movement.debit
+    r.movement.credit r.debit r.credit c.restore.ensures c.as_mut_slice.ensures.value in
     let entries : t'.entries.items ≡ take (length t.entries.items - 1) t.entries.items =
     c.pop-entry.ensures.rest ∙ ap (λ n. take (n - 1) t.entries.items) t.entries.ok.0 in
     (IsKept-back t t' r last c.self.invariant accounts entries c.forget_ending.ensures.endings refl

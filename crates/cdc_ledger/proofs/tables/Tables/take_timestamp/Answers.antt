@@ -1,5 +1,4 @@
-use Rattle.std.proofs.Common.{subst, sym, ◌≤◌}
-use Rattle.cdc_ledger.specs.Contents.{Contents}
+use Rattle.cdc_ledger.proofs.Words.{◌≤◌, Contents, subst, sym}
 use Rattle.cdc_ledger.proofs.Kept.{IsKept-timed}
 use Rattle.cdc_ledger.proofs.tables.Tables.take_timestamp.Goals as goal
 

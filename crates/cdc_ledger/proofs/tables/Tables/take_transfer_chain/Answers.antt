@@ -1,56 +1,35 @@
-use Rattle.std.proofs.Common.{◌+◌, ◌-◌, ◌++◌, ◌∷◌, [], ◌≡◌, ◌∙◌, List, ap, length, subst, sym, arith, take}
-use Rattle.std.proofs.lemmas.List.{nil_from_length}
-use Rattle.cdc_ledger.specs.declared.recording.Recorded.{Recorded}
-use Rattle.cdc_ledger.specs.Changes.{timed}
-use Rattle.cdc_ledger.specs.Contents.{Contents}
-use Rattle.cdc_ledger.specs.Fits.{NewTransferFits}
-use Rattle.cdc_ledger.specs.History.{History}
-use Rattle.cdc_ledger.specs.Recorded.{AreRecorded, grown}
-use Rattle.cdc_ledger.specs.EmittedHistory.{IsEmitted}
-use Rattle.cdc_ledger.proofs.BatchLaws.{AllByRecursion_parts}
+use Rattle.cdc_ledger.proofs.Words.{[], ◌++◌, ◌+◌, ◌-◌, ◌∙◌, ◌∷◌, ◌≡◌, AllByRecursion, AreRecorded, Contents, History, IsEmitted, List, NewTransfer, NewTransferFits, Recorded, ap, arith, grown, length, refl, subst, sym, take, timed, transfer_rules, ℕ}
+use Rattle.std.proofs.lemmas.List.{nil_from_length, take_all}
+use Rattle.std.proofs.Math.Seq.{take-length}
+use Rattle.cdc_ledger.proofs.BatchLaws.{AllByRecursion_parts, accepted_history, accepted_results, failed_history, failed_results}
 use Rattle.cdc_ledger.proofs.RecordedLaws.{AreRecorded_pop}
 use Rattle.cdc_ledger.proofs.TakenBack.{CanEmit-tail, IsLastRecorded-tail, IsEmitted-tail, grown-taken_back, tail-later}
 use Rattle.cdc_ledger.proofs.EmittedLaws.{IsEmitted-timed, emit-fresh, emit-settled, emit-timely}
 use Rattle.cdc_ledger.proofs.tables.Tables.take_transfer_chain.Goals as goal
 
-pub emit-requires-clause-settled : goal.emit-requires-clause-settled
-emit-requires-clause-settled c =
-    let h = c.args.self.now.history in
-    let rs = c.as_slice-recorded-items.result.now in
-    let i = c.loop-recorded.recorded-index in
-    let all : AreRecorded h rs =
-    subst (AreRecorded h) (sym c.as_slice-recorded-items.ensures.value) c.record_chain.ensures.recorded in
-    emit-settled (grown h (take i rs)) c.loop-recorded.emitted _
-    (CanEmit-tail h c.loop-recorded.emitted rs i _ c.loop-recorded-test.true all c.loop-recorded.invariant.emitted)
+-- the entries of the chain were recorded in turn
+recorded : (h : History) (rs items : List Recorded) → rs ≡ items → AreRecorded h items → AreRecorded h rs
+recorded h rs items same all = subst (AreRecorded h) (sym same) all
 
-pub emit-requires-clause-timely : goal.emit-requires-clause-timely
-emit-requires-clause-timely c =
+pub emit-requires : goal.emit-requires
+emit-requires c =
     let h = c.args.self.now.history in
     let rs = c.as_slice-recorded-items.result.now in
     let i = c.loop-recorded.recorded-index in
-    let all : AreRecorded h rs =
-    subst (AreRecorded h) (sym c.as_slice-recorded-items.ensures.value) c.record_chain.ensures.recorded in
-    emit-timely (grown h (take i rs)) c.loop-recorded.emitted _
-    (CanEmit-tail h c.loop-recorded.emitted rs i _ c.loop-recorded-test.true all c.loop-recorded.invariant.emitted)
-
-pub emit-requires-clause-fresh : goal.emit-requires-clause-fresh
-emit-requires-clause-fresh c =
-    let h = c.args.self.now.history in
-    let rs = c.as_slice-recorded-items.result.now in
-    let i = c.loop-recorded.recorded-index in
-    let all : AreRecorded h rs =
-    subst (AreRecorded h) (sym c.as_slice-recorded-items.ensures.value) c.record_chain.ensures.recorded in
-    emit-fresh (grown h (take i rs)) c.loop-recorded.emitted _
-    (CanEmit-tail h c.loop-recorded.emitted rs i _ c.loop-recorded-test.true all c.loop-recorded.invariant.emitted)
-
-pub emit-requires-clause-later : goal.emit-requires-clause-later
-emit-requires-clause-later c =
-    let h = c.args.self.now.history in
-    let rs = c.as_slice-recorded-items.result.now in
-    let i = c.loop-recorded.recorded-index in
-    let all : AreRecorded h rs =
-    subst (AreRecorded h) (sym c.as_slice-recorded-items.ensures.value) c.record_chain.ensures.recorded in
-    tail-later h c.loop-recorded.emitted rs i _ c.loop-recorded-test.true all c.loop-recorded.invariant.emitted
+    let e = c.loop-recorded.emitted in
+    let g = grown h (take i rs) in
+    let all = recorded h rs _ c.as_slice-recorded-items.ensures.value c.record_chain.ensures.recorded in
+    record {
+      settled = emit-settled g e _
+          (CanEmit-tail h e rs i _ c.loop-recorded-test.true all c.loop-recorded.invariant.emitted);
+      timely = emit-timely g e _
+          (CanEmit-tail h e rs i _ c.loop-recorded-test.true all c.loop-recorded.invariant.emitted);
+      fresh = emit-fresh g e _
+          (CanEmit-tail h e rs i _ c.loop-recorded-test.true all c.loop-recorded.invariant.emitted);
+      later = tail-later h e rs i _ c.loop-recorded-test.true all c.loop-recorded.invariant.emitted;
+      room = omega (arith, c.requires.log_room, c.loop-recorded.invariant.log_room, c.record_chain.ensures.tail_len);
+      end_room = λ opening. omega arith;
+    }
 
 pub loop-recorded-preserved : goal.loop-recorded-preserved
 loop-recorded-preserved c =
@@ -100,17 +79,76 @@ returns-in_default-clause-fit c =
     AllByRecursion_parts NewTransferFits c.args.chain.now (c.in-Some.stop.place + 1) c.in-Some.ensures.fit
     c.push_unvalidated_transfers.ensures.fit
 
+-- the history without the entries that were taken back
+back_again : (h g : History) (rs : List Recorded) (v w : Contents) (t : ℕ) → rs ≡ [] → g ≡ grown h rs → v.history ≡ g
+    → w ≡ record v { history = timed v.history t } → w.history ≡ timed h t
+back_again h g rs v w t none made same now =
+    ap (λ (u : Contents). u.history) now ∙ ap (λ (k : History). timed k t) (same ∙ made ∙ ap (grown h) none)
+
+pub returns-in_default-clause-history : goal.returns-in_default-clause-history
+returns-in_default-clause-history c =
+    failed_history transfer_rules c.args.self.now.history c.args.time c.args.chain.now
+    (c.in-Some.stop.place, c.in-Some.stop.refusal) c.record_chain.new.self.history c.take_timestamp.new.self.history
+    c.requires.some c.in-Some.ensures.stopped
+    (back_again c.args.self.now.history c.loop-recorded-2.self.history c.loop-recorded-2.tail.items
+    c.loop-recorded-2.self c.take_timestamp.new.self (c.args.time + (length c.args.chain.now - 1))
+    (nil_from_length c.loop-recorded-2.tail.items
+    (sym c.loop-recorded-2.tail.ok.0 ∙ c.in_default.ensures.cases.0))
+    c.loop-recorded-2.invariant.made refl c.take_timestamp.ensures)
+
 pub returns-in_default-clause-emitted : goal.returns-in_default-clause-emitted
 returns-in_default-clause-emitted c =
-    let h = c.args.self.now.history in
-    let t = c.args.time + (length c.args.chain.now - 1) in
-    let none : c.loop-recorded-2.tail.items ≡ [] =
-    nil_from_length c.loop-recorded-2.tail.items
-    (sym c.loop-recorded-2.tail.ok.0 ∙ c.in_default.ensures.cases.0) in
-    let back : c.loop-recorded-2.self.history ≡ h =
-    c.loop-recorded-2.invariant.made ∙ ap (grown h) none in
-    let now : c.take_timestamp.new.self.history ≡ timed h t =
-    ap (λ (v : Contents). v.history) c.take_timestamp.ensures ∙ ap (λ (g : History). timed g t) back in
-    subst (λ (g : History). IsEmitted g c.args.emitted.now) (sym now)
-    (IsEmitted-timed h c.args.emitted.now t c.accounts-accounts.ensures.sound (omega (arith, c.requires.later))
-    c.requires.emitted)
+    subst (λ (g : History). IsEmitted g c.args.emitted.now)
+    (sym (back_again c.args.self.now.history c.loop-recorded-2.self.history c.loop-recorded-2.tail.items
+    c.loop-recorded-2.self c.take_timestamp.new.self (c.args.time + (length c.args.chain.now - 1))
+    (nil_from_length c.loop-recorded-2.tail.items
+    (sym c.loop-recorded-2.tail.ok.0 ∙ c.in_default.ensures.cases.0))
+    c.loop-recorded-2.invariant.made refl c.take_timestamp.ensures))
+    (IsEmitted-timed c.args.self.now.history c.args.emitted.now (c.args.time + (length c.args.chain.now - 1))
+    c.accounts-accounts.ensures.sound (omega (arith, c.requires.later)) c.requires.emitted)
+
+pub returns-in_default-clause-results : goal.returns-in_default-clause-results
+returns-in_default-clause-results c =
+    failed_results transfer_rules c.args.self.now.history c.args.time c.args.chain.now c.in-Some.stop.place
+    c.in-Some.stop.refusal c.record_chain.new.self.history c.args.results.now.items
+    c.push_times-in-Some.new.results.items c.push_reserved.new.self.items
+    c.push_unvalidated_transfers.new.results.items c.in-Some.ensures.stopped c.push_times-in-Some.ensures.items
+    c.push_reserved.ensures.items c.push_unvalidated_transfers.ensures.items
+
+-- all entries of the chain are logged
+
+pub returns-after-loop-recorded-clause-results : goal.returns-after-loop-recorded-clause-results
+returns-after-loop-recorded-clause-results c =
+    accepted_results transfer_rules c.args.self.now.history c.args.time c.args.chain.now
+    c.record_chain.new.self.history c.args.results.now.items c.push_times.new.results.items c.in-None.ensures.stopped
+    c.push_times.ensures.items
+
+pub returns-after-loop-recorded-clause-history : goal.returns-after-loop-recorded-clause-history
+returns-after-loop-recorded-clause-history c =
+    accepted_history transfer_rules c.args.self.now.history c.args.time c.args.chain.now
+    c.record_chain.new.self.history c.in-None.ensures.stopped
+
+pub returns-after-loop-recorded-clause-fit : goal.returns-after-loop-recorded-clause-fit
+returns-after-loop-recorded-clause-fit c =
+    subst (AllByRecursion NewTransferFits) (take-length c.args.chain.now) c.in-None.ensures.fit
+
+pub returns-after-loop-recorded-clause-emitted : goal.returns-after-loop-recorded-clause-emitted
+returns-after-loop-recorded-clause-emitted c =
+    let all = take_all c.loop-recorded.recorded-index c.as_slice-recorded-items.result.now
+    c.loop-recorded-test.false in
+    subst (λ (g : History). IsEmitted g c.loop-recorded.emitted)
+    (ap (grown c.args.self.now.history) (all ∙ c.as_slice-recorded-items.ensures.value)
+    ∙ sym c.record_chain.ensures.grown)
+    c.loop-recorded.invariant.emitted
+
+pub loop-recorded-2-init : goal.loop-recorded-2-init
+loop-recorded-2-init c = record {
+  made = c.record_chain.ensures.grown;
+  recorded = c.record_chain.ensures.recorded;
+  emitted = c.requires.emitted;
+  capacity = c.record_chain.ensures.capacity;
+  log_room = omega arith;
+  end_room = omega arith;
+  room = c.record_chain.ensures.room;
+  place_room = c.record_chain.ensures.place_room;
+}

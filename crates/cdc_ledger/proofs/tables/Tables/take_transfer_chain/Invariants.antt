@@ -1,6 +1,4 @@
-use Rattle.std.proofs.Common.{◌≡◌, ◌+◌, ◌≤◌, length, take, vec_len, vec_capacity}
-use Rattle.cdc_ledger.specs.Recorded.{AreRecorded, grown}
-use Rattle.cdc_ledger.specs.EmittedHistory.{IsEmitted}
+use Rattle.cdc_ledger.proofs.Words.{◌+◌, ◌≡◌, ◌≤◌, AreRecorded, IsEmitted, grown, length, take, vec_capacity, vec_len}
 use Rattle.cdc_ledger.proofs.tables.Tables.take_transfer_chain.Given as goal
 
 -- this number of the entries was logged

@@ -1,8 +1,4 @@
-use Rattle.std.proofs.Common.{◌≡◌, ◌+◌, ◌-◌, ◌≤◌, ◌<◌, [], length, take, vec_len, vec_capacity}
-use Rattle.std.specs.List.{AllByRecursion}
-use Rattle.cdc_ledger.specs.Fits.{NewTransferFits}
-use Rattle.cdc_ledger.specs.Submit.{transfer_rules}
-use Rattle.cdc_ledger.specs.EmittedHistory.{IsEmitted}
+use Rattle.cdc_ledger.proofs.Words.{[], ◌+◌, ◌-◌, ◌<◌, ◌≡◌, ◌≤◌, AllByRecursion, IsEmitted, NewTransferFits, length, take, transfer_rules, vec_capacity, vec_len}
 use Rattle.cdc_ledger.proofs.BatchLaws.{ItemsGoOn}
 use Rattle.cdc_ledger.proofs.tables.Tables.take_transfers.Given as goal
 

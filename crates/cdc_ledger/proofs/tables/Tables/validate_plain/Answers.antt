@@ -1,14 +1,4 @@
-use Rattle.std.proofs.Common.{◌≡◌, ◌∙◌, sym, ap, ap₂, subst, get_or, arith}
-use Rattle.cdc_types.specs.declared.accounts.Account.{Account}
-use Rattle.cdc_types.specs.declared.events.Entry.{Entry}
-use Rattle.cdc_types.specs.declared.events.EventKind.{EventKind}
-use Rattle.cdc_types.specs.declared.transfers.Transfer.{Transfer}
-use Rattle.cdc_ledger.specs.Accounts.{no_balances}
-use Rattle.cdc_ledger.specs.Effects.{settled_by}
-use Rattle.cdc_ledger.specs.Events.{account_with, accounts_now, nobody}
-use Rattle.cdc_ledger.specs.Follows.{Follows}
-use Rattle.cdc_ledger.specs.Movements.{IsPlace}
-use Rattle.cdc_ledger.specs.Submit.{entry_of}
+use Rattle.cdc_ledger.proofs.Words.{◌∙◌, ◌≡◌, Account, Entry, EventKind, Follows, IsPlace, Transfer, account_with, accounts_now, ap, ap₂, arith, entry_of, get_or, no_balances, nobody, settled_by, subst, sym}
 use Rattle.cdc_ledger.proofs.AcceptedLaws.{Follows-accepted}
 use Rattle.cdc_ledger.proofs.Validated.{IsOpened-place, unopened-no_place, bounded-opened, first_line-plain, first_line-between, first_line-no_debit, first_line-no_credit, filled-plain, settled-plain}
 use Rattle.cdc_ledger.proofs.tables.Tables.validate_plain.Goals as goal
