@@ -4,7 +4,7 @@ use Rattle.std.proofs.lemmas.List.Folds.{list_any-append}
 use Rattle.std.proofs.lemmas.List.Sums.{sum_by_push, sum_by-cons}
 use Rattle.std.proofs.lemmas.Bool.{and_parts, and_right, eqb-true, eqb-false, eq-eqb, false≢true, ne_eqb, lt-leb}
 use Rattle.cdc_ledger.proofs.Changes.{pushed, IsUpTo, part, balances_after_entry, effect_of, no_balances}
-use Rattle.cdc_ledger.proofs.Elements.{AllByRecursion-weaker, AllByRecursion-both, sum_by_same, sum_by_every, sum_by_zero, list_any_same, list_any_none}
+use Rattle.cdc_ledger.proofs.Elements.{AllByRecursion-weaker, AllByRecursion-both, sum_by_same, sum_by_every, sum_by_zero, list_any_same, list_any_none, or_none}
 use Rattle.cdc_ledger.proofs.StoredLaws.{is_stored, stored_has, apart-cons}
 
 -- `balances` reads the entries alone, so a change of accounts, last or closed leaves it by computation
@@ -73,16 +73,7 @@ balances_later h a s t within later =
 pub resolved-pushed : (h : History) (e : Entry) (p : Transfer) (t : ℕ)
     → resolved (pushed h e) p t ≡ (resolved h p t || (nat_le e.timestamp t && resolves p e))
 resolved-pushed h e p t = list_any-append (λ x. nat_le x.timestamp t && resolves p x) h.entries (e ∷ [])
-    ∙ ap (λ b. resolved h p t || b) (or_no _)
-  where
-    or_no : (b : Bool) → (b || false) ≡ b
-    or_no true = refl
-    or_no false = refl
-
--- if an entry resolves nothing, exactly the transfers that were resolved before are resolved
-or_none : (b c : Bool) → c ≡ false → (b || c) ≡ b
-or_none true c q = refl
-or_none false c q = q
+    ∙ ap (λ b. resolved h p t || b) (or_none _ false refl)
 
 -- the sums of one side, after one more entry that resolves nothing up to the timestamp t
 module _ (h : History) (e : Entry) (a t : ℕ)

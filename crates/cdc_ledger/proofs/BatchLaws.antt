@@ -6,6 +6,7 @@ use Rattle.std.proofs.lemmas.Bool.{eq-eqb, ne_eqb}
 use Rattle.std.proofs.lemmas.List.{take_more, at_drop_more, at_drop_all, drop_all, length-take-le, take-append-drop, take_all}
 use Rattle.std.proofs.Math.Seq.{drop-drop, take-length, drop-length}
 use Rattle.cdc_ledger.proofs.Elements.{AllByRecursion_push}
+use Rattle.cdc_ledger.proofs.ChainLaws.{unrefused_itself}
 
 -- the value that is read past the last request
 abbrev pub no_account : NewAccount
@@ -132,7 +133,8 @@ AllByRecursion_parts P xs n front back =
 pub AllByRecursion_more : {X : Type 0} (P : X → Type 0) (xs : List X) (i : ℕ) (d : X) → i < length xs
     → AllByRecursion P (take i xs) → P (get_or xs i d) → AllByRecursion P (take (i + 1) xs)
 AllByRecursion_more P xs i d inside front one =
-    subst (AllByRecursion P) (sym (take_more xs i d inside)) (AllByRecursion_push P (take i xs) (get_or xs i d) front one)
+    subst (AllByRecursion P) (sym (take_more xs i d inside))
+    (AllByRecursion_push P (take i xs) (get_or xs i d) front one)
 
 -- what holds of the first i elements and of the n after them
 all_further : {X : Type 0} (P : X → Type 0) (i : ℕ) (xs : List X) (n m : ℕ) → m ≡ i + n
@@ -210,11 +212,6 @@ module _ {A R : Type 0} (rules : Rules A R) where
         ap (rules.refused (taken_all rules (rules.taken h x t) (t + 1) items) a) (omega arith) ∙ rest.1,
       )
 
-  -- what isn't refused for its chain isn't refused for itself
-  itself : (b : Bool) (o : Option R) → (if b then Some rules.unfinished else o) ≡ None → o ≡ None
-  itself true o none = cc
-  itself false o none = none
-
   -- the history after one item more of a list
   pub taken_all_more : (h : History) (t : ℕ) (all : List A) (i : ℕ) (d : A) → i < length all
       → taken_all rules h t (take (i + 1) all) ≡ rules.taken (taken_all rules h t (take i all)) (get_or all i d) (t + i)
@@ -247,7 +244,7 @@ module _ {A R : Type 0} (rules : Rules A R) where
       let left : List A = drop (i + 1) chain in
       let is : refused_in_chain rules g a (is_none_left left) (t + i) ≡ None =
       ap (λ b. refused_in_chain rules g a b (t + i)) (sym (last_left chain i inside)) ∙ unrefused in
-      let own = itself (rules.linked a && is_none_left left) (rules.refused g a (t + i)) is in
+      let own = unrefused_itself (rules.linked a && is_none_left left) rules.unfinished (rules.refused g a (t + i)) is in
       let same : g ≡ taken_all rules h t (take i chain) = on.made in
       record {
         rest = on.rest
@@ -318,7 +315,8 @@ module _ {A R : Type 0} (rules : Rules A R) where
 
   -- it takes its timestamps alone
   pub failed_history : (h : History) (t : ℕ) (chain : List A) (stop : ℕ × R) (g k : History) → 0 < length chain
-      → IsStopped rules h t chain (Some stop) g → k ≡ timed h (t + (length chain - 1)) → k ≡ history_after rules h t chain
+      → IsStopped rules h t chain (Some stop) g → k ≡ timed h (t + (length chain - 1))
+      → k ≡ history_after rules h t chain
   failed_history h t chain stop g k some stopped same =
       same ∙ ap (timed h) (omega arith)
       ∙ sym (ap (λ (q : List R × Option History). unwrap_or q.1 (timed h (t + length chain - 1))) stopped.1)

@@ -1,5 +1,5 @@
 -- What the chains of a batch keep of a history, whatever the rules of its items.
-use Rattle.cdc_ledger.proofs.Words.{[], ◌&&◌, ◌+◌, ◌-◌, ◌<◌, ◌∙◌, ◌∷◌, ◌≡◌, ◌≤◌, AreUnrefused, Bool, History, IfSome, List, None, Option, Rules, Some, arith, before_others, chains_from, chains_of, false, history_after, if◌then◌else◌, in_front, is_none_left, items_from, length, played, refl, refused_in_chain, taken_all, timed, true, unwrap_or, ℕ}
+use Rattle.cdc_ledger.proofs.Words.{[], ◌&&◌, ◌+◌, ◌-◌, ◌<◌, ◌∷◌, ◌≡◌, ◌≤◌, AreUnrefused, Bool, History, IfSome, List, None, Option, Rules, Some, arith, before_others, chains_from, chains_of, false, history_after, if◌then◌else◌, in_front, is_none_left, items_from, length, played, refl, refused_in_chain, taken_all, timed, true, unwrap_or, ℕ}
 
 -- how many items there are in these chains
 abbrev total : {A : Type 0} → List (List A) → ℕ

@@ -1,5 +1,5 @@
 -- What holds of each element, and what functions that agree on each element make of the list.
-use Rattle.cdc_ledger.proofs.Words.{[], ◌++◌, ◌+◌, ◌||◌, ◌∙◌, ◌∷◌, ◌≡◌, AllByRecursion, Bool, List, ap, ap₂, false, list_any, map, refl, sum_by, sym, ℕ}
+use Rattle.cdc_ledger.proofs.Words.{[], ◌++◌, ◌+◌, ◌||◌, ◌∙◌, ◌∷◌, ◌≡◌, AllByRecursion, Bool, List, ap, ap₂, false, list_any, map, refl, sum_by, sym, ℕ, true, find, Option, Some, None, if◌then◌else◌, subst}
 use Rattle.std.proofs.lemmas.List.Sums.{sum_by-cons}
 
 module _ {X : Type 0} where
@@ -56,6 +56,41 @@ module _ {X : Type 0} where
   pub map_same : {Y : Type 0} (f g : X → Y) (xs : List X) → AllByRecursion (λ x. f x ≡ g x) xs → map f xs ≡ map g xs
   map_same f g [] h = refl
   map_same f g (x ∷ xs) h = ap₂ (λ a b. a ∷ b) h.0 (map_same f g xs h.1)
+
+-- what a search finds
+module _ {X : Type 0} (test : X → Bool) where
+  -- the first element is found, or a later one: either way it passes and has what all have
+  found_from : (P : X → Type 0) (b : Bool) (x found : X) (rest : Option X) → test x ≡ b → P x
+      → (rest ≡ Some found → (test found ≡ true) × P found)
+      → (if b then Some x else rest) ≡ Some found → (test found ≡ true) × P found
+  found_from P true x found rest is here later e = let same : x ≡ found = cc in
+      subst (λ y. (test y ≡ true) × P y) same (is, here)
+  found_from P false x found rest is here later e = later e
+
+  -- what is found passes the test, and has what all have
+  pub find_all : (P : X → Type 0) (xs : List X) (found : X) → AllByRecursion P xs → find test xs ≡ Some found
+      → (test found ≡ true) × P found
+  find_all P [] found all e = cc
+  find_all P (x ∷ xs) found all e =
+      found_from P (test x) x found (find test xs) refl all.0 (find_all P xs found all.1) e
+
+  -- if none is found, the first one fails and none of the others is found
+  pub not_found_from : (b : Bool) (x : X) (rest : Option X) → test x ≡ b → (if b then Some x else rest) ≡ None
+      → (test x ≡ false) × (rest ≡ None)
+  not_found_from true x rest is e = cc
+  not_found_from false x rest is e = (is, e)
+
+  -- if none is found, none passes
+  pub find_none : (xs : List X) → find test xs ≡ None → AllByRecursion (λ x. test x ≡ false) xs
+  find_none [] e = tt
+  find_none (x ∷ xs) e =
+      let both : (test x ≡ false) × (find test xs ≡ None) = not_found_from (test x) x (find test xs) refl e in
+      (both.0, find_none xs both.1)
+
+-- a test that fails adds nothing to another
+pub or_none : (b c : Bool) → c ≡ false → (b || c) ≡ b
+or_none true c fails = refl
+or_none false c fails = fails
 
 -- one map after another
 pub map-map : {X Y Z : Type 0} (g : Y → Z) (f : X → Y) (xs : List X) → map g (map f xs) ≡ map (λ x. g (f x)) xs

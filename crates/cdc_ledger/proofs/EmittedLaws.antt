@@ -1,5 +1,5 @@
 -- The log and the index of a history stay correct.
-use Rattle.cdc_ledger.proofs.Words.{[], ◌++◌, ◌+◌, ◌<◌, ◌^◌, ◌∙◌, ◌∷◌, ◌≡◌, ◌≤◌, AllByRecursion, Answers, BatchError, BatchResults, BatchTooLarge, Emitted, Entry, Err, Event, Follows, History, IfSome, IsEmitted, IsNewTimestamp, IsSound, LedgerClosed, List, Movement, NewAccount, Ok, Option, OutOfMemory, Result, TimestampsExhausted, Transfer, account_rules, accounts_from, ap, ap₂, arith, base, ends_after, event_of, events, expires_at, false, index_of, is_past_the_end, last_timestamp, last_timestamp_from, length, map, max_timestamp, opened_by, opens, pushed, refl, settled_by, settled_transfer, subst, sym, taken, timed, true, with_account, ℕ}
+use Rattle.cdc_ledger.proofs.Words.{[], ◌++◌, ◌+◌, ◌<◌, ◌^◌, ◌∙◌, ◌∷◌, ◌≡◌, ◌≤◌, AllByRecursion, Answers, BatchError, BatchResults, Emitted, Entry, Err, Event, Follows, History, IfSome, IsEmitted, IsNewTimestamp, IsSound, List, Movement, NewAccount, Ok, Option, OutOfMemory, Result, Transfer, account_rules, accounts_from, ap, ap₂, arith, base, ends_after, event_of, events, expires_at, index_of, last_timestamp, last_timestamp_from, length, map, max_timestamp, opened_by, opens, pushed, refl, settled_by, settled_transfer, subst, sym, timed, true, with_account, ℕ}
 use Rattle.cdc_types.specs.declared.batches.Batch.TheVariants as batch
 use Rattle.cdc_ledger.proofs.AcceptedLaws.{accepted_account}
 use Rattle.cdc_ledger.proofs.ChainLaws.{items_from-keeps}

@@ -1,12 +1,12 @@
 -- How pending transfers ended, once one more entry came.
-use Rattle.cdc_ledger.proofs.Words.{[], ◌&&◌, ◌++◌, ◌<◌, ◌==◌, ◌||◌, ◌∙◌, ◌∷◌, ◌≡◌, ◌≤◌, AllByRecursion, Bool, Ending, Entry, EventKind, Follows, History, IfSome, IsSound, IsStoredAt, List, None, Open, Option, Pending, SinglePhase, Some, Transfer, TwoPhaseExpired, TwoPhasePending, TwoPhasePosted, TwoPhaseVoided, ap, ap₂, arith, ending_among, ending_by, ending_from, ending_of, endings_after, endings_of, expires, false, get_or, holds, if◌then◌else◌, length, list_any, map, nat_le, option_map, posts, refl, resolves, set, settled_by, settled_id, settles, stored, stores, suc, sym, true, voids, zero, ℕ}
+use Rattle.cdc_ledger.proofs.Words.{[], ◌&&◌, ◌++◌, ◌<◌, ◌==◌, ◌||◌, ◌∙◌, ◌∷◌, ◌≡◌, ◌≤◌, AllByRecursion, Bool, Ending, Entry, EventKind, Follows, History, IfSome, IsSound, IsStoredAt, List, None, Open, Option, Pending, Some, Transfer, TwoPhaseExpired, TwoPhasePosted, TwoPhaseVoided, ap, ap₂, arith, ending_among, ending_by, ending_from, ending_of, endings_after, endings_of, expires, false, get_or, holds, if◌then◌else◌, length, list_any, map, nat_le, option_map, posts, refl, resolves, set, settled_by, settled_id, settles, stored, stores, suc, sym, true, voids, zero, ℕ}
 use Rattle.std.specs.List.{slice_get}
 use Rattle.std.proofs.lemmas.Bool.{and_right, false≢true, le-leb, ne_eqb, and_from, eq-eqb}
 use Rattle.std.proofs.lemmas.List.{length-map, map-append, map_push}
 use Rattle.std.proofs.lemmas.List.Folds.{list_any-append}
 use Rattle.std.proofs.lemmas.Option.{slice_get-get_or, slice_get-map, slice_get_within}
 use Rattle.cdc_ledger.proofs.BalanceLaws.{holds-settles, resolved_none, resolves_is, settled_by_is, settled_by_none, stores-holds}
-use Rattle.cdc_ledger.proofs.Elements.{AllByRecursion-every, map_same}
+use Rattle.cdc_ledger.proofs.Elements.{AllByRecursion-every, map_same, or_none}
 use Rattle.cdc_ledger.proofs.IndexKept.{settles-settled_by}
 use Rattle.cdc_ledger.proofs.Pending.{Around, Around-weaker, IsAmong, IsOther, IsOther-around, IsStored-found}
 
@@ -49,24 +49,16 @@ unended_from p t (e ∷ es) past none =
       unexpired = ap₂ (λ a b. a || b) own.unexpired rest.unexpired;
     }
 
--- one more entry may pass a test that none passed before
-or_last : (a b : Bool) → (a || (b || false)) ≡ (a || b)
-or_last false true = refl
-or_last a b = refl
-
 -- whether one of the entries passes, with one more
 any_pushed : (test : Entry → Bool) (es : List Entry) (e : Entry)
     → list_any test (es ++ e ∷ []) ≡ (list_any test es || test e)
-any_pushed test es e = list_any-append test es (e ∷ []) ∙ or_last (list_any test es) (test e)
+any_pushed test es e = list_any-append test es (e ∷ [])
+    ∙ ap (λ b. list_any test es || b) (or_none (test e) false refl)
 
 -- a test that the last entry fails
 any_kept : (test : Entry → Bool) (es : List Entry) (e : Entry) → test e ≡ false
     → list_any test (es ++ e ∷ []) ≡ list_any test es
-any_kept test es e fails = any_pushed test es e ∙ or_false (list_any test es) (test e) fails
-  where
-    or_false : (a b : Bool) → b ≡ false → (a || b) ≡ a
-    or_false true b none = refl
-    or_false false b none = none
+any_kept test es e fails = any_pushed test es e ∙ or_none (list_any test es) (test e) fails
 
 -- a test that the last entry alone may pass
 any_last : (test : Entry → Bool) (es : List Entry) (e : Entry) → list_any test es ≡ false

@@ -5,6 +5,7 @@ use Rattle.std.proofs.lemmas.List.{append-nil}
 use Rattle.cdc_ledger.proofs.IndexTriples.{triples_from-push, triples_from-same, filter-triples_from}
 use Rattle.cdc_ledger.proofs.BalanceLaws.{holds-settles, resolved_later, resolved_none, resolved_then, stores-holds}
 use Rattle.cdc_ledger.proofs.Pending.{All-from_around, Around-weaker, IsOther, IsOther-around, IsStored, IsStored-found}
+use Rattle.cdc_ledger.proofs.Elements.{or_none}
 
 -- the triple of the entry, resolved or not
 abbrev open_by : Bool → Entry → Bool
@@ -37,11 +38,6 @@ ends e y = settles e.kind && (settled_id e.kind e.transfer == y.transfer.id)
 is_open-then : (h : History) (e y : Entry) → IsSound h → h.last < e.timestamp
     → is_open (pushed h e) y ≡ open_by (resolved h y.transfer h.last || ends e y) y
 is_open-then h e y sound after = ap (λ b. open_by b y) (resolved_then h e y.transfer sound.past after)
-
--- if the new entry settles nothing, exactly the transfers that were resolved before are resolved
-or_none : (b c : Bool) → c ≡ false → (b || c) ≡ b
-or_none true c none = refl
-or_none false c none = none
 
 -- a new pending transfer isn't resolved yet, so it has a triple if and only if it has a timeout
 new_open : (held timed done : Bool) → (held ≡ true → done ≡ false) → (held && timed && not done) ≡ (held && timed)

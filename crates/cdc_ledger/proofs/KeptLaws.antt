@@ -1,5 +1,5 @@
 -- A whole batch keeps what holds of every history, whatever the verdicts are.
-use Rattle.cdc_ledger.proofs.Words.{[], ⊎_elim, ◌+◌, ◌-◌, ◌<◌, ◌==◌, ◌∷◌, ◌≡◌, ◌≤◌, Batch, BatchError, BatchResults, BatchTooLarge, Bool, Err, History, IsLegal, IsSound, LedgerClosed, List, NewAccount, NewTransfer, None, Ok, Option, Result, Some, TimestampsExhausted, account_rules, accounts_from, after_batches, answered, arith, base, batch_error_number, due, empty_history, entry_of, false, history_or, if◌then◌else◌, is_past_the_end, is_too_large, items_of, length, max_timestamp, nat_lt, opened_by, refl, refusal_of, submit, subst, sym, taken, time, transfer_rules, transfers_from, ℕ}
+use Rattle.cdc_ledger.proofs.Words.{[], ⊎_elim, ◌+◌, ◌-◌, ◌<◌, ◌∷◌, ◌≡◌, ◌≤◌, Batch, BatchError, BatchResults, BatchTooLarge, Bool, Err, History, IsLegal, IsSound, LedgerClosed, List, NewAccount, NewTransfer, None, Ok, Option, Result, Some, TimestampsExhausted, account_rules, accounts_from, after_batches, answered, arith, base, batch_error_number, due, empty_history, entry_of, false, history_or, is_past_the_end, is_too_large, items_of, length, max_timestamp, nat_lt, opened_by, refl, refusal_of, submit, subst, sym, taken, time, transfer_rules, transfers_from, ℕ}
 use Rattle.std.proofs.Common.{◌||◌}
 use Rattle.std.proofs.lemmas.Bool.{and_cases, ltb-false}
 use Rattle.cdc_types.specs.declared.batches.Batch.TheVariants as batch

@@ -1,5 +1,5 @@
 -- What the answer to a batch keeps of the ledger's history.
-use Rattle.cdc_ledger.proofs.Words.{◌+◌, ◌≡◌, ◌≤◌, Account, Answers, Balances, Batch, BatchError, BatchFits, BatchResults, BatchTooLarge, Err, History, IfSome, IsBounded, IsLegal, LedgerClosed, None, Ok, OnOk, Opened, Option, OutOfMemory, Result, Some, TimestampsExhausted, account_now, ap, balances, max_128, opened, option_map, refl, subst, sym, ℕ}
+use Rattle.cdc_ledger.proofs.Words.{◌+◌, ◌≡◌, ◌≤◌, Account, Answers, Balances, Batch, BatchError, BatchFits, BatchResults, Err, History, IfSome, IsBounded, IsLegal, None, Ok, OnOk, Opened, Option, OutOfMemory, Result, Some, account_now, ap, balances, max_128, opened, option_map, refl, subst, sym, ℕ}
 use Rattle.cdc_ledger.proofs.LegalLaws.{IsLegal-submit}
 use Rattle.cdc_ledger.proofs.OpenedLaws.{opened_id}
 

@@ -1,10 +1,10 @@
 -- Which account is opened once there is one more.
-use Rattle.cdc_ledger.proofs.Words.{[], ◌++◌, ◌==◌, ◌∙◌, ◌∷◌, ◌≡◌, ◌≢◌, AllByRecursion, AreApart, Bool, Entry, HasAccounts, History, IsSome, List, None, Opened, Option, Some, ap, false, find, if◌then◌else◌, is_some, map, opened, option_or, refl, subst, sym, true, ℕ}
+use Rattle.cdc_ledger.proofs.Words.{[], ◌++◌, ◌==◌, ◌∙◌, ◌∷◌, ◌≡◌, ◌≢◌, AllByRecursion, AreApart, Entry, HasAccounts, History, IsSome, List, None, Opened, Option, Some, ap, find, if◌then◌else◌, is_some, map, opened, option_or, refl, subst, sym, ℕ}
 use Rattle.std.proofs.lemmas.List.Folds.{find-append}
 use Rattle.std.proofs.lemmas.Bool.{eqb-true, eqb-false}
 use Rattle.std.proofs.lemmas.List.{map_push}
 use Rattle.cdc_ledger.proofs.Changes.{with_account}
-use Rattle.cdc_ledger.proofs.Elements.{AllByRecursion_push}
+use Rattle.cdc_ledger.proofs.Elements.{AllByRecursion_push, AllByRecursion-every, find_all, not_found_from}
 
 -- an id is looked up among the accounts that were there, and then it may be the new one's
 pub opened-with_account : (h : History) (o : Opened) (id : ℕ)
@@ -21,26 +21,11 @@ pub opened-with_account_same : (h : History) (o : Opened) (id : ℕ) → IsSome 
     → opened (with_account h o) id ≡ opened h id
 opened-with_account_same h o id there = opened-with_account h o id ∙ some_stays (opened h id) _ there
 
--- a new account with another id adds nothing to the answer
-or_none : (p : Option Opened) → option_or p None ≡ p
-or_none None = refl
-or_none (Some x) = refl
-
--- what is found has the id, be it the first account or a later one
-found_id : (id : ℕ) (o x : Opened) (rest : Option Opened) (b : Bool) → (x.request.id == id) ≡ b
-    → (rest ≡ Some o → o.request.id ≡ id) → (if b then Some x else rest) ≡ Some o → o.request.id ≡ id
-found_id id o x rest true same later e = let is : x.request.id ≡ id = eqb-true x.request.id id same in cc
-found_id id o x rest false same later e = later e
-
--- so it is with the whole list of accounts
-find_id : (id : ℕ) (o : Opened) (xs : List Opened) → find (λ x. x.request.id == id) xs ≡ Some o → o.request.id ≡ id
-find_id id o [] e = cc
-find_id id o (x ∷ xs) e = found_id id o x (find (λ y. y.request.id == id) xs) (x.request.id == id) refl
-    (find_id id o xs) e
-
 -- the account that is found has the id
 pub opened_id : (h : History) (o : Opened) (id : ℕ) → opened h id ≡ Some o → o.request.id ≡ id
-opened_id h o id e = find_id id o h.accounts e
+opened_id h o id e =
+    eqb-true o.request.id id (find_all (λ x. x.request.id == id) (λ x. Unit {0}) h.accounts o
+    (AllByRecursion-every (λ x. Unit {0}) (λ x. tt) h.accounts) e).0
 
 -- what holds of the accounts of every entry stays
 pub HasAccounts-with_account : (h : History) (o : Opened) (e : Entry) → HasAccounts h e
@@ -58,20 +43,14 @@ AreApart_push [] n apart new = (tt, tt)
 AreApart_push (m ∷ ns) n apart new =
     (AllByRecursion_push (λ k. m ≢ k) ns n apart.0 new.0, AreApart_push ns n apart.1 new.1)
 
--- if no account is found, neither the first one nor a later one has the id
-not_found_id : (id : ℕ) (x : Opened) (rest : Option Opened) (b : Bool) → (x.request.id == id) ≡ b
-    → (if b then Some x else rest) ≡ None → (x.request.id ≢ id) × (rest ≡ None)
-not_found_id id x rest true same e = cc
-not_found_id id x rest false same e = (eqb-false x.request.id id same, e)
-
--- so a free id is unlike the ids of all accounts
+-- a free id is unlike the ids of all accounts
 free_ids : (id : ℕ) (xs : List Opened) → find (λ x. x.request.id == id) xs ≡ None
     → AllByRecursion (λ m. m ≢ id) (map (λ x. x.request.id) xs)
 free_ids id [] e = tt
 free_ids id (x ∷ xs) e =
-    let both : (x.request.id ≢ id) × (find (λ y. y.request.id == id) xs ≡ None) =
-    not_found_id id x (find (λ y. y.request.id == id) xs) (x.request.id == id) refl e in
-    (both.0, free_ids id xs both.1)
+    let both = not_found_from (λ y. y.request.id == id) (x.request.id == id) x (find (λ y. y.request.id == id) xs)
+    refl e in
+    (eqb-false x.request.id id both.0, free_ids id xs both.1)
 
 -- one more account, of a free id, is apart from the others
 pub AreApart-with_account : (h : History) (o : Opened) → AreApart (map (λ x. x.request.id) h.accounts)

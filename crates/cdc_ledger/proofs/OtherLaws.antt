@@ -4,7 +4,7 @@ use Rattle.std.proofs.lemmas.Bool.{and_parts, and_right, eqb-true, ne_eqb, false
 use Rattle.std.proofs.lemmas.List.Sums.{sum_by_push}
 use Rattle.cdc_ledger.proofs.BalanceLaws.{same_balances, resolved_later, resolved-pushed, resolves_is, stores-holds, seen_alike, moved_agree, held_by}
 use Rattle.cdc_ledger.proofs.Changes.{pushed, IsUpTo}
-use Rattle.cdc_ledger.proofs.Elements.{AllByRecursion-weaker, AllByRecursion-both, sum_by_same}
+use Rattle.cdc_ledger.proofs.Elements.{AllByRecursion-weaker, AllByRecursion-both, sum_by_same, or_none}
 use Rattle.cdc_ledger.proofs.StoredLaws.{stored_each}
 
 -- if the entry e settles the entry x, both have the same accounts
@@ -68,11 +68,7 @@ module _ (h : History) (e : Entry) (a : ℕ) (within : IsUpTo h.last h) (after :
       (resolved-pushed h e x.transfer e.timestamp
       ∙ (ap₂ (λ b c. b || c) (resolved_later h x.transfer h.last e.timestamp within (omega arith))
       (and_right (nat_le e.timestamp e.timestamp) (resolves x.transfer e) unresolved)
-      ∙ or_no (resolved h x.transfer h.last)))
-    where
-      or_no : (b : Bool) → (b || false) ≡ b
-      or_no true = refl
-      or_no false = refl
+      ∙ or_none (resolved h x.transfer h.last) false refl))
 
   -- an entry that holds nothing, or that this one doesn't settle, holds as much as before
   held_either : (x : Entry) (holding done : Bool) → holds x.kind ≡ holding → resolves x.transfer e ≡ done

@@ -1,5 +1,5 @@
 -- What a pulse answers: a refusal, how many expired, or that memory ran out.
-use Rattle.cdc_ledger.proofs.Words.{[], ◌<◌, ◌∙◌, ◌∷◌, ◌≡◌, Answers, BatchError, BatchResults, BatchTooLarge, Bool, Err, History, IsErrAnd, IsOk, IsSound, LedgerClosed, None, Ok, OutOfMemory, Pulse, Pulsed, Result, Some, TimestampsExhausted, Triples, answered, ap, ap₂, base, due, due_at, expiries_from, false, first_line, index_of, is_past_the_end, length, refl, refusal_at, submit, subst, sym, true, ℕ}
+use Rattle.cdc_ledger.proofs.Words.{[], ◌<◌, ◌∙◌, ◌∷◌, ◌≡◌, Answers, BatchError, BatchResults, BatchTooLarge, Bool, Err, History, IsErrAnd, IsOk, IsSound, LedgerClosed, None, Ok, OutOfMemory, Pulse, Pulsed, Result, Some, TimestampsExhausted, Triples, answered, ap, ap₂, base, due, due_at, expiries_from, false, first_line, index_of, is_past_the_end, length, refl, refusal_at, submit, subst, sym, ℕ}
 use Rattle.std.specs.FinSet as set
 use Rattle.cdc_ledger.proofs.IndexKept.{due_count-index_of}
 

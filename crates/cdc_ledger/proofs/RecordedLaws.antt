@@ -1,5 +1,5 @@
 -- What the ledger's tables are once their last entry or their last account was taken out again.
-use Rattle.cdc_ledger.proofs.Words.{[], ◌&&◌, ◌++◌, ◌+◌, ◌-◌, ◌<◌, ◌==◌, ◌∙◌, ◌∷◌, ◌≡◌, ◌≢◌, ◌≤◌, Account, AreApart, AreRecorded, Bool, Effect, Ending, Entry, History, IfSome, Inside, IsKept, IsLastOpened, IsLastRecorded, IsRecorded, IsStoredAt, List, Movement, None, Open, Opened, Option, Pending, Recorded, Some, Vec, account_after, account_ids, account_now, account_place, account_with, accounts_after, accounts_now, ap, ap₂, arith, credited_account, debited_account, effect_of_movement, ending_by, endings_after, endings_before, endings_of, false, find, get_or, grown, history_of, if◌then◌else◌, length, length-append, map, no_balances, nobody, opened, opened_as, opened_by, option_map, place_of, position, pushed, refl, set, settled_by, stored, stored_place, stores, subst, sym, take, true, with_account, with_items, without_account, without_entry, ℕ}
+use Rattle.cdc_ledger.proofs.Words.{[], ◌&&◌, ◌++◌, ◌+◌, ◌-◌, ◌<◌, ◌==◌, ◌∙◌, ◌∷◌, ◌≡◌, ◌≢◌, Account, AreApart, AreRecorded, Bool, Effect, Ending, Entry, History, IfSome, Inside, IsKept, IsLastOpened, IsLastRecorded, IsRecorded, IsStoredAt, List, Movement, None, Open, Opened, Option, Pending, Recorded, Some, Vec, account_after, account_ids, account_now, account_place, account_with, accounts_after, accounts_now, ap, ap₂, arith, credited_account, debited_account, effect_of_movement, ending_by, endings_after, endings_before, endings_of, false, find, get_or, grown, history_of, if◌then◌else◌, length, length-append, map, no_balances, nobody, opened, opened_as, opened_by, option_map, place_of, position, pushed, refl, set, settled_by, stored, stored_place, stores, subst, sym, take, true, with_account, with_items, without_account, without_entry, ℕ}
 use Rattle.std.specs.List.{slice_get}
 use Rattle.std.proofs.Math.Seq.{take-append_seam}
 use Rattle.std.proofs.lemmas.Bool.{and_parts, eqb-true}

@@ -1,5 +1,5 @@
 -- Each change keeps what holds of every history.
-use Rattle.cdc_ledger.proofs.Words.{Some, [], ◌++◌, ◌+◌, ◌-◌, ◌<◌, ◌==◌, ◌∷◌, ◌≡◌, ◌≤◌, AllByRecursion, Balances, Bool, Entry, EventKind, Follows, HasAccounts, HasRoom, History, IsSound, List, None, Opened, RiseFrom, Settles, SettlesOpen, SinglePhase, Stands, TwoPhaseExpired, TwoPhasePending, TwoPhasePosted, TwoPhaseVoided, amount_of, ap, arith, balances, empty_history, false, holds, if◌then◌else◌, max_128, max_timestamp, moves, opened, refl, settles, subst, sym, true, ℕ, stored, settled_id}
+use Rattle.cdc_ledger.proofs.Words.{Some, [], ◌++◌, ◌+◌, ◌-◌, ◌<◌, ◌==◌, ◌∷◌, ◌≡◌, ◌≤◌, AllByRecursion, Balances, Bool, Entry, EventKind, Follows, HasAccounts, HasRoom, History, IsSound, List, None, Opened, RiseFrom, Settles, SettlesOpen, Stands, TwoPhasePending, amount_of, ap, arith, balances, empty_history, false, holds, if◌then◌else◌, max_128, max_timestamp, moves, opened, refl, settles, subst, sym, true, ℕ, stored, settled_id}
 use Rattle.std.proofs.lemmas.Bool.{eqb-true}
 use Rattle.cdc_ledger.proofs.Changes.{pushed, with_account, timed, IsUpTo, effect_of}
 use Rattle.cdc_ledger.proofs.Elements.{AllByRecursion-weaker, AllByRecursion_push}

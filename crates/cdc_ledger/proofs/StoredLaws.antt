@@ -1,10 +1,11 @@
 -- Which entry stored the transfer of an id, and that there is one at most.
-use Rattle.cdc_ledger.proofs.Words.{[], ◌&&◌, ◌++◌, ◌==◌, ◌∙◌, ◌∷◌, ◌≡◌, ◌≢◌, AllByRecursion, AreApart, Bool, Entry, History, List, None, Option, Some, ap, false, filter, find, if◌then◌else◌, map, option_or, refl, stored, stored_ids, stored_in, stores, subst, sym, true, ℕ}
+use Rattle.cdc_ledger.proofs.Words.{[], ◌&&◌, ◌++◌, ◌==◌, ◌∙◌, ◌∷◌, ◌≡◌, ◌≢◌, AllByRecursion, AreApart, Bool, Entry, History, List, None, Some, ap, false, filter, if◌then◌else◌, map, option_or, refl, stored, stored_ids, stored_in, stores, subst, sym, true, ℕ}
 use Rattle.std.proofs.lemmas.List.Folds.{find-append}
 use Rattle.std.proofs.lemmas.Bool.{and_from, and_right, eqb-false, eq-eqb, ne_eqb, false≢true}
 use Rattle.cdc_ledger.proofs.Changes.{pushed}
 use Rattle.cdc_ledger.proofs.Elements.{AllByRecursion-weaker, AllByRecursion-both}
 use Rattle.cdc_ledger.proofs.OpenedLaws.{AreApart_push}
+pub use Rattle.cdc_ledger.proofs.Elements.{find_all, find_none}
 
 -- the entry stored a transfer of this id
 abbrev pub is_stored : ℕ → Entry → Bool
@@ -19,35 +20,6 @@ stored-pushed h e id = find-append (is_stored id) h.entries (e ∷ [])
 pub stored-pushed_kept : (h : History) (e x : Entry) (id : ℕ) → stored h id ≡ Some x → stored (pushed h e) id ≡ Some x
 stored-pushed_kept h e x id there =
     stored-pushed h e id ∙ ap (λ p. option_or p (if is_stored id e then Some e else None)) there
-
-module _ {X : Type 0} (test : X → Bool) where
-  -- the first element is found, or a later one: either way it passes and has what all have
-  found_from : (P : X → Type 0) (b : Bool) (x found : X) (rest : Option X) → test x ≡ b → P x
-      → (rest ≡ Some found → (test found ≡ true) × P found)
-      → (if b then Some x else rest) ≡ Some found → (test found ≡ true) × P found
-  found_from P true x found rest is here later e = let same : x ≡ found = cc in
-      subst (λ y. (test y ≡ true) × P y) same (is, here)
-  found_from P false x found rest is here later e = later e
-
-  -- what is found passes the test, and has what all have
-  pub find_all : (P : X → Type 0) (xs : List X) (found : X) → AllByRecursion P xs → find test xs ≡ Some found
-      → (test found ≡ true) × P found
-  find_all P [] found all e = cc
-  find_all P (x ∷ xs) found all e =
-      found_from P (test x) x found (find test xs) refl all.0 (find_all P xs found all.1) e
-
-  -- if none is found, the first one fails and none of the others is found
-  not_found_from : (b : Bool) (x : X) (rest : Option X) → test x ≡ b → (if b then Some x else rest) ≡ None
-      → (test x ≡ false) × (rest ≡ None)
-  not_found_from true x rest is e = cc
-  not_found_from false x rest is e = (is, e)
-
-  -- if none is found, none passes
-  pub find_none : (xs : List X) → find test xs ≡ None → AllByRecursion (λ x. test x ≡ false) xs
-  find_none [] e = tt
-  find_none (x ∷ xs) e =
-      let both : (test x ≡ false) × (find test xs ≡ None) = not_found_from (test x) x (find test xs) refl e in
-      (both.0, find_none xs both.1)
 
 -- what the entry that is found has
 pub stored_has : (P : Entry → Type 0) (h : History) (id : ℕ) (x : Entry) → AllByRecursion P h.entries

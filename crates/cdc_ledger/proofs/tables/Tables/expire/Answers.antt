@@ -1,4 +1,4 @@
-use Rattle.cdc_ledger.proofs.Words.{◌<◌, ◌∙◌, Entry, Follows, IfSome, IsStoredAt, Option, Pending, ap, option_map, settled_by, subst, sym}
+use Rattle.cdc_ledger.proofs.Words.{◌∙◌, Follows, IfSome, IsStoredAt, Option, Pending, ap, option_map, settled_by, subst, sym}
 use Rattle.cdc_ledger.proofs.tables.Tables.expire.Goals as goal
 
 pub take-requires-clause-movement : goal.take-requires-clause-movement

@@ -1,4 +1,4 @@
-use Rattle.cdc_ledger.proofs.Words.{◌+◌, ◌≡◌, History, ap, arith, expiry, pushed, subst, sym}
+use Rattle.cdc_ledger.proofs.Words.{◌+◌, ◌≡◌, History, ap, arith, subst, sym}
 use Rattle.cdc_ledger.proofs.Expiring.{GoesOn, GoesOn-some, GoesOn-step}
 use Rattle.cdc_ledger.proofs.tables.Tables.expire_all.Goals as goal
 

@@ -1,4 +1,3 @@
-use Rattle.cdc_ledger.proofs.Words.{NewTransferFits}
 use Rattle.cdc_ledger.proofs.tables.Tables.record_linked.Goals as goal
 
 pub returns-clause-fits : goal.returns-clause-fits

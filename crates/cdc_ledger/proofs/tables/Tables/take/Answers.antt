@@ -1,4 +1,4 @@
-use Rattle.cdc_ledger.proofs.Words.{◌≡◌, History, IsEmitted, ap, length, subst, sym}
+use Rattle.cdc_ledger.proofs.Words.{History, IsEmitted, ap, length, subst, sym}
 use Rattle.cdc_ledger.proofs.EmittedLaws.{CanEmit, IsEmitted-emitted, emit-fresh, emit-later, emit-settled, emit-timely}
 use Rattle.cdc_ledger.proofs.tables.Tables.take.Goals as goal
 

@@ -1,4 +1,4 @@
-use Rattle.cdc_ledger.proofs.Words.{◌+◌, ◌-◌, ◌<◌, ◌∙◌, ◌≡◌, AllByRecursion, AreUnrefused, Contents, History, NewAccount, NewAccountFits, account_rules, ap, arith, length, subst, sym, take, taken_all, timed}
+use Rattle.cdc_ledger.proofs.Words.{◌+◌, ◌-◌, ◌<◌, ◌∙◌, ◌≡◌, AllByRecursion, AreUnrefused, Contents, History, NewAccountFits, account_rules, ap, arith, length, subst, sym, take, taken_all, timed}
 use Rattle.std.proofs.Math.Seq.{take-length}
 use Rattle.cdc_ledger.proofs.BatchLaws.{AllByRecursion_parts, accepted_history, accepted_results, failed_history, failed_results}
 use Rattle.cdc_ledger.proofs.TakenBack.{AllOpened-less, IsLastOpened-chain, opened-taken_back, opened_last}
@@ -65,20 +65,20 @@ pub open_chain-requires-clause-within : goal.open_chain-requires-clause-within
 open_chain-requires-clause-within c = c.requires.within
 
 -- all accounts of the chain are opened
-
 pub returns-in-None : goal.returns-in-None
 returns-in-None c = record {
-  results = accepted_results account_rules c.args.self.now.history c.args.time c.args.chain.now c.open_chain.new.self.history
-      c.args.results.now.items c.push_times.new.results.items c.in-None.ensures.stopped c.push_times.ensures.items;
-  history = accepted_history account_rules c.args.self.now.history c.args.time c.args.chain.now c.open_chain.new.self.history
-      c.in-None.ensures.stopped;
+  results = accepted_results account_rules c.args.self.now.history c.args.time c.args.chain.now
+      c.open_chain.new.self.history c.args.results.now.items c.push_times.new.results.items
+      c.in-None.ensures.stopped c.push_times.ensures.items;
+  history = accepted_history account_rules c.args.self.now.history c.args.time c.args.chain.now
+      c.open_chain.new.self.history c.in-None.ensures.stopped;
   fit = subst (AllByRecursion NewAccountFits) (take-length c.args.chain.now) c.in-None.ensures.fit;
   len = c.push_times.ensures.len;
   capacity = c.push_times.ensures.capacity;
   room = c.open_chain.ensures.room;
-  -- or none of them is;
 }
 
+-- or none of them is
 pub returns-after-loop-place-clause-results : goal.returns-after-loop-place-clause-results
 returns-after-loop-place-clause-results c =
     failed_results account_rules c.args.self.now.history c.args.time c.args.chain.now c.in-Some.stop.place

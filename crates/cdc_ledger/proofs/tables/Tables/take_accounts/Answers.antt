@@ -1,4 +1,4 @@
-use Rattle.cdc_ledger.proofs.Words.{◌+◌, ◌-◌, ◌<◌, ◌∙◌, ◌≡◌, ◌≤◌, AccountResult, AllByRecursion, History, List, NewAccount, NewAccountFits, account_rules, ap, arith, drop, history_after, length, refl, subst, sym, take}
+use Rattle.cdc_ledger.proofs.Words.{◌+◌, ◌-◌, ◌<◌, ◌∙◌, ◌≤◌, AccountResult, AllByRecursion, History, List, NewAccountFits, account_rules, ap, arith, drop, history_after, length, refl, subst, sym, take}
 use Rattle.std.proofs.lemmas.List.{take_all}
 use Rattle.cdc_ledger.proofs.BatchLaws.{AllByRecursion_further, ItemsGoOn, ItemsGoOn_all, ItemsGoOn_chain, ItemsGoOn_none, slice_length, slice_size}
 use Rattle.cdc_ledger.proofs.ChainLaws.{history_after-later}

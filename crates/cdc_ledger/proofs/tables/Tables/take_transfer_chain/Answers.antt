@@ -1,4 +1,4 @@
-use Rattle.cdc_ledger.proofs.Words.{[], ◌++◌, ◌+◌, ◌-◌, ◌∙◌, ◌∷◌, ◌≡◌, AllByRecursion, AreRecorded, Contents, History, IsEmitted, List, NewTransfer, NewTransferFits, Recorded, ap, arith, grown, length, refl, subst, sym, take, timed, transfer_rules, ℕ}
+use Rattle.cdc_ledger.proofs.Words.{[], ◌++◌, ◌+◌, ◌-◌, ◌∙◌, ◌∷◌, ◌≡◌, AllByRecursion, AreRecorded, Contents, History, IsEmitted, List, NewTransferFits, Recorded, ap, arith, grown, length, refl, subst, sym, take, timed, transfer_rules, ℕ}
 use Rattle.std.proofs.lemmas.List.{nil_from_length, take_all}
 use Rattle.std.proofs.Math.Seq.{take-length}
 use Rattle.cdc_ledger.proofs.BatchLaws.{AllByRecursion_parts, accepted_history, accepted_results, failed_history, failed_results}

@@ -1,6 +1,5 @@
-use Rattle.cdc_ledger.proofs.Words.{◌∙◌, ◌≡◌, Account, Entry, EventKind, Follows, IsPlace, Transfer, account_with, accounts_now, ap, ap₂, arith, entry_of, get_or, no_balances, nobody, settled_by, subst, sym}
-use Rattle.cdc_ledger.proofs.AcceptedLaws.{Follows-accepted}
-use Rattle.cdc_ledger.proofs.Validated.{IsOpened-place, unopened-no_place, bounded-opened, first_line-plain, first_line-between, first_line-no_debit, first_line-no_credit, filled-plain, settled-plain}
+use Rattle.cdc_ledger.proofs.Words.{◌∙◌, ◌≡◌, Account, Entry, EventKind, IsPlace, Transfer, account_with, accounts_now, ap₂, entry_of, get_or, no_balances, nobody, sym}
+use Rattle.cdc_ledger.proofs.Validated.{IsOpened-place, IsValidated-from, unopened-no_place, bounded-opened, first_line-plain, first_line-between, first_line-no_debit, first_line-no_credit, filled-plain, settled-plain}
 use Rattle.cdc_ledger.proofs.tables.Tables.validate_plain.Goals as goal
 
 -- the value that is read past the last account
@@ -27,24 +26,25 @@ returns-in_default-account_place c =
     (sym c.account_place.ensures ∙ c.in-Some.is))
     (unopened-no_place h r.credit_account_id (sym c.account_place-2.ensures ∙ c.in_default-account_place.is))
 
-pub refusal_between-requires-clause-debited : goal.refusal_between-requires-clause-debited
-refusal_between-requires-clause-debited c =
+pub refusal_between-requires : goal.refusal_between-requires
+refusal_between-requires c =
+    let h = c.args.self.now.history in
+    let r = c.args.request.now in
     let xs = c.accounts-accounts.result.now in
-    let id = c.args.request.now.debit_account_id in
-    bounded-opened c.args.self.now.history id (get_or xs c.in-Some.debit no_account)
-    (IsOpened-place c.args.self.now.history id xs c.accounts-accounts.ensures.accounts c.in-Some.debit no_account
-    (sym c.account_place.ensures ∙ c.in-Some.is))
-    c.accounts-accounts.ensures.sound.bounded
-
-pub refusal_between-requires-clause-credited : goal.refusal_between-requires-clause-credited
-refusal_between-requires-clause-credited c =
-    let xs = c.accounts-accounts.result.now in
-    let id = c.args.request.now.credit_account_id in
-    let place = c.in-Some-account_place.credit in
-    bounded-opened c.args.self.now.history id (get_or xs place no_account)
-    (IsOpened-place c.args.self.now.history id xs c.accounts-accounts.ensures.accounts place no_account
-    (sym c.account_place-2.ensures ∙ c.in-Some-account_place.is))
-    c.accounts-accounts.ensures.sound.bounded
+    let same = c.accounts-accounts.ensures.accounts in
+    let i = c.in-Some.debit in
+    let j = c.in-Some-account_place.credit in
+    let bounded = c.accounts-accounts.ensures.sound.bounded in
+    record {
+      debited = bounded-opened h r.debit_account_id (get_or xs i no_account)
+          (IsOpened-place h r.debit_account_id xs same i no_account (sym c.account_place.ensures ∙ c.in-Some.is))
+          bounded;
+      credited = bounded-opened h r.credit_account_id (get_or xs j no_account)
+          (IsOpened-place h r.credit_account_id xs same j no_account
+          (sym c.account_place-2.ensures ∙ c.in-Some-account_place.is))
+          bounded;
+      within = c.requires.within;
+    }
 
 -- the two accounts are there, and what lies between them refuses the request
 pub returns-in-Some-refusal_between : goal.returns-in-Some-refusal_between
@@ -58,7 +58,7 @@ returns-in-Some-refusal_between c =
     let j = c.in-Some-account_place.credit in
     first_line-plain h r n c.requires.shape c.requires.unknown c.requires.plain
     ∙ first_line-between h r n (get_or xs i no_account) (get_or xs j no_account)
-    c.accounts-accounts.ensures.sound.past (omega arith)
+    c.accounts-accounts.ensures.sound.past c.requires.later
     (IsOpened-place h r.debit_account_id xs same i no_account (sym c.account_place.ensures ∙ c.in-Some.is))
     (IsOpened-place h r.credit_account_id xs same j no_account
     (sym c.account_place-2.ensures ∙ c.in-Some-account_place.is))
@@ -81,21 +81,10 @@ returns c =
     ap₂ made c.kind_of.ensures (c.as_asked.ensures ∙ sym (filled-plain h r n c.requires.plain)) in
     let unrefused = first_line-plain h r n c.requires.shape c.requires.unknown c.requires.plain
     ∙ first_line-between h r n (get_or xs i no_account) (get_or xs j no_account)
-    c.accounts-accounts.ensures.sound.past (omega arith)
+    c.accounts-accounts.ensures.sound.past c.requires.later
     (IsOpened-place h r.debit_account_id xs same i no_account debit)
     (IsOpened-place h r.credit_account_id xs same j no_account credit)
     ∙ sym c.refusal_between.ensures ∙ c.in_default-refusal_between.is in
-    record {
-      unrefused = unrefused;
-      entry = entry;
-      movement = record {
-        placed = record {
-          debit = rw c.as_asked.ensures debit;
-          credit = rw c.as_asked.ensures credit;
-        };
-        settled = sym (ap (settled_by h) entry ∙ settled-plain h r n c.requires.plain);
-        found = tt;
-      };
-      follows = subst (Follows h) (sym entry)
-          (Follows-accepted h r n c.accounts-accounts.ensures.sound (omega arith) unrefused);
-    }
+    IsValidated-from h r n _ c.accounts-accounts.ensures.sound c.requires.later unrefused entry
+    (record { debit = rw c.as_asked.ensures debit; credit = rw c.as_asked.ensures credit })
+    (sym (settled-plain h r n c.requires.plain)) tt

@@ -1,4 +1,4 @@
-use Rattle.cdc_ledger.proofs.Words.{◌&&◌, ◌<◌, ◌==◌, ◌∙◌, ◌≡◌, Bool, Entry, History, List, Some, get_or, length, slice_get, stored, stored_place, sym, ℕ}
+use Rattle.cdc_ledger.proofs.Words.{◌<◌, ◌∙◌, ◌≡◌, Entry, History, List, Some, get_or, length, slice_get, stored, stored_place, sym, ℕ}
 use Rattle.std.proofs.lemmas.List.Quantifiers.{position-Some}
 use Rattle.std.proofs.lemmas.Option.{slice_get-get_or}
 use Rattle.cdc_ledger.proofs.BatchLaws.{no_entry}
