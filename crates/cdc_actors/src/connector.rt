@@ -15,10 +15,10 @@ use cdc_types::EventTimestamp;
 /// A connector actor of a run. Its work: what it has sent to the ledger and to the broker, what it has received from
 /// them, what its store holds, and what its session keeps.
 ///
-/// The first turn starts a session. Each later one receives the next message. Then all that follows is sent. A turn that
-/// may receive further messages takes all confirms that have come before it publishes more. `PeerGone`: a link refused
-/// to send or to receive, or a confirm came that answers no packet. `OutOfMemory`: there was no memory for a session or
-/// for a packet, or in the store. `Store`: the store refused to load or to save. `SessionsExhausted`: there is no
+/// The first turn starts a session. Each later one receives the next message. Then all that follows is sent. A turn
+/// that may receive further messages takes all confirms that have come before it publishes more. `PeerGone`: a link
+/// refused to send or to receive, or a confirm came that answers no packet. `OutOfMemory`: there was no memory for a
+/// session or for a packet, or in the store. `Store`: the store refused to load or to save. `SessionsExhausted`: there is no
 /// further number for a session. `StartNotAllowed`: a start was given to the first session, and progress is already
 /// saved.
 pub type ConnectorEnd<S> = End<ConnectorCore<S>>;

@@ -1,5 +1,5 @@
-//! What standard error reports of a command over a script that succeeded, besides what it printed. A write that fails is
-//! ignored, since the command has ended by then.
+//! What standard error reports of a command over a script that succeeded, besides what it printed. A write that fails
+//! is ignored, since the command has ended by then.
 
 use crate::advice::shown_name;
 use cdc_commands::{Notes, Tally};

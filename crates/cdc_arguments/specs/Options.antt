@@ -1,9 +1,9 @@
 -- What the arguments of the command line ask for.
 use Rattle.std.specs.Prelude.{◌≡◌, ℕ, false, List, None, codes}
-use Rattle.cdc_run.specs.Plans.{HasNoFaults}
+use Rattle.cdc_plans.specs.Faults.{HasNoFaults}
 use Rattle.cdc_types.specs.Windows.{IsWindow}
-use Rattle.cdc_run_command.specs.Plans.{IsPlan}
-use Rattle.cdc_run_command.specs.declared.plans.RunPlan.{RunPlan}
+use Rattle.cdc_plans.specs.Plans.{IsPlan}
+use Rattle.cdc_plans.specs.declared.run_plans.RunPlan.{RunPlan}
 use Rattle.cdc_arguments.specs.declared.command_line.Options.{Options}
 use Rattle.cdc_arguments.specs.declared.command_line.Options.TheVariants.{Books, Messages, Simulate, Random, Run, Check, Follow, Audit, Explain}
 use Rattle.cdc_arguments.specs.declared.command_line.Form.TheVariants.{Text}

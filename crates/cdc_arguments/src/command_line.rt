@@ -6,8 +6,7 @@ ghost use Rattle.cdc_arguments.specs.Options.{options_fault_number, options_faul
 use crate::audit_options::AuditPlan;
 use crate::follow_options::FollowPlan;
 use cdc_deliveries::Asked;
-use cdc_random_steps::Chances;
-use cdc_run_command::RunPlan;
+use cdc_plans::{Chances, RunPlan};
 use std::alloc::AllocError;
 use thiserror::Error;
 

@@ -4,7 +4,7 @@ use crate::arguments::Argument;
 use crate::command_line::OptionsFault;
 use crate::parsing::bad_value;
 use cdc_message::decimal_up_to;
-use cdc_random_steps::Chances;
+use cdc_plans::Chances;
 use cdc_types::Limits;
 use clap::ArgMatches;
 use std::alloc::Global;

@@ -1,7 +1,7 @@
 //! The arguments of the command `run`.
 
 ghost use Rattle.std.specs.Prelude.{◌≤◌, All, IfOk, IfSome};
-ghost use Rattle.cdc_run_command.specs.Plans.{AreCounts, IsPlan, IsPrefetch};
+ghost use Rattle.cdc_plans.specs.Plans.{AreCounts, IsPlan, IsPrefetch};
 ghost use Rattle.cdc_arguments.specs.Options.{IsDefaultPlan};
 
 use crate::arguments::{Argument, with_arguments};
@@ -13,8 +13,7 @@ use crate::parsing::{
     window_option,
 };
 use cdc_message::decimal_up_to;
-use cdc_run::Faults;
-use cdc_run_command::RunPlan;
+use cdc_plans::{Faults, RunPlan};
 use cdc_types::{EventTimestamp, Limits};
 use clap::{ArgMatches, Command};
 use std::alloc::{AllocError, Global};

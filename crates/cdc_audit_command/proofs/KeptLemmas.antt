@@ -25,7 +25,8 @@ leads_on setup start old bytes count number mid auditor left has step =
     let rest = step.1 in
     let front = has.front ++ step.0 ∷ [] in
     let whole : lines_of bytes ≡ front ++ lines_of rest =
-    has.whole ∙ ap (λ lines. has.front ++ lines) step.3 ∙ sym (append_assoc has.front (step.0 ∷ []) (lines_of rest)) in (
+    has.whole ∙ ap (λ lines. has.front ++ lines) step.3
+    ∙ sym (append_assoc has.front (step.0 ∷ []) (lines_of rest)) in (
       rest,
       step.2,
       entry_count false front,

@@ -134,7 +134,8 @@ impl<F: FollowForm> Consumer<F> for StreamFollower {
 
 /// Follows the lines of a reader, numbered from 1. It saves the book after every so many lines, each time that no whole
 /// line is waiting, and at the end, and prints each save once the store holds its book; and at the end the book and why
-/// following stopped, or the fault of a command that failed. Nothing is written after a write that failed.
+/// following stopped, or the fault of a command that failed. Nothing is written after a write that failed. Gaps that were
+/// skipped before are not counted.
 pub fn follow_command<F: FollowForm, B: LineReader, W: Write, K: TextStore>(
     form: &F,
     alloc: Global,
@@ -148,8 +149,7 @@ pub fn follow_command<F: FollowForm, B: LineReader, W: Write, K: TextStore>(
         bytes_followed setup.now.binding setup.now.rules followed.old.follower bytes
         ≡ record { state = followed.new.follower; stop = stop })) }
     ensures gaps { IfStopped result (λ _. IfSome (B.remaining reader.old) (λ bytes.
-        followed.old.gaps ≡ 0
-        → followed.new.gaps ≡ bytes_skipped setup.now.binding setup.now.rules followed.old.follower bytes)) }
+        followed.new.gaps ≡ bytes_skipped setup.now.binding setup.now.rules followed.old.follower bytes)) }
     ensures store { is_some saver.new.store ≡ is_some saver.old.store }
     ensures saved { IfStopped result (λ _. IfSome saver.new.store (λ store. K.held store
         ≡ Some (book_text setup.now.rules.chained setup.now.binding_text.items followed.new.follower))) }
@@ -157,5 +157,6 @@ pub fn follow_command<F: FollowForm, B: LineReader, W: Write, K: TextStore>(
         (is_some saver.old.store) (B.remaining reader.old) (W.contents writer.old))
         (prints_end_of F.prints_end setup.now) F.prints_failure (W.contents writer.new) followed.new result }
 {
+    followed.gaps = 0;
     stream_command(form, alloc, reader, writer, saver, setup, followed)
 }

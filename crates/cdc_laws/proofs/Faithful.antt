@@ -89,9 +89,9 @@ receives-behind before [] none = rw none refl
 receives-behind before (e ∷ es) none =
     let more : List Item = before ++ OfEvent e ∷ [] in
     let listens : list_any is_end more ≡ false = rw (list_any-append is_end before (OfEvent e ∷ []), none) refl in
-    let heard : next (record { items = before; closed = false }) (OfEvent e) ≡ record { items = more; closed = false } =
+    let received : next (record { items = before; closed = false }) (OfEvent e) ≡ record { items = more; closed = false } =
     rw none refl in
-    ap (λ r. fold next r (emitted es true)) heard
+    ap (λ r. fold next r (emitted es true)) received
     ∙ rw (append_assoc before (OfEvent e ∷ []) (emitted es true)) at (receives-behind more es listens)
 
 -- and so by a new subscriber

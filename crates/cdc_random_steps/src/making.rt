@@ -3,7 +3,7 @@
 ghost use Rattle.std.specs.Prelude.{◌<◌};
 ghost use Rattle.cdc_types.specs.Windows.{IsWindow};
 
-use crate::chances::Chances;
+use cdc_plans::Chances;
 use cdc_diagnostics::{Sentence, step_text};
 use cdc_match::Binding;
 use cdc_progress::MemoryStore;

@@ -3,7 +3,6 @@ mod Alone
 mod Apart
 mod Applied
 mod ClientMailLemmas
-mod Closes
 mod Counted
 mod Counting
 mod Crossing

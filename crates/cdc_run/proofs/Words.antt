@@ -55,7 +55,7 @@ pub use Rattle.cdc_run.specs.Meeting.{CameTo, IsConnectorFault, IsRunFailure, Ma
 pub use Rattle.cdc_run.specs.Outcomes.{finished_in, first_of, first_stop, is_gone}
 pub use Rattle.cdc_run.specs.Parts.{AreActorsOf, AreLeftOf, works_of}
 pub use Rattle.cdc_run.specs.Passing.{AreThrough, EndsCome, EndsPass, passage_of}
-pub use Rattle.cdc_run.specs.Plans.{IsLeast, IsLeastClose, closes_of}
+pub use Rattle.cdc_plans.specs.Faults.{IsLeast, IsLeastClose, closes_of}
 pub use Rattle.cdc_run.specs.Reports.{AreFinished, AreSubscribed, HasRun, IsReportOf}
 pub use Rattle.cdc_run.specs.Scripted.{ScriptedState}
 pub use Rattle.cdc_run.specs.SettledLinks.{IsAccounted, IsOnlySender, IsRefused}
@@ -69,7 +69,7 @@ pub use Rattle.cdc_run.specs.declared.actors.Actor.{Actor}
 pub use Rattle.cdc_run.specs.declared.configs.Config.{Config}
 pub use Rattle.cdc_run.specs.declared.ends.Ends.{Ends}
 pub use Rattle.cdc_run.specs.declared.failures.Failure.{Failure}
-pub use Rattle.cdc_run.specs.declared.plans.Faults.{Faults}
+pub use Rattle.cdc_plans.specs.declared.faults.Faults.{Faults}
 pub use Rattle.cdc_run.specs.declared.tasks.Task.{Task}
 pub use Rattle.cdc_subscriber.specs.Book.{book_of}
 pub use Rattle.cdc_subscriber.specs.Reception.{Reception, applied_of, has_ended, is_end, kept_of, next, nothing}

@@ -11,7 +11,6 @@ pub mod Meeting
 pub mod Outcomes
 pub mod Parts
 pub mod Passing
-pub mod Plans
 pub mod Ran
 pub mod Reports
 pub mod Scripted
@@ -32,3 +31,4 @@ pub use Rattle.cdc_links.specs.Links
 pub use Rattle.cdc_traffic.specs.declared.messages.ToBroker
 pub use Rattle.cdc_traffic.specs.declared.messages.ToSubscriber
 pub use Rattle.cdc_types.specs.declared.batches.Batch
+pub use Rattle.cdc_plans.specs.declared.faults.Faults

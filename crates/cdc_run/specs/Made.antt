@@ -12,11 +12,11 @@ use Rattle.cdc_actors.specs.Ends.{ActorState}
 use Rattle.cdc_links.specs.Links.{Incoming, LinkId, fresh_endpoint}
 use Rattle.cdc_progress.specs.Records.{Saved}
 use Rattle.cdc_progress.specs.Stores.{Risks}
-use Rattle.cdc_run.specs.Plans.{IsLeastClose}
+use Rattle.cdc_plans.specs.Faults.{IsLeastClose}
 use Rattle.cdc_run.specs.Wirings.{Wiring}
 use Rattle.cdc_run.specs.declared.configs.Config.{Config}
 use Rattle.cdc_run.specs.declared.ends.Ends.{Ends}
-use Rattle.cdc_run.specs.declared.plans.Faults.{Faults}
+use Rattle.cdc_plans.specs.declared.faults.Faults.{Faults}
 use Rattle.cdc_traffic.specs.declared.messages.ToBroker.{ToBroker}
 use Rattle.cdc_traffic.specs.declared.messages.ToLedger.{ToLedger}
 use Rattle.cdc_traffic.specs.declared.messages.ToSubscriber.{ToSubscriber}

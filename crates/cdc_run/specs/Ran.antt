@@ -10,7 +10,7 @@ use Rattle.cdc_run.specs.Reports.{IsReportOf}
 use Rattle.cdc_run.specs.Tasks.{AreLeft, places_of}
 use Rattle.cdc_run.specs.declared.configs.Config.{Config}
 use Rattle.cdc_run.specs.declared.ends.Ends.{Ends}
-use Rattle.cdc_run.specs.declared.plans.Faults.{Faults}
+use Rattle.cdc_plans.specs.declared.faults.Faults.{Faults}
 use Rattle.cdc_run.specs.declared.reports.Report.{Report}
 use Rattle.cdc_types.specs.declared.batches.Batch.{Batch}
 

@@ -14,7 +14,6 @@ mod jobs;
 mod laws;
 mod outcomes;
 mod parts;
-pub mod plans;
 pub mod reports;
 mod runs;
 mod scopes;
@@ -34,6 +33,7 @@ pub use cdc_actors::{
     Arrival, BrokerEnd, ClientEnd, ConnectorEnd, LedgerEnd, Met, Place, Repeats, RunFault, Stop,
     Story, SubscriberEnd, Turn,
 };
+pub use cdc_plans::Faults;
 pub use cdc_traffic::Reply;
 pub use configs::Config;
 pub use counts::Counts;
@@ -42,7 +42,6 @@ pub use ends::Ends;
 pub use failures::Failure;
 pub use gates::{Gate, OpenGate};
 pub use laws::{passing_laws, settle_laws};
-pub use plans::Faults;
 pub use reports::{Report, settle};
 pub use runs::{run, run_explained};
 pub use wiring::wire_up;

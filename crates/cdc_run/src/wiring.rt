@@ -11,12 +11,12 @@ ghost use Rattle.cdc_traffic.specs.declared.messages.ToLedger.{ToLedger};
 
 use crate::configs::Config;
 use crate::ends::Ends;
-use crate::plans::Faults;
 use crate::wires::{Wires, make_wires};
 use cdc_actors::{
     BrokerEnd, BrokerPlan, ClientEnd, ConnectorEnd, LedgerEnd, RunFault, SubscriberEnd,
 };
 use cdc_links::{LinkIn, LinkOut};
+use cdc_plans::Faults;
 use cdc_progress::ProgressStore;
 use cdc_traffic::{Reply, ToBroker, ToLedger, ToSubscriber};
 use std::alloc::{AllocError, Global};

@@ -133,8 +133,8 @@ all_bytes Prints Finds PrintsFault setting text bytes (Refused why) printed same
 all_bytes Prints Finds PrintsFault setting text bytes (BadSteps at) printed same prints = absurd prints
 
 -- nothing is printed if what has to be found isn't in the script
-pub prints_none : {X : Type 0} (Prints : Script → List ℕ → Report → List ℕ → Type 0) (Finds : Script → Option X → Type 0)
-    (PrintsFault : List ℕ → Ending → List ℕ → Type 0) (setting : Setting) (bytes : Option (List ℕ)) (ending : Ending)
+pub prints_none : {X : Type 0} (Prints : Script → List ℕ → Report → List ℕ → Type 0)
+    (Finds : Script → Option X → Type 0) (PrintsFault : List ℕ → Ending → List ℕ → Type 0) (setting : Setting) (bytes : Option (List ℕ)) (ending : Ending)
     (printed : List ℕ) → ending ≡ BadWords → StatesScript (λ script text. Finds script None × (text ≡ [])) bytes printed
     → RunCommandPrints Prints Finds PrintsFault setting bytes ending printed
 prints_none Prints Finds PrintsFault setting bytes ending printed is none =

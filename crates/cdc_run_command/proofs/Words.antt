@@ -15,7 +15,7 @@ pub use Rattle.cdc_run.specs.Made.{AreCloses, made_subscribers}
 pub use Rattle.cdc_run.specs.Ran.{RanFrom}
 pub use Rattle.cdc_run.specs.Reports.{AreSubscribed, HasRun, deliveries_of, replies_of}
 pub use Rattle.cdc_run.specs.declared.configs.Config.{Config}
-pub use Rattle.cdc_run.specs.declared.plans.Faults.{Faults}
+pub use Rattle.cdc_plans.specs.declared.faults.Faults.{Faults}
 pub use Rattle.cdc_run.specs.declared.reports.Report.{Report}
 pub use Rattle.cdc_run_command.specs.Arrived.{arrival_after, arrived, arrived_from}
 pub use Rattle.cdc_run_command.specs.ClientOrders.{IsOrderOf, times_in}

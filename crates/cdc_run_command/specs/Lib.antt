@@ -2,10 +2,10 @@ pub mod Arrived
 pub mod ClientOrders
 pub mod Failed
 pub mod LoneRuns
-pub mod Plans
 pub mod Private
 pub mod RunDeliveries
 pub mod RunObjects
 pub mod RunPrinted
 pub mod Runnable
 pub mod Runs
+pub use Rattle.cdc_plans.specs.Plans

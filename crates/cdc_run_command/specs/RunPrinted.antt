@@ -9,8 +9,8 @@ use Rattle.cdc_run.specs.declared.reports.Report.{Report}
 use Rattle.cdc_run_command.specs.Failed.{MayEndWith}
 use Rattle.cdc_run_command.specs.Runs.{RunsTo, Setting, StatesScript}
 
--- a command that runs such a script, whose bytes are known or not, ends so and prints this, if reports on runs of a script
--- in which something is found, and faults, are printed so
+-- a command that runs such a script, whose bytes are known or not, ends so and prints this, if reports on runs of a
+-- script in which something is found, and faults, are printed so
 abbrev pub RunCommandPrints : {X : Type 0} → (Script → List ℕ → Report → List ℕ → Type 0)
     → (Script → Option X → Type 0) → (List ℕ → Ending → List ℕ → Type 0) → Setting → Option (List ℕ) → Ending → List ℕ
     → Type 0

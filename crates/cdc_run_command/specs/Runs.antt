@@ -20,7 +20,7 @@ use Rattle.cdc_types.specs.declared.batches.Batch.{Batch}
 use Rattle.cdc_commands.specs.Report.{batch_line}
 use Rattle.cdc_commands.specs.declared.endings.Ending.{Ending}
 use Rattle.cdc_commands.specs.declared.endings.Ending.TheVariants.{Done}
-use Rattle.cdc_run_command.specs.declared.plans.RunPlan.{RunPlan}
+use Rattle.cdc_plans.specs.declared.run_plans.RunPlan.{RunPlan}
 use Rattle.cdc_run_command.specs.declared.reports.Ran.{Ran}
 
 -- how many clients a run of these batches has: the greatest of their numbers, or 1

@@ -6,7 +6,6 @@ mod arrivals;
 pub mod failures;
 mod faults;
 mod lone_runs;
-pub mod plans;
 pub mod reports;
 pub mod run;
 pub mod run_contents;
@@ -16,9 +15,9 @@ mod run_report;
 mod shares;
 
 pub use arrivals::arrivals_of_run;
+pub use cdc_plans::RunPlan;
 pub use failures::RunFailed;
 pub use lone_runs::lone_run_laws;
-pub use plans::RunPlan;
 pub use reports::{Ran, report_of_run};
 pub use run::{RunEnded, RunOutput, run_command, run_of, tally_of};
 pub use run_contents::RunContent;

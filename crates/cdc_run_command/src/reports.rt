@@ -4,13 +4,13 @@ ghost use Rattle.std.specs.Prelude.{◌≡◌, IfErr, IfOk};
 ghost use Rattle.cdc_run.specs.Reports.{replies_of};
 ghost use Rattle.cdc_run_command.specs.ClientOrders.{IsOrderOf};
 ghost use Rattle.cdc_run_command.specs.Failed.{MayFail};
-ghost use Rattle.cdc_run_command.specs.Plans.{IsPlan};
+ghost use Rattle.cdc_plans.specs.Plans.{IsPlan};
 ghost use Rattle.cdc_run_command.specs.Runnable.{IsRunnable};
 ghost use Rattle.cdc_run_command.specs.Runs.{MayComeTo, owners_of, setting_of};
 
 use crate::failures::RunFailed;
-use crate::plans::RunPlan;
 use crate::shares::{Parted, part_batches};
+use cdc_plans::RunPlan;
 use cdc_progress::ProgressStore;
 use cdc_run::{Config, Gate, Report, run_explained};
 use cdc_script::{Script, ScriptLines};

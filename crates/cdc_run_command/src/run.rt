@@ -6,7 +6,7 @@ ghost use Rattle.cdc_script.specs.Reading.{ConsumesAtMost};
 ghost use Rattle.cdc_script.specs.Scripts.{max_bytes, script_of};
 ghost use Rattle.cdc_run_command.specs.Failed.{MayFail, StoppedSo};
 ghost use Rattle.cdc_run_command.specs.LoneRuns.{LoneRunsPrintBooks};
-ghost use Rattle.cdc_run_command.specs.Plans.{IsPlan};
+ghost use Rattle.cdc_plans.specs.Plans.{IsPlan};
 ghost use Rattle.cdc_commands.specs.Outcomes.{Writes};
 ghost use Rattle.cdc_run_command.specs.Runnable.{IsRunnable};
 ghost use Rattle.cdc_run_command.specs.RunPrinted.{RunCommandPrints};
@@ -14,10 +14,10 @@ ghost use Rattle.cdc_run_command.specs.Runs.{HasRunOf, IsPrintedOf, setting_of};
 
 use crate::failures::RunFailed;
 use crate::lone_runs::lone_run_laws;
-use crate::plans::RunPlan;
 use crate::reports::{Ran, report_of_run};
 use crate::run_contents::RunContent;
 use cdc_commands::{Ended, Ending, Form, Notes, Output, Tally, print_output, read_file};
+use cdc_plans::RunPlan;
 use cdc_progress::ProgressStore;
 use cdc_run::{Gate, Met, Place, Report};
 use cdc_script::{Script, ScriptError, parse_script};
@@ -45,10 +45,10 @@ pub struct RunEnded {
     pub stop: Option<(Place, Met)>,
 }
 
-/// What `run` prints for the bytes of a script, and how it ends: this content of the run. The report has what the ledger
-/// answered to each batch, in the order of the script, and what each subscriber holds when the run ends. For a script
-/// with an error it is the error. If the script lacks what the content has to find, it runs nothing, prints nothing and
-/// ends as a usage error. Fails if the run does.
+/// What `run` prints for the bytes of a script, and how it ends: this content of the run. The report has what the
+/// ledger answered to each batch, in the order of the script, and what each subscriber holds when the run ends. For a
+/// script with an error it is the error. If the script lacks what the content has to find, it runs nothing, prints
+/// nothing and ends as a usage error. Fails if the run does.
 pub fn run_of<
     F: Form,
     C: RunContent<F>,
@@ -66,8 +66,8 @@ pub fn run_of<
     gate: &G,
 ) -> Result<RunOutput, RunFailed>
     requires { IsPlan plan }
-    ensures output { IfOk result (λ made. RunCommandPrints (C.prints_ran content.now) (C.finds content.now) F.prints_fault
-        (setting_of plan (S.held store) (S.is_honest store) (S.risks store)) (Some bytes.now)
+    ensures output { IfOk result (λ made. RunCommandPrints (C.prints_ran content.now) (C.finds content.now)
+        F.prints_fault (setting_of plan (S.held store) (S.is_honest store) (S.risks store)) (Some bytes.now)
         made.output.ending made.output.text.items) }
     ensures ran { IfOk result (λ made. IsPrintedOf (C.prints_ran content.now) (Some bytes.now) made.ran
         made.output.text.items) }
@@ -215,8 +215,8 @@ fn read_run<
     gate: &G,
 ) -> Result<RunOutput, RunFailed>
     requires { IsPlan plan }
-    ensures output { IfOk result (λ made. RunCommandPrints (C.prints_ran content.now) (C.finds content.now) F.prints_fault
-        (setting_of plan (S.held store) (S.is_honest store) (S.risks store)) (R.remaining reader.old)
+    ensures output { IfOk result (λ made. RunCommandPrints (C.prints_ran content.now) (C.finds content.now)
+        F.prints_fault (setting_of plan (S.held store) (S.is_honest store) (S.risks store)) (R.remaining reader.old)
         made.output.ending made.output.text.items) }
     ensures ran { IfOk result (λ made. IsPrintedOf (C.prints_ran content.now) (R.remaining reader.old) made.ran
         made.output.text.items) }

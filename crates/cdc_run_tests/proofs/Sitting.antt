@@ -22,7 +22,7 @@ use Rattle.cdc_actors.specs.Ends.{ActorState}
 use Rattle.cdc_run.specs.Wirings.{AreSeated, BrokerSits, ClientSits, ConnectorSits, LedgerSits, SubscriberSits, Wiring}
 use Rattle.cdc_run.specs.declared.configs.Config.{Config}
 use Rattle.cdc_run.specs.declared.ends.Ends.{Ends}
-use Rattle.cdc_run.specs.declared.plans.Faults.{Faults}
+use Rattle.cdc_run.specs.Faults.{Faults}
 use Rattle.cdc_run_tests.specs.Systems.{AreOfSystem, MayBeSettled, RunSeats, seats_of, sits_at}
 use Rattle.cdc_traffic.specs.declared.messages.ToLedger.TheVariants.{Done}
 use Rattle.cdc_traffic.specs.declared.messages.ToSubscriber.{ToSubscriber}

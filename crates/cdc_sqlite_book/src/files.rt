@@ -199,8 +199,8 @@ fn lock_at(rt: &HostRuntime, path: &str) -> Result<File, StoreError> {
 ///
 /// The file is locked against another `follow` from its opening on. A file that isn't SQLite's, or that has other
 /// tables, is refused and left as it was; a log that its own program left beside it may get some zeros at its end,
-/// which SQLite ignores. A save is refused if the path no longer names the locked file, or if the file no longer has the
-/// text that this store has last loaded or saved. It never makes a file.
+/// which SQLite ignores. A save is refused if the path no longer names the locked file, or if the file no longer has
+/// the text that this store has last loaded or saved. It never makes a file.
 ///
 /// No contract can state what a file holds. `known` is the text that this store has last loaded or saved; that the file
 /// returns it is an assumption of the store's user. Nor does one cover the two bytes of the header that are written

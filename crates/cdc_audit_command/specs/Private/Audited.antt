@@ -1,5 +1,5 @@
--- What was audited of a stream so far, line by line: the ghost members of an auditor, and their laws. Cited by no public
--- contract.
+-- What was audited of a stream so far, line by line: the ghost members of an auditor, and their laws. No public contract
+-- cites them.
 use Rattle.std.proofs.Common.{◌≡◌, ℕ, List, [], ◌∷◌, ◌++◌, append-nil, false}
 use Rattle.std.proofs.Common.{Option, None, Some, refl, sym, ap, ◌∙◌, subst}
 use Rattle.cdc_follow.specs.Lines.{lines_of}

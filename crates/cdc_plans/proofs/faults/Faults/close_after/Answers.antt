@@ -1,5 +1,6 @@
-use Rattle.cdc_run.proofs.Words.{take_more, ℕ}
-use Rattle.cdc_run.proofs.plans.Faults.close_after.Goals as goal
+use Rattle.std.proofs.Common.{ℕ}
+use Rattle.std.proofs.lemmas.List.{take_more}
+use Rattle.cdc_plans.proofs.faults.Faults.close_after.Goals as goal
 
 -- one entry more was looked at
 pub loop-entry-preserved : goal.loop-entry-preserved

@@ -1,9 +1,9 @@
 -- How a script may be run on threads.
 use Rattle.std.specs.Prelude.{◌≤◌, ℕ, All}
 use Rattle.cdc_types.specs.declared.bounds.TheConstants.Limits.{PREFETCH}
-use Rattle.cdc_run.specs.declared.plans.Faults.{Faults}
+use Rattle.cdc_plans.specs.declared.faults.Faults.{Faults}
 use Rattle.cdc_types.specs.Windows.{IsWindow}
-use Rattle.cdc_run_command.specs.declared.plans.RunPlan.{RunPlan}
+use Rattle.cdc_plans.specs.declared.run_plans.RunPlan.{RunPlan}
 
 -- a queue may have so many deliveries without an acknowledgement
 pub record IsPrefetch (prefetch : ℕ) : Type 0 where

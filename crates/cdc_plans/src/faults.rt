@@ -1,7 +1,7 @@
 //! The faults that a run is to meet.
 
 ghost use Rattle.std.specs.Prelude.{ℕ, List, [], ◌∷◌, ◌++◌};
-ghost use Rattle.cdc_run.specs.Plans.{IsLeastClose, HasNoFaults};
+ghost use Rattle.cdc_plans.specs.Faults.{IsLeastClose, HasNoFaults};
 
 use std::alloc::Global;
 

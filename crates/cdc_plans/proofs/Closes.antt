@@ -1,5 +1,10 @@
 -- The least close number of a subscriber, one entry after another.
-use Rattle.cdc_run.proofs.Words.{All-nil, All-push, All-weaker, Bool, Contains, Contains-append_left, Contains-append_right, IsLeast, List, None, Some, [], ap, arith, closes_of, cond, filter, filter-append, inl, inr, map, map-append, nat_le, nat_tests, refl, subst, sym, true, ℕ, ◌&&◌, ◌++◌, ◌==◌, ◌∙◌, ◌∷◌, ◌≡◌, ◌≤◌, ◌⊎◌}
+use Rattle.cdc_plans.specs.Faults.{IsLeast, closes_of}
+use Rattle.std.proofs.Common.{Bool, List, [], ap, arith, inl, inr, map, refl, subst, sym, true, ℕ, ◌++◌, ◌==◌, ◌∙◌, ◌∷◌, ◌≡◌, ◌≤◌}
+use Rattle.std.proofs.lemmas.Bool.Decides.{nat_tests}
+use Rattle.std.proofs.lemmas.List.{map-append}
+use Rattle.std.proofs.lemmas.List.Elements.{All-nil, All-push, All-weaker, Contains-append_left, Contains-append_right, filter-append}
+use Rattle.std.specs.Prelude.{Contains, None, Some, cond, filter, nat_le, ◌&&◌, ◌⊎◌}
 
 -- whether an entry counts for a subscriber
 abbrev pub counts : ℕ → ℕ × ℕ → Bool

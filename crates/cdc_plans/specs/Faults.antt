@@ -1,6 +1,6 @@
 -- The faults that a run is to meet.
 use Rattle.std.specs.Prelude.{◌≡◌, ◌==◌, ◌&&◌, ℕ, ◌≤◌, nat_le, Option, Some, None, List, [], All, Contains, filter, map}
-use Rattle.cdc_run.specs.declared.plans.Faults.{Faults}
+use Rattle.cdc_plans.specs.declared.faults.Faults.{Faults}
 
 -- it has none
 pub record HasNoFaults (faults : Faults) : Type 0 where

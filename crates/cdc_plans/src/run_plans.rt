@@ -1,6 +1,6 @@
 //! How a script is run on threads.
 
-use cdc_run::Faults;
+use crate::faults::Faults;
 use cdc_types::EventTimestamp;
 
 /// How a script is run on threads.

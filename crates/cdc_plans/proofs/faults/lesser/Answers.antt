@@ -1,6 +1,8 @@
-use Rattle.cdc_run.proofs.Words.{IsLeast, Option, arith, closes_of, subst, ℕ, ◌≡◌, ◌≤◌, ◌⊎◌}
-use Rattle.cdc_run.proofs.Closes.{counts_so, least_begins, least_falls}
-use Rattle.cdc_run.proofs.plans.lesser.Goals as goal
+use Rattle.cdc_plans.specs.Faults.{IsLeast, closes_of}
+use Rattle.std.proofs.Common.{arith, subst, ℕ, ◌≡◌, ◌≤◌}
+use Rattle.std.specs.Prelude.{Option, ◌⊎◌}
+use Rattle.cdc_plans.proofs.Closes.{counts_so, least_begins, least_falls}
+use Rattle.cdc_plans.proofs.faults.lesser.Goals as goal
 
 pub returns-in-Some : goal.returns-in-Some
 returns-in-Some c =

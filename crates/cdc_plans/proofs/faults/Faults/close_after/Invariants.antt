@@ -1,5 +1,6 @@
-use Rattle.cdc_run.proofs.Words.{IsLeastClose, take}
-use Rattle.cdc_run.proofs.plans.Faults.close_after.Given as goal
+use Rattle.cdc_plans.specs.Faults.{IsLeastClose}
+use Rattle.std.proofs.Common.{take}
+use Rattle.cdc_plans.proofs.faults.Faults.close_after.Given as goal
 
 -- it is the least of those so far
 abbrev pub invariant-loop-entry : goal.invariant-loop-entry
