@@ -135,7 +135,7 @@ impl OptionsFault {
         }
     }
 
-    /// The fault's name, such as `bad_words`.
+    /// The fault's name, such as `out_of_memory`.
     pub fn name(&self) -> &'static str
         ensures { result.now ≡ options_fault_name self.now }
     {
