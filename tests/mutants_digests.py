@@ -1,8 +1,9 @@
 """What the digests of the mutation baseline are of: a crate's own files, and what a crate above sees of them. CONTRIBUTING.md, "The
 mutation baseline", has the rules; tests/mutants_baseline.py uses them.
 
-A crate above sees contracts, types, constants, definitions and the statements of lemmas. It sees neither bodies of functions nor
-proofs. Comments count nowhere. A text that these functions can't read counts whole. Needs no toolchain, and Python 3.8 or later.
+A crate above sees contracts, types, constants and definitions. It sees neither bodies of functions, nor functions that aren't
+public, nor lemmas: a body that breaks its contract has no proof, whatever lemmas there are. Comments count nowhere. A text that
+these functions can't read counts whole. Needs no toolchain, and Python 3.8 or later.
 """
 import functools
 import hashlib
@@ -11,9 +12,6 @@ import re
 from collections import namedtuple
 
 PARTS, EDITS = ("src", "specs", "proofs"), "must-fail"
-# The proof files of one function, in a folder of its path.
-OF_FUNCTION = ("Answers.antt", "Invariants.antt")
-
 # A token of a source file: a word, a mark, a literal, or a clause: `ghost`, `requires` or `ensures` with the antt text after it.
 Token = namedtuple("Token", "kind text")
 WORD, MARK, LITERAL, CLAUSE = "word", "mark", "literal", "clause"
@@ -119,19 +117,34 @@ def ends_of(tokens):
 
 
 # ---------------------------------------------------------------------------------------------------------------------
-# The bodies that no crate above sees.
+# The bodies and the items that no crate above sees.
 
 QUALIFIERS = ("const", "async", "unsafe", "extern", "default", "final")
 KINDS = ("fn", "struct", "enum", "union", "trait", "impl", "mod", "use", "static", "type", "macro_rules")
+TYPES = ("struct", "enum", "union")
+# The trait of what contracts see of a type.
+SEEN_AS = "Model"
 # A body with an item of these kinds stays.
 ITEMS = ("struct", "enum", "union", "trait", "impl", "macro_rules")
 
 
-def kind_of(head):
-    """Returns the kind of an item that begins with these tokens, as they stand outside of brackets, and its qualifiers."""
+def words_after_attributes(head):
+    """Returns the words of an item that begins with these tokens, as they stand outside of brackets, without its attributes."""
     words, place = [it.text for it in head if it.kind != CLAUSE], 0
     while words[place : place + 1] == ["#"]:
         place += 3 if words[place + 1 : place + 2] == ["!"] else 2
+    return words[place:]
+
+
+def is_public(head):
+    """Returns whether another crate can name an item that begins with these tokens, as they stand outside of brackets."""
+    words = words_after_attributes(head)
+    return words[:1] == ["pub"] and words[1:2] != ["("]
+
+
+def kind_of(head):
+    """Returns the kind of an item that begins with these tokens, as they stand outside of brackets, and its qualifiers."""
+    words, place = words_after_attributes(head), 0
     place += words[place : place + 1] == ["pub"]
     place += words[place : place + 1] == ["("]
     qualifiers = []
@@ -150,9 +163,34 @@ def is_hidden(head, body, qualifiers, scope):
     return not ({"const", "extern"} & {*qualifiers} or "trait" in scope or has_type_of_body or {*ITEMS} & {it.text for it in body})
 
 
-def hidden_bodies(tokens):
-    """Returns the places of the braces of each body that no crate above sees, by the place of the opening one."""
-    ends, found, scope, place = ends_of(tokens), {}, [], 0
+def own_types(tokens):
+    """Returns the names of the types that no other crate can name."""
+    before = [Token(MARK, ";"), *tokens]
+    found = zip(before, tokens, tokens[1:])
+    return {name.text for by, it, name in found if it.kind == WORD and it.text in TYPES and name.kind == WORD and by.text != "pub"}
+
+
+def target_of(head):
+    """Returns the last names of the trait and of the type of an impl that begins with these tokens; of no trait, an empty one."""
+    words = [it.text for it in head if it.kind != CLAUSE]
+    depth, parts = 0, [[""]]
+    for word in words[words.index("impl") + 1 :]:
+        depth += word.count("<") - word.count(">") if word in ("<", ">", "<<", ">>") else 0
+        if depth == 0 and word == "for":
+            parts.append([""])
+        elif depth == 0 and word == "where":
+            break
+        elif depth == 0 and re.fullmatch(r"\w+", word):
+            parts[-1].append(word)
+    return parts[0][-1] if parts[1:] else "", parts[-1][-1]
+
+
+def hidden_parts(tokens):
+    """Returns what no crate above sees: the places of the braces of bodies, and the first and last places of items, each by the
+    first. Of a type that isn't public, those are its attributes and its impls, but for what contracts see of it. And those of
+    imports that count only if what is seen names them: none where a body is seen."""
+    ends, own, scope, place, start = ends_of(tokens), own_types(tokens), [], 0, 0
+    bodies, items, uses, has_seen_body = {}, {}, {}, False
     # (the tokens of an item so far, and those of them outside of brackets)
     head, outer = [], []
     while place < len(tokens):
@@ -166,21 +204,44 @@ def hidden_bodies(tokens):
             place = ends[place]
         elif it.text == "{":
             kind, qualifiers = kind_of(outer)
+            is_whole = kind not in ("const", "static", "use", "type")
             if kind in ("mod", "impl", "trait"):
-                scope.append(kind)
-                head, outer = [], []
+                trait, name = target_of(head) if kind == "impl" else ("", "")
+                if name in own and trait != SEEN_AS:
+                    items[start] = place = ends[place]
+                else:
+                    scope.append("trait impl" if trait else kind)
             else:
                 end = ends[place]
-                if kind == "fn" and is_hidden(head, tokens[place:end], qualifiers, scope):
-                    found[place] = end
-                if kind not in ("const", "static", "use", "type"):
-                    head, outer = [], []
+                if kind == "fn" and not is_hidden(head, tokens[place:end], qualifiers, scope):
+                    has_seen_body = True
+                elif kind == "fn" and (is_public(outer) or {"trait", "trait impl"} & {*scope}):
+                    bodies[place] = end
+                elif kind == "fn":
+                    items[start] = end
+                elif kind in TYPES and not is_public(outer):
+                    items.update(attributes(tokens, ends, start))
                 place = end
+            if is_whole:
+                head, outer, start = [], [], place + 1
         else:
             if it.text == "}":
                 scope.pop()
-            head, outer = [], []
+            elif kind_of(outer)[0] in TYPES and not is_public(outer):
+                items.update(attributes(tokens, ends, start))
+            elif kind_of(outer)[0] == "use" and not is_public(outer):
+                uses[start] = place
+            head, outer, start = [], [], place + 1
         place += 1
+    return bodies, items, {} if has_seen_body else uses
+
+
+def attributes(tokens, ends, start):
+    """Returns the first and last places of the attributes of an item that begins here, by the first."""
+    found = {}
+    while tokens[start].text == "#":
+        found[start] = ends[start + 1]
+        start = ends[start + 1] + 1
     return found
 
 
@@ -196,36 +257,77 @@ MODULE_LINE = re.compile(r"(pub )?mod \S+\s*")
 MODULE_HEAD = re.compile(r"\s*(pub )?module\s")
 # A signature of antt's, with its marks; without a mark but `pub`, the definition can be unfolded in its own module alone.
 SIGNATURE = re.compile(r"\s*(?P<marks>(?:(?:pattern|unfoldable|abbrev|axiom|pub) )*)(?P<name>[^\s:(){}]+)(?: \{[^{}]*\})? :(?:\s|$)")
+# A word that may be a name.
+NAME = re.compile(r"[^\s(){}\[\].,;:\"\0\1]+")
 RESERVED = ("data", "record", "deriving", "module", "where", "use", "mod", "open", "ruleset", "mutual", "infix", "infixl", "infixr")
 
 
+def used_of(imported, text):
+    """Returns how an import goes on after its path, without the names in braces that a text doesn't have, or nothing if it has none
+    of them."""
+    path, rest = imported["path"], imported["rest"]
+    has = lambda name: all(part in text for part in name.rpartition(" as ")[2].strip().split("◌"))
+    braces = re.fullmatch(r"\.\{([^{}]*)\}", rest)
+    if braces:
+        names = [it.strip() for it in braces[1].split(",") if has(it)]
+        return f".{{{', '.join(names)}}}" if names else None
+    is_of_module = not rest or re.fullmatch(r"\s+as\s+\S+", rest)
+    return rest if not is_of_module or has(rest or path.rpartition(".")[2]) else None
+
+
+def used_items(tokens, words):
+    """Returns the words of an import of Rust's, without the names that a text doesn't have, or nothing if it has none of them."""
+    after = [*tokens[1:], Token(MARK, ";")]
+    ends = [it.kind == MARK and it.text in (",", "}", ";") for it in after]
+    unused = [is_end and it.kind == WORD and it.text != "self" and it.text not in words for it, is_end in zip(tokens, ends)]
+    is_needed = any(is_end and it.text != "}" and not out for it, is_end, out in zip(tokens, ends, unused) if it.text not in (",", ";"))
+    return [it.text for it, out in zip(tokens, unused) if not out and it.text != ","] if is_needed else []
+
+
 def source_content(text, is_seen_from_above):
-    """Returns the content of a source file, with the bodies that a crate above sees, or with all."""
+    """Returns the content of a source file, as a crate above sees it, or all."""
     tokens = tokens_of(text)
-    bodies = hidden_bodies(tokens) if is_seen_from_above else {}
+    bodies, items, uses = hidden_parts(tokens) if is_seen_from_above else ({}, {}, {})
     found, imports, place = [], [], 0
     while place < len(tokens):
-        it = tokens[place]
+        it, end = tokens[place], place
         imported = IMPORT.fullmatch(it.text) if it.kind == CLAUSE else None
-        if imported:
-            imports.append(imported["path"])
-            found.append(f"ghost use {GAP}{imported['rest']}")
+        if place in items:
+            end = items[place]
+        elif place in uses:
+            end = uses[place]
+            found.append(tokens[place : end + 1])
+        elif imported:
+            # (with the semicolon that ends it)
+            end += tokens[place + 1 : place + 2] == [Token(MARK, ";")]
+            found.append(imported)
+        elif place in bodies:
+            found += ["{", "}"]
+            end = bodies[place]
         else:
             found.append(it.text)
-        if place in bodies:
-            found.append("}")
-            place = bodies[place]
-        place += 1
+        place = end + 1
+    texts = [it for it in found if isinstance(it, str)]
+    used, words, parts = "\1".join(texts), {*texts}, []
+    for it in found:
+        if isinstance(it, str):
+            parts.append(it)
+        elif isinstance(it, list):
+            parts += used_items(it, words)
+        else:
+            rest = used_of(it, used) if is_seen_from_above else it["rest"]
+            parts += [] if rest is None else [f"ghost use {GAP}{rest}"]
+            imports += [] if rest is None else [it["path"]]
     # (no text has the byte that parts them)
-    return Content("\1".join(found), tuple(imports), ())
+    return Content("\1".join(parts), tuple(imports), ())
 
 
 def is_comment(line):
     return re.match(r"\s*--(\s|$)", line) is not None
 
 
-def statements_in(lines):
-    """Returns the lines of a proof file without the terms of its lemmas."""
+def definitions_in(lines, named):
+    """Returns the lines of a proof file without its lemmas. What is opaque counts as one, but for the statements of these names."""
     found, place, opaque, is_opaque = [], 0, set(), False
     if not lines:
         return found
@@ -241,20 +343,21 @@ def statements_in(lines):
             raise Unreadable("a line stands further left than the first")
         if MODULE_HEAD.match(block[0]):
             heading = next((at for at, it in enumerate(block, 1) if re.search(r"(^|\s)where$", it)), len(block))
-            found += block[:heading] + statements_in(block[heading:])
+            inside = definitions_in(block[heading:], named)
+            found += block[:heading] + inside if inside else []
             is_opaque = False
         elif signature and signature["name"] not in RESERVED:
             is_opaque = signature["marks"] in ("", "pub ")
             (opaque.add if is_opaque else opaque.discard)(signature["name"])
-            found += block
+            found += [] if is_opaque and signature["name"] not in named else block
         elif not (word in opaque or word == "unfolding" and is_opaque):
             found += block
         place = end
     return found
 
 
-def antt_content(text, name, is_seen_from_above):
-    """Returns the content of an antt file; as a crate above sees it, without the terms of lemmas if it is a proof file."""
+def antt_content(text, name, is_seen_from_above, named):
+    """Returns the content of an antt file; as a crate above sees it, without lemmas if it is a proof file."""
     if "{-" in text:
         raise Unreadable("a comment may go over several lines")
     lines = [it.rstrip() for it in text.split("\n")]
@@ -263,21 +366,26 @@ def antt_content(text, name, is_seen_from_above):
     passed_on = [(it["name"] or it["path"].rpartition(".")[2], it["path"]) for it in passed_on if it]
     if os.path.basename(name) == "Lib.antt":
         lines = [it for it in lines if not MODULE_LINE.fullmatch(it) and not PASSED_ON.fullmatch(it)]
-    if is_seen_from_above and name.startswith("proofs/"):
-        lines = statements_in(lines)
-    imports = []
-    for at, it in enumerate(lines):
+    is_proof = is_seen_from_above and name.startswith("proofs/")
+    if is_proof:
+        lines = definitions_in(lines, named)
+    found, imports, used = [], [], "\n".join(it for it in lines if not IMPORT.fullmatch(it))
+    for it in lines:
         imported = IMPORT.fullmatch(it)
-        if imported:
-            imports.append(imported["path"])
-            lines[at] = f"{imported['before']}{GAP}{imported['rest']}"
-    return Content("\n".join(lines), tuple(imports), tuple(passed_on))
+        rest = imported and imported["rest"]
+        if is_proof and imported and "pub" not in imported["before"]:
+            rest = used_of(imported, used)
+            if rest is None:
+                continue
+        imports += [imported["path"]] if imported else []
+        found.append(f"{imported['before']}{GAP}{rest}" if imported else it)
+    return Content("\n".join(found), tuple(imports), tuple(passed_on))
 
 
 @functools.lru_cache(maxsize=None)
-def content_of(name, data, is_seen_from_above):
+def content_of(name, data, is_seen_from_above, named=frozenset()):
     """Returns what counts of a file with this name and these bytes, for its own crate or for one above: all of it, if it can't be
-    read."""
+    read. named: what specifications and sources name, of a proof file that is seen from above."""
     whole = Content(data, (), ())
     try:
         text = data.decode()
@@ -286,7 +394,7 @@ def content_of(name, data, is_seen_from_above):
         if name.endswith(".rt"):
             return source_content(text, is_seen_from_above)
         if name.endswith(".antt"):
-            return antt_content(text, name, is_seen_from_above)
+            return antt_content(text, name, is_seen_from_above, named)
     except (UnicodeDecodeError, Unreadable, RecursionError):
         pass
     return whole
@@ -314,30 +422,42 @@ def module_of(crate_name, name):
     return ".".join(["Rattle", crate_name, *(parts[:-1] if parts[-1] == "Lib" else parts)])
 
 
-def folder_of_function(crate_name, name):
-    """Returns the path of the modules in a file's folder if the file proves one function, or nothing."""
-    folder, file = os.path.split(name)
-    is_of_one = file in OF_FUNCTION and folder.startswith("proofs/")
-    return ".".join(["Rattle", crate_name, *folder.split("/")]) if is_of_one else ""
-
-
 class Tree:
     """The files of a crate and of those below it, as they stand."""
 
     def __init__(self, crate):
-        self.files = {it.name: files_in(it.folder, PARTS) for it in [crate, *crate.below()]}
-        # (the modules that are passed on, by their paths there; the paths of all modules that are imported or passed on, with those
-        # above them, except what the proof of a function imports from its own folder)
-        self.passed_on, self.cited = {}, set()
+        self.crate, self.files = crate.name, {it.name: files_in(it.folder, PARTS) for it in [crate, *crate.below()]}
+        # (the modules that are passed on, by their paths there)
+        self.passed_on = {}
         for crate_name, files in self.files.items():
             for name, data in files.items():
-                content, module = content_of(name, data, False), module_of(crate_name, name)
-                self.passed_on.update((f"{module}.{it}", path) for it, path in content.passed_on)
-                own = folder_of_function(crate_name, name)
-                for it in [*content.imports, *(path for _, path in content.passed_on)]:
-                    while it and it not in self.cited and not f"{it}.".startswith(f"{own or None}."):
-                        self.cited.add(it)
-                        it = it.rpartition(".")[0]
+                module = module_of(crate_name, name)
+                self.passed_on.update((f"{module}.{it}", path) for it, path in content_of(name, data, False).passed_on)
+        # (what specifications and sources name, and the proof files that they lead to)
+        self.named, self.reached = self.reached_proofs()
+
+    def reached_proofs(self):
+        """Returns all words of specifications and sources, as the crate sees them, and the modules of the proof files from which
+        these import, or from which the definitions of such modules do."""
+        proofs, words, left, reached = {}, set(), [], set()
+        for crate_name, files in self.files.items():
+            for name, data in files.items():
+                if name.startswith("proofs/"):
+                    proofs[module_of(crate_name, name)] = name, data
+                    continue
+                content = content_of(name, data, crate_name != self.crate)
+                text = content.text if isinstance(content.text, str) else content.text.decode(errors="replace")
+                words.update(NAME.findall(text))
+                left += content.imports
+        named = frozenset(words)
+        while left:
+            path = self.resolved(left.pop())
+            while path:
+                if path in proofs and path not in reached:
+                    reached.add(path)
+                    left += content_of(*proofs[path], True, named).imports
+                path = path.rpartition(".")[0]
+        return named, reached
 
     def resolved(self, path):
         """Returns the path of a module as its own crate writes it, whichever crate passes it on."""
@@ -356,8 +476,11 @@ class Tree:
         """Returns what counts of a crate, as texts: name by name, what the file has and what it imports."""
         found = []
         for name, data in self.files[crate_name].items():
-            content, folder = content_of(name, data, is_seen_from_above), folder_of_function(crate_name, name)
-            if content.text and not (is_seen_from_above and folder and folder not in self.cited):
+            is_proof = is_seen_from_above and name.startswith("proofs/")
+            if is_proof and module_of(crate_name, name) not in self.reached:
+                continue
+            content = content_of(name, data, is_seen_from_above, self.named if is_proof else frozenset())
+            if content.text:
                 found += [name, content.text, *map(self.resolved, content.imports), ""]
         return found
 

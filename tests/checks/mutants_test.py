@@ -119,7 +119,7 @@ impl Grid {
     /// The area of a grid.
     pub fn area(&self, by: [u8; 2]) -> [u8; 2]
         requires { self.now.rows ≡ 1 }
-        ensures is { result.now ≡ area self.now (codes "a } b") }
+        ensures is { result.now ≡ size self.now (codes "a } b") }
     {
         let open = '{'; // a comment }
         let text = b"} \\" {"; /* a comment } /* inside } */ " one */
@@ -132,7 +132,35 @@ impl Grid {
         }
         by
     }
+
+    fn half(&self) -> u8
+        requires { self.now.rows ≡ 2 }
+    {
+        24
+    }
 }
+
+#[derive(Clone)]
+struct Cells {
+    count: u8,
+}
+
+impl Cells {
+    pub fn first(&self) -> u8 {
+        25
+    }
+}
+
+impl Drop for Cells {
+    fn drop(self) {}
+}
+
+impl Model for Cells {
+    ghost view = { count };
+}
+
+#[derive(Debug)]
+pub(crate) struct Place(u16);
 
 pub const fn twice(x: u8) -> u8 {
     x + x
@@ -166,17 +194,28 @@ area x = x + x
 pub hidden : ℕ
 hidden = 11
 """
+CELLS = """use crate::parts::{Grid, Row};
+
+pub fn cells(of: Grid) -> u8 {
+    26
+}
+"""
 LEMMAS = """use Rattle.low.specs.Grid.{area}
+use Rattle.low.proofs.Below.{Is, by_steps}
+use Rattle.low.proofs.Aside.{Beside, aside}
 
 -- an area is twice its side
-pub twice : (x : ℕ)
+pub doubled : (x : ℕ)
     → area x ≡ x + x
-twice x = by_symmetry
+doubled x = by_symmetry
   where
     by_symmetry : ℕ
     by_symmetry = 12
 unfolding_is_no_word : ℕ
 unfolding_is_no_word = 13
+
+pub begins : Beside 27
+begins = aside
 
 module _ (x : ℕ)
     (y : ℕ) where
@@ -195,18 +234,23 @@ pub record Pair : Type 0 where
   pub one : ℕ
   pub two : Is 18
 """
+BELOW = "abbrev pub Is : ℕ → Type 0\nIs x = x ≡ 28\n"
+ASIDE = "abbrev pub Beside : ℕ → Type 0\nBeside x = x ≡ 29\n"
 ANSWERS = "use Rattle.low.proofs.lib.Grid.area.Goals as goal\n\npub returns : goal.returns\nreturns c = refl {19}\n"
 HIGH = "ghost use Rattle.low.specs.Grid.{area};\n\npub fn top() -> u8\n    ensures { area 1 ≡ 2 }\n{\n    20 // a remark\n}\n"
 FILES = {
     "crates/low/src/lib.rt": LOW,
     "crates/low/specs/Lib.antt": "pub mod Grid\n",
     "crates/low/specs/Grid.antt": GRID,
-    "crates/low/proofs/Lib.antt": "pub mod Lemmas\n",
+    "crates/low/src/cells.rt": CELLS,
+    "crates/low/proofs/Lib.antt": "pub mod Lemmas\npub mod Below\npub mod Aside\n",
+    "crates/low/proofs/Below.antt": BELOW,
+    "crates/low/proofs/Aside.antt": ASIDE,
     "crates/low/proofs/Lemmas.antt": LEMMAS,
     "crates/low/proofs/lib/Grid/area/Answers.antt": ANSWERS,
     "crates/mid/src/lib.rt": "pub struct Mid;\n",
     "crates/mid/specs/Lib.antt": "pub mod Own\n",
-    "crates/mid/specs/Own.antt": "pub own : ℕ\nown = 21\n",
+    "crates/mid/specs/Own.antt": "use Rattle.low.proofs.Lemmas.{Pair}\n\npub own : ℕ\nown = 21\n",
     "crates/high/src/lib.rt": HIGH,
     "crates/high/specs/Top.antt": "use Rattle.low.specs.Grid.{area}\n\npub top : ℕ\ntop = area 22\n",
 }
@@ -369,10 +413,10 @@ SEEN = {
         ("a quote in a body", "'\\'';", "'\"';", False),
         ("a label in a body", "break 'all", "continue 'all", False),
         ("a clause in a body", "open ≡ 1", "open ≡ 2", False),
-        ("a body", "by\n    }\n}", "if by { by } else { by }\n    }\n}", False),
+        ("a body", "        by\n", "        if by { by } else { by }\n", False),
         ("a body, up to the next function", "    9\n", "    8\n", False),
         ("a requires", "rows ≡ 1", "rows ≡ 2", True),
-        ("an ensures", "area self.now", "area self.old", True),
+        ("an ensures", "size self.now", "size self.old", True),
         ("a text in a clause", '"a } b"', '"a { b"', True),
         ("a clause's name", "ensures is", "ensures same", True),
         ("a parameter", "by: [u8; 2]", "by: [u8; 3]", True),
@@ -383,16 +427,32 @@ SEEN = {
         ("a constant with a block", "{ make }", "{ made }", True),
         ("an attribute", "(Clone, Copy)", "(Clone)", True),
         ("a mark for visibility", "pub(crate) unsafe", "pub unsafe", True),
-        ("an import", "{area as size}", "{area as sizes}", True),
+        ("an import", "{area as size}", "{hidden as size}", True),
+        ("an import that nothing names", "{◌≡◌, length}", "{◌≡◌, find}", False),
         ("a module imported", "specs.Grid.{area as", "specs.Grids.{area as", True),
         ("the body of a const fn", "x + x", "x - x", True),
         ("the body of a trait's function", "        3\n", "        4\n", True),
         ("a body whose type is the function's", "7u8", "8u8", True),
         ("a body with an impl", "for u8 {}", "for u16 {}", True),
-        ("a new function", "pub trait", "fn more() {}\npub trait", True),
+        ("a new function", "pub trait", "pub fn more() {}\npub trait", True),
+        ("a new function that isn't public", "pub trait", "fn more() {}\npub trait", False),
+        ("a clause of a function that isn't public", "rows ≡ 2", "rows ≡ 3", False),
+        ("a parameter of a function that isn't public", "half(&self)", "half(self)", False),
+        ("an attribute of a type that isn't public", "(Clone)]\nstruct", "(Copy)]\nstruct", False),
+        ("an attribute of a type without braces that isn't public", "(Debug)", "(Clone)", False),
+        ("an impl of a type that isn't public", "pub fn first(", "pub fn last_one(", False),
+        ("an impl of a trait for a type that isn't public", "impl Drop for Cells {\n    fn drop(self) {}\n}\n", "", False),
+        ("a field of a type that isn't public", "count: u8", "count: u16", True),
+        ("a field without a name", "Place(u16)", "Place(u32)", True),
+        ("what contracts see of a type that isn't public", "{ count }", "{ counted }", True),
         ("a quote that isn't closed", "pub trait", "\" pub trait", True),
         ("a brace that isn't closed", "    9\n", "    9 {\n", True),
         ("a clause with a comment of antt's", "rows ≡ 1", "rows ≡ 1 -- }", True),
+    ],
+    "crates/low/src/cells.rt": [
+        ("an import of Rust's", "crate::parts", "crate::more", True),
+        ("an import of Rust's that nothing names", "{Grid, Row}", "{Grid, Rows}", False),
+        ("an import of Rust's beside a body that is seen", "pub fn", "pub const fn", True),
     ],
     "crates/low/specs/Grid.antt": [
         ("a definition", "x + x", "x - x", True),
@@ -401,20 +461,25 @@ SEEN = {
         ("a comment over several lines", "-- the area\n", "{- the area\n-}\n", True),
     ],
     "crates/low/proofs/Lemmas.antt": [
-        ("a statement", "≡ x + x", "≡ x * x", True),
-        ("a statement that isn't public", "is_no_word : ℕ", "is_no_word : Bool", True),
-        ("a term", "twice x = by_symmetry", "twice x = refl", False),
+        ("a statement", "≡ x + x", "≡ x * x", False),
+        ("a statement that isn't public", "is_no_word : ℕ", "is_no_word : Bool", False),
+        ("a statement of a name that a specification has", "pub doubled :", "pub own :", True),
+        ("a term", "doubled x = by_symmetry", "doubled x = refl", False),
         ("a term's own definition", "= 12", "= 2", False),
         ("the term of a lemma without a mark", "= 13", "= 3", False),
         ("a definition that unfolds", "= 14", "= 4", True),
         ("a module's parameter", "(y : ℕ)", "(y : Bool)", True),
-        ("a statement in a module", "≡ 15", "≡ 5", True),
+        ("a statement in a module", "≡ 15", "≡ 5", False),
         ("a term in a module", "{16}", "{6}", False),
         ("what a term unfolds", "unfolding count", "unfolding count open-one", False),
         ("a definition that can be unfolded", "= 17", "= 7", True),
         ("a record's field", "Is 18", "Is 8", True),
-        ("a line further left than the first", "use Rattle", "  use Rattle", True),
+        ("an import of a definition", "Below.{Is, by_steps}", "Aside.{Is, by_steps}", True),
+        ("an import of lemmas alone", "Aside.{Beside, aside}", "Below.{Beside, aside}", False),
+        ("a line further left than the first", "use Rattle.low.specs", "  use Rattle.low.specs", True),
     ],
+    "crates/low/proofs/Below.antt": [("a definition of a definition", "28", "8", True)],
+    "crates/low/proofs/Aside.antt": [("a definition of lemmas alone", "29", "9", False)],
     "crates/low/proofs/lib/Grid/area/Answers.antt": [("an answer", "{19}", "{9}", False)],
 }
 # Of any file: comments.
@@ -431,7 +496,8 @@ def replaced(name, old, new):
 
 
 def test_what_a_crate_above_sees(tree):
-    """Another contract, type, constant, definition or statement below makes answers stale; another body or proof does not."""
+    """Another contract, type, constant or definition below makes answers stale; another body or proof does not, nor what only
+    these name."""
     for name, rows in SEEN.items():
         for what, old, new, is_seen in rows:
             wanted = {"low own", *(["mid below", "high below"] if is_seen else [])}
@@ -460,17 +526,20 @@ def test_spaces(tree):
     assert tree.changed_by({"crates/low/src/lib.rt": texts[1]}) == {"low own"}
 
 
-def test_cited_answers(tree):
-    """A function's proof file that another file imports from counts as others do."""
+def test_named_in_specifications(tree):
+    """A statement of a proof file counts for the crates above if a specification imports from the file, and has the name."""
     name = "crates/low/proofs/lib/Grid/area/Answers.antt"
-    assert tree.changed_by({name: ANSWERS.replace("goal.returns\n", "goal.leaves\n")}) == {"low own"}
-    for file, text in (
-        ("crates/low/proofs/More.antt", "use Rattle.low.proofs.lib.Grid.area.Answers.{returns}\n"),
-        ("crates/mid/proofs/Lib.antt", "pub use Rattle.low.proofs.lib.Grid.area.Answers\n"),
+    answers = {name: ANSWERS.replace("goal.returns\n", "goal.leaves\n")}
+    assert tree.changed_by(answers) == {"low own"}
+    for file, text, wanted in (
+        ("crates/low/proofs/More.antt", "use Rattle.low.proofs.lib.Grid.area.Answers.{returns}\n", set()),
+        ("crates/mid/proofs/Lib.antt", "pub use Rattle.low.proofs.lib.Grid.area.Answers\n", set()),
+        ("crates/mid/specs/More.antt", "use Rattle.low.proofs.lib.Grid.area.Answers.{returns}\n", {"mid below", "high below"}),
+        ("crates/high/src/more.rt", "ghost use Rattle.low.proofs.lib.Grid.area.Answers.{returns};\n", {"high below"}),
     ):
         tree.put(file, text)
-        found = tree.changed_by({name: ANSWERS.replace("goal.returns\n", "goal.leaves\n")})
-        assert found == {"low own", "mid below", "high below"}, (file, found)
+        found = tree.changed_by(answers)
+        assert found == {"low own", *wanted}, (file, found)
         os.remove(f"{tree.folder}/{file}")
 
 
