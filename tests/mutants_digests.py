@@ -12,6 +12,8 @@ import re
 from collections import namedtuple
 
 PARTS, EDITS = ("src", "specs", "proofs"), "must-fail"
+# The proof files of one function, in a folder of its path.
+OF_FUNCTION = ("Answers.antt", "Invariants.antt")
 # A token of a source file: a word, a mark, a literal, or a clause: `ghost`, `requires` or `ensures` with the antt text after it.
 Token = namedtuple("Token", "kind text")
 WORD, MARK, LITERAL, CLAUSE = "word", "mark", "literal", "clause"
@@ -327,7 +329,8 @@ def is_comment(line):
 
 
 def definitions_in(lines, named):
-    """Returns the lines of a proof file without its lemmas. What is opaque counts as one, but for the statements of these names."""
+    """Returns the lines of a proof file without its lemmas, which are all that is opaque, but for the statements of these names, or
+    of all if named is None."""
     found, place, opaque, is_opaque = [], 0, set(), False
     if not lines:
         return found
@@ -349,7 +352,7 @@ def definitions_in(lines, named):
         elif signature and signature["name"] not in RESERVED:
             is_opaque = signature["marks"] in ("", "pub ")
             (opaque.add if is_opaque else opaque.discard)(signature["name"])
-            found += [] if is_opaque and signature["name"] not in named else block
+            found += block if not is_opaque or named is None or signature["name"] in named else []
         elif not (word in opaque or word == "unfolding" and is_opaque):
             found += block
         place = end
@@ -385,7 +388,7 @@ def antt_content(text, name, is_seen_from_above, named):
 @functools.lru_cache(maxsize=None)
 def content_of(name, data, is_seen_from_above, named=frozenset()):
     """Returns what counts of a file with this name and these bytes, for its own crate or for one above: all of it, if it can't be
-    read. named: what specifications and sources name, of a proof file that is seen from above."""
+    read. named: of a proof file that is seen from above the names of the lemmas that count, or None if all do."""
     whole = Content(data, (), ())
     try:
         text = data.decode()
@@ -472,14 +475,17 @@ class Tree:
                     break
         return path
 
-    def parts(self, crate_name, is_seen_from_above):
-        """Returns what counts of a crate, as texts: name by name, what the file has and what it imports."""
+    def parts(self, crate_name, is_seen_from_above, by_proofs=False):
+        """Returns what counts of a crate, as texts: name by name, what the file has and what it imports. by_proofs: what proofs in
+        the crates above see, which is lemmas too."""
         found = []
         for name, data in self.files[crate_name].items():
-            is_proof = is_seen_from_above and name.startswith("proofs/")
-            if is_proof and module_of(crate_name, name) not in self.reached:
-                continue
-            content = content_of(name, data, is_seen_from_above, self.named if is_proof else frozenset())
+            named = frozenset()
+            if is_seen_from_above and name.startswith("proofs/"):
+                named = None if by_proofs else self.named
+                if os.path.basename(name) in OF_FUNCTION if by_proofs else module_of(crate_name, name) not in self.reached:
+                    continue
+            content = content_of(name, data, is_seen_from_above, named)
             if content.text:
                 found += [name, content.text, *map(self.resolved, content.imports), ""]
         return found
@@ -513,5 +519,5 @@ def views_below(crate):
 
 
 def view_of(crate):
-    """Returns the digest of what is seen of a crate from above."""
-    return digest(Tree(crate).parts(crate.name, True))
+    """Returns the digest of what proofs in the crates above see of a crate: what its callers see, and its lemmas."""
+    return digest(Tree(crate).parts(crate.name, True, by_proofs=True))
