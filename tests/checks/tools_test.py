@@ -132,6 +132,13 @@ def what_is_proved(place):
         folders, why = place.proved("low")
         same(f"another {what}", (above, 3), (sorted(folders, key=above.index), sum("has changed since HEAD" in it for it in why)))
         same(f"another {what}: lowest first", True, folders.index("cdc_commands") < folders.index("cdc_app"))
+    place.put("crates/low/src/lib.rt", LOW)
+    for what, text, count in (("a lemma", "pub one : 1 ≡ 1\none = refl\n", 4), ("a proof file of a function", "pub returns : 1 ≡ 1\nreturns = refl\n", 1)):
+        name = "Lemmas.antt" if count == 4 else "lib/low/Answers.antt"
+        place.put(f"crates/low/proofs/{name}", text)
+        same(what, count, len(place.proved("low")[0]))
+        os.remove(f"{place.room}/crates/low/proofs/{name}")
+    place.put("crates/low/src/lib.rt", LOW.replace("result ≡ x", "result ≡ x + 0"))
     lines = place.call("--dry-run", "low")[1]
     same("a crate of tests, with its tests", True, any(it.startswith("rt check --test, in crates/low_tests:") for it in lines))
     same("the mutants above", True, any("no mutants of the crates above" in it for it in lines))
