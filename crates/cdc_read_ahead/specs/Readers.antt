@@ -30,3 +30,7 @@ has_line_in bytes = nat_lt LINE_BYTES (length bytes) || list_any is_feed bytes
 -- the next line can be had without waiting: it is held, or nothing follows what is held
 abbrev pub is_ready_in : List ℕ → Received → Bool
 is_ready_in held received = has_line_in held || is_some received.ending
+
+-- the same of what a reader holds and has received
+abbrev pub line_is_ready : {O R : Type 0} → AheadReader O R → Bool
+line_is_ready reader = is_ready_in (held_by reader) reader.blocks

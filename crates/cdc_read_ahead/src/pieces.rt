@@ -38,7 +38,7 @@ pub enum Ending {
 /// The maximum size of a block, in bytes.
 pub const BLOCK_BYTES: usize = Limits::BUFFER_BYTES;
 
-/// How many blocks wait to be received, at most. It is to move to `Limits`.
+/// How many blocks wait to be received, at most.
 pub const WAITING_BLOCKS: usize = 16;
 
 /// A piece of what a reader gives.

@@ -5,7 +5,7 @@ ghost use Rattle.std.specs.List.{list_any};
 ghost use Rattle.std.specs.Io.KnownBytes.{IsAtEnd};
 ghost use Rattle.std.specs.IoError.{error_kind};
 ghost use Rattle.cdc_read_ahead.specs.Pieces.{AnswersIfSome, AreBytesOf};
-ghost use Rattle.cdc_read_ahead.specs.Readers.{held_by, is_feed, is_ready_in, left_of};
+ghost use Rattle.cdc_read_ahead.specs.Readers.{held_by, is_feed, left_of, line_is_ready};
 
 use crate::blocks::Blocks;
 use crate::errors::StartFault;
@@ -90,7 +90,7 @@ impl<O: Known, R: Threads + Wait + Copy> AheadReader<O, R> {
     /// Whether the next line can be had without waiting, or what is wrong with it, or the end of the stream. What is
     /// left to read stays the same. If memory runs out, what is held alone decides.
     pub fn has_line(&mut self) -> bool
-        ensures ready { result ≡ is_ready_in (held_by self.new) self.new.blocks }
+        ensures ready { result ≡ line_is_ready self.new }
         ensures left { left_of O.bytes self.new ≡ left_of O.bytes self.old }
     {
         for _ in 0..u64::MAX {
@@ -103,7 +103,7 @@ impl<O: Known, R: Threads + Wait + Copy> AheadReader<O, R> {
 
     /// Whether the next line can be had of what was received.
     fn is_ready(&self) -> bool
-        ensures { result ≡ is_ready_in (held_by self.now) self.now.blocks }
+        ensures { result ≡ line_is_ready self.now }
     {
         let unread = self.held.unread();
         unread.len() > LINE_BYTES || has_feed(unread) || self.blocks.ending().is_some()
