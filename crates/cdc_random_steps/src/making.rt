@@ -3,9 +3,9 @@
 ghost use Rattle.std.specs.Prelude.{◌<◌};
 ghost use Rattle.cdc_types.specs.Windows.{IsWindow};
 
-use cdc_plans::Chances;
 use cdc_diagnostics::{Sentence, step_text};
 use cdc_match::Binding;
+use cdc_plans::Chances;
 use cdc_progress::MemoryStore;
 use cdc_script::{Act, ClientBatch, Script, ScriptError, StepFile, parse_script};
 use cdc_types::{EventTimestamp, Limits, Step};
