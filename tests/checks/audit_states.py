@@ -18,6 +18,7 @@ import audit
 import interrupted
 from audit import END, EXPIRY, HELD, PAID, POST, SECOND, THREE, TIMED, UP, account, event, expiry, text_of, with_transfer
 from commands import check, run
+from piped import Piped
 
 JOBS = 2  # runs at a time
 STORE = (1, "fault: store\n")
@@ -176,6 +177,18 @@ def refused(folder):
         check(f"usage: {arguments}", found[0] == 2 and not found[1] and found[2].startswith("error: "), found)
 
 
+def slow(folder):
+    """Each line of a pipe is saved before the next one is awaited."""
+    piped = Piped(["--state", os.path.join(folder, "a.state"), "--every", "1000000"])
+    for given, saved in ((PAID, "saved 10\n"), (HELD, "saved 20\n"), (POST, "saved 30\n"), (END, "saved 30\n")):
+        piped.write(text_of([given]))
+        found = piped.line()
+        check("an event of a slow pipe is saved before the next one is awaited", found == saved, found)
+    piped.close()
+    found = piped.ended()
+    check("the end of a slow pipe", found == (0, "saved 30\naccepted 3 last 30\n", ""), found)
+
+
 class InterruptedAudit(interrupted.Interrupted):
     """An audit that saves its state after each event."""
 
@@ -205,7 +218,7 @@ def killed(folder):
 
 
 def states(folder):
-    for part in (by_hand, cuts, refused, killed):
+    for part in (by_hand, cuts, slow, refused, killed):
         room = os.path.join(folder, f"state-{part.__name__}")
         os.mkdir(room)
         part(room)

@@ -3,21 +3,23 @@
 
   tests/checks/follow.py [PROGRAM] [--streams N]    PROGRAM: crates/cdc_app/out/cdc_app; N random streams, 300 by default
 
-By hand: each kind of line, each fault, each status, where a line ends, and what standard error reports; how often a file is saved;
-books that something else replaces meanwhile; standard descriptors that are closed. Random streams of a queue are lost, repeated,
-shuffled and merged from two publishers; what is printed, and what standard error reports of gaps, has to be that of a small model,
-which reads JSON by Python's own parser. Killed: the program ends at each read, write, sync
-and rename of a stream with a book, and is started again with the lines from an earlier `saved` on; it has to come to the book
-of a run without a stop. Refused: each allocation, read, write, open, sync and rename is refused in turn; the book has to be
-the old one or a later one, and whole.
+By hand: each kind of line, each fault, each status, where a line ends, and what standard error reports; how often a file and a
+pipe are saved; books that something else replaces meanwhile; standard descriptors that are closed. Random streams of a queue are
+lost, repeated, shuffled and merged from two publishers; what is printed, and what standard error reports of gaps, has to be that of
+a small model, which reads JSON by Python's own parser. Killed: the program ends at each read, write, sync and rename of a stream
+with a book, and is started again with the lines from an earlier `saved` on; it has to come to the book of a run without a stop.
+Refused: each allocation, read, write, open, sync and rename is refused in turn; the book has to be the old one or a later one, and
+whole.
 
-Replaced, Killed and Refused need a C compiler, `cc`. The last line is `follow: N passed, M failed`; the status is 1 where one failed.
+Replaced, Killed, Refused, and a thread that can't be started, need a C compiler, `cc`. The last line is `follow: N passed, M
+failed`; the status is 1 where one failed.
 """
 import concurrent.futures
 import contextlib
 import json
 import os
 import random
+import shutil
 import sqlite3
 import subprocess
 import sys
@@ -28,8 +30,11 @@ import commands
 import ending
 import holding
 import interrupted
+import needs
 import rooms
+import sweep
 from commands import check, run
+from piped import Piped
 
 JOBS = 2  # runs at a time
 STREAMS, MOST_LINES = 300, 40  # random streams, and lines of each
@@ -535,6 +540,100 @@ def saves(folder):
             os.remove(book)
 
 
+def pipes(folder):
+    """A pipe: of a slow one each line is saved before the next one is awaited; of one whose writer is ahead every N lines are,
+    wherever a read ends. A run ends whatever the thread waits for that reads ahead."""
+    first, second = chained(0, FIRST), chained(10, SECOND)
+    for part in (slow, ahead, cut_lines, bad_lines):
+        part(os.path.join(folder, part.__name__), first, second)
+
+
+def slow(book, *lines):
+    """Each line is written once the one before is reported as saved."""
+    piped = Piped(["--chained", "--book", book, "--every", "1000000"])
+    for line, saved in zip(lines, ("saved 10\n", "saved 20\n")):
+        piped.write(f"{line}\n".encode())
+        found = piped.line()
+        check("a line of a slow pipe is saved before the next one is awaited", found == saved, found)
+    piped.close()
+    found = piped.ended()
+    check("the end of a slow pipe", found == (0, "saved 20\n" + TWO, ""), found)
+
+
+def ahead(book, *_):
+    """All is written while the save of the first line is held, and all is read ahead by then."""
+    lines = [f"{chained(it - 1, event(it))}\n" for it in range(1, 502)]
+    text = "".join(lines[1:]).encode()
+    for every, saved in ((100, [1, 101, 201, 301, 401, 501, 501]), (300, [1, 301, 501]), (10**6, [1, 501])):
+        piped = Piped(["--chained", "--book", book, "--every", str(every)], is_held=True)
+        piped.write(lines[0].encode())
+        piped.wait_for(book, b" applied 1 ")
+        is_read = piped.write_ahead(text)
+        piped.close()
+        holding.wait_until_at_rest(piped.child)
+        piped.release()
+        status, printed, _ = piped.ended()
+        times = [int(it) for it in interrupted.SAVED.findall(printed)]
+        check(f"a pipe whose writer is ahead, every {every} lines", (is_read, status, times) == (True, 0, saved), (is_read, status, times))
+        os.remove(book)
+
+
+def cut_lines(book, first, second):
+    """A part of a line is no line, so the lines before it are saved. At the end it is the last line."""
+    half = len(second) // 2
+    piped = Piped(["--chained", "--book", book])
+    piped.write(f"{first}\n{second[:half]}".encode())
+    found = piped.line()
+    check("half a line comes, and the line before it is saved", found == "saved 10\n", found)
+    piped.write(f"{second[half:]}\n".encode())
+    found = piped.line()
+    check("the other half comes", found == "saved 20\n", found)
+    piped.write(first[:half].encode())
+    piped.close()
+    found = piped.ended()
+    check("a pipe that ends in the middle of a line", found[:2] == (2, f"saved 20\n{TWO}fault: line 3: not_json\n"), found)
+    os.remove(book)
+    piped = Piped(["--chained", "--book", book])
+    piped.write(f"{first}\n{second}".encode())
+    found = piped.line()
+    check("a line without its line feed is awaited", found == "saved 10\n", found)
+    piped.close()
+    found = piped.ended()
+    check("a pipe that ends without a line feed", found == (0, "saved 20\n" + TWO, ""), found)
+
+
+def bad_lines(book, first, _):
+    """A bad line ends the run while the pipe is open: the thread that reads ahead waits for bytes, or for room."""
+    printed = f"saved 10\n{ONE}fault: line 2: not_json\n"
+    piped = Piped(["--chained", "--book", book])
+    piped.write(f"{first}\nx\n".encode())
+    found = piped.ended()
+    check("a bad line while the pipe is open", found[:2] == (2, printed), found)
+    os.remove(book)
+    piped = Piped(["--chained", "--book", book], is_held=True)
+    piped.write(f"{first}\n".encode())
+    piped.wait_for(book, b" applied 1 ")
+    is_read = piped.write_ahead(b"x\n" * 2_000_000)
+    check("what is read ahead is bounded", not is_read, is_read)
+    piped.release()
+    found = piped.ended()
+    check("a bad line while more is waiting than is read ahead", found[:2] == (2, "saved 10\n" + printed), found)
+
+
+def starved(folder):
+    """The thread that reads a pipe ahead can't be started, or finds no memory."""
+    if shutil.which("cc") is None:
+        print(f"follow: not tried: a thread that can't be started: {needs.no_command('cc')}")
+        return
+    library = sweep.built_library(folder)
+    for plan, why in (("thread:1", "no thread could be started"), ("on-thread:1:1", "no memory was left")):
+        piped = Piped([], env=dict(os.environ, LD_PRELOAD=library, FAULT=plan))
+        piped.write(f"{own(FIRST)}\n".encode())
+        piped.close()
+        found = piped.ended()
+        check(f"a pipe, refused {plan}", found == (1, "fault: out_of_memory\n", f"relayplum: out_of_memory: {why}\n"), found)
+
+
 def started(folder, library, call, arguments, stream):
     """A run in a folder that is held in a call, and the end of the pipe that holds it."""
     os.mkfifo(os.path.join(folder, "hold"))
@@ -677,7 +776,8 @@ def memory(folder):
 
 
 def main(arguments):
-    return commands.main(arguments, __doc__, "follow", [by_hand, books, saves, replaced, closed, killed, memory], random_streams, STREAMS)
+    parts = [by_hand, books, saves, pipes, starved, replaced, closed, killed, memory]
+    return commands.main(arguments, __doc__, "follow", parts, random_streams, STREAMS)
 
 
 if __name__ == "__main__":

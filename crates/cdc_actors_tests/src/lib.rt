@@ -14,6 +14,8 @@ mod links;
 #[cfg(test)]
 mod names;
 #[cfg(test)]
+mod read_ahead;
+#[cfg(test)]
 mod receiving;
 #[cfg(test)]
 mod traffic;

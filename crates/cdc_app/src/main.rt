@@ -57,8 +57,9 @@ fn command_line_of(rt: &HostRuntime) -> io::Result<Vec<String>> {
     Ok(args)
 }
 
-/// Does what the arguments ask for, and returns the exit status. `threads` starts the threads of a run.
-fn run_arguments<T: Threads + Wait + Sync + AllocGlobal>(
+/// Does what the arguments ask for, and returns the exit status. `threads` starts the threads of a run, and those that
+/// read streams ahead.
+fn run_arguments<T: Threads + Wait + Sync + AllocGlobal + Copy + Send + 'static>(
     rt: &HostRuntime,
     threads: &T,
     args: &[String],
@@ -159,10 +160,10 @@ fn run_arguments<T: Threads + Wait + Sync + AllocGlobal>(
             },
         ) => run_check(rt, file, steps, has_diagram, form),
         Ok(Options::Follow { file, plan, form }) => {
-            return follow_status(run_follow(rt, file, plan, form));
+            return follow_status(run_follow(rt, threads, file, plan, form));
         }
         Ok(Options::Audit { file, plan, form }) => {
-            return audit_status(run_audit(rt, file, plan, form));
+            return audit_status(run_audit(rt, threads, file, plan, form));
         }
         Ok(Options::Explain { text }) => explain(rt, text.as_str()),
         Err(OptionsFault::BadWords { message }) => refuse_arguments(rt, message.as_str()),

@@ -1,7 +1,6 @@
 //! What commands read from.
 
 use cdc_arguments::STANDARD_INPUT;
-use cdc_streams::Origin;
 use std::fs::File;
 use std::io::{Read, StdinLock};
 use std::{fs, io};
@@ -67,16 +66,15 @@ impl Stream {
             is_regular: fs::metadata(rt, path).is_ok_and(|data| data.is_file()),
         }
     }
+
+    /// Whether a read may have to wait for bytes that aren't there yet. Those of a regular file are there.
+    pub fn may_wait(&self) -> bool {
+        !self.is_regular
+    }
 }
 
 impl Read for Stream {
     fn read(&mut self, buf: &mut [u8]) -> io::Result<usize> {
         self.source.read(buf)
-    }
-}
-
-impl Origin for Stream {
-    fn may_wait(&self) -> bool {
-        !self.is_regular
     }
 }

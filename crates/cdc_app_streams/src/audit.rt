@@ -1,6 +1,7 @@
 //! The command `audit`: a stream in, and whether a ledger can have published it.
 
 use crate::follow_advice::{advise_on_line, unread};
+use crate::lines::{Lines, lines_of, refuse_reading};
 use cdc_app_inputs::{Stream, advise_on_failure, shown_name};
 use cdc_arguments::{AuditPlan, Form};
 use cdc_audit::{AuditStop, Auditor};
@@ -11,13 +12,20 @@ use cdc_audit_state::STATE_MARK;
 use cdc_commands::print_fault;
 use cdc_output::{Json, ProgramFault, Text};
 use cdc_progress::StoreError;
-use cdc_streams::{Saver, StreamEnding, TextFile};
-use cdc_types::Limits;
+use cdc_streams::{LineReader, Saver, StreamEnding, TextFile, TextStore};
 use std::io;
-use std::io::BufReader;
+use std::sync::Wait;
+use std::thread::Threads;
 
-/// Audits the stream in the file of this name, and reports on standard error why that stopped before the end.
-pub fn run_audit(rt: &HostRuntime, file: &str, plan: AuditPlan<'_>, form: Form) -> AuditEnding {
+/// Audits the stream in the file of this name, and reports on standard error why that stopped before the end. A stream
+/// that may have to be waited for is read ahead, on a thread that `threads` starts.
+pub fn run_audit<T: Threads + Wait + Copy + Send + 'static>(
+    rt: &HostRuntime,
+    threads: &T,
+    file: &str,
+    plan: AuditPlan<'_>,
+    form: Form,
+) -> AuditEnding {
     let AuditPlan {
         shows_book,
         foreign,
@@ -28,36 +36,54 @@ pub fn run_audit(rt: &HostRuntime, file: &str, plan: AuditPlan<'_>, form: Form) 
         Ok(opened) => opened,
         Err(error) => return refuse_state(rt, file, state, error, form),
     };
-    let source = Stream::of(rt, file);
-    let Ok(mut reader) = BufReader::with_capacity(rt.alloc(), Limits::BUFFER_BYTES, source) else {
-        return refuse_state(rt, file, state, StoreError::OutOfMemory, form);
-    };
-    let mut saver = Saver::new(store, every);
     let setup = AuditSetup { shows_book };
     let mut audited = StreamAuditor { auditor };
+    let saver = Saver::new(store, every);
+    let stream = Stream::of(rt, file);
+    let may_wait = stream.may_wait();
+    let ending = match lines_of(threads, rt.alloc(), stream, may_wait) {
+        Ok(Lines::Plain(mut reader)) => {
+            audit_lines(rt, form, &mut reader, saver, &setup, &mut audited)
+        }
+        Ok(Lines::Ahead(mut reader)) => {
+            audit_lines(rt, form, &mut reader, saver, &setup, &mut audited)
+        }
+        Err(fault) => return StreamEnding::Failed(refuse_reading(rt, fault, form)),
+    };
+    advise_on_audit(rt, file, state, ending);
+    ending
+}
+
+/// Audits the lines of this reader.
+fn audit_lines<B: LineReader, K: TextStore + Drop>(
+    rt: &HostRuntime,
+    form: Form,
+    reader: &mut B,
+    mut saver: Saver<K>,
+    setup: &AuditSetup,
+    audited: &mut StreamAuditor,
+) -> AuditEnding {
     let mut writer = io::writer(rt);
-    let ending = match form {
+    match form {
         Form::Text => audit_command(
             &Text,
             rt.alloc(),
-            &mut reader,
+            reader,
             &mut writer,
             &mut saver,
-            &setup,
-            &mut audited,
+            setup,
+            audited,
         ),
         Form::Json => audit_command(
             &Json,
             rt.alloc(),
-            &mut reader,
+            reader,
             &mut writer,
             &mut saver,
-            &setup,
-            &mut audited,
+            setup,
+            audited,
         ),
-    };
-    advise_on_audit(rt, file, state, ending);
-    ending
+    }
 }
 
 /// Opens the state at this path, if there is one, and returns it with the auditor that it holds. A state that isn't

@@ -2,6 +2,7 @@
 
 use crate::follow_advice::{advise_on_book, advise_on_gaps, advise_on_stream};
 use crate::kept_book::KeptBook;
+use crate::lines::{Lines, lines_of, refuse_reading};
 use crate::watched::Watched;
 use cdc_app_inputs::{Stream, shown_name};
 use cdc_arguments::{FollowPlan, Form};
@@ -12,13 +13,20 @@ use cdc_follow_command::{
 };
 use cdc_output::{Json, ProgramFault, Text};
 use cdc_progress::StoreError;
-use cdc_streams::{Saver, StreamEnding};
-use cdc_types::Limits;
+use cdc_streams::{LineReader, Saver, StreamEnding, TextStore};
 use std::io;
-use std::io::BufReader;
+use std::sync::Wait;
+use std::thread::Threads;
 
-/// Follows the stream in the file of this name, and reports on standard error why that stopped before the end.
-pub fn run_follow(rt: &HostRuntime, file: &str, plan: FollowPlan<'_>, form: Form) -> FollowEnding {
+/// Follows the stream in the file of this name, and reports on standard error why that stopped before the end. A stream
+/// that may have to be waited for is read ahead, on a thread that `threads` starts.
+pub fn run_follow<T: Threads + Wait + Copy + Send + 'static>(
+    rt: &HostRuntime,
+    threads: &T,
+    file: &str,
+    plan: FollowPlan<'_>,
+    form: Form,
+) -> FollowEnding {
     let FollowPlan {
         rules,
         binding,
@@ -31,41 +39,62 @@ pub fn run_follow(rt: &HostRuntime, file: &str, plan: FollowPlan<'_>, form: Form
         Ok(opened) => opened,
         Err(error) => return refuse_book(rt, file, book, error, form),
     };
-    let source = Watched::new(rt, Stream::of(rt, file), shown_name(file), rules.chained);
-    let Ok(mut reader) = BufReader::with_capacity(rt.alloc(), Limits::BUFFER_BYTES, source) else {
-        return refuse_book(rt, file, book, StoreError::OutOfMemory, form);
-    };
-    let mut saver = Saver::new(store, every);
     let setup = FollowSetup {
         binding,
         rules,
         binding_text,
     };
     let mut followed = StreamFollower::new(follower);
-    let mut writer = io::writer(rt);
-    let ending = match form {
-        Form::Text => follow_command(
-            &Text,
-            rt.alloc(),
-            &mut reader,
-            &mut writer,
-            &mut saver,
-            &setup,
-            &mut followed,
-        ),
-        Form::Json => follow_command(
-            &Json,
-            rt.alloc(),
-            &mut reader,
-            &mut writer,
-            &mut saver,
-            &setup,
-            &mut followed,
-        ),
+    let saver = Saver::new(store, every);
+    let stream = Stream::of(rt, file);
+    let may_wait = stream.may_wait();
+    let Ok(source) = Watched::new(*rt, stream, shown_name(file), rules.chained) else {
+        return refuse_book(rt, file, book, StoreError::OutOfMemory, form);
+    };
+    let ending = match lines_of(threads, rt.alloc(), source, may_wait) {
+        Ok(Lines::Plain(mut reader)) => {
+            follow_lines(rt, form, &mut reader, saver, &setup, &mut followed)
+        }
+        Ok(Lines::Ahead(mut reader)) => {
+            follow_lines(rt, form, &mut reader, saver, &setup, &mut followed)
+        }
+        Err(fault) => return StreamEnding::Failed(refuse_reading(rt, fault, form)),
     };
     advise_on_gaps(rt, file, followed.gaps);
     advise_on_stream(rt, file, book, &followed.follower, ending);
     ending
+}
+
+/// Follows the lines of this reader.
+fn follow_lines<B: LineReader, K: TextStore + Drop>(
+    rt: &HostRuntime,
+    form: Form,
+    reader: &mut B,
+    mut saver: Saver<K>,
+    setup: &FollowSetup,
+    followed: &mut StreamFollower,
+) -> FollowEnding {
+    let mut writer = io::writer(rt);
+    match form {
+        Form::Text => follow_command(
+            &Text,
+            rt.alloc(),
+            reader,
+            &mut writer,
+            &mut saver,
+            setup,
+            followed,
+        ),
+        Form::Json => follow_command(
+            &Json,
+            rt.alloc(),
+            reader,
+            &mut writer,
+            &mut saver,
+            setup,
+            followed,
+        ),
+    }
 }
 
 /// Opens the book of this name, if there is one, and returns it with the follower that it holds. A book that isn't

@@ -5,6 +5,7 @@ mod audit;
 mod follow;
 mod follow_advice;
 mod kept_book;
+mod lines;
 mod watched;
 
 pub use audit::run_audit;

@@ -1,6 +1,6 @@
 //! A stream that is watched while it is read.
 
-use cdc_streams::Origin;
+use std::alloc::AllocError;
 use std::io;
 use std::io::{IsTerminal, Read};
 use std::time::Instant;
@@ -8,14 +8,15 @@ use std::time::Instant;
 /// The name of the member that names a message's predecessor, as JSON has it.
 const PREVIOUS: &[u8] = b"\"previous\"";
 
-/// A stream, and what standard error reports of it while it is read: once, that its first lines have a member
-/// `previous`, which nobody reads; and, if standard error is a terminal, each second how many lines were read.
+/// A stream, and what standard error reports of it while it is read, on the thread that reads it: once, that its first
+/// lines have a member `previous`, which nobody reads; and, if standard error is a terminal, each second how many lines
+/// were read.
 #[derive(Drop)]
-pub struct Watched<'a, T> {
-    rt: &'a HostRuntime,
+pub struct Watched<T> {
+    rt: HostRuntime,
     inner: T,
     /// The stream's name, as standard error shows it.
-    place: &'a str,
+    place: String,
     /// Whether a member `previous` is to be reported. False once the first lines were looked at.
     notices: bool,
     /// Since when the stream is read, if its progress is to be reported.
@@ -26,15 +27,24 @@ pub struct Watched<'a, T> {
     seconds: u64,
 }
 
-impl<'a, T> Watched<'a, T> {
+impl<T> Watched<T> {
     /// A stream of which nothing was read. `chained`: the member `previous` is read.
-    pub fn new(rt: &'a HostRuntime, inner: T, place: &'a str, chained: bool) -> Watched<'a, T> {
+    pub fn new(
+        rt: HostRuntime,
+        inner: T,
+        place: &str,
+        chained: bool,
+    ) -> Result<Watched<T>, AllocError>
+    where
+        T: Drop,
+    {
+        let place = String::from_str(rt.alloc(), place)?;
         let start = if rt.stderr().is_terminal() {
-            Instant::now(rt).ok()
+            Instant::now(&rt).ok()
         } else {
             None
         };
-        Watched {
+        Ok(Watched {
             rt,
             inner,
             place,
@@ -42,7 +52,7 @@ impl<'a, T> Watched<'a, T> {
             start,
             lines: 0,
             seconds: 0,
-        }
+        })
     }
 
     /// Looks at the first bytes that were read, at least one line, for a member `previous`.
@@ -51,7 +61,7 @@ impl<'a, T> Watched<'a, T> {
             return;
         }
         if piece.windows(PREVIOUS.len()).any(|part| part == PREVIOUS) {
-            let place = self.place;
+            let place = self.place.as_str();
             let _ = eprintln!(self.rt;
                 "{place}: lines have previous, which is ignored without --chained"
             );
@@ -68,13 +78,13 @@ impl<'a, T> Watched<'a, T> {
         };
         let feeds = piece.iter().filter(|byte| **byte == b'\n').count();
         self.lines = self.lines.saturating_add(feeds as u64);
-        let Ok(elapsed) = start.elapsed(self.rt) else {
+        let Ok(elapsed) = start.elapsed(&self.rt) else {
             return;
         };
         let seconds = elapsed.as_secs();
         if seconds > self.seconds {
             self.seconds = seconds;
-            let place = self.place;
+            let place = self.place.as_str();
             let lines = self.lines;
             let rate = lines / seconds;
             let _ = eprintln!(self.rt; "{place}: {lines} lines read, {rate} a second");
@@ -82,17 +92,11 @@ impl<'a, T> Watched<'a, T> {
     }
 }
 
-impl<'a, T: Read> Read for Watched<'a, T> {
+impl<T: Read> Read for Watched<T> {
     fn read(&mut self, buf: &mut [u8]) -> io::Result<usize> {
         let count = self.inner.read(buf)?;
         self.look(&buf[..count]);
         self.count(&buf[..count]);
         Ok(count)
-    }
-}
-
-impl<'a, T: Origin> Origin for Watched<'a, T> {
-    fn may_wait(&self) -> bool {
-        self.inner.may_wait()
     }
 }

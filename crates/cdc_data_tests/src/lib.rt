@@ -9,6 +9,8 @@ mod codec;
 #[cfg(test)]
 mod expiry;
 #[cfg(test)]
+mod frames;
+#[cfg(test)]
 mod log;
 #[cfg(test)]
 mod message;

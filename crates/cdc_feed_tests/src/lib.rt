@@ -2,6 +2,8 @@
 #![tactic(auto)]
 
 #[cfg(test)]
+mod book_log;
+#[cfg(test)]
 mod broker;
 #[cfg(test)]
 mod progress;

@@ -15,7 +15,7 @@ pub use commands::{stream_command, take_stream};
 pub use consumers::Consumer;
 pub use endings::StreamEnding;
 pub use forms::{StreamForm, push_bad_line, push_bad_line_json};
-pub use readers::{LineReader, Origin};
+pub use readers::LineReader;
 pub use savers::Saver;
 pub use stores::TextStore;
 pub use text_files::TextFile;

@@ -35,7 +35,7 @@ loop-number-preserved g c = record {
       c.args.consumer.now
       (is_some c.args.saver.now.store) (g.B.Read.remaining c.args.reader.now) (g.W.Write.contents c.args.writer.now)
       c.loop-number.consumer c.take_line.new.self c.loop-number.number c.in-Ok-None.field-0
-      (g.B.Read.remaining c.loop-number.reader) (g.B.Read.remaining c.take_line.new.reader)
+      (g.B.Read.remaining c.has_line-waits.new.self) (g.B.Read.remaining c.take_line.new.reader)
       (g.W.Write.contents c.save_if_due.new.writer)
       (run_saves g.F.StreamForm.prints_saved g.C.Consumer.last (g.C.Consumer.has_taken c.args.setup.now)
       (g.C.Consumer.stops c.args.setup.now) (g.C.Consumer.stands c.args.setup.now)
@@ -43,8 +43,8 @@ loop-number-preserved g c = record {
       c.args.consumer.now
       (is_some c.args.saver.now.store) (g.B.Read.remaining c.args.reader.now) (g.W.Write.contents c.args.writer.now)
       c.in_default.field-0 _ (is_some c.loop-number.saver.store) c.loop-number.consumer c.loop-number.number
-      (g.B.Read.remaining c.loop-number.reader) (g.W.Write.contents c.loop-number.writer)
-      (g.W.Write.contents c.save_if_due.new.writer) c.loop-number.invariant.run c.loop-number.invariant.store
+      (g.B.Read.remaining c.has_line-waits.new.self) (g.W.Write.contents c.loop-number.writer)
+      (g.W.Write.contents c.save_if_due.new.writer) (rw c.has_line-waits.ensures.left c.loop-number.invariant.run) c.loop-number.invariant.store
       (c.in_default.ensures.printed refl))
       c.in-Ok-None.field-0-is c.in-Ok-None.ensures.leads;
 }
@@ -57,7 +57,7 @@ returns-in-Err-save-clause-printed g c fine =
     c.args.consumer.now
     (is_some c.args.saver.now.store) (g.B.Read.remaining c.args.reader.now) (g.W.Write.contents c.args.writer.now)
     _ c.in-Err-save.fault true (is_some c.save_if_due.new.self.store) c.loop-number.consumer c.take_line.new.self
-    c.loop-number.number (g.B.Read.remaining c.loop-number.reader) (g.W.Write.contents c.save_if_due.new.writer)
+    c.loop-number.number (g.B.Read.remaining c.has_line-waits.new.self) (g.W.Write.contents c.save_if_due.new.writer)
     (g.W.Write.contents c.save.new.writer)
     (run_saves g.F.StreamForm.prints_saved g.C.Consumer.last (g.C.Consumer.has_taken c.args.setup.now)
     (g.C.Consumer.stops c.args.setup.now) (g.C.Consumer.stands c.args.setup.now)
@@ -65,8 +65,8 @@ returns-in-Err-save-clause-printed g c fine =
     c.args.consumer.now
     (is_some c.args.saver.now.store) (g.B.Read.remaining c.args.reader.now) (g.W.Write.contents c.args.writer.now)
     c.in_default.field-0 _ (is_some c.loop-number.saver.store) c.loop-number.consumer c.loop-number.number
-    (g.B.Read.remaining c.loop-number.reader) (g.W.Write.contents c.loop-number.writer)
-    (g.W.Write.contents c.save_if_due.new.writer) c.loop-number.invariant.run c.loop-number.invariant.store
+    (g.B.Read.remaining c.has_line-waits.new.self) (g.W.Write.contents c.loop-number.writer)
+    (g.W.Write.contents c.save_if_due.new.writer) (rw c.has_line-waits.ensures.left c.loop-number.invariant.run) c.loop-number.invariant.store
     (c.in_default.ensures.printed refl))
     (c.in-Err-save.ensures.printed fine)
 
@@ -78,8 +78,8 @@ returns-in-loop-number-clause-printed g c fine =
     c.args.consumer.now
     (is_some c.args.saver.now.store) (g.B.Read.remaining c.args.reader.now) (g.W.Write.contents c.args.writer.now)
     c.in_default.field-0 _ (is_some c.loop-number.saver.store) c.loop-number.consumer c.loop-number.number
-    (g.B.Read.remaining c.loop-number.reader) (g.W.Write.contents c.loop-number.writer)
-    (g.W.Write.contents c.save_if_due.new.writer) c.loop-number.invariant.run c.loop-number.invariant.store
+    (g.B.Read.remaining c.has_line-waits.new.self) (g.W.Write.contents c.loop-number.writer)
+    (g.W.Write.contents c.save_if_due.new.writer) (rw c.has_line-waits.ensures.left c.loop-number.invariant.run) c.loop-number.invariant.store
     (c.in_default.ensures.printed refl) in
     elim c.match-take_line.branch [
       | in-Ok-Some w ↦ rw w.ended-is
@@ -89,7 +89,7 @@ returns-in-loop-number-clause-printed g c fine =
           c.args.consumer.now
           (is_some c.args.saver.now.store) (g.B.Read.remaining c.args.reader.now) (g.W.Write.contents c.args.writer.now)
           c.in_default-save.field-0 (is_some c.save_if_due.new.self.store) c.loop-number.consumer
-          c.take_line.new.self c.loop-number.number w.in-Ok-Some.stop (g.B.Read.remaining c.loop-number.reader)
+          c.take_line.new.self c.loop-number.number w.in-Ok-Some.stop (g.B.Read.remaining c.has_line-waits.new.self)
           (g.B.Read.remaining c.take_line.new.reader) (g.W.Write.contents c.save_if_due.new.writer)
           (g.W.Write.contents c.save.new.writer) saved
           (c.in_default.ensures.store ∙ c.loop-number.invariant.store)
@@ -102,7 +102,7 @@ returns-in-loop-number-clause-printed g c fine =
           c.args.consumer.now
           (is_some c.args.saver.now.store) (g.B.Read.remaining c.args.reader.now) (g.W.Write.contents c.args.writer.now)
           c.in_default-save.field-0 (is_some c.save_if_due.new.self.store) c.loop-number.consumer
-          c.take_line.new.self c.loop-number.number (g.B.Read.remaining c.loop-number.reader)
+          c.take_line.new.self c.loop-number.number (g.B.Read.remaining c.has_line-waits.new.self)
           (g.W.Write.contents c.save_if_due.new.writer) (g.W.Write.contents c.save.new.writer) saved
           (c.in_default.ensures.store ∙ c.loop-number.invariant.store)
           w.in-Err-take_line.ensures.err
@@ -129,9 +129,9 @@ returns-in-loop-number-clause-stops g c =
           c.args.consumer.now
           (is_some c.args.saver.now.store) (g.B.Read.remaining c.args.reader.now) (g.W.Write.contents c.args.writer.now)
           c.loop-number.consumer c.take_line.new.self c.loop-number.number
-          w.in-Ok-Some.stop (g.B.Read.remaining c.loop-number.reader)
+          w.in-Ok-Some.stop (g.B.Read.remaining c.has_line-waits.new.self)
           (g.B.Read.remaining c.take_line.new.reader) (g.W.Write.contents c.loop-number.writer)
-          c.loop-number.invariant.run
+          (rw c.has_line-waits.ensures.left c.loop-number.invariant.run)
           (rw w.in-Ok-Some.field-0-is at w.in-Ok-Some.ensures.leads))
       | in-Err-take_line w ↦ rw w.ended-is tt
     ]

@@ -1,0 +1,52 @@
+//! How the lines of a stream are read: those of a regular file directly, all others ahead, by a thread.
+
+use cdc_arguments::Form;
+use cdc_commands::print_fault;
+use cdc_output::{Json, ProgramFault, Text};
+use cdc_read_ahead::{AheadReader, StartFault, Unknown};
+use cdc_types::Limits;
+use std::alloc::Global;
+use std::io;
+use std::io::{BufReader, Read};
+use std::sync::Wait;
+use std::thread::Threads;
+
+/// The lines of a stream.
+pub enum Lines<S, T: Threads + Wait + Copy> {
+    /// Those of a regular file, which are always there.
+    Plain(BufReader<S>),
+    /// Those of a pipe or the like, which another thread reads.
+    Ahead(AheadReader<Unknown, T>),
+}
+
+/// The lines of this source, which is read ahead if a read of it may have to wait.
+pub fn lines_of<S: Read + Drop + Send + 'static, T: Threads + Wait + Copy + Send + 'static>(
+    threads: &T,
+    alloc: Global,
+    source: S,
+    may_wait: bool,
+) -> Result<Lines<S, T>, StartFault> {
+    if may_wait {
+        let reader = AheadReader::start(*threads, alloc, source)?;
+        return Ok(Lines::Ahead(reader));
+    }
+    match BufReader::with_capacity(alloc, Limits::BUFFER_BYTES, source) {
+        Ok(reader) => Ok(Lines::Plain(reader)),
+        Err(_) => Err(StartFault::OutOfMemory),
+    }
+}
+
+/// Prints the fault of a command that can't begin to read, and reports why on standard error.
+pub fn refuse_reading(rt: &HostRuntime, fault: StartFault, form: Form) -> ProgramFault {
+    let mut writer = io::writer(rt);
+    let _ending = match form {
+        Form::Text => print_fault(&Text, &mut writer, ProgramFault::OutOfMemory),
+        Form::Json => print_fault(&Json, &mut writer, ProgramFault::OutOfMemory),
+    };
+    let why = match fault {
+        StartFault::OutOfMemory => "no memory was left",
+        StartFault::ThreadRefused => "no thread could be started",
+    };
+    let _ = eprintln!(rt; "relayplum: out_of_memory: {why}");
+    ProgramFault::OutOfMemory
+}

@@ -1,0 +1,4 @@
+mod AccountLemmas
+mod CrashLemmas
+mod LogLemmas
+mod ReplayLemmas

@@ -1,0 +1,4 @@
+pub mod Crashes
+pub mod Logs
+pub mod Places
+pub mod Replay

@@ -1,0 +1,12 @@
+//! The log of a follower's book: a base, and a record for each later save, which has what changed since the one before.
+#![tactic(auto)]
+
+mod accounts;
+pub mod laws;
+pub mod logs;
+mod places;
+pub mod records;
+mod replaying;
+
+pub use logs::{SavedLog, read_log};
+pub use records::{record_text, without_accounts};

@@ -1,0 +1,4 @@
+pub mod FrameParts
+pub mod Frames
+pub mod Laws
+pub mod Records

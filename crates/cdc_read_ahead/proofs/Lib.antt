@@ -1,0 +1,4 @@
+mod Examples
+mod HeldLemmas
+mod PieceLemmas
+mod ReaderLemmas
