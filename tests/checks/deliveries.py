@@ -17,6 +17,9 @@ events that come first are those of the queue, in order. The model's subscriber 
 if the plan asks for it, and comes to the book that a run of this plan prints; so does `follow`. The results of `--expect`, of
 another run, apply just the events of that book.
 
+examples/boundaries.script has the values that it promises, by the model's events. Its books are the model's, and so are
+its deliveries in ten simulations.
+
 The last line is `deliveries: N passed, M failed`; the status is 1 if one failed.
 """
 import collections
@@ -47,6 +50,17 @@ COVERED = (
     "a run of no such subscriber",
 )
 PREFETCH = 8  # of a run, by default
+BOUNDARIES = rooms.TOP / "examples/boundaries.script"
+# For each field of an event the bits at whose boundaries it has values: just below, at it, and for some above it.
+AROUND = {
+    "id": (31, 53, 63, 64, 127),
+    "amount": (31, 53, 63, 64, 127),
+    "user_data_128": (53, 63, 64, 127),
+    "user_data_64": (31, 53, 63),
+}
+GREATEST = {"amount": 2**128 - 1, "user_data_128": 2**128 - 1, "user_data_64": 2**64 - 1, "user_data_32": 2**32 - 1,
+            "code": 65535, "ledger": 2**32 - 1, "timeout": 2**32 - 1, "timestamp": 2**63 - 1, "id": 2**128 - 2}
+SIMULATIONS = 10
 
 
 class Case:
@@ -354,6 +368,64 @@ def books_in(text):
     return [line for line in text.splitlines() if line.startswith(("subscriber ", "account "))]
 
 
+class Boundaries:
+    """The script of boundaries: what is wrong with it, and how many checks there were."""
+
+    def __init__(self, program):
+        self.program, self.data, self.count, self.wrong = program, BOUNDARIES.read_bytes(), 0, []
+        self.events = model.run_batches(model.read_script(self.data))[0].events
+
+    def same(self, what, wanted, found):
+        self.count += 1
+        if wanted != found:
+            wanted, found = rooms.shortened(wanted), rooms.shortened(found)
+            self.wrong.append(f"boundaries: {what}:\n  wanted: {wanted}\n  found:  {found}")
+
+    def tried(self):
+        self.values()
+        report = model.books(self.data)
+        refused = re.findall(r"(?m)^batch \d+:.* [1-9]\d*.*$", report.text.replace("pulse 1", ""))
+        self.same("all requests are accepted", [], refused)
+        self.same("the books", (report.status, report.text), self.run("books", str(BOUNDARIES))[:2])
+        for seed in range(1, SIMULATIONS + 1):
+            asked = ["simulate", str(BOUNDARIES), "--random", str(seed), "--to-end"]
+            report = model.simulate(self.data, self.run(*asked)[2].encode())
+            for expects in (False, True):
+                wanted = model.only_deliveries(report, 1, expects)
+                found = self.run(*asked, "--deliveries", "1", *["--expect"] * expects)[:2]
+                self.same(f"seed {seed}, the deliveries, expected {expects}", (wanted.status, wanted.text), found)
+
+    def run(self, *arguments):
+        done = subprocess.run([self.program, *arguments], capture_output=True, timeout=SECONDS)
+        return done.returncode, done.stdout.decode(), done.stderr.decode()
+
+    def values(self):
+        """The values of the events."""
+        stored = [it for event in self.events for it in (event.transfer, event.debit_account, event.credit_account)]
+        values = collections.defaultdict(set, {"timestamp": {it.timestamp for it in [*stored, *self.events]}})
+        for it in stored:
+            for name, value in vars(it.request).items():
+                values[name].add(value)
+        for name, bits in AROUND.items():
+            missing = [it for it in bits if not {2**it - 1, 2**it} <= values[name]]
+            self.same(f"{name}: at and below each boundary", [], missing)
+        self.same("ids and amounts above 2^53", [True, True], [2**53 + 1 in values[it] for it in ("id", "amount")])
+        around = {2**it + more for it in (31, 53) for more in (-1, 0, 1)}
+        self.same("timestamps around 2^31 and 2^53", set(), around - values["timestamp"])
+        since_1970 = range(1_700_000_000 * 10**9, 2_000_000_000 * 10**9)
+        self.same("nanoseconds since 1970", True, any(it.timestamp in since_1970 for it in self.events))
+        self.same("the greatest values", {}, {name: it for name, it in GREATEST.items() if max(values[name]) != it})
+        for what, kind, wanted in [
+            ("accounts", model.NewAccount, {0, 1, 8, 9, 11, 12, 13}),
+            ("transfers", model.NewTransfer, {0, 1, 2, 3, 4, 5, 8, 9}),
+        ]:
+            flags = {it.request.flags for it in stored if isinstance(it.request, kind)}
+            self.same(f"flags of {what}", True, wanted <= flags)
+        sums = [it for event in self.events for it in (event.debit_balances, event.credit_balances)]
+        self.same("an account in every balance at once", True, any(all(vars(it).values()) for it in sums))
+        self.same("each kind of event", set(model.EVENT_TYPES), {it.kind for it in self.events})
+
+
 def try_case(asked):
     return Trial(*asked).tried()
 
@@ -371,10 +443,15 @@ def main(arguments):
             failed, seen = failed + bool(wrong), seen + found
             if wrong and failed <= MOST_SHOWN:
                 print(f"failed: case {number}: {wrong[0]}")
+    boundaries = Boundaries(options.program)
+    boundaries.tried()
+    for it in boundaries.wrong[:MOST_SHOWN]:
+        print(f"failed: {it}")
     missing = [it for it in COVERED if not seen[it]] if len(numbers) >= FEWEST else []
     for it in missing:
         print(f"failed: it never came up: {it}")
-    passed = len(numbers) - failed + len(COVERED) - len(missing)
+    passed = len(numbers) - failed + len(COVERED) - len(missing) + boundaries.count - len(boundaries.wrong)
+    failed += len(boundaries.wrong)
     print("deliveries: cases with " + ", ".join(f"{it} {seen[it]}" for it in COVERED))
     print(f"deliveries: {passed} passed, {failed + len(missing)} failed")
     return 1 if failed or missing else 0

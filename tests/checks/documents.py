@@ -37,7 +37,7 @@ MOST = 300
 BUDGETS = [
     (540, "README.md"),
     (1_920, "docs/GUIDE.md"),
-    (720, "docs/TESTING-A-CONSUMER.md"),
+    (800, "docs/TESTING-A-CONSUMER.md"),
     (1_200, "docs/EXACTLY-ONCE.md"),
     (620, "docs/AUDIT.md"),
     (3_000, "docs/REFERENCE.md"),
@@ -45,9 +45,9 @@ BUDGETS = [
     (3_720, "docs/PROOFS.md"),
     (2_160, "docs/ARCHITECTURE.md"),
     (3_100, "CONTRIBUTING.md"),
-    (2_600, "docs/DECISIONS.md"),
+    (3_120, "docs/DECISIONS.md"),
     (880, "docs/MEASURED.md"),
-    (1_300, "CHANGELOG.md", "ROADMAP.md"),
+    (1_560, "CHANGELOG.md", "ROADMAP.md"),
     (720, "contrib/rabbitmq/README.md"),
 ]
 FIRST = "README.md"

@@ -4,12 +4,12 @@
   tests/checks/follow.py [PROGRAM] [--streams N]    PROGRAM: crates/cdc_app/out/cdc_app; N random streams, 300 by default
 
 By hand: each kind of line, each fault, each status, where a line ends, and what standard error reports; how often a file and a
-pipe are saved; books that something else replaces meanwhile; standard descriptors that are closed. Random streams of a queue are
-lost, repeated, shuffled and merged from two publishers; what is printed, and what standard error reports of gaps, has to be that of
-a small model, which reads JSON by Python's own parser. Killed: the program ends at each read, write, sync and rename of a stream
-with a book, and is started again with the lines from an earlier `saved` on; it has to come to the book of a run without a stop.
-Refused: each allocation, read, write, open, sync and rename is refused in turn; the book has to be the old one or a later one, and
-whole.
+pipe are saved; books as logs, which are cut, and which grow to 30,000 accounts; books that something else replaces meanwhile;
+standard descriptors that are closed. Random streams of a queue are lost, repeated, shuffled and merged from two publishers; what
+is printed, and what standard error reports of gaps, has to be that of a small model, which reads JSON by Python's own parser.
+Killed: the program ends at each read, write, sync and rename of a stream with a book, and is started again with the lines from an
+earlier `saved` on; it has to come to the book of a run without a stop. Refused: each allocation, read, write, open, sync and
+rename is refused in turn; the book has to be the old one or a later one, and whole.
 
 Replaced, Killed, Refused, and a thread that can't be started, need a C compiler, `cc`. The last line is `follow: N passed, M
 failed`; the status is 1 where one failed.
@@ -19,6 +19,7 @@ import contextlib
 import json
 import os
 import random
+import re
 import shutil
 import sqlite3
 import subprocess
@@ -479,12 +480,14 @@ def books(folder):
     found = run(["--chained", "--binding", "all ledger=700", "--book", book], text(lines))
     check("a book of another binding", found[:2] == (1, "fault: store\n") and "store" in found[2], found)
     check("it stays", open(book, "rb").read() == before, before)
+    alone = framed(before)[0]
     for name, content in [
         ("empty", b""),
         ("another kind", b"tb-cdc 2 1 0 0\n"),
         ("a cut book", before[:-5]),
-        ("a further blank line", before + b"\n"),
-        ("an account twice", before + before[before.index(b"account ") :].split(b"\n")[0] + b"\n"),
+        ("a cut line of a book", alone[:-5]),
+        ("a further blank line after a book", alone + b"\n"),
+        ("an account twice", alone + alone[alone.index(b"account ") :].split(b"\n")[0] + b"\n"),
         ("a leading zero", before.replace(b" applied ", b" applied 0", 1)),
         ("another version", before.replace(b"book 1", b"book 2", 1)),
     ]:
@@ -521,6 +524,98 @@ def books(folder):
     found = run(["--chained", "--book", book], text(lines))
     check("a book that nobody may write", found[:2] == (1, "fault: store\n"), found)
     os.chmod(book, 0o600)
+    os.remove(book)
+
+
+def framed(log):
+    """The contents of the frames of a log, by its text alone."""
+    contents = []
+    while log:
+        first, rest = log.split(b"\n", 1)
+        found = re.fullmatch(rb"book (0|[1-9][0-9]*) bytes (0|[1-9][0-9]*)", first)
+        number, size = int(found[1]), int(found[2])
+        last = b"end %d bytes %d\n" % (number, size)
+        if number != len(contents) or rest[size : size + len(last)] != last:
+            raise ValueError(log)
+        contents.append(rest[:size])
+        log = rest[size + len(last) :]
+    return contents
+
+
+def logs(folder):
+    """A book is a log: each save but the first appends what changed, and a log that is cut is read up to its last whole frame."""
+    lines = stream_of(30)
+    text = lambda given: "".join(f"{it}\n" for it in given).encode()
+    book = os.path.join(folder, "a.book")
+    found = run(["--chained", "--book", book, "--every", "3"], text(lines[:20]))
+    log = open(book, "rb").read()
+    contents = framed(log)
+    check("a base and records", found[0] == 0 and len(contents) == 7, (found, len(contents)))
+    printed = [run(["--chained"], text(lines[:count]))[1].encode() for count in (*range(3, 20, 3), 20)]
+    check("a base is the book", contents[0].split(b"\n", 2)[2] == printed[0], (contents[0], printed[0]))
+    for number, (content, whole) in enumerate(zip(contents, printed)):
+        rows = content.split(b"\n")[2:]
+        check(f"record {number} has rows of the book", set(rows) <= set(whole.split(b"\n")), (rows, whole))
+    ends = [len(log) - len(log[log.index(b"end %d bytes" % it) :].split(b"\n", 1)[1]) for it in range(len(contents))]
+    places = {near for end in ends for near in range(end - 30, end + 30) if near <= len(log)}
+    places |= {random.Random(11).randrange(ends[0], len(log)) for _ in range(60)}
+    for place in sorted(places):
+        cut = os.path.join(folder, "cut")
+        with open(cut, "wb") as it:
+            it.write(log[:place])
+        found = run(["--chained", "--book", cut], b"")
+        whole = sum(end <= place for end in ends)
+        wanted = (0, printed[whole - 1].decode()) if whole else (1, "fault: store\n")
+        got = found[0], found[1].split("\n", 1)[1] if whole else found[1]
+        check(f"a log that is cut at {place}", got == wanted, (found, wanted))
+        os.remove(cut)
+    alone = os.path.join(folder, "alone")
+    with open(alone, "wb") as it:
+        it.write(contents[0])
+    found = run(["--chained", "--book", alone], text(lines))
+    check("a book alone goes on", found[0] == 0 and found[1].endswith(run(["--chained"], text(lines))[1]), found)
+    for name, last in (("zeros", b"\0" * 40), ("another book's frame", b"book 7 bytes 2\nx\nend 7 bytes 2\n"), ("a line", b"more\n")):
+        with open(alone, "wb") as it:
+            it.write(log + last)
+        found = run(["--chained", "--book", alone], b"")
+        check(f"a log and then {name}", found[:1] == (0,) and found[1].endswith(printed[-1].decode()), found)
+        with open(alone, "rb") as it:
+            check(f"{name} are gone after a save", len(framed(it.read())) == 1, name)
+    for name, changed in (
+        ("a frame that is missing", log.replace(log[ends[1] : ends[2]], b"")),
+        ("a frame with another number", log.replace(b"book 3 bytes", b"book 4 bytes", 1)),
+    ):
+        with open(alone, "wb") as it:
+            it.write(changed)
+        found = run(["--chained", "--book", alone], b"")
+        check(f"{name} ends the log", found[0] == 0 and found[1].endswith(printed[1 if "missing" in name else 2].decode()), found)
+    os.remove(alone)
+    os.remove(book)
+
+
+def grown(folder):
+    """A book of 30,000 accounts, with a real ledger's numbers: its records outgrow its base, so new bases replace them."""
+    chosen, first, accounts = random.Random(13), 10**36, 30_000
+    stream, book = os.path.join(folder, "stream"), os.path.join(folder, "a.book")
+    with open(stream, "w", encoding="ascii") as it:
+        for number in range(1, 60_001):
+            debit, credit = chosen.sample(range(accounts), 2)
+            shown = ((0, number, 0, 0), (0, 0, 0, number))
+            it.write(own(event(1_700_000_000 * 10**9 + number, first + debit, first + credit, shown)) + "\n")
+    whole = run([stream], b"")
+    check("a large stream", whole[0] == 0 and whole[1].count("\n") > 29_000, whole[1][:200])
+    found = run([stream, "--book", book, "--every", "1000"], b"")
+    check("its saves", len(interrupted.SAVED.findall(found[1])) == 61, len(interrupted.SAVED.findall(found[1])))
+    check("its book", found[0] == 0 and found[1].endswith(whole[1]), found[1][:200])
+    with open(book, "rb") as it:
+        log = it.read()
+    frames = framed(log)
+    check("new bases replaced its records", 1 < len(frames) < 40, len(frames))
+    check("its records hold what changed", max(map(len, frames[1:])) < len(frames[0]), [len(it) for it in frames])
+    check("its log isn't over three times its book", len(log) < 3 * len(whole[1]) + 2**20, (len(log), len(whole[1])))
+    again = run(["--book", book], b"")
+    check("it goes on from its book", again[0] == 0 and again[1].endswith(whole[1]), again[1][:200])
+    os.remove(stream)
     os.remove(book)
 
 
@@ -776,7 +871,7 @@ def memory(folder):
 
 
 def main(arguments):
-    parts = [by_hand, books, saves, pipes, starved, replaced, closed, killed, memory]
+    parts = [by_hand, books, logs, grown, saves, pipes, starved, replaced, closed, killed, memory]
     return commands.main(arguments, __doc__, "follow", parts, random_streams, STREAMS)
 
 

@@ -1,8 +1,8 @@
 #!/usr/bin/env bash
 # docs/GUIDE.md, REFERENCE.md, AUDIT.md, EXACTLY-ONCE.md and TESTING-A-CONSUMER.md as their reader meets them: each `sh` block
-# of a page is run, in their order, in one folder that begins with the program and the examples, and what it prints on standard
-# output is compared with the block of output after it. A block without one prints nothing. Whatever it writes is in the folder
-# play/.
+# of a page is run, in their order, in one folder that begins with the program, the examples and tools/try-consumer, and what it
+# prints on standard output is compared with the block of output after it. A block without one prints nothing. Whatever it writes
+# is in the folder play/.
 # Of README what it shows of the marketplace is run and compared, and its theorems have to stand in docs/PROOFS.md, word for word.
 # Takes the program's path, crates/cdc_app/out/cdc_app where none is given. Prints each block that fails.
 set -uo pipefail
@@ -27,6 +27,9 @@ clone() {
     mkdir "$folder/$1"
     cp -r "$top/examples" "$folder/$1/"
     ln -s "$program" "$folder/$1/relayplum"
+    mkdir "$folder/$1/tools"
+    printf '#!/bin/sh\nexec %q --program %q "$@"\n' "$top/tools/try-consumer" "$program" >"$folder/$1/tools/try-consumer"
+    chmod +x "$folder/$1/tools/try-consumer"
     cd "$folder/$1" || exit 1
 }
 
@@ -74,7 +77,7 @@ run_page() {
     run_block
     [ "$blocks" -gt "$before" ] || wrong "$name.md: no block was found"
     [ -d play ] || mkdir play
-    diff <(ls -A) <(printf '%s\n' examples play relayplum) || wrong "$name.md: other files than play/"
+    diff <(ls -A) <(printf '%s\n' examples play relayplum tools) || wrong "$name.md: other files than play/"
     diff -r examples "$top/examples" || wrong "$name.md: an example was changed"
 }
 

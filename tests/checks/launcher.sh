@@ -418,14 +418,30 @@ rm -f "$program.stamps"
 call sh -c './link books x >&-'
 lacks 'a program that is compared, standard output closed: no traceback' Traceback "$err"
 
-# --install puts the program, the man page and the completions in their places.
-mkdir -p "$room/top/completions"
-for file in docs/relayplum.1 completions/relayplum.bash completions/_relayplum completions/relayplum.fish; do echo "$file" >"$room/top/$file"; done
+# --install puts the program, the man page, the completions and try-consumer in their places.
+mkdir -p "$room/top/completions" "$room/top/examples"
+for file in docs/relayplum.1 completions/relayplum.bash completions/_relayplum completions/relayplum.fish \
+    examples/boundaries.script; do
+    echo "$file" >"$room/top/$file"
+done
+cp -r "$here/tools/try-consumer" "$here/tools/trying" "$room/top/tools/"
 call ./link --install "$room/usr/local"
 check '--install: status' 0 "$status"
 check '--install: the program' 'run with books x' "$("$room/usr/local/bin/relayplum" books x)"
-check '--install: each file' "$(printf '%s\n' bin/relayplum share/bash-completion/completions/relayplum share/fish/vendor_completions.d/relayplum.fish \
-    share/man/man1/relayplum.1 share/zsh/site-functions/_relayplum)" "$(cd "$room/usr/local" && find . -type f | sed 's/..//' | LC_ALL=C sort)"
+check '--install: each file' "$(printf '%s\n' bin/relayplum bin/try-consumer share/bash-completion/completions/relayplum \
+    share/fish/vendor_completions.d/relayplum.fish share/man/man1/relayplum.1 share/relayplum/boundaries.script \
+    $(cd "$here/tools" && ls trying/*.py | sed 's,^,share/relayplum/,') share/zsh/site-functions/_relayplum)" \
+    "$(cd "$room/usr/local" && find . -type f | sed 's/..//' | LC_ALL=C sort)"
+other='is another version: it did'"n't"' print deliveries'
+call "$room/usr/local/bin/try-consumer" --seeds 1 -- cat
+check 'try-consumer runs the program in its folder' "2 try-consumer: $room/usr/local/bin/relayplum $other" "$status $err"
+call "$room/top/tools/try-consumer" --seeds 1 -- cat
+check 'try-consumer runs the program of its clone' "2 try-consumer: $program $other" "$status $err"
+check 'try-consumer: it is built, so nothing is built' '' "$calls"
+echo '// more' >>"$low"
+call "$room/top/tools/try-consumer" --seeds 1 -- cat
+check 'try-consumer builds the program if a source has changed' "$built" "$calls"
+has 'try-consumer: then it runs it' "^try-consumer: $program $other" "$err"
 call ./link "--install=$room/full" books x
 check '--install=DIR' 'run with books x' "$("$room/full/bin/relayplum" books x)"
 

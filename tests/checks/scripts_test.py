@@ -1,5 +1,5 @@
 #!/usr/bin/env python3
-"""Tests of the scripts in tests/ and contrib/, and of four in tools/, as commands, over no program.
+"""Tests of the scripts in tests/ and contrib/, and of five in tools/, as commands, over no program.
 
   tests/checks/scripts_test.py
 
@@ -41,7 +41,7 @@ same = checks.same
 
 def scripts():
     """Returns the files below tests/ and contrib/ that begin with `#!` and may be executed, and others without an ending."""
-    found = ["tests/run", "tools/costs", "tools/definitions", "tools/loop", "tools/promises"]
+    found = ["tests/run", "tools/costs", "tools/definitions", "tools/loop", "tools/promises", "tools/try-consumer"]
     for folder in ("tests", "contrib"):
         for at, _, names in os.walk(f"{TOP}/{folder}"):
             for path in (f"{at}/{it}" for it in names if it.endswith((".py", ".sh"))):

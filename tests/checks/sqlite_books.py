@@ -83,7 +83,11 @@ def tables(folder):
         check("a run with a book in SQLite", found[0] == 0 and found == in_text, (found, in_text))
         rows, text = rows_of(path)
         check("its tables", rows == expected(model_of(part)), rows)
-        check("its text", text == open(text_path, encoding="ascii").read(), text)
+        whole = os.path.join(folder, "whole.book")
+        run(["--chained", "--book", whole], text_of(part))
+        with open(whole, "rb") as it:
+            check("its text", [text.encode()] == follow.framed(it.read()), text)
+        os.remove(whole)
         check("nothing is left beside it", sorted(os.listdir(folder)) == ["a.book", "a.db"], os.listdir(folder))
         check("its journal", open(path, "rb").read()[18:20] == b"\1\1", "")
     before = folder_of(folder)

@@ -7,7 +7,10 @@ import subprocess
 SOURCES = {
     "cc": "Debian package gcc",
     "git": "Debian package git",
+    "java": "Debian package default-jdk-headless",
+    "javac": "Debian package default-jdk-headless",
     "jq": "Debian package jq",
+    "node": "Debian package nodejs",
     "python3": "Debian package python3",
     "rt": "part of the Rattle toolchain",
     "setpriv": "Debian package util-linux",

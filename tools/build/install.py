@@ -1,4 +1,4 @@
-"""Installs the program with its man page and its completions."""
+"""Installs the program with its man page, its completions and try-consumer."""
 import os
 import shutil
 
@@ -10,12 +10,23 @@ FILES = {
     "completions/relayplum.bash": "share/bash-completion/completions/relayplum",
     "completions/_relayplum": "share/zsh/site-functions/_relayplum",
     "completions/relayplum.fish": "share/fish/vendor_completions.d/relayplum.fish",
+    "tools/try-consumer": "bin/try-consumer",
+    "examples/boundaries.script": "share/relayplum/boundaries.script",
 }
+# The parts of try-consumer, and their place.
+PARTS, PARTS_TO = "tools/trying", "share/relayplum/trying"
+
+
+def files_of(program):
+    """Returns where each file goes, the program first."""
+    parts = sorted(it for it in os.listdir(f"{program.top}/{PARTS}") if it.endswith(".py"))
+    files = {**FILES, **{f"{PARTS}/{it}": f"{PARTS_TO}/{it}" for it in parts}}
+    return {program.path: "bin/relayplum", **{f"{program.top}/{it}": place for it, place in files.items()}}
 
 
 def install(program, to):
     """Puts each file in its place whole, the program first."""
-    for source, place in {program.path: "bin/relayplum", **{f"{program.top}/{it}": place for it, place in FILES.items()}}.items():
+    for source, place in files_of(program).items():
         file = os.path.join(to, place)
         os.makedirs(os.path.dirname(file), exist_ok=True)
         shutil.copyfile(source, f"{file}.new")

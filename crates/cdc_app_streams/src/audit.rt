@@ -5,14 +5,12 @@ use crate::lines::{Lines, lines_of, refuse_reading};
 use cdc_app_inputs::{Stream, advise_on_failure, shown_name};
 use cdc_arguments::{AuditPlan, Form};
 use cdc_audit::{AuditStop, Auditor};
-use cdc_audit_command::{
-    AuditEnding, AuditSetup, StreamAuditor, audit_command, begin_state, resume,
-};
+use cdc_audit_command::{AuditEnding, AuditSetup, StateFile, StreamAuditor, audit_command, resume};
 use cdc_audit_state::STATE_MARK;
 use cdc_commands::print_fault;
 use cdc_output::{Json, ProgramFault, Text};
 use cdc_progress::StoreError;
-use cdc_streams::{LineReader, Saver, StreamEnding, TextFile, TextStore};
+use cdc_streams::{Keeps, LineReader, LogFile, Saver, StreamEnding};
 use std::io;
 use std::sync::Wait;
 use std::thread::Threads;
@@ -32,12 +30,11 @@ pub fn run_audit<T: Threads + Wait + Copy + Send + 'static>(
         state,
         every,
     } = plan;
-    let (store, auditor) = match open_state(rt, state, foreign) {
+    let setup = AuditSetup { shows_book };
+    let (store, mut audited) = match open_state(rt, state, foreign, &setup) {
         Ok(opened) => opened,
         Err(error) => return refuse_state(rt, file, state, error, form),
     };
-    let setup = AuditSetup { shows_book };
-    let mut audited = StreamAuditor { auditor };
     let saver = Saver::new(store, every);
     let stream = Stream::of(rt, file);
     let may_wait = stream.may_wait();
@@ -55,7 +52,7 @@ pub fn run_audit<T: Threads + Wait + Copy + Send + 'static>(
 }
 
 /// Audits the lines of this reader.
-fn audit_lines<B: LineReader, K: TextStore + Drop>(
+fn audit_lines<B: LineReader, K: Keeps<StreamAuditor> + Drop>(
     rt: &HostRuntime,
     form: Form,
     reader: &mut B,
@@ -92,18 +89,22 @@ fn open_state<'a>(
     rt: &'a HostRuntime,
     state: Option<&str>,
     foreign: bool,
-) -> Result<(Option<TextFile<'a, HostRuntime>>, Auditor), StoreError> {
+    setup: &AuditSetup,
+) -> Result<(Option<StateFile<LogFile<'a, HostRuntime>>>, StreamAuditor), StoreError> {
     let Some(path) = state else {
-        return Ok((None, Auditor::new(rt.alloc(), foreign)));
+        let auditor = Auditor::new(rt.alloc(), foreign);
+        return Ok((None, StreamAuditor { auditor }));
     };
-    let mut store = TextFile::open(rt, path, STATE_MARK)?;
-    if let Some(text) = store.text() {
-        let auditor = resume(rt.alloc(), text, foreign)?;
-        return Ok((Some(store), auditor));
+    let (file, text) = LogFile::open(rt, path, STATE_MARK)?;
+    let mut store = StateFile::new(file);
+    if let Some(text) = text {
+        let auditor = resume(rt.alloc(), text.as_slice(), foreign)?;
+        return Ok((Some(store), StreamAuditor { auditor }));
     }
     let auditor = Auditor::new(rt.alloc(), foreign);
-    begin_state(rt.alloc(), &mut store, &auditor)?;
-    Ok((Some(store), auditor))
+    let begun = StreamAuditor { auditor };
+    store.keep(setup, rt.alloc(), &begun)?;
+    Ok((Some(store), begun))
 }
 
 /// Prints the fault of a state that can't be opened, and reports why on standard error.

@@ -1,7 +1,7 @@
 //! The command `follow`: a stream in, and its book out.
 
 use crate::follow_advice::{advise_on_book, advise_on_gaps, advise_on_stream};
-use crate::kept_book::KeptBook;
+use crate::kept_book::{BookFile, open_book_file};
 use crate::lines::{Lines, lines_of, refuse_reading};
 use crate::watched::Watched;
 use cdc_app_inputs::{Stream, shown_name};
@@ -9,11 +9,11 @@ use cdc_arguments::{FollowPlan, Form};
 use cdc_commands::print_fault;
 use cdc_follow::Follower;
 use cdc_follow_command::{
-    FollowEnding, FollowSetup, StreamFollower, begin, begin_book, follow_command, resume,
+    FollowEnding, FollowSetup, StreamFollower, begin, follow_command, resume,
 };
 use cdc_output::{Json, ProgramFault, Text};
 use cdc_progress::StoreError;
-use cdc_streams::{LineReader, Saver, StreamEnding, TextStore};
+use cdc_streams::{Keeps, LineReader, Saver, StreamEnding};
 use std::io;
 use std::sync::Wait;
 use std::thread::Threads;
@@ -34,15 +34,14 @@ pub fn run_follow<T: Threads + Wait + Copy + Send + 'static>(
         book,
         every,
     } = plan;
-    let opened = open_book(rt, book, rules.chained, binding_text.as_slice());
-    let (store, follower) = match opened {
-        Ok(opened) => opened,
-        Err(error) => return refuse_book(rt, file, book, error, form),
-    };
     let setup = FollowSetup {
         binding,
         rules,
         binding_text,
+    };
+    let (store, follower) = match open_book(rt, book, &setup) {
+        Ok(opened) => opened,
+        Err(error) => return refuse_book(rt, file, book, error, form),
     };
     let mut followed = StreamFollower::new(follower);
     let saver = Saver::new(store, every);
@@ -60,13 +59,13 @@ pub fn run_follow<T: Threads + Wait + Copy + Send + 'static>(
         }
         Err(fault) => return StreamEnding::Failed(refuse_reading(rt, fault, form)),
     };
-    advise_on_gaps(rt, file, followed.gaps);
-    advise_on_stream(rt, file, book, &followed.follower, ending);
+    advise_on_gaps(rt, file, followed.gaps());
+    advise_on_stream(rt, file, book, followed.follower(), ending);
     ending
 }
 
 /// Follows the lines of this reader.
-fn follow_lines<B: LineReader, K: TextStore + Drop>(
+fn follow_lines<B: LineReader, K: Keeps<StreamFollower> + Drop>(
     rt: &HostRuntime,
     form: Form,
     reader: &mut B,
@@ -102,20 +101,20 @@ fn follow_lines<B: LineReader, K: TextStore + Drop>(
 fn open_book<'a>(
     rt: &'a HostRuntime,
     book: Option<&str>,
-    chained: bool,
-    binding: &[u8],
-) -> Result<(Option<KeptBook<'a>>, Follower), StoreError> {
+    setup: &FollowSetup,
+) -> Result<(Option<BookFile<'a>>, Follower), StoreError> {
     let Some(name) = book else {
         return Ok((None, begin(rt.alloc())));
     };
-    let mut store = KeptBook::open(rt, name)?;
-    if let Some(text) = store.text() {
-        let follower = resume(rt.alloc(), text, chained, binding)?;
+    let (mut store, text) = open_book_file(rt, name)?;
+    if let Some(text) = text {
+        let binding = setup.binding_text.as_slice();
+        let follower = resume(rt.alloc(), text.as_slice(), setup.rules.chained, binding)?;
         return Ok((Some(store), follower));
     }
-    let follower = begin(rt.alloc());
-    begin_book(rt.alloc(), &mut store, chained, binding, &follower)?;
-    Ok((Some(store), follower))
+    let begun = StreamFollower::new(begin(rt.alloc()));
+    store.keep(setup, rt.alloc(), &begun)?;
+    Ok((Some(store), begin(rt.alloc())))
 }
 
 /// Prints the fault of a book that can't be opened, and reports why on standard error.

@@ -1,1 +1,2 @@
 pub mod KeptLemmas
+mod StoredLemmas

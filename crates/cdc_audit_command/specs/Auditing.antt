@@ -7,7 +7,6 @@ use Rattle.cdc_audit.specs.Standing.{StandsFor}
 use Rattle.cdc_audit.specs.Stops.{Audits}
 use Rattle.cdc_audit.specs.declared.streams.AuditStop.{AuditStop}
 use Rattle.cdc_audit.specs.declared.streams.AuditStop.TheVariants.{AtEnd}
-use Rattle.cdc_audit_state.specs.States.{state_text}
 use Rattle.cdc_audit_command.specs.declared.auditors.AuditSetup.{AuditSetup}
 use Rattle.cdc_audit_command.specs.declared.auditors.StreamAuditor.{StreamAuditor}
 
@@ -23,10 +22,6 @@ StandsAfter setup start bytes count now =
 -- auditing the bytes makes this of an auditor, and stops for this reason
 abbrev pub StopsAt : AuditSetup → StreamAuditor → List ℕ → AuditStop → StreamAuditor → Type 0
 StopsAt setup start bytes stop now = Audits start.auditor bytes stop now.auditor
-
--- the text of an auditor's state
-abbrev pub state_of : AuditSetup → StreamAuditor → List ℕ
-state_of setup it = state_text it.auditor
 
 -- the timestamp that is reported of a save: that of the last accepted event
 abbrev pub last_of : StreamAuditor → ℕ

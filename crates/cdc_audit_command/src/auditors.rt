@@ -1,17 +1,15 @@
 //! The command `audit`: audits a stream up to its end, saves its state, and prints what it finds.
 
-ghost use Rattle.std.specs.Prelude.{◌≡◌, Some, is_some, IfSome};
+ghost use Rattle.std.specs.Prelude.{is_some, IfSome};
 ghost use Rattle.cdc_audit.specs.Stops.{Audits};
-ghost use Rattle.cdc_audit_state.specs.States.{state_text};
 ghost use Rattle.cdc_audit_command.specs.Auditing.{StandsAfter, last_of, prints_end_of};
-ghost use Rattle.cdc_streams.specs.Saving.{IfStopped, PrintsSaves, PrintsStream};
+ghost use Rattle.cdc_streams.specs.Saving.{AreSaved, IfStopped, PrintsStream, saves_text};
 
 use crate::endings::AuditEnding;
 use crate::forms::AuditForm;
-use crate::states::text_of;
 use cdc_audit::{AuditStop, Auditor, audit_line};
 use cdc_follow::FollowError;
-use cdc_streams::{Consumer, LineReader, Saver, TextStore, stream_command};
+use cdc_streams::{Consumer, Keeps, LineReader, Saved, Saver, stream_command};
 use std::alloc::{AllocError, Global};
 use std::io::{BufRead, Write};
 
@@ -29,11 +27,30 @@ pub struct StreamAuditor {
     pub auditor: Auditor,
 }
 
-impl<F: AuditForm> Consumer<F> for StreamAuditor {
-    ghost use Rattle.cdc_audit_command.specs.Auditing.{StandsAfter, StopsAt, last_of, prints_end_of, state_of};
-    ghost use Rattle.cdc_audit_command.specs.Private.Audited.{HasAudited, audited_none, stands_after};
+impl Saved for StreamAuditor {
+    ghost use Rattle.std.specs.Prelude.{⊤};
 
     type Setup = AuditSetup;
+
+    type State = StreamAuditor;
+
+    ghost state = { λ it. it };
+
+    ghost since = { λ _ _. ⊤ };
+
+    ghost is_untracked = { λ _. ⊤ };
+
+    ghost moves = { λ _ _. ⊤ };
+
+    // (each save is of the whole state)
+    fn begin_changes(&mut self, _alloc: Global) {}
+
+    fn forget_changes(&mut self) {}
+}
+
+impl<F: AuditForm> Consumer<F> for StreamAuditor {
+    ghost use Rattle.cdc_audit_command.specs.Auditing.{StandsAfter, StopsAt, last_of, prints_end_of};
+    ghost use Rattle.cdc_audit_command.specs.Private.Audited.{HasAudited, audited_none, stands_after};
 
     type Stop = AuditStop;
 
@@ -42,8 +59,6 @@ impl<F: AuditForm> Consumer<F> for StreamAuditor {
     ghost stands = { StandsAfter };
 
     ghost stops = { StopsAt };
-
-    ghost text = { state_of };
 
     ghost last = { last_of };
 
@@ -58,10 +73,6 @@ impl<F: AuditForm> Consumer<F> for StreamAuditor {
         number: u64,
     ) -> Result<Option<AuditStop>, FollowError> {
         audit_line(alloc, reader, line, number, &mut self.auditor)
-    }
-
-    fn to_text(&self, _setup: &AuditSetup, alloc: Global) -> Result<Vec<u8>, AllocError> {
-        text_of(alloc, &self.auditor)
     }
 
     fn last_timestamp(&self) -> u64 {
@@ -87,7 +98,7 @@ impl<F: AuditForm> Consumer<F> for StreamAuditor {
 /// line is waiting, and at the end, and prints each save once the store holds its state; and at the end how much of the
 /// stream is accepted, the last balances if they are to be shown, and why auditing stopped, or the fault of a command
 /// that failed. Nothing is written after a write that failed.
-pub fn audit_command<F: AuditForm, B: LineReader, W: Write, K: TextStore>(
+pub fn audit_command<F: AuditForm, B: LineReader, W: Write, K: Keeps<StreamAuditor>>(
     form: &F,
     alloc: Global,
     reader: &mut B,
@@ -98,12 +109,11 @@ pub fn audit_command<F: AuditForm, B: LineReader, W: Write, K: TextStore>(
 ) -> AuditEnding
     ensures audits { IfStopped result (λ stop. IfSome (B.remaining reader.old) (λ bytes.
         Audits audited.old.auditor bytes stop audited.new.auditor)) }
-    ensures store { is_some saver.new.store ≡ is_some saver.old.store }
-    ensures saved { IfStopped result (λ _. IfSome saver.new.store (λ store.
-        K.held store ≡ Some (state_text audited.new.auditor))) }
-    ensures printed { PrintsStream (PrintsSaves F.prints_saved last_of (StandsAfter setup.now audited.old)
-        (is_some saver.old.store) (B.remaining reader.old) (W.contents writer.old))
-        (prints_end_of F.prints_audit setup.now) F.prints_failure (W.contents writer.new) audited.new result }
+    ensures printed { PrintsStream
+        (AreSaved (StandsAfter setup.now audited.old) (K.has_kept setup.now) (B.remaining reader.old)
+        saver.old.store saver.new.store)
+        (saves_text F.prints_saved last_of (is_some saver.old.store)) (prints_end_of F.prints_audit setup.now)
+        F.prints_failure (W.contents writer.old) (W.contents writer.new) audited.new result }
 {
     stream_command(form, alloc, reader, writer, saver, setup, audited)
 }

@@ -2,7 +2,13 @@
 
 ghost use Rattle.std.specs.Prelude.{◌≡◌, ◌++◌, OnOk};
 ghost use Rattle.cdc_audit.specs.declared.refusals.Refusal.{Refusal as Refusals};
-ghost use Rattle.cdc_audit_command.specs.JsonLines.{accepted_value, audit_stop_lines, refusal_members, refused_value, rule_value};
+ghost use Rattle.cdc_audit_command.specs.JsonLines.{
+  accepted_value,
+  audit_stop_lines,
+  refusal_members,
+  refused_value,
+  rule_value,
+};
 ghost use Rattle.cdc_output.specs.Lines.{json_line};
 ghost use Rattle.cdc_output.specs.Values.{wide};
 ghost use Rattle.serde_json.specs.Data.{member, no_members, string};

@@ -11,4 +11,4 @@ mod states;
 pub use auditors::{AuditSetup, StreamAuditor, audit_command};
 pub use endings::{AuditEnding, audit_status};
 pub use forms::AuditForm;
-pub use states::{begin_state, resume};
+pub use states::{StateFile, resume};

@@ -1,4 +1,6 @@
+pub mod AppendLemmas
 mod AccountLemmas
 mod CrashLemmas
 mod LogLemmas
 mod ReplayLemmas
+mod TrackingLemmas

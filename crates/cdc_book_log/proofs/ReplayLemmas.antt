@@ -188,7 +188,7 @@ next_apart kept content.End distinct =
 -- ---- the follower
 
 -- the same of an entry, whatever becomes of it
-state_with : (from change : FollowState) (outcome : Following) (previous : Option ℕ) (c : Content)
+pub state_with : (from change : FollowState) (outcome : Following) (previous : Option ℕ) (c : Content)
     → IsApart change.kept
     → state_by outcome (with_changes from change) previous c ≡ with_changes from (state_by outcome change previous c)
 state_with from change Applied previous (content.Event e) distinct =
@@ -206,7 +206,7 @@ state_with from change Ended previous c distinct =
     (next_with from.kept.book change.kept content.End distinct)
 
 -- no account of the changes occurs twice after it
-state_apart : (change : FollowState) (outcome : Following) (previous : Option ℕ) (c : Content)
+pub state_apart : (change : FollowState) (outcome : Following) (previous : Option ℕ) (c : Content)
     → IsApart change.kept → IsApart (state_by outcome change previous c).kept
 state_apart change Applied previous (content.Event e) distinct = next_apart change.kept (content.Event e) distinct
 state_apart change Applied previous content.End distinct = distinct

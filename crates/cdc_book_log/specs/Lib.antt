@@ -2,3 +2,4 @@ pub mod Crashes
 pub mod Logs
 pub mod Places
 pub mod Replay
+pub mod Tracking

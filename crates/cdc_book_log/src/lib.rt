@@ -7,6 +7,8 @@ pub mod logs;
 mod places;
 pub mod records;
 mod replaying;
+mod tracking;
 
 pub use logs::{SavedLog, read_log};
 pub use records::{record_text, without_accounts};
+pub use tracking::Tracked;

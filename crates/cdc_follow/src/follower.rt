@@ -2,6 +2,7 @@
 
 ghost use Rattle.cdc_subscriber.specs.Answers.{listens};
 ghost use Rattle.std.specs.Prelude.{◌≡◌, true, OnOk, OnErr, IfOk};
+ghost use Rattle.cdc_follow.specs.Following.{FollowState};
 ghost use Rattle.cdc_follow.specs.Following.{after_outcome, belongs as is_of_stream, content_outcome, end_outcome};
 ghost use Rattle.cdc_follow.specs.Following.{follows as is_next, next_follow, outcome_of, state_by};
 
@@ -32,6 +33,25 @@ pub enum Following {
     AfterEnd,
     /// Nothing changes: the event's timestamp is above the greatest one of a ledger.
     OutOfRange,
+}
+
+/// What takes the entries of a stream as a follower does.
+pub trait TakesEntries {
+    /// The follower that it is.
+    ghost state: { Self → FollowState };
+
+    /// Taking entries may make the second one of the first.
+    ghost moves: { Self → Self → Type 0 };
+
+    /// Takes an entry. The one error is that memory ran out, and then nothing changes.
+    fn take_entry(&mut self, binding: &Binding, entry: &Entry) -> Result<Following, AllocError>
+        ensures answer { IfOk result (λ answer. answer ≡ outcome_of binding.now (state self.old) entry.now) }
+        ensures state { OnOk result (state self.new ≡ next_follow binding.now (state self.old) entry.now) }
+        ensures moves { OnOk result (moves self.old self.new) }
+        ensures err { OnErr result (self.new ≡ self.old) };
+
+    /// So may taking none.
+    ghost stays: { (it : Self) → moves it it };
 }
 
 /// A follower: a subscriber, and the timestamp of the last event seen. In a chained stream this is the last one that
@@ -147,6 +167,20 @@ impl Follower {
         let _taking = self.subscriber.take_end();
         Following::Ended
     }
+}
+
+impl TakesEntries for Follower {
+    ghost use Rattle.std.specs.Prelude.{⊤};
+
+    ghost state = { λ it. it };
+
+    ghost moves = { λ _ _. ⊤ };
+
+    fn take_entry(&mut self, binding: &Binding, entry: &Entry) -> Result<Following, AllocError> {
+        self.take(binding, entry)
+    }
+
+    ghost stays = { λ _. tt };
 }
 
 /// Whether an entry follows the last event seen: its predecessor, if it names one, is that event.

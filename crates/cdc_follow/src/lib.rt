@@ -11,7 +11,7 @@ pub mod streams;
 
 pub use entries::{Content, Entry, read_entry};
 pub use errors::LineError;
-pub use follower::{Follower, Following};
+pub use follower::{Follower, Following, TakesEntries};
 pub use lines::{ReadError, read_line};
 pub use saved::{BOOK_MARK, SavedBook, read_account, read_book, write_book};
 pub use streams::{FollowError, Rules, Stop, Turn, follow, follow_line};

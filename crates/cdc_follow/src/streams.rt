@@ -1,6 +1,6 @@
 //! Following a reader: its lines one after another, up to a gap, a line that is no entry, or the end.
 
-ghost use Rattle.std.specs.Prelude.{◌≡◌, ◌≢◌, IfOk, IfSome, OnErr};
+ghost use Rattle.std.specs.Prelude.{◌≡◌, ◌≢◌, IfOk, IfSome, OnErr, OnOk};
 ghost use Rattle.cdc_follow.specs.Following.{is_gap as is_behind_gap, stops_at as stops_following};
 ghost use Rattle.cdc_follow.specs.Gaps.{LineSkips, StepSkips};
 ghost use Rattle.cdc_follow.specs.Stops.{KeepsFirst, LineLeadsTo, StepLeadsTo};
@@ -8,7 +8,7 @@ ghost use Rattle.cdc_follow.specs.Stops.{bytes_followed, stop_by as why_it_stops
 
 use crate::entries::{Entry, read_entry};
 use crate::errors::LineError;
-use crate::follower::{Follower, Following};
+use crate::follower::{Follower, Following, TakesEntries};
 use crate::lines::{ReadError, read_line};
 use cdc_match::Binding;
 use std::alloc::{AllocError, Global};
@@ -119,18 +119,19 @@ fn stop_at_line(number: u64, error: LineError) -> Result<Turn, FollowError>
 }
 
 // Follows the line of this number.
-fn follow_bytes(
+fn follow_bytes<T: TakesEntries>(
     alloc: Global,
     line: &[u8],
     number: u64,
     binding: &Binding,
     rules: Rules,
-    follower: &mut Follower,
+    follower: &mut T,
 ) -> Result<Turn, FollowError>
-    ensures leads { IfOk result (λ turn.
-        LineLeadsTo binding.now rules number line.now follower.old (stop_of turn) follower.new) }
-    ensures skips { IfOk result (λ turn.
-        LineSkips binding.now rules number line.now follower.old turn follower.new) }
+    ensures leads { IfOk result (λ turn. LineLeadsTo binding.now rules number line.now
+        (T.state follower.old) (stop_of turn) (T.state follower.new)) }
+    ensures skips { IfOk result (λ turn. LineSkips binding.now rules number line.now
+        (T.state follower.old) turn (T.state follower.new)) }
+    ensures moves { OnOk result (T.moves follower.old follower.new) }
     ensures err { OnErr result (follower.new ≡ follower.old) }
 {
     let entry = match read_entry(alloc, line, rules.chained) {
@@ -138,7 +139,7 @@ fn follow_bytes(
         Ok(None) => return Ok(Turn::GoesOn { skipped: false }),
         Err(error) => return stop_at_line(number, error),
     };
-    let following = follower.take(binding, &entry)?;
+    let following = follower.take_entry(binding, &entry)?;
     if stops_at(following, rules) {
         return Ok(Turn::Stops(stop_by(following, number, entry)));
     }
@@ -147,19 +148,20 @@ fn follow_bytes(
 }
 
 /// Reads the line of this number into the buffer and follows it. After an error the follower is as it was.
-pub fn follow_line<B: BufRead>(
+pub fn follow_line<B: BufRead, T: TakesEntries>(
     alloc: Global,
     reader: &mut B,
     line: &mut Vec<u8>,
     number: u64,
     binding: &Binding,
     rules: Rules,
-    follower: &mut Follower,
+    follower: &mut T,
 ) -> Result<Turn, FollowError>
     ensures leads { IfOk result (λ turn. IfSome (B.remaining reader.old) (λ bytes. StepLeadsTo binding.now rules number
-        follower.old bytes (stop_of turn) follower.new (B.remaining reader.new))) }
+        (T.state follower.old) bytes (stop_of turn) (T.state follower.new) (B.remaining reader.new))) }
     ensures skips { IfOk result (λ turn. IfSome (B.remaining reader.old) (λ bytes. StepSkips binding.now rules number
-        follower.old bytes turn follower.new (B.remaining reader.new))) }
+        (T.state follower.old) bytes turn (T.state follower.new) (B.remaining reader.new))) }
+    ensures moves { OnOk result (T.moves follower.old follower.new) }
     ensures err { OnErr result (follower.new ≡ follower.old) }
 {
     match read_line(reader, line) {

@@ -1,6 +1,6 @@
 -- How many gaps were skipped so far.
 use Rattle.std.proofs.Common.{◌≡◌, ℕ, ◌+◌, ◌<◌, List, Bool, true, false, Option, None, Some, refl, sym, ap, ◌∙◌}
-use Rattle.std.proofs.Common.{add_assoc, zero-add, add-zero, arith}
+use Rattle.std.proofs.Common.{add_assoc, add-zero, arith}
 use Rattle.std.specs.Prelude.{IfSome}
 use Rattle.std.specs.Int.{from_bool}
 use Rattle.cdc_match.specs.Arguments.{Arguments}

@@ -1,25 +1,23 @@
 -- What following keeps while a stream is followed, by how many entries the lines before have.
-use Rattle.std.proofs.Common.{◌≡◌, ℕ, ◌+◌, ◌<◌, ◌≤◌, ◌-◌, ◌^◌, List, [], ◌∷◌, ◌++◌, append-nil, append_assoc, Bool, true, false}
+use Rattle.std.proofs.Common.{◌≡◌, ℕ, ◌+◌, ◌<◌, ◌≤◌, ◌-◌, ◌^◌, List, [], ◌∷◌, ◌++◌, append-nil, append_assoc, Bool}
+use Rattle.std.proofs.Common.{true, false}
 use Rattle.std.proofs.Common.{Option, None, Some, refl, sym, ap, ◌∙◌, subst, arith, min}
 use Rattle.std.specs.Prelude.{IfSome}
 use Rattle.std.specs.Int.{from_bool}
 use Rattle.std.proofs.Math.Nat.{min-eq_left}
-use Rattle.cdc_match.specs.Arguments.{Arguments}
-use Rattle.cdc_follow.specs.declared.streams.Rules.{Rules}
 use Rattle.cdc_follow.specs.declared.streams.Stop.{Stop}
 use Rattle.cdc_follow.specs.declared.streams.Turn.TheVariants.{GoesOn, Stops}
-use Rattle.cdc_follow.specs.Following.{FollowState, follow}
+use Rattle.cdc_follow.specs.Following.{FollowState}
 use Rattle.cdc_follow.specs.Gaps.{StepSkips}
 use Rattle.cdc_follow.specs.Lines.{lines_of}
-use Rattle.cdc_follow.specs.Stops.{LineLeadsTo, StepLeadsTo, Stopped, lines_followed}
-use Rattle.cdc_follow.specs.Streams.{stream_of_lines}
-use Rattle.cdc_follow.proofs.StopLemmas.{FollowsTo, follows_stop}
+use Rattle.cdc_follow.specs.Stops.{StepLeadsTo, Stopped, lines_followed}
+use Rattle.cdc_follow.proofs.StopLemmas.{follows_stop}
 use Rattle.cdc_streams.specs.Taking.{LeadsOn}
-use Rattle.cdc_streams.proofs.EntryLemmas.{count_grows, entry_count, first_entries}
-use Rattle.cdc_follow_command.specs.Following.{KeepsAfter, StopsAt, kept_after}
+use Rattle.cdc_streams.proofs.EntryLemmas.{count_grows, entry_count}
+use Rattle.cdc_follow_command.specs.declared.followers.Followed.{Followed}
+use Rattle.cdc_follow_command.specs.Following.{KeepsAfter, StopsAt}
 use Rattle.cdc_follow_command.specs.Private.Followed.{HasFollowed, HasSkipped, lines_keep}
 use Rattle.cdc_follow_command.specs.declared.followers.FollowSetup.{FollowSetup}
-use Rattle.cdc_follow_command.specs.declared.followers.StreamFollower.{StreamFollower}
 use Rattle.cdc_follow_command.proofs.GapLemmas.{fewer_on, skipped_on, skipped_stops}
 
 -- a count of gaps that is below the number of a line doesn't saturate
@@ -31,7 +29,7 @@ gaps_exact gaps added new number false is one fewer fits =
     let none : added ≡ 0 = one in is ∙ min-eq_left (omega (arith, fewer, fits, none))
 
 -- one more line was followed
-pub leads_on : (setup : FollowSetup) (start old : StreamFollower) (bytes : List ℕ) (count number : ℕ)
+pub leads_on : (setup : FollowSetup) (start old : Followed) (bytes : List ℕ) (count number : ℕ)
     (mid : List ℕ) (state : FollowState) (gaps added : ℕ) (skipped : Bool) (left : Option (List ℕ))
     → HasFollowed setup start bytes count old number mid → number < 2 ^ 64
     → gaps ≡ min (old.gaps + added) (2 ^ 64 - 1) → added ≡ from_bool skipped
@@ -60,11 +58,13 @@ leads_on setup start old bytes count number mid state gaps added skipped left ha
         skipped = λ none.
             let before = has.skipped none in
             let exact = gaps_exact old.gaps added gaps number skipped is one before.1 fits in (
-              subst (λ n. HasSkipped setup.binding setup.rules start.follower (Some bytes) n state (number + 1) (Some rest))
+              subst (λ n. HasSkipped setup.binding setup.rules start.follower (Some bytes) n state (number + 1)
+                  (Some rest))
                   (sym exact)
                   (skipped_on setup.binding setup.rules start.follower old.follower state number old.gaps added skipped
                   (Some bytes) (Some mid) (Some rest) one before.0 has.follows
-                  (subst (λ l. StepSkips setup.binding setup.rules number old.follower mid (GoesOn skipped) state l) step.2 skips)),
+                  (subst (λ l. StepSkips setup.binding setup.rules number old.follower mid (GoesOn skipped) state l)
+                  step.2 skips)),
               subst (λ n. n < number + 1) (sym exact)
                   (fewer_on setup.binding setup.rules start.follower old.gaps number added skipped before.1 one),
             );
@@ -72,7 +72,7 @@ leads_on setup start old bytes count number mid state gaps added skipped left ha
     )
 
 -- following stops at a line
-pub leads_to_stop : (setup : FollowSetup) (start old : StreamFollower) (bytes : List ℕ) (count number : ℕ)
+pub leads_to_stop : (setup : FollowSetup) (start old : Followed) (bytes : List ℕ) (count number : ℕ)
     (mid : List ℕ) (state : FollowState) (stop : Stop) (left : Option (List ℕ))
     → HasFollowed setup start bytes count old number mid
     → StepLeadsTo setup.binding setup.rules number old.follower mid (Some stop) state left
@@ -102,12 +102,12 @@ leads_to_stop setup start old bytes count number mid state stop left has step sk
     )
 
 -- the same of bytes that may be unknown
-pub line_on : (setup : FollowSetup) (old : StreamFollower) (number : ℕ) (state : FollowState) (gaps added : ℕ)
+pub line_on : (setup : FollowSetup) (old : Followed) (number : ℕ) (state : FollowState) (gaps added : ℕ)
     (skipped : Bool) (mid left : Option (List ℕ)) → number < 2 ^ 64
     → gaps ≡ min (old.gaps + added) (2 ^ 64 - 1) → added ≡ from_bool skipped
     → IfSome mid (λ bytes. StepLeadsTo setup.binding setup.rules number old.follower bytes None state left)
     → IfSome mid (λ bytes. StepSkips setup.binding setup.rules number old.follower bytes (GoesOn skipped) state left)
-    → IfSome mid (λ rest. (start : StreamFollower) (bytes : List ℕ) (count : ℕ)
+    → IfSome mid (λ rest. (start : Followed) (bytes : List ℕ) (count : ℕ)
     → HasFollowed setup start bytes count old number rest
     → LeadsOn (HasFollowed setup start bytes) (StopsAt setup start bytes) (KeepsAfter setup start bytes) count number
     None (record { follower = state; gaps = gaps }) left)
@@ -115,11 +115,11 @@ line_on setup old number state gaps added skipped None left fits is one step ski
 line_on setup old number state gaps added skipped (Some mid) left fits is one step skips = λ start bytes count has.
     leads_on setup start old bytes count number mid state gaps added skipped left has fits is one step skips
 
-pub line_stops : (setup : FollowSetup) (old : StreamFollower) (number : ℕ) (state : FollowState) (stop : Stop)
+pub line_stops : (setup : FollowSetup) (old : Followed) (number : ℕ) (state : FollowState) (stop : Stop)
     (mid left : Option (List ℕ))
     → IfSome mid (λ bytes. StepLeadsTo setup.binding setup.rules number old.follower bytes (Some stop) state left)
     → IfSome mid (λ bytes. StepSkips setup.binding setup.rules number old.follower bytes (Stops stop) state left)
-    → IfSome mid (λ rest. (start : StreamFollower) (bytes : List ℕ) (count : ℕ)
+    → IfSome mid (λ rest. (start : Followed) (bytes : List ℕ) (count : ℕ)
     → HasFollowed setup start bytes count old number rest
     → LeadsOn (HasFollowed setup start bytes) (StopsAt setup start bytes) (KeepsAfter setup start bytes) count number
     (Some stop) (record { follower = state; gaps = old.gaps }) left)

@@ -1,2 +1,3 @@
 pub mod GapLemmas
 pub mod KeptLemmas
+pub mod LogLemmas

@@ -1,16 +1,60 @@
--- Going on from a saved book.
-use Rattle.std.specs.Prelude.{◌≡◌, ◌≢◌, ◌⊎◌, ℕ, Bool, List}
+-- A follower's book: what is kept of it, and how a later run goes on from it.
+use Rattle.std.specs.Prelude.{◌≡◌, ◌≢◌, ◌⊎◌, ◌++◌, ◌∷◌, [], ℕ, Bool, List, Option}
+use Rattle.std.specs.Option.{option_map}
 use Rattle.cdc_files.specs.declared.errors.StoreError.{StoreError}
 use Rattle.cdc_files.specs.declared.errors.StoreError.TheVariants.{BadRecord, OutOfMemory}
 use Rattle.cdc_follow.specs.Following.{FollowState}
 use Rattle.cdc_follow.specs.Saved.{CanBeSaved, book_text}
+use Rattle.cdc_book_log.specs.Logs.{CanBeLogged, IsLogText, IsRead, log_text}
+use Rattle.cdc_book_log.specs.Replay.{replay}
+use Rattle.cdc_book_log.specs.declared.logs.SavedLog.{SavedLog}
+use Rattle.cdc_streams.specs.Keeping.{AddsTexts, with_text}
+use Rattle.cdc_follow_command.specs.declared.followers.Followed.{Followed}
+use Rattle.cdc_follow_command.specs.declared.books.BookLog.{BookLog}
+use Rattle.cdc_follow_command.specs.declared.followers.FollowSetup.{FollowSetup}
+
+-- a text is that of a log of this follower's book: a base, and the changes of the saves after it
+abbrev pub IsLogOf : Bool → List ℕ → FollowState → List ℕ → Type 0
+IsLogOf chained binding state text =
+    (base : FollowState) × (changes : List FollowState) × (text ≡ log_text chained binding base changes)
+    × (replay base changes ≡ state)
+
+-- a text is that of a log of this follower's book
+abbrev pub IsTextOf : FollowSetup → List ℕ → Followed → Type 0
+IsTextOf setup text it = IsLogOf setup.rules.chained setup.binding_text.items it.follower text
+
+-- one log came from another, and meanwhile the store held the texts of logs of these, one after another
+abbrev pub HasLogged : {L : Type 0} → (L → Option (List (List ℕ))) → FollowSetup → BookLog L → BookLog L
+    → List Followed → Type 0
+HasLogged texts setup old new states = AddsTexts (IsTextOf setup) (texts old.store) (texts new.store) states
+
+-- a follower goes on from a text: that of a log, with a torn end perhaps, or that of a book alone
+abbrev pub IsResumed : Bool → List ℕ → List ℕ → FollowState → Type 0
+IsResumed chained binding text state =
+    (text ≡ book_text chained binding state)
+    ⊎ ((log : SavedLog) × IsRead text log × (log.chained ≡ chained) × (log.binding.items ≡ binding)
+    × (log.follower ≡ state))
 
 -- a text is that of no book that can be saved, of such a stream and this binding
 abbrev pub IsNoBook : Bool → List ℕ → List ℕ → Type 0
 IsNoBook chained binding text =
     (state : FollowState) → CanBeSaved binding state → text ≢ book_text chained binding state
 
--- a text isn't resumed because memory runs out, or because it is no such book
+-- nor of a log of such books
+abbrev pub IsNoLog : Bool → List ℕ → List ℕ → Type 0
+IsNoLog chained binding text =
+    (base : FollowState) (changes : List FollowState) (torn : List ℕ) → CanBeLogged binding base changes
+    → ¬ IsLogText text chained binding base changes torn
+
+-- a text isn't resumed because memory runs out, or because it is neither
 abbrev pub IsRefused : Bool → List ℕ → List ℕ → StoreError → Type 0
 IsRefused chained binding text error =
-    (error ≡ OutOfMemory) ⊎ ((error ≡ BadRecord) × IsNoBook chained binding text)
+    (error ≡ OutOfMemory) ⊎ ((error ≡ BadRecord) × IsNoBook chained binding text × IsNoLog chained binding text)
+
+-- a text was held after those that were held before, as far as these are known
+abbrev pub ReplacesText : Option (List (List ℕ)) → Option (List (List ℕ)) → List ℕ → Type 0
+ReplacesText old new text = new ≡ option_map (λ before. before ++ (text ∷ [])) old
+
+-- so was the last one of them with a text after it
+abbrev pub AppendsText : Option (List (List ℕ)) → Option (List (List ℕ)) → List ℕ → Type 0
+AppendsText old new text = new ≡ option_map (λ before. with_text before text) old

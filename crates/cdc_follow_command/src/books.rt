@@ -1,31 +1,133 @@
-//! A follower's book: how it begins, what is saved of it, and how it goes on.
+//! A follower's book: how it begins, how it is kept, and how it goes on.
 
-ghost use Rattle.std.specs.Prelude.{◌≡◌, ◌↔◌, Some, IfOk, IfErr, IsTrue, OnOk};
+ghost use Rattle.std.specs.Prelude.{◌≡◌, ◌⊎◌, ◌+◌, ◌↔◌, ℕ, List, IfOk, IfErr, IfSome, IsTrue, OnErr, OnOk};
+ghost use Rattle.cdc_follow.specs.Following.{FollowState};
 ghost use Rattle.cdc_follow.specs.Laws.{begins};
 ghost use Rattle.cdc_follow.specs.Saved.{book_text};
-ghost use Rattle.cdc_follow_command.specs.Books.{IsRefused};
+ghost use Rattle.cdc_frames.specs.Frames.{frame};
+ghost use Rattle.cdc_book_log.specs.Logs.{CanBeLogged, IsLogText, log_name};
+ghost use Rattle.cdc_book_log.specs.Replay.{replay};
+ghost use Rattle.cdc_follow_command.specs.Books.{AppendsText, IsNoBook, IsRefused, IsResumed, ReplacesText};
 
+use crate::followers::{FollowSetup, StreamFollower};
+use cdc_book_log::{read_log, record_text};
 use cdc_files::StoreError;
-use cdc_follow::{Follower, SavedBook, read_book, write_book};
-use cdc_streams::TextStore;
+use cdc_follow::{Follower, read_book};
+use cdc_streams::{Keeps, LogStore};
 use cdc_subscriber::Subscriber;
-use std::alloc::{AllocError, Global};
+use std::alloc::Global;
 
-/// The text of a follower's book.
-pub(crate) fn text_of(
-    alloc: Global,
-    chained: bool,
-    binding: &[u8],
-    follower: &Follower,
-) -> Result<Vec<u8>, AllocError>
-    ensures { IfOk result (λ text. text.items ≡ book_text chained binding.now follower.now) }
-{
-    let mut text = Vec::new(alloc);
-    // (a write to a vector fails only if memory runs out)
-    match write_book(&mut text, chained, binding, follower) {
-        Ok(()) => Ok(text),
-        Err(_) => Err(AllocError),
+/// How many bytes of records a log may have whatever its base has.
+const RECORD_BYTES: usize = 1 << 20;
+
+/// How many times as many bytes as its base the records of a log may have.
+const RECORDS_PER_BASE: usize = 2;
+
+/// A follower's book, kept as a log: a base with the whole book, and a record for each save after it, with what
+/// changed.
+/// Once the records outgrow the base, a new base replaces all.
+#[derive(Drop)]
+pub struct BookLog<L> {
+    store: L,
+    /// How many records follow the base.
+    records: u64,
+    base_bytes: usize,
+    record_bytes: usize,
+}
+
+impl<L: LogStore> BookLog<L> {
+    /// A log in this store, whose next save is of the whole book.
+    pub fn new(store: L) -> BookLog<L>
+        ensures store { result.store ≡ store }
+    {
+        BookLog {
+            store,
+            records: 0,
+            base_bytes: 0,
+            record_bytes: 0,
+        }
     }
+
+    /// The number of the next record; `None` if the records have outgrown the base.
+    fn next_record(&self) -> Option<u64>
+        ensures { IfSome result (λ number. number ≡ self.now.records + 1) }
+    {
+        let most = self.base_bytes.saturating_mul(RECORDS_PER_BASE);
+        if self.record_bytes > most && self.record_bytes > RECORD_BYTES {
+            return None;
+        }
+        self.records.checked_add(1)
+    }
+
+    /// Replaces all by a base with the book of this follower.
+    fn save_base(
+        &mut self,
+        setup: &FollowSetup,
+        alloc: Global,
+        follower: &Follower,
+    ) -> Result<(), StoreError>
+        ensures saved { OnOk result (ReplacesText (L.texts self.old.store) (L.texts self.new.store)
+            (frame log_name 0 (book_text setup.now.rules.chained setup.now.binding_text.items follower.now))) }
+        ensures records { OnOk result (self.new.records ≡ 0) }
+        ensures refused { OnErr result (L.texts self.new.store ≡ L.texts self.old.store) }
+    {
+        let binding = setup.binding_text.as_slice();
+        let text = record_text(alloc, 0, setup.rules.chained, binding, follower)?;
+        self.store.replace(text.as_slice())?;
+        self.records = 0;
+        self.base_bytes = text.len();
+        self.record_bytes = 0;
+        Ok(())
+    }
+
+    /// Appends the record of this number, with this change.
+    fn save_record(
+        &mut self,
+        setup: &FollowSetup,
+        alloc: Global,
+        number: u64,
+        change: &Follower,
+    ) -> Result<(), StoreError>
+        ensures saved { OnOk result (AppendsText (L.texts self.old.store) (L.texts self.new.store)
+            (frame log_name number (book_text setup.now.rules.chained setup.now.binding_text.items change.now))) }
+        ensures records { OnOk result (self.new.records ≡ number) }
+        ensures refused { OnErr result (L.texts self.new.store ≡ L.texts self.old.store) }
+    {
+        let binding = setup.binding_text.as_slice();
+        let text = record_text(alloc, number, setup.rules.chained, binding, change)?;
+        self.store.append(text.as_slice())?;
+        self.records = number;
+        self.record_bytes = self.record_bytes.saturating_add(text.len());
+        Ok(())
+    }
+}
+
+impl<L: LogStore> Keeps<StreamFollower> for BookLog<L> {
+    ghost use Rattle.cdc_streams.proofs.KeepingLemmas.{adds_none};
+    ghost use Rattle.cdc_follow_command.specs.Books.{HasLogged, IsTextOf};
+    ghost use Rattle.cdc_follow_command.specs.Private.Logged.{FitsLog, fits_none, goes_on};
+
+    ghost has_kept = { HasLogged L.texts };
+
+    ghost fits = { FitsLog L.texts };
+
+    fn keep(
+        &mut self,
+        setup: &FollowSetup,
+        alloc: Global,
+        consumer: &StreamFollower,
+    ) -> Result<(), StoreError> {
+        match (consumer.changes(), self.next_record()) {
+            (Some(change), Some(number)) => self.save_record(setup, alloc, number, change),
+            _ => self.save_base(setup, alloc, consumer.follower()),
+        }
+    }
+
+    ghost has_kept_none = { λ setup it. adds_none (IsTextOf setup) (L.texts it.store) };
+
+    ghost fits_untracked = { fits_none L.texts };
+
+    ghost fits_on = { goes_on L.texts };
 }
 
 /// A follower that begins, with an empty book.
@@ -35,41 +137,51 @@ pub fn begin(alloc: Global) -> Follower
     Follower::new(Subscriber::new(alloc), 0)
 }
 
-/// The follower of a book with this text. `BadRecord`: the text isn't one of a book, or it is one of another binding,
-/// or of a chained stream where this one isn't, or the other way round.
+/// The follower of a saved book with this text: of a log, whose torn end is ignored, or of the book alone, as it was
+/// saved before version 1.2. `BadRecord`: the text is neither, or its book is one of another binding, or of a chained
+/// stream where this one isn't, or the other way round.
 pub fn resume(
     alloc: Global,
     text: &[u8],
     chained: bool,
     binding: &[u8],
 ) -> Result<Follower, StoreError>
-    ensures resumed { IfOk result (λ follower. text.now ≡ book_text chained binding.now follower) }
+    ensures resumed { IfOk result (IsResumed chained binding.now text.now) }
+    ensures all { (base : FollowState) (changes : List FollowState) (torn : List ℕ)
+        → CanBeLogged binding.now base changes → IsLogText text.now chained binding.now base changes torn
+        → IfOk result (λ follower. follower ≡ replay base changes) }
     ensures refused { IfErr result (IsRefused chained binding.now text.now) }
 {
+    match read_log(alloc, text)? {
+        Some(log) if is_same(log.chained, log.binding.as_slice(), chained, binding) => {
+            Ok(log.follower)
+        }
+        _ => resume_text(alloc, text, chained, binding),
+    }
+}
+
+/// The follower of a book with this text, which is no log.
+fn resume_text(
+    alloc: Global,
+    text: &[u8],
+    chained: bool,
+    binding: &[u8],
+) -> Result<Follower, StoreError>
+    ensures resumed { IfOk result (λ follower. text.now ≡ book_text chained binding.now follower) }
+    ensures refused { IfErr result (λ error. (error ≡ StoreError.OutOfMemory)
+        ⊎ ((error ≡ StoreError.BadRecord) × IsNoBook chained binding.now text.now)) }
+{
     match read_book(alloc, text)? {
-        Some(saved) if is_of(&saved, chained, binding) => Ok(saved.follower),
+        Some(saved) if is_same(saved.chained, saved.binding.as_slice(), chained, binding) => {
+            Ok(saved.follower)
+        }
         _ => Err(StoreError::BadRecord),
     }
 }
 
 /// Whether a book is of such a stream and of this binding.
-fn is_of(book: &SavedBook, chained: bool, binding: &[u8]) -> bool
-    ensures { IsTrue result ↔ ((book.now.chained ≡ chained) × (book.now.binding.items ≡ binding.now)) }
+fn is_same(of_chained: bool, of_binding: &[u8], chained: bool, binding: &[u8]) -> bool
+    ensures { IsTrue result ↔ ((of_chained ≡ chained) × (of_binding.now ≡ binding.now)) }
 {
-    book.chained == chained && book.binding.as_slice() == binding
-}
-
-/// Saves the book of a follower.
-pub fn begin_book<K: TextStore>(
-    alloc: Global,
-    store: &mut K,
-    chained: bool,
-    binding: &[u8],
-    follower: &Follower,
-) -> Result<(), StoreError>
-    ensures { OnOk result
-        (K.held store.new ≡ Some (book_text chained binding.now follower.now)) }
-{
-    let text = text_of(alloc, chained, binding, follower)?;
-    store.save(text)
+    of_chained == chained && of_binding == binding
 }

@@ -10,7 +10,8 @@ use cdc_streams::StreamEnding;
 /// command failed.
 pub type FollowEnding = StreamEnding<Stop>;
 
-/// The exit status of the program: 0 at the end; 1 at a gap, at what contradicts the end, or after a failure; 2 at a bad
+/// The exit status of the program: 0 at the end; 1 at a gap, at what contradicts the end, or after a failure; 2 at a
+/// bad
 /// line.
 pub fn follow_status(ending: FollowEnding) -> u8
     ensures { result ≡ status_of ending }

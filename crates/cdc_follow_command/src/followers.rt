@@ -1,18 +1,18 @@
 //! The command `follow`: follows a stream up to its end, and saves and prints its book.
 
-ghost use Rattle.std.specs.Prelude.{◌≡◌, Some, is_some, IfSome};
+ghost use Rattle.std.specs.Prelude.{◌≡◌, None, is_some, IfSome};
 ghost use Rattle.cdc_follow.specs.Gaps.{bytes_skipped};
-ghost use Rattle.cdc_follow.specs.Saved.{book_text};
 ghost use Rattle.cdc_follow.specs.Stops.{bytes_followed};
-ghost use Rattle.cdc_follow_command.specs.Following.{KeepsAfter, last_of, prints_end_of, skipped_by as skipped_under};
-ghost use Rattle.cdc_streams.specs.Saving.{IfStopped, PrintsSaves, PrintsStream};
+ghost use Rattle.cdc_follow_command.specs.Following.{KeepsAfter, begun_of, followed_of, last_of, prints_end_of};
+ghost use Rattle.cdc_follow_command.specs.Following.{skipped_by as skipped_under};
+ghost use Rattle.cdc_streams.specs.Saving.{AreSaved, IfStopped, PrintsStream, saves_text};
 
-use crate::books::text_of;
 use crate::endings::FollowEnding;
 use crate::forms::FollowForm;
+use cdc_book_log::Tracked;
 use cdc_follow::{FollowError, Follower, Rules, Stop, Turn, follow_line};
 use cdc_match::Binding;
-use cdc_streams::{Consumer, LineReader, Saver, TextStore, stream_command};
+use cdc_streams::{Consumer, Keeps, LineReader, Saved, Saver, stream_command};
 use std::alloc::{AllocError, Global};
 use std::io::{BufRead, Write};
 
@@ -27,22 +27,56 @@ pub struct FollowSetup {
     pub binding_text: Vec<u8>,
 }
 
-/// What follows a stream.
+/// What following a stream has come to. Contracts alone speak of it; no value of it is made.
 #[derive(Drop)]
-pub struct StreamFollower {
+pub struct Followed {
     /// The follower, with its book.
     pub follower: Follower,
     /// How many entries came too early and were skipped.
     pub gaps: u64,
 }
 
+/// What follows a stream.
+#[derive(Drop)]
+pub struct StreamFollower {
+    /// The follower, with its book, and what changed of it since it was saved.
+    tracked: Tracked,
+    /// How many entries came too early and were skipped.
+    gaps: u64,
+}
+
 impl StreamFollower {
     /// A follower that goes on from this one; no entry was skipped yet.
     pub fn new(follower: Follower) -> StreamFollower
-        ensures follower { result.follower ≡ follower }
+        ensures follower { result.tracked.follower ≡ follower }
+        ensures changes { result.tracked.changes ≡ None }
         ensures gaps { result.gaps ≡ 0 }
     {
-        StreamFollower { follower, gaps: 0 }
+        StreamFollower {
+            tracked: Tracked::new(follower),
+            gaps: 0,
+        }
+    }
+
+    /// The follower, with its book.
+    pub fn follower(&self) -> &Follower
+        ensures { result.now ≡ self.now.tracked.follower }
+    {
+        self.tracked.follower()
+    }
+
+    /// What changed of the follower since it was saved, if that is kept.
+    pub(crate) fn changes(&self) -> &Option<Follower>
+        ensures { result.now ≡ self.now.tracked.changes }
+    {
+        self.tracked.changes()
+    }
+
+    /// How many entries came too early and were skipped.
+    pub fn gaps(&self) -> u64
+        ensures { result ≡ self.now.gaps }
+    {
+        self.gaps
     }
 }
 
@@ -53,11 +87,35 @@ fn skipped_by(rules: Rules, gaps: u64) -> Option<u64>
     if rules.skips_gaps { Some(gaps) } else { None }
 }
 
-impl<F: FollowForm> Consumer<F> for StreamFollower {
-    ghost use Rattle.cdc_follow_command.specs.Private.Followed.{HasFollowed, followed_none, keeps_after};
-    ghost use Rattle.cdc_follow_command.specs.Following.{KeepsAfter, StopsAt, book_of, last_of, prints_end_of};
+impl Saved for StreamFollower {
+    ghost use Rattle.cdc_follow_command.specs.Following.{followed_of};
+    ghost use Rattle.cdc_book_log.specs.Tracking.{GoesOn, IsSince};
+    ghost use Rattle.std.specs.Prelude.{◌≡◌, None};
 
     type Setup = FollowSetup;
+
+    type State = Followed;
+
+    ghost state = { followed_of };
+
+    ghost since = { λ past now. IsSince past.follower now.tracked };
+
+    ghost is_untracked = { λ now. now.tracked.changes ≡ None };
+
+    ghost moves = { λ old new. GoesOn old.tracked new.tracked };
+
+    fn begin_changes(&mut self, alloc: Global) {
+        self.tracked.begin_changes(alloc);
+    }
+
+    fn forget_changes(&mut self) {
+        self.tracked.forget_changes();
+    }
+}
+
+impl<F: FollowForm> Consumer<F> for StreamFollower {
+    ghost use Rattle.cdc_follow_command.specs.Private.Followed.{HasFollowed, followed_none, keeps_after};
+    ghost use Rattle.cdc_follow_command.specs.Following.{KeepsAfter, StopsAt, last_of, prints_end_of};
 
     type Stop = Stop;
 
@@ -66,8 +124,6 @@ impl<F: FollowForm> Consumer<F> for StreamFollower {
     ghost stands = { KeepsAfter };
 
     ghost stops = { StopsAt };
-
-    ghost text = { book_of };
 
     ghost last = { last_of };
 
@@ -88,7 +144,7 @@ impl<F: FollowForm> Consumer<F> for StreamFollower {
             number,
             &setup.binding,
             setup.rules,
-            &mut self.follower,
+            &mut self.tracked,
         )?;
         match turn {
             Turn::GoesOn { skipped } => {
@@ -99,17 +155,8 @@ impl<F: FollowForm> Consumer<F> for StreamFollower {
         }
     }
 
-    fn to_text(&self, setup: &FollowSetup, alloc: Global) -> Result<Vec<u8>, AllocError> {
-        text_of(
-            alloc,
-            setup.rules.chained,
-            setup.binding_text.as_slice(),
-            &self.follower,
-        )
-    }
-
     fn last_timestamp(&self) -> u64 {
-        self.follower.seen()
+        self.follower().seen()
     }
 
     fn end_text(
@@ -122,7 +169,7 @@ impl<F: FollowForm> Consumer<F> for StreamFollower {
         form.end(
             alloc,
             skipped_by(setup.rules, self.gaps),
-            &self.follower,
+            self.follower(),
             stop,
         )
     }
@@ -134,9 +181,10 @@ impl<F: FollowForm> Consumer<F> for StreamFollower {
 
 /// Follows the lines of a reader, numbered from 1. It saves the book after every so many lines, each time that no whole
 /// line is waiting, and at the end, and prints each save once the store holds its book; and at the end the book and why
-/// following stopped, or the fault of a command that failed. Nothing is written after a write that failed. Gaps that were
+/// following stopped, or the fault of a command that failed. Nothing is written after a write that failed. Gaps that
+/// were
 /// skipped before are not counted.
-pub fn follow_command<F: FollowForm, B: LineReader, W: Write, K: TextStore>(
+pub fn follow_command<F: FollowForm, B: LineReader, W: Write, K: Keeps<StreamFollower>>(
     form: &F,
     alloc: Global,
     reader: &mut B,
@@ -146,16 +194,15 @@ pub fn follow_command<F: FollowForm, B: LineReader, W: Write, K: TextStore>(
     followed: &mut StreamFollower,
 ) -> FollowEnding
     ensures stops { IfStopped result (λ stop. IfSome (B.remaining reader.old) (λ bytes.
-        bytes_followed setup.now.binding setup.now.rules followed.old.follower bytes
-        ≡ record { state = followed.new.follower; stop = stop })) }
-    ensures gaps { IfStopped result (λ _. IfSome (B.remaining reader.old) (λ bytes.
-        followed.new.gaps ≡ bytes_skipped setup.now.binding setup.now.rules followed.old.follower bytes)) }
-    ensures store { is_some saver.new.store ≡ is_some saver.old.store }
-    ensures saved { IfStopped result (λ _. IfSome saver.new.store (λ store. K.held store
-        ≡ Some (book_text setup.now.rules.chained setup.now.binding_text.items followed.new.follower))) }
-    ensures printed { PrintsStream (PrintsSaves F.prints_saved last_of (KeepsAfter setup.now followed.old)
-        (is_some saver.old.store) (B.remaining reader.old) (W.contents writer.old))
-        (prints_end_of F.prints_end setup.now) F.prints_failure (W.contents writer.new) followed.new result }
+        bytes_followed setup.now.binding setup.now.rules followed.old.tracked.follower bytes
+        ≡ record { state = followed.new.tracked.follower; stop = stop })) }
+    ensures gaps { IfStopped result (λ _. IfSome (B.remaining reader.old) (λ bytes. followed.new.gaps
+        ≡ bytes_skipped setup.now.binding setup.now.rules followed.old.tracked.follower bytes)) }
+    ensures printed { PrintsStream
+        (AreSaved (KeepsAfter setup.now (begun_of followed.old)) (K.has_kept setup.now) (B.remaining reader.old)
+        saver.old.store saver.new.store)
+        (saves_text F.prints_saved last_of (is_some saver.old.store)) (prints_end_of F.prints_end setup.now)
+        F.prints_failure (W.contents writer.old) (W.contents writer.new) (followed_of followed.new) result }
 {
     followed.gaps = 0;
     stream_command(form, alloc, reader, writer, saver, setup, followed)

@@ -1,15 +1,18 @@
 -- What was taken and saved of a stream so far, and the lines that were printed.
-use Rattle.std.proofs.Common.{◌≡◌, ℕ, ◌+◌, List, [], ◌∷◌, ◌++◌, Bool, true, false, Option, None, Some, Ok}
-use Rattle.std.proofs.Common.{Err, refl, sym, subst, ap, ◌∙◌, arith}
-use Rattle.std.proofs.Math.Nat.{le_refl}
-use Rattle.std.specs.Prelude.{IfSome, if◌then◌else◌}
+use Rattle.std.proofs.Common.{◌≡◌, ℕ, ◌+◌, ◌≤◌, List, [], ◌∷◌, ◌++◌, Bool, true, false, Option, None, Some, Result, Ok}
+use Rattle.std.proofs.Common.{Err, refl, sym, subst, ap, arith}
+use Rattle.std.specs.Prelude.{IfOk, IfSome, IsTrue, is_some, not}
 use Rattle.std.specs.Io.KnownBytes.{Appends}
+use Rattle.std.proofs.KnownBytes.{Appends-trans}
+use Rattle.std.proofs.Math.Nat.{le_refl}
 use Rattle.cdc_output.specs.declared.faults.ProgramFault.{ProgramFault}
-use Rattle.cdc_streams.specs.Saving.{EndWith, PrintsSaves, StandInOrder, save_text, saves_text}
+use Rattle.cdc_streams.specs.Keeping.{HasKept, KeepsMore}
+use Rattle.cdc_streams.specs.Saving.{AreSaved, EndWith, PrintsBy, PrintsPart, PrintsSaves, SaveFails, SavesOne}
+use Rattle.cdc_streams.specs.Saving.{StandInOrder, is_write_fault, save_text, saves_text}
 use Rattle.cdc_streams.specs.Taking.{LeadsOn}
 use Rattle.cdc_streams.proofs.OrderLemmas.{StandTo, further, in_order, one_more}
-use Rattle.cdc_streams.proofs.SavingLemmas.{appends_nothing, last_save, prints_more, prints_same, save_done}
-use Rattle.cdc_streams.proofs.SavingLemmas.{save_failed, saves_none}
+use Rattle.cdc_streams.proofs.SavingLemmas.{appends_nothing, kept_no_more, kept_none, kept_same, part_more, prints_all}
+use Rattle.cdc_streams.proofs.SavingLemmas.{prints_same, saves_more, saves_none}
 
 -- so many entries of bytes that may be unknown were taken, and meanwhile these were saved one after another
 abbrev pub Has : {S : Type 0} → (List ℕ → ℕ → S → ℕ → List ℕ → Type 0) → (List ℕ → ℕ → S → Type 0)
@@ -26,37 +29,47 @@ Steps Taken Stops Stands old number mid stop new left =
     IfSome mid (λ rest. (start : _) (bytes : List ℕ) (count : ℕ) → Taken start bytes count old number rest
     → LeadsOn (Taken start bytes) (Stops start bytes) (Stands start bytes) count number stop new left)
 
--- it was taken up to this line, and the lines of the saves were printed
-pub record HasRun {S : Type 0} (prints : ℕ → List ℕ) (last : S → ℕ) (Taken : List ℕ → ℕ → S → ℕ → List ℕ → Type 0)
-    (Stands : List ℕ → ℕ → S → Type 0) (kept : Bool) (known old : Option (List ℕ)) (state : S) (number : ℕ)
-    (left now : Option (List ℕ)) : Type 0 where
-  pub states : List S
-  pub has : Has Taken Stands known state number left states
-  pub printed : Appends old now (saves_text prints last kept states)
+-- it was taken up to this line, and what was saved was kept, and its lines printed
+pub record HasRun {K S : Type 0} (prints : ℕ → List ℕ) (last : S → ℕ) (Taken : List ℕ → ℕ → S → ℕ → List ℕ → Type 0)
+    (Stands : List ℕ → ℕ → S → Type 0) (Kept : K → K → List S → Type 0) (first : Option K)
+    (known old : Option (List ℕ)) (state : S) (number : ℕ) (store : Option K) (left now : Option (List ℕ)) : Type 0
+  where
+    pub states : List S
+    pub has : Has Taken Stands known state number left states
+    pub kept : HasKept Kept first store states
+    pub printed : Appends old now (saves_text prints last (is_some first) states)
 
--- what is printed while a stream is taken, of some saves
-abbrev pub HasPrinted : {S : Type 0} → (ℕ → List ℕ) → (S → ℕ) → (List ℕ → ℕ → S → Type 0) → Bool → Option (List ℕ)
-    → Option (List ℕ) → Option (List ℕ) → Type 0
-HasPrinted prints last Stands kept known old now =
-    (states : List _) × PrintsSaves prints last Stands kept known old now states × Unit {0}
-
-module _ {S T : Type 0} (prints : ℕ → List ℕ) (last : S → ℕ) (Taken : S → List ℕ → ℕ → S → ℕ → List ℕ → Type 0)
+module _ {K S T : Type 0} (prints : ℕ → List ℕ) (last : S → ℕ) (Taken : S → List ℕ → ℕ → S → ℕ → List ℕ → Type 0)
     (Stops : S → List ℕ → T → S → Type 0) (Stands : S → List ℕ → ℕ → S → Type 0)
     (begins : (start : S) (bytes : List ℕ) → Taken start bytes 0 start 1 bytes)
     (stands_so : (start : S) (bytes : List ℕ) (count : ℕ) (state : S) (number : ℕ) (left : List ℕ)
     → Taken start bytes count state number left → Stands start bytes count state)
-    (start : S) (kept : Bool) (known old : Option (List ℕ)) where
+    (Kept : K → K → List S → Type 0) (start : S) (first : Option K) (known old : Option (List ℕ)) where
+  -- up to this line
+  abbrev pub Run : S → ℕ → Option K → Option (List ℕ) → Option (List ℕ) → Type 0
+  Run = HasRun prints last (Taken start) (Stands start) Kept first known old
+
+  -- the lines of saves
+  abbrev all_lines : List S → List ℕ
+  all_lines = saves_text prints last (is_some first)
+
+  -- what was saved, and what is printed of it in the end
+  abbrev pub Prints : Option K → Option (List ℕ) → S → Result T ProgramFault → Type 0
+  Prints store now final result =
+      PrintsSaves (AreSaved (Stands start) Kept known first store) all_lines old now final result
+
   has_begun : (all : Option (List ℕ)) → Has (Taken start) (Stands start) all start 1 all []
   has_begun None = tt
   has_begun (Some bytes) = (0, begins start bytes, omega arith)
 
   -- nothing was taken yet
-  pub run_begins : HasRun prints last (Taken start) (Stands start) kept known old start 1 known old
-  run_begins = record {
+  pub run_begins : ((it : K) → Kept it it []) → (state : S) → state ≡ start → Run state 1 first known old
+  run_begins none state is = subst (λ s. Run s 1 first known old) (sym is) (record {
     states = [];
     has = has_begun known;
-    printed = subst (Appends old old) (sym (saves_none prints last kept)) (appends_nothing old);
-  }
+    kept = kept_none Kept none first;
+    printed = subst (Appends old old) (sym (saves_none prints last (is_some first))) (appends_nothing old);
+  })
 
   has_saved : (all : Option (List ℕ)) (state : S) (number : ℕ) (left : Option (List ℕ)) (states : List S)
       → Has (Taken start) (Stands start) all state number left states
@@ -70,24 +83,37 @@ module _ {S T : Type 0} (prints : ℕ → List ℕ) (last : S → ℕ) (Taken : 
         (stands_so start bytes has.0 state number left has.1),
   )
 
-  -- a save before the next line, if it is due
-  pub run_saves : {U : Type 0} (done : U) (due keeps : Bool) (state : S) (number : ℕ)
-      (left mid new : Option (List ℕ))
-      → HasRun prints last (Taken start) (Stands start) kept known old state number left mid
-      → keeps ≡ kept → Appends mid new (if due then save_text prints keeps (last state) (Ok done) else [])
-      → HasRun prints last (Taken start) (Stands start) kept known old state number left new
-  run_saves done true keeps state number left mid new run same adds = record {
+  -- the line of one more save
+  abbrev Line : Option K → S → List ℕ
+  Line store state = save_text prints (is_some store) (last state)
+
+  -- a save, if it is done
+  pub run_saves : (state : S) (number : ℕ) (store later : Option K) (left mid new : Option (List ℕ))
+      → Run state number store left mid → KeepsMore Kept store later (state ∷ [])
+      → Appends mid new (Line store state) → Run state number later left new
+  run_saves state number store later left mid new run keeps adds = record {
     states = run.states ++ state ∷ [];
     has = has_saved known state number left run.states run.has;
-    printed = prints_more prints last kept run.states state old mid new run.printed
-        (subst (Appends mid new)
-        (save_done prints keeps (last state) done ∙ ap (λ k. last_save prints k (last state)) same) adds);
+    kept = keeps first run.states run.kept;
+    printed = subst (Appends old new) (sym (saves_more prints last (is_some first) run.states state))
+        (Appends-trans old mid new (all_lines run.states) (save_text prints (is_some first) (last state)) run.printed
+        (subst (λ kept. Appends mid new (save_text prints kept (last state)))
+        (kept_same Kept first store run.states run.kept) adds));
   }
-  run_saves done false keeps state number left mid new run same adds = record {
-    states = run.states;
-    has = run.has;
-    printed = prints_same (saves_text prints last kept run.states) old mid new run.printed adds;
-  }
+
+  -- a save if it is due
+  pub run_due : {U : Type 0} (done : U) (due : Bool) (state after : S) (number : ℕ) (store later : Option K)
+      (left mid new : Option (List ℕ)) → Run state number store left mid → after ≡ state
+      → (IsTrue due → SavesOne (KeepsMore Kept store later) mid new state (Line store state) (Ok done))
+      → (IsTrue (not due) → (later ≡ store) × (new ≡ mid)) → Run after number later left new
+  run_due done true state after number store later left mid new run is saves same =
+      let one = saves refl in
+      subst (λ s. Run s number later left new) (sym is)
+      (run_saves state number store later left mid new run one.0 one.1)
+  run_due done false state after number store later left mid new run is saves same =
+      let none = same refl in
+      subst (λ s. Run s number later left new) (sym is)
+      (subst (Run state number later left) (sym none.1) (subst (λ it. Run state number it left mid) (sym none.0) run))
 
   has_on : (all : Option (List ℕ)) (before after : S) (number : ℕ) (stops : Option T) (left rest : Option (List ℕ))
       (states : List S) → Has (Taken start) (Stands start) all before number left states → stops ≡ None
@@ -103,13 +129,14 @@ module _ {S T : Type 0} (prints : ℕ → List ℕ) (last : S → ℕ) (Taken : 
       (on.2, on.4, further (Stands start bytes) 0 has.0 on.2 states has.2 on.3)
 
   -- one more line was taken
-  pub run_on : (before after : S) (number : ℕ) (stops : Option T) (left rest now : Option (List ℕ))
-      → HasRun prints last (Taken start) (Stands start) kept known old before number left now → stops ≡ None
+  pub run_on : (before after : S) (number : ℕ) (stops : Option T) (store : Option K) (left rest now : Option (List ℕ))
+      → Run before number store left now → stops ≡ None
       → Steps Taken Stops Stands before number left stops after rest
-      → HasRun prints last (Taken start) (Stands start) kept known old after (number + 1) rest now
-  run_on before after number stops left rest now run is step = record {
+      → Run after (number + 1) store rest now
+  run_on before after number stops store left rest now run is step = record {
     states = run.states;
     has = has_on known before after number stops left rest run.states run.has is step;
+    kept = run.kept;
     printed = run.printed;
   }
 
@@ -120,69 +147,146 @@ module _ {S T : Type 0} (prints : ℕ → List ℕ) (last : S → ℕ) (Taken : 
   stand_in_order (Some bytes) state number None states has = absurd has
   stand_in_order (Some bytes) state number (Some left) states has = in_order (Stands start bytes) 0 has.0 states has.2
 
-  -- what was printed so far
-  pub run_printed : (state : S) (number : ℕ) (left now : Option (List ℕ))
-      → HasRun prints last (Taken start) (Stands start) kept known old state number left now
-      → HasPrinted prints last (Stands start) kept known old now
-  run_printed state number left now run = (
+  -- taking fails, and no write did
+  pub run_fails : (state final : S) (number : ℕ) (store : Option K) (left now : Option (List ℕ)) (why : ProgramFault)
+      → Run state number store left now → Prints store now final (Err why)
+  run_fails state final number store left now why run = (
     run.states,
-    record { stand = stand_in_order known state number left run.states run.has; printed = run.printed },
+    record { stand = stand_in_order known state number left run.states run.has; kept = run.kept },
+    prints_all {T = T} (all_lines run.states) old now (Err why) run.printed,
     tt,
   )
 
-  -- a save that failed printed nothing
-  pub run_fails : (U : Type 0) (why : ProgramFault) (due keeps : Bool) (state after : S) (number : ℕ)
-      (left mid new : Option (List ℕ))
-      → HasRun prints last (Taken start) (Stands start) kept known old state number left mid
-      → Appends mid new (if due then save_text {T = U} prints keeps (last after) (Err why) else [])
-      → HasPrinted prints last (Stands start) kept known old new
-  run_fails U why due keeps state after number left mid new run adds =
-      run_printed state number left new (record {
-        states = run.states;
-        has = run.has;
-        printed = prints_same (saves_text prints last kept run.states) old mid new run.printed
-            (subst (Appends mid new) (save_failed U prints keeps (last after) why due) adds);
-      })
+  -- this state may be saved next
+  pub record CanSave (state : S) (store : Option K) (now : Option (List ℕ)) : Type 0 where
+    pub states : List S
+    pub stand : IfSome known (λ bytes. (count : ℕ) × StandTo (Stands start bytes) 0 count states
+        × ((more : ℕ) × (count ≤ more) × Stands start bytes more state))
+    pub kept : HasKept Kept first store states
+    pub printed : Appends old now (all_lines states)
 
-  -- taking failed, and the last save is done
-  pub run_saves_last : {U : Type 0} (done : U) (keeps : Bool) (before after : S) (number : ℕ)
-      (left mid new : Option (List ℕ))
-      → HasRun prints last (Taken start) (Stands start) kept known old before number left mid
-      → keeps ≡ kept → after ≡ before → Appends mid new (save_text prints keeps (last after) (Ok done))
-      → HasPrinted prints last (Stands start) kept known old new
-  run_saves_last done keeps before after number left mid new run same is adds =
-      run_printed before number left new
-      (run_saves done true keeps before number left mid new run same
-      (subst (λ (state : S). Appends mid new (save_text prints keeps (last state) (Ok done))) is adds))
+  may_stand : (all : Option (List ℕ)) (state : S) (number : ℕ) (left : Option (List ℕ)) (states : List S)
+      → Has (Taken start) (Stands start) all state number left states
+      → IfSome all (λ bytes. (count : ℕ) × StandTo (Stands start bytes) 0 count states
+      × ((more : ℕ) × (count ≤ more) × Stands start bytes more state))
+  may_stand None state number left states has = tt
+  may_stand (Some bytes) state number None states has = absurd has
+  may_stand (Some bytes) state number (Some left) states has =
+      (has.0, has.2, (has.0, le_refl has.0, stands_so start bytes has.0 state number left has.1))
 
-  has_ended : (all : Option (List ℕ)) (before after : S) (number : ℕ) (stop : T) (left rest : Option (List ℕ))
+  pub can_save : (state : S) (number : ℕ) (store : Option K) (left now : Option (List ℕ))
+      → Run state number store left now → CanSave state store now
+  can_save state number store left now run = record {
+    states = run.states;
+    stand = may_stand known state number left run.states run.has;
+    kept = run.kept;
+    printed = run.printed;
+  }
+
+  stand_at_stop : (all : Option (List ℕ)) (before after : S) (number : ℕ) (stop : T) (left rest : Option (List ℕ))
       (states : List S) → Has (Taken start) (Stands start) all before number left states
       → Steps Taken Stops Stands before number left (Some stop) after rest
-      → IfSome all (λ bytes. StandInOrder (Stands start bytes) 0 (states ++ after ∷ []))
-  has_ended None before after number stop left rest states has step = tt
-  has_ended (Some bytes) before after number stop None rest states has step = absurd has
-  has_ended (Some bytes) before after number stop (Some left) rest states has step =
-      let end = (step start bytes has.0 has.1).1 in
-      in_order (Stands start bytes) 0 end.0 (states ++ after ∷ [])
-      (one_more (Stands start bytes) 0 has.0 end.0 states after has.2 end.1 end.2)
+      → IfSome all (λ bytes. (count : ℕ) × StandTo (Stands start bytes) 0 count states
+      × ((more : ℕ) × (count ≤ more) × Stands start bytes more after))
+  stand_at_stop None before after number stop left rest states has step = tt
+  stand_at_stop (Some bytes) before after number stop None rest states has step = absurd has
+  stand_at_stop (Some bytes) before after number stop (Some left) rest states has step =
+      (has.0, has.2, (step start bytes has.0 has.1).1)
 
-  -- taking stopped, and the last save is done
-  pub run_ends : {U : Type 0} (done : U) (keeps : Bool) (before after : S) (number : ℕ) (stop : T)
-      (left rest mid new : Option (List ℕ))
-      → HasRun prints last (Taken start) (Stands start) kept known old before number left mid
-      → keeps ≡ kept → Steps Taken Stops Stands before number left (Some stop) after rest
-      → Appends mid new (save_text prints keeps (last after) (Ok done))
-      → (states : List S) × PrintsSaves prints last (Stands start) kept known old new states × EndWith states after
-  run_ends done keeps before after number stop left rest mid new run same step adds = (
-    run.states ++ after ∷ [],
-    record {
-      stand = has_ended known before after number stop left rest run.states run.has step;
-      printed = prints_more prints last kept run.states after old mid new run.printed
-          (subst (Appends mid new)
-          (save_done prints keeps (last after) done ∙ ap (λ k. last_save prints k (last after)) same) adds);
-    },
-    (run.states, refl),
+  -- the state at which taking stops may be saved
+  pub can_save_last : (before after : S) (number : ℕ) (stop : T) (store : Option K) (left rest now : Option (List ℕ))
+      → Run before number store left now → Steps Taken Stops Stands before number left (Some stop) after rest
+      → CanSave after store now
+  can_save_last before after number stop store left rest now run step = record {
+    states = run.states;
+    stand = stand_at_stop known before after number stop left rest run.states run.has step;
+    kept = run.kept;
+    printed = run.printed;
+  }
+
+  add_last : (all : Option (List ℕ)) (state : S) (states : List S)
+      → IfSome all (λ bytes. (count : ℕ) × StandTo (Stands start bytes) 0 count states
+      × ((more : ℕ) × (count ≤ more) × Stands start bytes more state))
+      → IfSome all (λ bytes. StandInOrder (Stands start bytes) 0 (states ++ state ∷ []))
+  add_last None state states stand = tt
+  add_last (Some bytes) state states stand =
+      in_order (Stands start bytes) 0 stand.2.0 (states ++ state ∷ [])
+      (one_more (Stands start bytes) 0 stand.0 stand.2.0 states state stand.1 stand.2.1 stand.2.2)
+
+  leave_last : (all : Option (List ℕ)) (state : S) (states : List S)
+      → IfSome all (λ bytes. (count : ℕ) × StandTo (Stands start bytes) 0 count states
+      × ((more : ℕ) × (count ≤ more) × Stands start bytes more state))
+      → IfSome all (λ bytes. StandInOrder (Stands start bytes) 0 states)
+  leave_last None state states stand = tt
+  leave_last (Some bytes) state states stand = in_order (Stands start bytes) 0 stand.0 states stand.1
+
+  -- the line of the save, by the first store
+  line_of_first : (state : S) (store : Option K) (now : Option (List ℕ)) → (can : CanSave state store now)
+      → Line store state ≡ save_text prints (is_some first) (last state)
+  line_of_first state store now can =
+      ap (λ kept. save_text prints kept (last state)) (kept_same Kept first store can.states can.kept)
+
+  -- it was saved, and taking ends so
+  pub save_ends : (state final : S) (store later : Option K) (now new : Option (List ℕ)) (result : Result T
+      ProgramFault)
+      → CanSave state store now → final ≡ state → KeepsMore Kept store later (state ∷ [])
+      → Appends now new (Line store state) → Prints later new final result
+  save_ends state final store later now new result can same keeps adds = (
+    can.states ++ state ∷ [],
+    record { stand = add_last known state can.states can.stand; kept = keeps first can.states can.kept },
+    prints_all (all_lines (can.states ++ state ∷ [])) old new result
+        (subst (Appends old new) (sym (saves_more prints last (is_some first) can.states state))
+        (Appends-trans old now new (all_lines can.states) (save_text prints (is_some first) (last state)) can.printed
+        (subst (Appends now new) (line_of_first state store now can) adds))),
+    is_last result,
   )
+    where
+      is_last : (it : Result T ProgramFault) → IfOk it (λ stop. EndWith (can.states ++ state ∷ []) final)
+      is_last (Ok stop) = (can.states, ap (λ s. can.states ++ s ∷ []) (sym same))
+      is_last (Err why) = tt
+
+  save_no_more : (state final : S) (store later : Option K) (now new : Option (List ℕ)) (why : ProgramFault)
+      → CanSave state store now → KeepsMore Kept store later [] → Appends now new [] → Prints later new final (Err why)
+  save_no_more state final store later now new why can keeps adds = (
+    can.states,
+    record {
+      stand = leave_last known state can.states can.stand;
+      kept = kept_no_more Kept first store later can.states can.kept keeps;
+    },
+    prints_all {T = T} (all_lines can.states) old new (Err why)
+        (prints_same (all_lines can.states) old now new can.printed adds),
+    tt,
+  )
+
+  -- the save fails
+  pub save_fails : (U : Type 0) (state final : S) (store later : Option K) (now new : Option (List ℕ))
+      (why : ProgramFault) → CanSave state store now
+      → SavesOne {T = U} (KeepsMore Kept store later) now new state (Line store state) (Err why)
+      → Prints later new final (Err why)
+  save_fails U state final store later now new why can saves = go (is_write_fault why) refl saves
+    where
+      go : (failed : Bool) → is_write_fault why ≡ failed
+          → SaveFails failed (KeepsMore Kept store later) now new state (Line store state)
+          → Prints later new final (Err why)
+      go true is one = (
+        can.states ++ state ∷ [],
+        record { stand = add_last known state can.states can.stand; kept = one.0 first can.states can.kept },
+        subst (λ f. PrintsBy f old new (all_lines (can.states ++ state ∷ []))) (sym is)
+            (subst (PrintsPart old new) (sym (saves_more prints last (is_some first) can.states state))
+            (part_more (all_lines can.states) (save_text prints (is_some first) (last state)) old now new can.printed
+            (subst (PrintsPart now new) (line_of_first state store now can) one.1))),
+        tt,
+      )
+      go false is one = save_no_more state final store later now new why can one.0 one.1
+
+  -- a save that is due fails
+  pub due_fails : (U : Type 0) (due : Bool) (state final : S) (store later : Option K) (now new : Option (List ℕ))
+      (why : ProgramFault) → CanSave state store now
+      → (IsTrue due → SavesOne {T = U} (KeepsMore Kept store later) now new state (Line store state) (Err why))
+      → (IsTrue (not due) → ⊥) → Prints later new final (Err why)
+  due_fails U true state final store later now new why can saves never =
+      save_fails U state final store later now new why can (saves refl)
+  due_fails U false state final store later now new why can saves never = absurd (never refl)
 
   has_stopped : (all : Option (List ℕ)) (before after : S) (number : ℕ) (stop : T) (left rest : Option (List ℕ))
       (states : List S) → Has (Taken start) (Stands start) all before number left states
@@ -193,9 +297,8 @@ module _ {S T : Type 0} (prints : ℕ → List ℕ) (last : S → ℕ) (Taken : 
   has_stopped (Some bytes) before after number stop (Some left) rest states has step = (step start bytes has.0 has.1).0
 
   -- taking stopped for this reason
-  pub run_stops : (before after : S) (number : ℕ) (stop : T) (left rest now : Option (List ℕ))
-      → HasRun prints last (Taken start) (Stands start) kept known old before number left now
-      → Steps Taken Stops Stands before number left (Some stop) after rest
+  pub run_stops : (before after : S) (number : ℕ) (stop : T) (store : Option K) (left rest now : Option (List ℕ))
+      → Run before number store left now → Steps Taken Stops Stands before number left (Some stop) after rest
       → IfSome known (λ bytes. Stops start bytes stop after)
-  run_stops before after number stop left rest now run step =
+  run_stops before after number stop store left rest now run step =
       has_stopped known before after number stop left rest run.states run.has step

@@ -1,24 +1,27 @@
 //! A command over a stream: it takes the stream up to the line at which it stops, saves now and then, and prints.
 
-ghost use Rattle.std.specs.Prelude.{◌≡◌, Some, is_some, IfOk, IfSome, OnOk};
-ghost use Rattle.cdc_streams.specs.Saving.{IfStopped, IsPrintedLast, PrintsAllSaves, PrintsEnd, PrintsFailure};
-ghost use Rattle.cdc_streams.specs.Saving.{PrintsSaves, PrintsStream};
+ghost use Rattle.std.specs.Prelude.{◌≡◌, [], is_some, IfOk, IfSome, IsTrue};
+ghost use Rattle.std.specs.Io.KnownBytes.{Appends};
+ghost use Rattle.cdc_streams.specs.Saving.{AreSaved, IfStopped, PrintsEnd, PrintsFault, PrintsLast, PrintsSaves};
+ghost use Rattle.cdc_streams.specs.Saving.{PrintsStream, is_write_fault, saves_text};
 
 use crate::consumers::Consumer;
 use crate::endings::{StreamEnding, fault_of};
 use crate::forms::StreamForm;
 use crate::readers::LineReader;
 use crate::savers::Saver;
-use crate::stores::TextStore;
-use cdc_output::{FaultForm, ProgramFault, write_text};
+use crate::stores::Keeps;
+use crate::writing::write_part;
+use cdc_output::{FaultForm, ProgramFault};
 use std::alloc::Global;
 use std::io;
 use std::io::{ErrorKind, Write};
 
 /// Takes the lines of a reader, numbered from 1, and saves after every so many lines, each time that no whole line is
-/// waiting, and at the end. Each save is reported once the store holds its text (clause `saved` of `Saver::save`), by
-/// the timestamp of the last event.
-pub fn take_stream<F: StreamForm, C: Consumer<F>, B: LineReader, W: Write, K: TextStore>(
+/// waiting, and at the end. Each save is reported once the store holds it, by the timestamp of the last event. The
+/// first
+/// save is of the whole.
+pub fn take_stream<F: StreamForm, C: Consumer<F>, B: LineReader, W: Write, K: Keeps<C>>(
     form: &F,
     alloc: Global,
     reader: &mut B,
@@ -28,14 +31,13 @@ pub fn take_stream<F: StreamForm, C: Consumer<F>, B: LineReader, W: Write, K: Te
     consumer: &mut C,
 ) -> Result<C::Stop, ProgramFault>
     ensures stops { IfOk result (λ stop. IfSome (B.remaining reader.old) (λ bytes.
-        C.stops setup.now consumer.old bytes stop consumer.new)) }
-    ensures store { is_some saver.new.store ≡ is_some saver.old.store }
-    ensures saved { OnOk result (IfSome saver.new.store (λ store.
-        K.held store ≡ Some (C.text setup.now consumer.new))) }
-    ensures printed { PrintsAllSaves (PrintsSaves F.prints_saved C.last (C.stands setup.now consumer.old)
-        (is_some saver.old.store) (B.remaining reader.old) (W.contents writer.old))
-        (W.contents writer.new) consumer.new result }
+        C.stops setup.now (C.state consumer.old) bytes stop (C.state consumer.new))) }
+    ensures saved { PrintsSaves (AreSaved (C.stands setup.now (C.state consumer.old)) (K.has_kept setup.now)
+        (B.remaining reader.old) saver.old.store saver.new.store)
+        (saves_text F.prints_saved C.last (is_some saver.old.store))
+        (W.contents writer.old) (W.contents writer.new) (C.state consumer.new) result }
 {
+    consumer.forget_changes();
     let mut line = Vec::new(alloc);
     for number in 1..u64::MAX {
         let waits = !reader.has_line();
@@ -60,7 +62,7 @@ pub fn take_stream<F: StreamForm, C: Consumer<F>, B: LineReader, W: Write, K: Te
 
 /// Takes a stream, and prints each save, and at the end what `Consumer::end_text` gives; or the fault of a command that
 /// failed. Nothing is written after a write that failed.
-pub fn stream_command<F: StreamForm, C: Consumer<F>, B: LineReader, W: Write, K: TextStore>(
+pub fn stream_command<F: StreamForm, C: Consumer<F>, B: LineReader, W: Write, K: Keeps<C>>(
     form: &F,
     alloc: Global,
     reader: &mut B,
@@ -70,13 +72,11 @@ pub fn stream_command<F: StreamForm, C: Consumer<F>, B: LineReader, W: Write, K:
     consumer: &mut C,
 ) -> StreamEnding<C::Stop>
     ensures stops { IfStopped result (λ stop. IfSome (B.remaining reader.old) (λ bytes.
-        C.stops setup.now consumer.old bytes stop consumer.new)) }
-    ensures store { is_some saver.new.store ≡ is_some saver.old.store }
-    ensures saved { IfStopped result (λ _. IfSome saver.new.store (λ store.
-        K.held store ≡ Some (C.text setup.now consumer.new))) }
-    ensures printed { PrintsStream (PrintsSaves F.prints_saved C.last (C.stands setup.now consumer.old)
-        (is_some saver.old.store) (B.remaining reader.old) (W.contents writer.old))
-        (C.prints_end setup.now) F.prints_failure (W.contents writer.new) consumer.new result }
+        C.stops setup.now (C.state consumer.old) bytes stop (C.state consumer.new))) }
+    ensures printed { PrintsStream (AreSaved (C.stands setup.now (C.state consumer.old)) (K.has_kept setup.now)
+        (B.remaining reader.old) saver.old.store saver.new.store)
+        (saves_text F.prints_saved C.last (is_some saver.old.store)) (C.prints_end setup.now) F.prints_failure
+        (W.contents writer.old) (W.contents writer.new) (C.state consumer.new) result }
 {
     match take_stream(form, alloc, reader, writer, saver, setup, consumer) {
         Ok(stop) => print_end(form, alloc, writer, setup, consumer, stop),
@@ -94,8 +94,8 @@ fn print_end<F: StreamForm, C: Consumer<F>, W: Write>(
     stop: C::Stop,
 ) -> StreamEnding<C::Stop>
     ensures stops { IfStopped result (λ it. it ≡ stop) }
-    ensures printed { PrintsEnd (C.prints_end setup.now) F.prints_failure
-        (W.contents writer.old) (W.contents writer.new) consumer.now result }
+    ensures printed { PrintsEnd (C.prints_end setup.now) F.prints_failure []
+        (W.contents writer.old) (W.contents writer.new) (C.state consumer.now) result }
 {
     match consumer.end_text(form, setup, alloc, stop) {
         Ok(text) => print_last(writer, text.as_slice(), StreamEnding::Stopped(stop)),
@@ -110,7 +110,9 @@ fn fail<F: FaultForm, S: Copy, W: Write>(
     fault: ProgramFault,
 ) -> StreamEnding<S>
     ensures fails { IfStopped result (λ _. ⊥) }
-    ensures printed { PrintsFailure F.prints_failure (W.contents writer.old) (W.contents writer.new) fault result }
+    ensures printed { PrintsFault F.prints_failure [] (W.contents writer.old) (W.contents writer.new) fault result }
+    ensures quiet { IsTrue (is_write_fault fault)
+        → (result ≡ StreamEnding.Failed fault) × Appends (W.contents writer.old) (W.contents writer.new) [] }
 {
     if let ProgramFault::WriteFault(_) = fault {
         return StreamEnding::Failed(fault);
@@ -128,10 +130,10 @@ fn print_last<S: Copy, W: Write>(
     text: &[u8],
     ending: StreamEnding<S>,
 ) -> StreamEnding<S>
-    ensures { IsPrintedLast (W.contents writer.old) (W.contents writer.new) text.now ending result }
+    ensures { PrintsLast (W.contents writer.old) (W.contents writer.new) text.now ending result }
 {
-    match write_text(writer, text) {
+    match write_part(writer, text) {
         Ok(()) => ending,
-        Err(error) => StreamEnding::Failed(ProgramFault::WriteFault(error)),
+        Err(fault) => StreamEnding::Failed(fault),
     }
 }

@@ -1,30 +1,30 @@
 //! Saving what takes a stream now and then.
 
-ghost use Rattle.std.specs.Prelude.{◌≡◌, [], Some, is_some, if◌then◌else◌};
-ghost use Rattle.std.specs.Prelude.{IfSome, IsTrue, OnOk, OnErr};
-ghost use Rattle.std.specs.Io.KnownBytes.{Appends};
-ghost use Rattle.cdc_streams.specs.Saving.{HoldsOldOr, UnlessWriteFails, is_due as due, save_text};
+ghost use Rattle.std.specs.Prelude.{◌≡◌, is_some, IfSome, IfErr, IsTrue, not, OnOk};
+ghost use Rattle.cdc_streams.specs.Keeping.{KeepsMore};
+ghost use Rattle.cdc_streams.specs.Saving.{SavesOne, is_due as due, save_text};
 
 use crate::consumers::Consumer;
 use crate::forms::StreamForm;
-use crate::stores::TextStore;
-use cdc_output::{ProgramFault, write_text};
+use crate::stores::Keeps;
+use crate::writing::write_part;
+use cdc_output::ProgramFault;
 use std::alloc::Global;
 use std::io::Write;
 
-/// Saves the text of what takes a stream after some lines, and reports each save.
+/// Saves what takes a stream after some lines, and reports each save.
 #[derive(Drop)]
 pub struct Saver<K> {
-    /// Where the text is kept; `None` if it isn't.
+    /// Where it is kept; `None` if it isn't.
     store: Option<K>,
-    /// How many lines are taken, at most, before the text is saved.
+    /// How many lines are taken, at most, before it is saved.
     every: u64,
     /// How many lines were taken since the last save.
     unsaved: u64,
 }
 
-impl<K: TextStore> Saver<K> {
-    /// A saver of this store, which saves at the latest after `every` lines.
+impl<K> Saver<K> {
+    /// A saver with this store, which saves at the latest after `every` lines.
     pub fn new(store: Option<K>, every: u64) -> Saver<K>
         ensures store { result.store ≡ store }
         ensures every { result.every ≡ every }
@@ -37,29 +37,36 @@ impl<K: TextStore> Saver<K> {
         }
     }
 
-    /// Whether the text is to be saved before the next line is read. `waits`: no whole line has come yet.
+    /// Whether to save before the next line is read. `waits`: no whole line has come yet.
     fn is_due(&self, waits: bool) -> bool
         ensures { result ≡ due self.now.every self.now.unsaved waits }
     {
         self.unsaved >= self.every || waits && self.unsaved > 0
     }
 
-    /// Saves the text if it is to be saved before the next line is read. `waits`: no whole line has come yet.
+    /// Saves if that is due before the next line is read. `waits`: no whole line has come yet.
     pub(crate) fn save_if_due<F: StreamForm, C: Consumer<F>, W: Write>(
         &mut self,
         form: &F,
         alloc: Global,
         writer: &mut W,
         setup: &C::Setup,
-        consumer: &C,
+        consumer: &mut C,
         waits: bool,
     ) -> Result<(), ProgramFault>
-        ensures store { is_some self.new.store ≡ is_some self.old.store }
+    where
+        K: Keeps<C>,
+        ensures state { C.state consumer.new ≡ C.state consumer.old }
         ensures saved { IsTrue (due self.old.every self.old.unsaved waits)
-            → OnOk result (IfSome self.new.store (λ store. K.held store ≡ Some (C.text setup.now consumer.now))) }
-        ensures printed { UnlessWriteFails result (Appends (W.contents writer.old) (W.contents writer.new)
-            (if due self.old.every self.old.unsaved waits
-            then save_text F.prints_saved (is_some self.old.store) (C.last consumer.now) result else [])) }
+            → IfSome self.old.store (λ store. K.fits setup.now store consumer.old)
+            → SavesOne (KeepsMore (K.has_kept setup.now) self.old.store self.new.store)
+            (W.contents writer.old) (W.contents writer.new) (C.state consumer.old)
+            (save_text F.prints_saved (is_some self.old.store) (C.last (C.state consumer.old))) result }
+        ensures same { IsTrue (not (due self.old.every self.old.unsaved waits))
+            → (self.new ≡ self.old) × (consumer.new ≡ consumer.old) × (writer.new ≡ writer.old) }
+        ensures fine { IsTrue (not (due self.old.every self.old.unsaved waits)) → IfErr result (λ _. ⊥) }
+        ensures fits { IfSome self.old.store (λ store. K.fits setup.now store consumer.old)
+            → OnOk result (IfSome self.new.store (λ store. K.fits setup.now store consumer.new)) }
     {
         if self.is_due(waits) {
             self.save(form, alloc, writer, setup, consumer)
@@ -68,35 +75,35 @@ impl<K: TextStore> Saver<K> {
         }
     }
 
-    /// Saves the text, if it is kept, and then reports the save, by the timestamp of the last event. After an error the
-    /// store holds the old text or the new one, and nothing is reported.
+    /// Saves, if there is a store, and then reports the save, by the timestamp of the last event. After an error, the
+    /// store holds what it held before, and nothing is reported; or it holds what was given to it, and a part of the
+    /// report is written.
     pub(crate) fn save<F: StreamForm, C: Consumer<F>, W: Write>(
         &mut self,
         form: &F,
         alloc: Global,
         writer: &mut W,
         setup: &C::Setup,
-        consumer: &C,
+        consumer: &mut C,
     ) -> Result<(), ProgramFault>
-        ensures store { is_some self.new.store ≡ is_some self.old.store }
-        ensures saved { OnOk result (IfSome self.new.store (λ store.
-            K.held store ≡ Some (C.text setup.now consumer.now))) }
-        ensures refused { OnErr result (HoldsOldOr K.held self.old.store self.new.store
-            (C.text setup.now consumer.now)) }
-        ensures printed { UnlessWriteFails result (Appends (W.contents writer.old) (W.contents writer.new)
-            (save_text F.prints_saved (is_some self.old.store) (C.last consumer.now) result)) }
+    where
+        K: Keeps<C>,
+        ensures state { C.state consumer.new ≡ C.state consumer.old }
+        ensures saved { IfSome self.old.store (λ store. K.fits setup.now store consumer.old)
+            → SavesOne (KeepsMore (K.has_kept setup.now) self.old.store self.new.store)
+            (W.contents writer.old) (W.contents writer.new) (C.state consumer.old)
+            (save_text F.prints_saved (is_some self.old.store) (C.last (C.state consumer.old))) result }
+        ensures fits { IfSome self.old.store (λ store. K.fits setup.now store consumer.old)
+            → OnOk result (IfSome self.new.store (λ store. K.fits setup.now store consumer.new)) }
     {
         let Some(store) = &mut self.store else {
             return Ok(());
         };
-        let text = consumer.to_text(setup, alloc)?;
-        store.save(text)?;
-        self.unsaved = 0;
         let line = form.saved(alloc, consumer.last_timestamp())?;
-        match write_text(writer, line.as_slice()) {
-            Ok(()) => Ok(()),
-            Err(error) => Err(ProgramFault::WriteFault(error)),
-        }
+        store.keep(setup, alloc, consumer)?;
+        consumer.begin_changes(alloc);
+        self.unsaved = 0;
+        write_part(writer, line.as_slice())
     }
 
     /// Counts a line that was taken.

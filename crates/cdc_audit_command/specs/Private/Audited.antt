@@ -1,4 +1,5 @@
--- What was audited of a stream so far, line by line: the ghost members of an auditor, and their laws. No public contract
+-- What was audited of a stream so far, line by line: the ghost members of an auditor, and their laws. No public
+-- contract
 -- cites them.
 use Rattle.std.proofs.Common.{◌≡◌, ℕ, List, [], ◌∷◌, ◌++◌, append-nil, false}
 use Rattle.std.proofs.Common.{Option, None, Some, refl, sym, ap, ◌∙◌, subst}
@@ -8,7 +9,8 @@ use Rattle.cdc_streams.proofs.EntryLemmas.{entries_of, entry_count, first_entrie
 use Rattle.cdc_audit.specs.declared.refusals.Refusal.{Refusal}
 use Rattle.cdc_audit.specs.declared.streams.AuditStop.{AuditStop}
 use Rattle.cdc_audit.specs.declared.streams.AuditStop.TheVariants.{AtEnd}
-use Rattle.cdc_audit.specs.Audits.{AuditState, Audited, audit_entries, audited_on, entry_refusal, lines_audited, next_audit, stop_at}
+use Rattle.cdc_audit.specs.Audits.{AuditState, Audited, audit_entries, audited_on, entry_refusal, lines_audited}
+use Rattle.cdc_audit.specs.Audits.{next_audit, stop_at}
 use Rattle.cdc_audit.specs.Standing.{AuditorState, StandsFor}
 use Rattle.cdc_audit.proofs.AuditLemmas.{AuditsTo, no_lines}
 use Rattle.cdc_audit_command.specs.Auditing.{StandsAfter, audited_after}

@@ -3,47 +3,59 @@ use Rattle.cdc_follow.proofs.StopLemmas.{leads_when_bad, leads_when_none, leads_
 use Rattle.cdc_follow.proofs.streams.follow_bytes.Goals as goal
 
 pub returns-in-Ok-None-clause-leads : goal.returns-in-Ok-None-clause-leads
-returns-in-Ok-None-clause-leads c =
-    leads_when_none c.args.binding.now c.args.rules c.args.number c.args.line.now c.args.follower.now
+returns-in-Ok-None-clause-leads g c =
+    leads_when_none c.args.binding.now c.args.rules c.args.number c.args.line.now (g.T.TakesEntries.state
+    c.args.follower.now)
     c.in-Ok-None.field-0 c.in-Ok-None.ensures c.in-Ok-None.field-0-is
 
 pub returns-in-Err-clause-leads : goal.returns-in-Err-clause-leads
-returns-in-Err-clause-leads c =
-    leads_when_bad c.args.binding.now c.args.rules c.args.number c.args.line.now c.args.follower.now c.in-Err.error
+returns-in-Err-clause-leads g c =
+    leads_when_bad c.args.binding.now c.args.rules c.args.number c.args.line.now (g.T.TakesEntries.state
+    c.args.follower.now) c.in-Err.error
     c.in-Err.ensures c.stop_at_line.result c.stop_at_line.ensures
 
 pub returns-then-stops_at-clause-leads : goal.returns-then-stops_at-clause-leads
-returns-then-stops_at-clause-leads c =
-    leads_when_stop c.args.binding.now c.args.rules c.args.number c.args.line.now c.args.follower.now
-    c.in-Ok-Some.field-0 c.in-Ok-Some.entry c.in_ok-following.following c.take.new.self c.stop_by.result
+returns-then-stops_at-clause-leads g c =
+    leads_when_stop c.args.binding.now c.args.rules c.args.number c.args.line.now (g.T.TakesEntries.state
+    c.args.follower.now)
+    c.in-Ok-Some.field-0 c.in-Ok-Some.entry c.in_ok-following.following (g.T.TakesEntries.state
+    c.take_entry.new.self) c.stop_by.result
     c.in-Ok-Some.ensures c.in-Ok-Some.field-0-is c.in_ok-following.ensures.answer c.in_ok-following.ensures.state
     c.if-stops_at.ensures c.stop_by.ensures
 
 pub returns-clause-leads : goal.returns-clause-leads
-returns-clause-leads c =
-    leads_when_on c.args.binding.now c.args.rules c.args.number c.args.line.now c.args.follower.now
-    c.in-Ok-Some.field-0 c.in-Ok-Some.entry c.in_ok-following.following c.take.new.self c.in-Ok-Some.ensures
+returns-clause-leads g c =
+    leads_when_on c.args.binding.now c.args.rules c.args.number c.args.line.now (g.T.TakesEntries.state
+    c.args.follower.now)
+    c.in-Ok-Some.field-0 c.in-Ok-Some.entry c.in_ok-following.following (g.T.TakesEntries.state
+    c.take_entry.new.self) c.in-Ok-Some.ensures
     c.in-Ok-Some.field-0-is c.in_ok-following.ensures.answer c.in_ok-following.ensures.state c.if-stops_at.ensures
 
 pub returns-in-Ok-None-clause-skips : goal.returns-in-Ok-None-clause-skips
-returns-in-Ok-None-clause-skips c =
-    skips_when_none c.args.binding.now c.args.rules c.args.number c.args.line.now c.args.follower.now
+returns-in-Ok-None-clause-skips g c =
+    skips_when_none c.args.binding.now c.args.rules c.args.number c.args.line.now (g.T.TakesEntries.state
+    c.args.follower.now)
     c.in-Ok-None.field-0 c.in-Ok-None.ensures c.in-Ok-None.field-0-is
 
 pub returns-in-Err-clause-skips : goal.returns-in-Err-clause-skips
-returns-in-Err-clause-skips c =
-    skips_when_bad c.args.binding.now c.args.rules c.args.number c.args.line.now c.args.follower.now c.in-Err.error
+returns-in-Err-clause-skips g c =
+    skips_when_bad c.args.binding.now c.args.rules c.args.number c.args.line.now (g.T.TakesEntries.state
+    c.args.follower.now) c.in-Err.error
     c.in-Err.ensures c.stop_at_line.result c.stop_at_line.ensures
 
 pub returns-then-stops_at-clause-skips : goal.returns-then-stops_at-clause-skips
-returns-then-stops_at-clause-skips c =
-    skips_when_stop c.args.binding.now c.args.rules c.args.number c.args.line.now c.args.follower.now
-    c.in-Ok-Some.field-0 c.in-Ok-Some.entry c.in_ok-following.following c.stop_by.result c.take.new.self
+returns-then-stops_at-clause-skips g c =
+    skips_when_stop c.args.binding.now c.args.rules c.args.number c.args.line.now (g.T.TakesEntries.state
+    c.args.follower.now)
+    c.in-Ok-Some.field-0 c.in-Ok-Some.entry c.in_ok-following.following c.stop_by.result (g.T.TakesEntries.state
+    c.take_entry.new.self)
     c.in-Ok-Some.ensures c.in-Ok-Some.field-0-is c.in_ok-following.ensures.answer c.if-stops_at.ensures
 
 pub returns-clause-skips : goal.returns-clause-skips
-returns-clause-skips c =
-    skips_when_on c.args.binding.now c.args.rules c.args.number c.args.line.now c.args.follower.now
-    c.in-Ok-Some.field-0 c.in-Ok-Some.entry c.in_ok-following.following c.take.new.self _ c.in-Ok-Some.ensures
+returns-clause-skips g c =
+    skips_when_on c.args.binding.now c.args.rules c.args.number c.args.line.now (g.T.TakesEntries.state
+    c.args.follower.now)
+    c.in-Ok-Some.field-0 c.in-Ok-Some.entry c.in_ok-following.following (g.T.TakesEntries.state
+    c.take_entry.new.self) _ c.in-Ok-Some.ensures
     c.in-Ok-Some.field-0-is c.in_ok-following.ensures.answer c.in_ok-following.ensures.state c.if-stops_at.ensures
     c.is_gap-skipped.ensures

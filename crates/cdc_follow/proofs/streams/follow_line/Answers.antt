@@ -5,22 +5,22 @@ use Rattle.cdc_follow.proofs.streams.follow_line.Goals as goal
 
 pub returns-in-Ok-false-clause-leads : goal.returns-in-Ok-false-clause-leads
 returns-in-Ok-false-clause-leads g c =
-    step_none c.args.binding.now c.args.rules c.args.number c.args.follower.now
+    step_none c.args.binding.now c.args.rules c.args.number (g.T.TakesEntries.state c.args.follower.now)
     (g.B.Read.remaining c.args.reader.now) (g.B.Read.remaining c.read_line.new.reader) c.read_line.new.line.items
     c.in-Ok-false.field-0 c.in-Ok-false.field-0-test c.in-Ok-false.ensures.line
 
 pub returns-in-Err-TooLong-clause-leads : goal.returns-in-Err-TooLong-clause-leads
 returns-in-Err-TooLong-clause-leads g c =
-    step_long c.args.binding.now c.args.rules c.args.number c.args.follower.now
+    step_long c.args.binding.now c.args.rules c.args.number (g.T.TakesEntries.state c.args.follower.now)
     (g.B.Read.remaining c.args.reader.now) None (c.in-Err-TooLong.ensures.long c.in-Err-TooLong.field-0-is)
 
 pub returns-in-Ok-false-clause-skips : goal.returns-in-Ok-false-clause-skips
 returns-in-Ok-false-clause-skips g c =
-    step_skips_end c.args.binding.now c.args.rules c.args.number c.args.follower.now
+    step_skips_end c.args.binding.now c.args.rules c.args.number (g.T.TakesEntries.state c.args.follower.now)
     (g.B.Read.remaining c.args.reader.now) (g.B.Read.remaining c.read_line.new.reader) c.read_line.new.line.items
     c.in-Ok-false.field-0 c.in-Ok-false.field-0-test c.in-Ok-false.ensures.line
 
 pub returns-in-Err-TooLong-clause-skips : goal.returns-in-Err-TooLong-clause-skips
 returns-in-Err-TooLong-clause-skips g c =
-    step_skips_long c.args.binding.now c.args.rules c.args.number c.args.follower.now
+    step_skips_long c.args.binding.now c.args.rules c.args.number (g.T.TakesEntries.state c.args.follower.now)
     (g.B.Read.remaining c.args.reader.now) None (c.in-Err-TooLong.ensures.long c.in-Err-TooLong.field-0-is)
