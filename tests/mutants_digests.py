@@ -2,8 +2,10 @@
 mutation baseline", has the rules; tests/mutants_baseline.py uses them.
 
 A crate above sees contracts, types, constants and definitions. It sees neither bodies of functions, nor functions that aren't
-public, nor lemmas: a body that breaks its contract has no proof, whatever lemmas there are. Comments count nowhere. A text that
-these functions can't read counts whole. Needs no toolchain, and Python 3.8 or later.
+public, nor lemmas: a body that breaks its contract has no proof, whatever lemmas there are. Of a public function that is no trait's
+it sees nothing unless the function's name is a word of its sources or of its edits, or of what it sees besides, since otherwise
+nothing calls it. Of specifications it sees those that what it sees leads to. Comments count nowhere. A text that these functions
+can't read counts whole. Needs no toolchain, and Python 3.8 or later.
 """
 import functools
 import hashlib
@@ -20,6 +22,9 @@ WORD, MARK, LITERAL, CLAUSE = "word", "mark", "literal", "clause"
 # What counts of a file: its text with a gap for each path that it imports, those paths, and the modules that it passes on, as
 # pairs of a name and a path.
 Content = namedtuple("Content", "text imports passed_on")
+# Parts of a source file as a crate above sees it, which count if that names the function, or some of the items.
+Function = namedtuple("Function", "name parts")
+Passing = namedtuple("Passing", "tokens")
 GAP = "\0"
 
 
@@ -187,12 +192,20 @@ def target_of(head):
     return parts[0][-1] if parts[1:] else "", parts[-1][-1]
 
 
+def name_in(head):
+    """Returns the name of the function, or of the module, that begins with these tokens, as they stand outside of brackets."""
+    words = words_after_attributes(head)
+    return next((name for word, name in zip(words, words[1:]) if word in ("fn", "mod")), "")
+
+
 def hidden_parts(tokens):
     """Returns what no crate above sees: the places of the braces of bodies, and the first and last places of items, each by the
-    first. Of a type that isn't public, those are its attributes and its impls, but for what contracts see of it. And those of
-    imports that count only if what is seen names them: none where a body is seen."""
+    first. Of a type that isn't public, those are its attributes and its impls, but for what contracts see of it. Then those of
+    imports that count only if what is seen names them: none where a body is seen. Then what counts only if a crate above names it:
+    the last places and names of public functions, and of modules without a body, and the last places of what is passed on."""
     ends, own, scope, place, start = ends_of(tokens), own_types(tokens), [], 0, 0
     bodies, items, uses, has_seen_body = {}, {}, {}, False
+    functions, passing = {}, {}
     # (the tokens of an item so far, and those of them outside of brackets)
     head, outer = [], []
     while place < len(tokens):
@@ -217,8 +230,11 @@ def hidden_parts(tokens):
                 end = ends[place]
                 if kind == "fn" and not is_hidden(head, tokens[place:end], qualifiers, scope):
                     has_seen_body = True
-                elif kind == "fn" and (is_public(outer) or {"trait", "trait impl"} & {*scope}):
+                elif kind == "fn" and {"trait", "trait impl"} & {*scope}:
                     bodies[place] = end
+                elif kind == "fn" and is_public(outer):
+                    bodies[place] = end
+                    functions[start] = end, name_in(outer)
                 elif kind == "fn":
                     items[start] = end
                 elif kind in TYPES and not is_public(outer):
@@ -231,11 +247,13 @@ def hidden_parts(tokens):
                 scope.pop()
             elif kind_of(outer)[0] in TYPES and not is_public(outer):
                 items.update(attributes(tokens, ends, start))
-            elif kind_of(outer)[0] == "use" and not is_public(outer):
-                uses[start] = place
+            elif kind_of(outer)[0] == "use" and it.text == ";":
+                (passing if is_public(outer) else uses)[start] = place
+            elif kind_of(outer)[0] == "mod" and it.text == ";":
+                functions[start] = place, name_in(outer)
             head, outer, start = [], [], place + 1
         place += 1
-    return bodies, items, {} if has_seen_body else uses
+    return bodies, items, {} if has_seen_body else uses, functions, passing
 
 
 def attributes(tokens, ends, start):
@@ -286,12 +304,17 @@ def used_items(tokens, words):
     return [it.text for it, out in zip(tokens, unused) if not out and it.text != ","] if is_needed else []
 
 
-def source_content(text, is_seen_from_above):
-    """Returns the content of a source file, as a crate above sees it, or all."""
+def source_parts(text, is_seen_from_above):
+    """Returns the parts of a source file, as a crate above sees it, or all: texts, imports, and what counts if it is named."""
     tokens = tokens_of(text)
-    bodies, items, uses = hidden_parts(tokens) if is_seen_from_above else ({}, {}, {})
-    found, imports, place = [], [], 0
+    bodies, items, uses, functions, passing = hidden_parts(tokens) if is_seen_from_above else ({}, {}, {}, {}, {})
+    whole, function, last, place = [], [], -1, 0
     while place < len(tokens):
+        if place in functions:
+            last, name = functions[place]
+            function = []
+            whole.append(Function(name, function))
+        found = function if place <= last else whole
         it, end = tokens[place], place
         imported = IMPORT.fullmatch(it.text) if it.kind == CLAUSE else None
         if place in items:
@@ -299,6 +322,9 @@ def source_content(text, is_seen_from_above):
         elif place in uses:
             end = uses[place]
             found.append(tokens[place : end + 1])
+        elif place in passing:
+            end = passing[place]
+            found.append(Passing(tokens[place : end + 1]))
         elif imported:
             # (with the semicolon that ends it)
             end += tokens[place + 1 : place + 2] == [Token(MARK, ";")]
@@ -309,11 +335,25 @@ def source_content(text, is_seen_from_above):
         else:
             found.append(it.text)
         place = end + 1
+    return whole
+
+
+def source_content(parts, is_seen_from_above, named=None):
+    """Returns the content of a source file of these parts. named: the words by which a crate above names what counts only then;
+    None if it may name all."""
+    found = []
+    for it in parts:
+        if not isinstance(it, Function):
+            found.append(it)
+        elif named is None or it.name in named:
+            found += it.parts
     texts = [it for it in found if isinstance(it, str)]
-    used, words, parts = "\1".join(texts), {*texts}, []
+    used, words, parts, imports = "\1".join(texts), {*texts}, [], []
     for it in found:
         if isinstance(it, str):
             parts.append(it)
+        elif isinstance(it, Passing):
+            parts += [one.text for one in it.tokens] if named is None else used_items(it.tokens, named)
         elif isinstance(it, list):
             parts += used_items(it, words)
         else:
@@ -322,6 +362,11 @@ def source_content(text, is_seen_from_above):
             imports += [] if rest is None else [it["path"]]
     # (no text has the byte that parts them)
     return Content("\1".join(parts), tuple(imports), ())
+
+
+def words_in(parts):
+    """Returns the words that stand in parts of a source file outside of clauses, of imports and of functions."""
+    return {it for it in parts if isinstance(it, str) and it.isidentifier()}
 
 
 def is_comment(line):
@@ -386,21 +431,30 @@ def antt_content(text, name, is_seen_from_above, named):
 
 
 @functools.lru_cache(maxsize=None)
-def content_of(name, data, is_seen_from_above, named=frozenset()):
-    """Returns what counts of a file with this name and these bytes, for its own crate or for one above: all of it, if it can't be
-    read. named: of a proof file that is seen from above the names of the lemmas that count, or None if all do."""
-    whole = Content(data, (), ())
+def read_of(name, data, is_seen_from_above, named=frozenset()):
+    """Returns what a file with this name and these bytes has: the parts of a source file, the content of an antt file, or nothing if
+    it is of another kind or can't be read. named: as for `content_of`."""
     try:
         text = data.decode()
         if GAP in text or "\1" in text:
-            return whole
+            return None
         if name.endswith(".rt"):
-            return source_content(text, is_seen_from_above)
+            return source_parts(text, is_seen_from_above)
         if name.endswith(".antt"):
             return antt_content(text, name, is_seen_from_above, named)
     except (UnicodeDecodeError, Unreadable, RecursionError):
         pass
-    return whole
+    return None
+
+
+def content_of(name, data, is_seen_from_above, named=frozenset(), words=None):
+    """Returns what counts of a file with this name and these bytes, for its own crate or for one above: all of it, if it can't be
+    read. named: of a proof file that is seen from above the names of the lemmas that count, or None if all do. words: of a source
+    file the words of the crate above, or None if it may name all."""
+    read = read_of(name, data, is_seen_from_above, named)
+    if read is None:
+        return Content(data, (), ())
+    return source_content(read, is_seen_from_above, words) if isinstance(read, list) else read
 
 
 # ---------------------------------------------------------------------------------------------------------------------
@@ -425,6 +479,11 @@ def module_of(crate_name, name):
     return ".".join(["Rattle", crate_name, *(parts[:-1] if parts[-1] == "Lib" else parts)])
 
 
+def text_in(content):
+    """Returns the text of a content, also of one that is no text."""
+    return content.text if isinstance(content.text, str) else content.text.decode(errors="replace")
+
+
 class Tree:
     """The files of a crate and of those below it, as they stand."""
 
@@ -436,31 +495,68 @@ class Tree:
             for name, data in files.items():
                 module = module_of(crate_name, name)
                 self.passed_on.update((f"{module}.{it}", path) for it, path in content_of(name, data, False).passed_on)
-        # (what specifications and sources name, and the proof files that they lead to)
-        self.named, self.reached = self.reached_proofs()
+        self.words = self.all_words(files_in(crate.folder, (EDITS,)))
+        # (what specifications and sources name, and the antt files that they lead to)
+        self.named, self.reached = self.reached_files()
 
-    def reached_proofs(self):
-        """Returns all words of specifications and sources, as the crate sees them, and the modules of the proof files from which
-        these import, or from which the definitions of such modules do."""
-        proofs, words, left, reached = {}, set(), [], set()
+    def all_words(self, edits):
+        """Returns the words of the crate's sources and edits, and of what it sees of the sources below whatever it names."""
+        found = {word for data in edits.values() for word in re.findall(r"\w+", data.decode(errors="replace"))}
         for crate_name, files in self.files.items():
             for name, data in files.items():
-                if name.startswith("proofs/"):
-                    proofs[module_of(crate_name, name)] = name, data
-                    continue
-                content = content_of(name, data, crate_name != self.crate)
-                text = content.text if isinstance(content.text, str) else content.text.decode(errors="replace")
-                words.update(NAME.findall(text))
-                left += content.imports
-        named = frozenset(words)
+                read = read_of(name, data, crate_name != self.crate) if name.startswith("src/") else []
+                found |= {*re.findall(r"\w+", data.decode(errors="replace"))} if read is None else words_in(read)
+        return frozenset(found)
+
+    def content(self, crate_name, name, named=frozenset()):
+        """Returns what counts of a file, as the crate sees it. named: the statements of lemmas that count."""
+        is_below = crate_name != self.crate
+        is_seen_from_above = is_below or name.startswith("proofs/")
+        return content_of(name, self.files[crate_name][name], is_seen_from_above, named, self.words if is_below else None)
+
+    def reached_files(self):
+        """Returns the words of the specifications and sources that count for the crate, and the antt files to which these lead by their
+        imports: of its own, all specifications and sources lead on; of the crates below, the sources. The specifications come first,
+        since their words decide which statements of lemmas count."""
+        modules, first, words, reached = {}, [], set(), set()
+        for crate_name, files in self.files.items():
+            for name in files:
+                is_own = crate_name == self.crate
+                if name.startswith("proofs/") or name.endswith(".antt") and not is_own:
+                    modules[module_of(crate_name, name)] = crate_name, name
+                else:
+                    content = self.content(crate_name, name)
+                    words |= {*NAME.findall(text_in(content))}
+                    first += content.imports
+        is_proof = lambda path: modules[path][1].startswith("proofs/")
+        left, proofs = first, []
         while left:
-            path = self.resolved(left.pop())
-            while path:
-                if path in proofs and path not in reached:
+            for path in self.ways(left.pop()):
+                if path in modules and path not in reached:
                     reached.add(path)
-                    left += content_of(*proofs[path], True, named).imports
-                path = path.rpartition(".")[0]
+                    if is_proof(path):
+                        proofs.append(path)
+                    else:
+                        content = self.content(*modules[path])
+                        words |= {*NAME.findall(text_in(content))}
+                        left += content.imports
+        named = frozenset(words)
+        while proofs:
+            left = [*self.content(*modules[proofs.pop()], named).imports]
+            while left:
+                for path in self.ways(left.pop()):
+                    if path in modules and path not in reached:
+                        reached.add(path)
+                        if is_proof(path):
+                            proofs.append(path)
+                        else:
+                            left += self.content(*modules[path]).imports
         return named, reached
+
+    def ways(self, path):
+        """Returns a path of a module as its own crate writes it, and those of the modules around it."""
+        parts = self.resolved(path).split(".")
+        return [".".join(parts[:end]) for end in range(len(parts), 0, -1)]
 
     def resolved(self, path):
         """Returns the path of a module as its own crate writes it, whichever crate passes it on."""
@@ -475,20 +571,32 @@ class Tree:
                     break
         return path
 
-    def parts(self, crate_name, is_seen_from_above, by_proofs=False):
-        """Returns what counts of a crate, as texts: name by name, what the file has and what it imports. by_proofs: what proofs in
-        the crates above see, which is lemmas too."""
+    def own_parts(self):
+        """Returns what counts of the crate itself, as texts: name by name, what the file has and what it imports."""
+        return self.texts([(name, content_of(name, data, False)) for name, data in self.files[self.crate].items()])
+
+    def parts_below(self, crate_name):
+        """Returns the same of a crate below."""
         found = []
-        for name, data in self.files[crate_name].items():
-            named = frozenset()
-            if is_seen_from_above and name.startswith("proofs/"):
-                named = None if by_proofs else self.named
-                if os.path.basename(name) in OF_FUNCTION if by_proofs else module_of(crate_name, name) not in self.reached:
-                    continue
-            content = content_of(name, data, is_seen_from_above, named)
-            if content.text:
-                found += [name, content.text, *map(self.resolved, content.imports), ""]
-        return found
+        for name in self.files[crate_name]:
+            if not name.endswith(".antt"):
+                found.append((name, self.content(crate_name, name)))
+            elif module_of(crate_name, name) in self.reached:
+                found.append((name, self.content(crate_name, name, self.named if name.startswith("proofs/") else frozenset())))
+        return self.texts(found)
+
+    def parts_for_proofs(self):
+        """Returns what proofs in the crates above see of the crate, as texts: what callers see, and lemmas."""
+        found = []
+        for name, data in self.files[self.crate].items():
+            is_proof = name.startswith("proofs/")
+            if not (is_proof and os.path.basename(name) in OF_FUNCTION):
+                found.append((name, content_of(name, data, True, None if is_proof else frozenset())))
+        return self.texts(found)
+
+    def texts(self, contents):
+        """Returns contents by name as texts."""
+        return [it for name, content in contents if content.text for it in (name, content.text, *map(self.resolved, content.imports), "")]
 
 
 def places_of(edit, files):
@@ -506,7 +614,7 @@ def places_of(edit, files):
 def own_digest(crate):
     """Returns the digest of a crate's own files and of its edits."""
     tree, edits = Tree(crate), files_in(crate.folder, (EDITS,))
-    parts = tree.parts(crate.name, False)
+    parts = tree.own_parts()
     for name, data in edits.items():
         parts += [name, data, *places_of(data, tree.files[crate.name])]
     return digest(parts)
@@ -515,9 +623,9 @@ def own_digest(crate):
 def views_below(crate):
     """Returns for each crate below, by name, the digest of what is seen of it from above."""
     tree = Tree(crate)
-    return {it.name: digest(tree.parts(it.name, True)) for it in crate.below()}
+    return {it.name: digest(tree.parts_below(it.name)) for it in crate.below()}
 
 
 def view_of(crate):
     """Returns the digest of what proofs in the crates above see of a crate: what its callers see, and its lemmas."""
-    return digest(Tree(crate).parts(crate.name, True, by_proofs=True))
+    return digest(Tree(crate).parts_for_proofs())

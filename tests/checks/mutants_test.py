@@ -237,7 +237,7 @@ pub record Pair : Type 0 where
 BELOW = "abbrev pub Is : ℕ → Type 0\nIs x = x ≡ 28\n"
 ASIDE = "abbrev pub Beside : ℕ → Type 0\nBeside x = x ≡ 29\n"
 ANSWERS = "use Rattle.low.proofs.lib.Grid.area.Goals as goal\n\npub returns : goal.returns\nreturns c = refl {19}\n"
-HIGH = "ghost use Rattle.low.specs.Grid.{area};\n\npub fn top() -> u8\n    ensures { area 1 ≡ 2 }\n{\n    20 // a remark\n}\n"
+HIGH = "ghost use Rattle.low.specs.Grid.{area};\n\npub fn top() -> u8\n    ensures { area 1 ≡ 2 }\n{\n    area(cells) + 20 // a remark\n}\n"
 FILES = {
     "crates/low/src/lib.rt": LOW,
     "crates/low/specs/Lib.antt": "pub mod Grid\n",
@@ -248,10 +248,11 @@ FILES = {
     "crates/low/proofs/Aside.antt": ASIDE,
     "crates/low/proofs/Lemmas.antt": LEMMAS,
     "crates/low/proofs/lib/Grid/area/Answers.antt": ANSWERS,
-    "crates/mid/src/lib.rt": "pub struct Mid;\n",
+    "crates/mid/src/lib.rt": "pub struct Mid;\n\nfn uses(it: Grid) {\n    area(cells(it))\n}\n",
     "crates/mid/specs/Lib.antt": "pub mod Own\n",
     "crates/mid/specs/Own.antt": "use Rattle.low.proofs.Lemmas.{Pair}\n\npub own : ℕ\nown = 21\n",
     "crates/high/src/lib.rt": HIGH,
+    "crates/high/src/owns.rt": "ghost use Rattle.mid.specs.Own.{own};\n\nfn owns()\n    ensures { own ≡ 30 }\n{}\n",
     "crates/high/specs/Top.antt": "use Rattle.low.specs.Grid.{area}\n\npub top : ℕ\ntop = area 22\n",
 }
 
@@ -426,7 +427,8 @@ SEEN = {
         ("a constant", "[4, 5]", "[4, 6]", True),
         ("a constant with a block", "{ make }", "{ made }", True),
         ("an attribute", "(Clone, Copy)", "(Clone)", True),
-        ("a mark for visibility", "pub(crate) unsafe", "pub unsafe", True),
+        ("a mark for visibility", "pub(crate) unsafe", "pub unsafe", False),
+        ("a mark for visibility of a function with a name that is used", "fn declares", "pub fn cells", True),
         ("an import", "{area as size}", "{hidden as size}", True),
         ("an import that nothing names", "{◌≡◌, length}", "{◌≡◌, find}", False),
         ("a module imported", "specs.Grid.{area as", "specs.Grids.{area as", True),
@@ -434,7 +436,12 @@ SEEN = {
         ("the body of a trait's function", "        3\n", "        4\n", True),
         ("a body whose type is the function's", "7u8", "8u8", True),
         ("a body with an impl", "for u8 {}", "for u16 {}", True),
-        ("a new function", "pub trait", "pub fn more() {}\npub trait", True),
+        ("a new function", "pub trait", "pub fn more() {}\npub trait", False),
+        ("a new function with a name that is used", "pub trait", "pub fn cells() {}\npub trait", True),
+        ("a new module", "pub trait", "pub mod more;\npub trait", False),
+        ("a new module with a name that is used", "pub trait", "pub mod cells;\npub trait", True),
+        ("what is passed on", "pub trait", "pub use parts::more;\npub trait", False),
+        ("what is passed on and used", "pub trait", "pub use parts::{cells, more};\npub trait", True),
         ("a new function that isn't public", "pub trait", "fn more() {}\npub trait", False),
         ("a clause of a function that isn't public", "rows ≡ 2", "rows ≡ 3", False),
         ("a parameter of a function that isn't public", "half(&self)", "half(self)", False),
@@ -534,7 +541,7 @@ def test_named_in_specifications(tree):
     for file, text, wanted in (
         ("crates/low/proofs/More.antt", "use Rattle.low.proofs.lib.Grid.area.Answers.{returns}\n", set()),
         ("crates/mid/proofs/Lib.antt", "pub use Rattle.low.proofs.lib.Grid.area.Answers\n", set()),
-        ("crates/mid/specs/More.antt", "use Rattle.low.proofs.lib.Grid.area.Answers.{returns}\n", {"mid below", "high below"}),
+        ("crates/mid/specs/More.antt", "use Rattle.low.proofs.lib.Grid.area.Answers.{returns}\n", {"mid below"}),
         ("crates/high/src/more.rt", "ghost use Rattle.low.proofs.lib.Grid.area.Answers.{returns};\n", {"high below"}),
     ):
         tree.put(file, text)
@@ -556,7 +563,7 @@ def test_passed_on(tree):
     assert tree.changed_by(further) == {"high own"}
     for name, text in further.items():
         tree.put(name, text)
-    assert not tree.changed_by({name: text.replace("mid.specs", "low.specs") for name, text in further.items()})
+    assert not tree.changed_by({name: text.replace("mid.specs.Grid", "low.specs.Grid") for name, text in further.items()})
     renamed = {"crates/mid/specs/Lib.antt": "pub mod Own\npub use Rattle.low.specs.Grid as Mesh\n"}
     assert tree.changed_by(renamed) == {"high own"}
     assert not tree.changed_by({**renamed, **{name: text.replace("mid.specs.Grid", "mid.specs.Mesh") for name, text in further.items()}})
@@ -599,15 +606,38 @@ def test_unread(tree):
     text = LOW.replace("requires {", "requires /* {} */ {")
     tree.put(name, text)
     assert tree.changed_by({name: text.replace("rows ≡ 1", "rows ≡ 2")}) == {"low own", "mid below", "high below"}
+    tree.put("crates/mid/specs/More.antt", "use Rattle.low.specs.Long.{long}\nuse Rattle.low.specs.More.{more}\n")
     name = "crates/low/specs/Long.antt"
     tree.put(name, "{- a comment\n-}\n-- one\n")
-    assert tree.changed_by({name: "{- a comment\n-}\n-- two\n"}) == {"low own", "mid below", "high below"}
+    assert tree.changed_by({name: "{- a comment\n-}\n-- two\n"}) == {"low own", "mid below"}
     with open(f"{tree.folder}/crates/low/specs/More.antt", "wb") as file:
         file.write(b"-- \xff\n")
     before = tree.digests()
     with open(f"{tree.folder}/crates/low/specs/More.antt", "wb") as file:
         file.write(b"-- \xfe\n")
-    assert all(before[it] != tree.digests()[it] for it in ("low", "mid", "high"))
+    assert all(before[it] != tree.digests()[it] for it in ("low", "mid"))
+
+
+def test_names(tree):
+    """A contract counts for a crate above whose sources or edits name the function, and a specification for one that it leads to."""
+    for name, text in (("crates/mid/src/lib.rt", "pub struct Mid;\n"), ("crates/mid/specs/Own.antt", "pub own : ℕ\nown = 21\n")):
+        tree.put(name, text)
+    contract = replaced("crates/low/src/lib.rt", "rows ≡ 1", "rows ≡ 2")
+    assert tree.changed_by(contract) == {"low own", "high below"}
+    assert tree.changed_by(replaced("crates/low/src/lib.rt", "rows: u8,", "rows: u16,")) == {"low own", "mid below", "high below"}
+    definition = replaced("crates/low/specs/Grid.antt", "x + x", "x - x")
+    assert tree.changed_by(definition) == {"low own", "high below"}
+    tree.put("crates/mid/must-fail/edit-0.edit", "file: src/lib.rt\nold: Mid;\nnew: area();\n")
+    for changed in (contract, definition):
+        assert tree.changed_by(changed) == {"low own", "mid below", "high below"}
+    tree.put("crates/mid/must-fail/edit-0.edit", "mid 0\n")
+    for name, wanted in (("macro_rules! more { area }", {"mid below"}), ("const MORE: u8 = area(1);", {"mid below"}), ("// area", set())):
+        tree.put("crates/low/src/more.rt", name + "\n")
+        assert tree.changed_by(contract) == {"low own", "high below", *wanted}, name
+    tree.put("crates/low/src/more.rt", "pub fn more() {\n    area()\n}\n")
+    assert tree.changed_by(contract) == {"low own", "high below"}
+    tree.put("crates/low/src/more.rt", "pub const fn more() {\n    area()\n}\n")
+    assert tree.changed_by(contract) == {"low own", "mid below", "high below"}
 
 
 def test_edit(tree):
