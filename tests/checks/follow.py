@@ -990,7 +990,7 @@ def killed(folder):
 
 def rivalry(folder):
     """Two followers over one book, in random starts."""
-    lines = stream_of(7)
+    lines = stream_of(4)
     left = [b"", b"book 0 by", b"book 0 bytes 87\nbook 1 chained yes seen 0\nbin"]
     rivals.check_all(rivals.Rivals(folder, lines, books_of(lines), kept_in, left), 0.9)
 

@@ -347,6 +347,11 @@ class KilledFollow(InterruptedFollow):
 
     count = 4
 
+    def points(self, is_everywhere):
+        """Of the points, not those at which a plan ends a run, too."""
+        planned = ("open", "write", "pwrite64", "rename")
+        return [it for it in super().points(is_everywhere) if is_everywhere or it.part or it.name not in planned]
+
 
 def killed(folder):
     interrupted.check_plans(InterruptedFollow, folder)

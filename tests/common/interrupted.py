@@ -5,6 +5,7 @@ import concurrent.futures
 import os
 import re
 import shutil
+import signal
 
 import commands
 import needs
@@ -15,8 +16,8 @@ from trying import tracing
 JOBS = 2  # runs at a time
 CALLS = ("open", "read", "write", "sync", "rename")
 SAVED = re.compile(r"(?m)^saved (\d+)\n")
-# Where a run is killed: after so many calls that change something and so many others after the last of them; the name of the next call,
-# and how many bytes that writes before.
+# Where a run is killed: after so many calls that change something, and so many others after the last of them; the name of the next
+# call, and how many bytes that writes before.
 Point = collections.namedtuple("Point", "changes others name part")
 
 
@@ -92,27 +93,32 @@ class Interrupted:
             if is_change or is_everywhere:
                 points += [Point(changes, others, run.name(), it) for it in run.parts(is_everywhere)]
             changes, others = (changes + 1, 0) if is_change else (changes, others + 1)
+        commands.check("a run that is stepped", run.status == 0 and changes, (run.status, run.printed()))
         return points
 
     def kill_at(self, name, point):
-        """Kills a run at a point. Returns what it has printed."""
+        """Kills a run at a point. (How often memory is asked for isn't the same in each run; so it is killed at the next change at the
+        latest.) Returns its status and what it has printed."""
         changes = others = 0
         run = self.stepped(name)
         while run.step():
             if not run.is_before():
                 continue
-            if (changes, others) == point[:2]:
+            is_change = run.is_change()
+            if changes == point.changes and (is_change or (others, run.name()) == (point.others, point.name)):
                 if point.part:
                     run.write_part(point.part)
                 run.kill()
                 break
-            changes, others = (changes + 1, 0) if run.is_change() else (changes, others + 1)
-        return run.printed()[0]
+            changes, others = (changes + 1, 0) if is_change else (changes, others + 1)
+        return run.status, run.printed()[0]
 
     def complaint_of_kill(self, number, point):
         """What is wrong after a run was killed at a point, and after it went on."""
         name = f"{number}.killed"
-        printed = self.kill_at(name, point)
+        status, printed = self.kill_at(name, point)
+        if status != -signal.SIGKILL:
+            return f"{point}: status {status}"
         wrong = self.wrong_after(printed, name, self.wrong_of_kill)
         return f"{point}: {printed!r}, then {wrong!r}" if wrong else None
 

@@ -86,8 +86,9 @@ class Rivals:
         for count, (status, printed, errors) in zip(counts, ended):
             saved = [int(it) for it in interrupted.SAVED.findall(printed)]
             rest = interrupted.SAVED.sub("", printed)
-            is_right = rest in [it[1] for it in self.books[count:]] if status == 0 else rest == "fault: store\n" and ": store: " in errors
-            if not is_right or (status == 0 and not saved) or status not in (0, 1):
+            is_whole = status == 0 and saved and rest in [it[1] for it in self.books[count:]]
+            is_refused = status == 1 and rest == "fault: store\n" and ": store: " in errors
+            if not is_whole and not is_refused:
                 return "a wrong end"
             least = max([least, self.books[count][0] if status == 0 else 0, *saved])
         return None if found in self.books and found[0] >= least else (found, least)

@@ -56,13 +56,13 @@ class Stepped:
             number = os.WSTOPSIG(status)
             self.signal = 0 if number in (tracing.AT_SYSCALL, tracing.TRAP) else number
             if number == tracing.AT_SYSCALL:
-                info = self.info
-                tracing.ptrace(tracing.GET_SYSCALL_INFO, self.child.pid, ctypes.sizeof(info), ctypes.addressof(info))
                 return True
 
     def is_before(self):
-        """Whether the run is stopped before a call, and not after one."""
-        return self.info.op == ENTRY
+        """Looks at the stop, and returns whether it is before a call, and not after one."""
+        info = self.info
+        tracing.ptrace(tracing.GET_SYSCALL_INFO, self.child.pid, ctypes.sizeof(info), ctypes.addressof(info))
+        return info.op == ENTRY
 
     def is_change(self):
         """Whether the call before which the run is stopped changes what a kill leaves."""
@@ -71,9 +71,10 @@ class Stepped:
         return number in WRITES or number in CHANGES or number in OTHER_CHANGES or bool(is_new)
 
     def name(self):
-        """The name of the call before which the run is stopped, if it changes something."""
+        """The name of the call before which the run is stopped; its number if it never changes anything."""
         number = self.info.number
-        return next((it[number] for it in (WRITES, CHANGES, OTHER_CHANGES) if number in it), "open" if number in OPENS else f"call {number}")
+        names = {**WRITES, **CHANGES, **OTHER_CHANGES, **dict.fromkeys(OPENS, "open")}
+        return names.get(number, f"call {number}")
 
     def parts(self, is_everywhere):
         """How many bytes a run may write in the call before which it is stopped, from 0. One or two bytes are written together."""
