@@ -8,8 +8,8 @@ The maps (`indexmap`, `std::hash::FoldHasher` in core/src/hash/fold.rt) hash an 
 `high` for its halves, the hash is the product of `low ^ (STATE + 16)` and `high ^ MULTIPLIER`, its halves joined by xor, and then
 folded to 32 bits. A factor of 0 makes it 0, whatever the other half is:
 
-- MULTIPLIER: `high` is the multiplier, so 2^64 ids have the hash 0. This needs no key: a random STATE alone doesn't mend it. The second
-  factor has to have a secret part, too.
+- MULTIPLIER: `high` is the multiplier, so 2^64 ids have the hash 0. A random STATE alone doesn't help: the second factor
+  needs a secret part, too.
 - STATE: `low` is the fixed state plus 16, so 2^64 ids have the hash 0, as long as the state is fixed.
 
 Each lookup then compares with all entries before, so a stream takes time as the square of its accounts and transfers.

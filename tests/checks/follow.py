@@ -913,7 +913,7 @@ def timestamp_of(line):
 class InterruptedFollow(interrupted.Interrupted):
     """A stream whose book is saved after every three events."""
 
-    every = 3
+    every, rows = 3, 40
 
     def __init__(self, library, folder):
         self.lines = self.lines_of()
@@ -960,7 +960,7 @@ class ReplacedLog(InterruptedFollow):
     """A stream whose last save replaces the log by a new base, since its records have over 1 MiB."""
 
     every, saves, most = 700, 6, 10**38
-    is_killed_everywhere = False
+    is_killed_everywhere, rows = False, 0
 
     def books_of(self):
         return books_of(self.lines, self.every)

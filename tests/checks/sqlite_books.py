@@ -345,7 +345,7 @@ class InterruptedFollow(interrupted.Interrupted):
 class KilledFollow(InterruptedFollow):
     """A shorter stream, for the kills: its book is made, saved, and saved at the end."""
 
-    count = 4
+    count, rows = 4, 10
 
     def points(self, is_everywhere):
         """Of the points, not those at which a plan ends a run, too."""

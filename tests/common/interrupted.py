@@ -3,6 +3,7 @@ call refused (faults.c); and killed by signal 9 before a system call, or once a 
 import collections
 import concurrent.futures
 import os
+import random
 import re
 import shutil
 import signal
@@ -14,6 +15,7 @@ import sweep
 from trying import tracing
 
 JOBS = 2  # runs at a time
+LONG = 50  # how many times as many kills in a row there are beyond the gate
 CALLS = ("open", "read", "write", "sync", "rename")
 SAVED = re.compile(r"(?m)^saved (\d+)\n")
 # Where a run is killed: after so many calls that change something, and so many others after the last of them; the name of the next
@@ -26,6 +28,7 @@ class Interrupted:
     bytes, and `wrong_of`, by that name and by what an interrupted run came to: whether going on comes to something wrong."""
 
     is_killed_everywhere = True  # whether it is killed at each call, and not only at those that change something
+    rows = 0  # how many runs are killed, and killed again after they went on over the whole stream
 
     def __init__(self, library, folder):
         self.library, self.folder = library, folder
@@ -84,9 +87,10 @@ class Interrupted:
 
     def points(self, is_everywhere):
         """Where a run is killed: at each call, or at those that change something."""
-        points, changes, others = [], 0, 0
+        points, changes, others, self.stops = [], 0, 0, 0
         run = self.stepped("points")
         while run.step():
+            self.stops += 1
             if not run.is_before():
                 continue
             is_change = run.is_change()
@@ -123,6 +127,18 @@ class Interrupted:
         return f"{point}: {printed!r}, then {wrong!r}" if wrong else None
 
 
+    def complaint_of_row(self, seed):
+        """What is wrong after a run was killed at a random stop, and so were one or two that went on from there."""
+        chosen, name, printed = random.Random(seed), f"{seed}.row", ""
+        for _ in range(chosen.choice([2, 2, 3])):
+            run = self.stepped(name)
+            if all(run.step() for _ in range(chosen.randrange(self.stops))):
+                run.kill()
+            printed += run.printed()[0]
+        wrong = self.wrong_after(printed, name, self.wrong_of_kill)
+        return f"kills in a row, seed {seed}: {printed!r}, then {wrong!r}" if wrong else None
+
+
 def check_kills(made, folder):
     """Counts a check for each point at which a run is killed. `made`: what extends `Interrupted`."""
     it = made(None, folder)
@@ -134,6 +150,9 @@ def check_kills(made, folder):
     for number, point in enumerate(points):
         wrong = it.complaint_of_kill(number, point)
         commands.check("killed", wrong is None, wrong)
+    for seed in range(it.rows * (LONG if commands.is_long else 1)):
+        wrong = it.complaint_of_row(seed)
+        commands.check("killed in a row", wrong is None, wrong)
 
 
 def check_plans(made, folder):

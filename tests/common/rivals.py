@@ -26,10 +26,10 @@ def interleaved(chosen, runs):
 
 class Rivals:
     """Pairs of runs over a book in a folder. `lines`: their stream; `books`: what the book may hold after each of these, as a
-    timestamp and a text; `kept`: what the file at a path holds; `left`: what a run that broke off may leave in the file beside it."""
+    timestamp and a text; `kept`: what the file at a path holds; `left`: what an interrupted run may leave at `PATH.new`."""
 
     scheme = ""  # before the path
-    is_replaced = True  # whether saves replace the file, so that something may be left beside a book
+    is_replaced = True  # whether saves replace the file, so that there may be both a book and a leftover
 
     def __init__(self, folder, lines, books, kept, left):
         self.folder, self.lines, self.books, self.kept, self.left = folder, lines, books, kept, left
@@ -51,7 +51,7 @@ class Rivals:
             return stepping.Stepped([commands.program, "follow", *self.arguments(path)], it)
 
     def begin(self, chosen, path):
-        """Makes a book, or what a broken save leaves, or both, or nothing. Returns how many lines the book has."""
+        """Makes a book, or what an interrupted save leaves, or both, or nothing. Returns how many lines the book has."""
         count = chosen.choice([0, 0, chosen.randrange(1, len(self.lines))])
         if count:
             commands.run(self.arguments(path), self.stream(count))
@@ -77,7 +77,7 @@ class Rivals:
     def wrong_of(self, path, begun, counts, ended):
         """One run has followed its stream to the end; the other one has, too, or is refused. The book has all that was reported."""
         if all(status != 0 for status, _, _ in ended):
-            # (of two that make one book at once, each may find what the other one has made)
+            # (two runs that make one book at once may both be refused: drafts/two-makers.py)
             is_made = begun == 0 and not any(interrupted.SAVED.search(printed) for _, printed, _ in ended)
             self.both_refused += is_made
             if not is_made:
