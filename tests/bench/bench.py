@@ -6,7 +6,9 @@ the one that LLVM makes, which is built first, as `./relayplum --optimised` does
 
 The scripts have 1,000 events, as many as a script has room for, as many between 5,000 accounts, and as many for eight
 subscribers. Streams of 20,000 and of 1,000,000 events are followed and audited, as the connector writes their bodies, as
-TigerBeetle documents them, and in envelopes (streams.py); those of a million have no count. Of each command that works on one thread Valgrind counts the instructions, which other work on the machine
+TigerBeetle documents them, and in envelopes (streams.py); those of a million have no count. Streams of 20,000 events with ids of 37
+digits and timestamps of 19, between 12, 1,000 and 100,000 accounts, are followed without a book, with a text one and with one in SQLite,
+and audited without a state and with one, which are saved every 1,000 lines; those in SQLite have no count. Of each command that works on one thread Valgrind counts the instructions, which other work on the machine
 doesn't change; `run` looks for messages while it waits, so its instructions say nothing. The most memory is what the
 system has of a run (spent.c, which wants `cc`). For the wall-clock times the commands of a script are run in turn, --times
 times (15, and no fewer count as a measure): the least and the median, with the load before and after.
@@ -59,6 +61,8 @@ SCRIPTS = {
 
 # How many events a stream has; whether its instructions are counted.
 STREAMS = {'20,000 messages': (20_000, True), '1,000,000 messages': (1_000_000, False)}
+# How many accounts a stream with a real ledger's numbers has, and how many events.
+REAL, REAL_EVENTS = {'12 real accounts': 12, '1,000 real accounts': 1_000, '100,000 real accounts': 100_000}, 20_000
 
 
 def script_of(name):
@@ -104,6 +108,17 @@ def stream_commands():
     }
 
 
+def real_commands():
+    """The commands over a stream with a real ledger's numbers by their names."""
+    return {
+        'follow': ['follow', 'own.stream'],
+        'follow --book FILE': ['follow', 'own.stream', '--book', 'kept.book'],
+        'follow --book sqlite:FILE': ['follow', 'own.stream', '--book', 'sqlite:kept.db'],
+        'audit': ['audit', 'own.stream'],
+        'audit --state FILE': ['audit', 'own.stream', '--state', 'kept.state'],
+    }
+
+
 def instructions(program, arguments, folder):
     """What Valgrind counts of a run."""
     with tempfile.NamedTemporaryFile(dir=folder) as out:
@@ -140,6 +155,15 @@ class Bench:
         commands = stream_commands()
         self.measure_commands(name, folder, commands, events, commands if is_counted else [])
 
+    def measure_real(self, name, accounts):
+        """Measures each command on a stream with a real ledger's numbers."""
+        folder = pathlib.Path(self.folder) / name.replace(' ', '-')
+        folder.mkdir()
+        with open(folder / 'own.stream', 'w', encoding='ascii') as file:
+            file.writelines(streams.real_lines(REAL_EVENTS, accounts))
+        commands = real_commands()
+        self.measure_commands(name, folder, commands, REAL_EVENTS, [it for it in commands if 'sqlite' not in it])
+
     def measure_commands(self, name, folder, commands, events, counted_ones):
         """Measures commands in a folder, and counts the instructions of some of them."""
         counted = {
@@ -150,6 +174,8 @@ class Bench:
         runs = {it: [] for it in commands}
         for _ in range(self.times):
             for it, arguments in commands.items():
+                for kept in folder.glob('kept.*'):
+                    kept.unlink()
                 runs[it].append(self.meter.run([self.program, *arguments], folder))
         for it, found in runs.items():
             walls, used, memory = zip(*found)
@@ -159,7 +185,8 @@ class Bench:
 
     @staticmethod
     def within(folder, argument):
-        return str(folder / argument) if argument.startswith('bench.') or argument.endswith('.stream') else argument
+        is_file = argument.startswith(('bench.', 'kept.')) or argument.endswith('.stream')
+        return str(folder / argument) if is_file else argument
 
     def table(self):
         lines = [HEAD, re.sub('[^|]+', '---', HEAD)]
@@ -219,15 +246,17 @@ def main(arguments):
     parser = rooms.parser_of(__doc__, default=None)
     parser.add_argument('--times', type=int, default=15)
     parser.add_argument('--jobs', type=int, default=2)
-    parser.add_argument('--only', action='append', choices=[*SCRIPTS, *STREAMS])
+    parser.add_argument('--only', action='append', choices=[*SCRIPTS, *STREAMS, *REAL])
     parser.add_argument('--write', action='store_true')
     given = parser.parse_args(arguments)
     options = rooms.options_of(parser, [*arguments, '--program', given.program or optimised()])
     before = os.getloadavg()[0]
     with rooms.room('bench-') as folder:
         bench = Bench(options.program, folder, options.times, options.jobs)
-        for name in options.only or [*SCRIPTS, *STREAMS]:
-            if name in STREAMS:
+        for name in options.only or [*SCRIPTS, *STREAMS, *REAL]:
+            if name in REAL:
+                bench.measure_real(name, REAL[name])
+            elif name in STREAMS:
                 bench.measure_stream(name, *STREAMS[name])
             else:
                 bench.measure(name, *script_of(name))

@@ -1,7 +1,11 @@
-"""Streams to follow and to audit: the events of a ledger with twelve accounts."""
+"""Streams to follow and to audit: the events of a ledger with twelve accounts, and those of one with numbers of a real ledger's size."""
 import json
+import random
 
 ACCOUNTS = 12
+# Of a real ledger: its first account and transfer, with ids of 37 digits, and the timestamps, of 19, of its first account and event.
+REAL_ID, REAL_TRANSFER = 10**36, 2 * 10**36
+REAL_CREATED, REAL_TIMESTAMP = 1_745_000_000_000_000_000, 1_745_328_372_000_000_000
 FORMS = ('own', 'documented', 'chained')
 
 
@@ -46,3 +50,36 @@ def lines(count, form):
         else:
             yield f'{{"previous":"{last}","body":{own}}}\n'
         last = body['timestamp']
+
+
+def real_account(number, balances):
+    shown = {**account_of(number, {number: balances}), 'id': str(REAL_ID + number)}
+    return {**shown, 'timestamp': str(REAL_CREATED + number)}
+
+
+def real_lines(count, accounts):
+    """The lines of so many single-phase transfers between random accounts, as a connector writes them."""
+    chosen, balances = random.Random(accounts), [[0, 0] for _ in range(accounts)]
+    for place in range(count):
+        debit, credit = chosen.sample(range(accounts), 2)
+        amount = chosen.randrange(1, 1_000_000)
+        balances[debit][0] += amount
+        balances[credit][1] += amount
+        timestamp = str(REAL_TIMESTAMP + place)
+        transfer = {
+            'amount': str(amount), 'code': 1, 'flags': 0, 'id': str(REAL_TRANSFER + place), 'pending_id': '0', 'timeout': 0,
+            'timestamp': timestamp, 'user_data_128': '0', 'user_data_32': 0, 'user_data_64': '0',
+        }
+        body = {
+            'credit_account': real_account(credit, balances[credit]), 'debit_account': real_account(debit, balances[debit]),
+            'ledger': 700, 'timestamp': timestamp, 'transfer': transfer, 'type': 'single_phase',
+        }
+        yield json.dumps(body, sort_keys=True, separators=(',', ':')) + '\n'
+
+
+def real_book(accounts):
+    """A saved book with all accounts, after an event before these."""
+    last = REAL_TIMESTAMP - 1
+    rows = ''.join(f'account {REAL_ID + it} 0 1000 0 1000\n' for it in range(accounts))
+    book = f'book 1 chained no seen {last}\nbinding all\nsubscriber 1 applied 1 last {last} ended no closed no\n{rows}'
+    return f'book 0 bytes {len(book)}\n{book}end 0 bytes {len(book)}\n'

@@ -1,7 +1,7 @@
 #!/usr/bin/env python3
 """The command audit: streams by hand that each break one rule, and random streams of a ledger that are changed, beside a model.
 
-  tests/checks/audit.py [PROGRAM] [--streams N]    PROGRAM: crates/cdc_app/out/cdc_app; N random streams, 400 by default
+  tests/checks/audit.py [PROGRAM] [--streams N] [--soak]    PROGRAM: crates/cdc_app/out/cdc_app; N random streams, 400 by default
 
 By hand: each rule broken alone, with the line that is printed, in both forms; what follows the end; bad lines; the book. Random
 streams are the events of the model's ledger for random scripts of the soak: each has to be accepted, with the ledger's balances.
@@ -10,7 +10,7 @@ just what a small model of the rules does, at the same line and by the same rule
 double, a swap, another balance, and another amount that is moved or held have to be refused; so has what follows an event that is
 left out, if its amount isn't 0 and one of its accounts appears again. What no rule finds is counted by kind and printed. Random
 scripts of pending transfers that expire, many of them at once, do the same with two expiries exchanged, and with one left out.
-States that are saved are tried by audit_states.py.
+States that are saved are tried by audit_states.py; --soak kills these runs at more places.
 
 The last line is `audit: N passed, M failed`; the status is 1 if one failed.
 """

@@ -4,7 +4,8 @@ Part of audit.py. By hand: the text of a state with every kind of line. Cut: eac
 audited up to there with a state, and then from there on; it has to come to what the whole stream comes to. Files that are no
 state are refused, and stay. Killed: the program ends at each open, read, write, sync and rename of a stream with a state, and is
 started again with the lines after the last one that was reported as saved, or that the state has; it has to come to the state of a
-run without a stop. Refused: each allocation and each of these calls is refused in turn. Killed and Refused need `cc`.
+run without a stop. By signal 9 it is killed before each system call, and amid each write. Refused: each allocation and each of
+these calls is refused in turn. Refused, and ends at calls of the C library, need `cc`; kills by signal 9 need Linux on x86-64.
 """
 import concurrent.futures
 import fcntl

@@ -1,13 +1,13 @@
 #!/usr/bin/env python3
 """Counts the instructions that the program takes, and prints them beside their limits.
 
-  tests/checks/cost.py [PROGRAM] [--jobs N] [--only PART]..    PROGRAM: crates/cdc_app/out/cdc_app
+  tests/checks/cost.py [PROGRAM] [--jobs N] [--only PART].. [--soak]    PROGRAM: crates/cdc_app/out/cdc_app
   tests/checks/cost.py [PROGRAM] --top N                     the N functions that a full script spends most in
 
 The parts are accounts-2 and accounts-5000 (`books` on more and more transfers), full (a script of the greatest size),
 subscribers (what each further one takes), peak (the memory that such a script holds), phases (pending transfers, posts and
-a pulse), chains (transfers that are linked), log (reads of the log under `simulate`) and memory (the bytes that `books` asks
-for). Valgrind counts, so other work on the machine disturbs no figure. All of it takes some minutes of CPU time. The last
+a pulse), chains (transfers that are linked), log (reads of the log under `simulate`), memory (the bytes that `books` asks
+for) and saves (`follow` with a book, of streams with a real ledger's numbers; --soak takes one ten times as large). Valgrind counts, so other work on the machine disturbs no figure. All of it takes some minutes of CPU time. The last
 line is 'N passed, M failed', of the figures that have limits; exit status 1 where one is over, 2 where nothing could be
 counted.
 """
@@ -21,10 +21,11 @@ import sys
 import tempfile
 
 sys.dont_write_bytecode = True
-sys.path.insert(0, os.path.join(os.path.dirname(os.path.realpath(__file__)), "..", "common"))
+sys.path[:0] = [os.path.join(os.path.dirname(os.path.realpath(__file__)), "..", it) for it in ("common", "bench")]
 import ending
 import rooms
 import spent
+import streams
 from counting import bytes_of, counted, tool_arguments, total_of
 from scripts import BATCH_ITEMS, SCRIPT_BYTES, TRANSFERS, batches, most_transfers, opened, script, single_phase, transfer
 
@@ -48,6 +49,8 @@ SEARCH = 1_200
 BYTES_EXPONENT = 1.05  # of the bytes that growing lists ask for in all
 FIRST = 395_000  # bytes that the first transfer may ask for: a segment of the log has room for 1,024 events
 
+WITH_BOOK = 2.0  # what `follow` may take with a book, in what it takes without one
+MANY_ACCOUNTS = 20  # what a save of 1,000 lines may take with 100,000 accounts, in what it takes with ten
 NOTED = 1.5  # what a transfer may cost if the timestamps of the script decrease, in those of a script whose timestamps don't
 
 # The timestamp of the first batch of posts: after those of transfers, and before a timeout of a second ends.
@@ -88,8 +91,8 @@ def polls(count, rounds):
 class Counter:
     """Runs the program under Valgrind, each run once, and as many side by side as there are jobs."""
 
-    def __init__(self, program, folder, jobs):
-        self.program = program
+    def __init__(self, program, folder, jobs, is_long):
+        self.program, self.is_long = program, is_long
         with open(program, "rb") as it:
             self.compiler = 1 if b" backend=rattle " in it.read() else 0
         self.folder = folder
@@ -118,6 +121,24 @@ class Counter:
     def total(self, text, steps=None, command="books"):
         """A future of the instructions that the run takes."""
         return self.run("cachegrind", text, steps, command)
+
+    def follow(self, stream, book=None, every=1_000):
+        """A future of the instructions of `follow` over a stream. `book`: what its book holds at first; None is no book, and nothing
+        is none yet."""
+        self.made += 1
+        path = f"{self.folder}/{self.made}.book"
+        if book:
+            with open(path, "w", encoding="ascii") as file:
+                file.write(book)
+        arguments = [self.program, "follow", stream] + (["--book", path, "--every", str(every)] if book is not None else [])
+        return self.pool.submit(counted, [*tool_arguments("cachegrind", f"{path}.out"), *arguments], f"{path}.out")
+
+    def stream_of(self, count, accounts):
+        """Writes a stream with a real ledger's numbers, and returns its path."""
+        path = f"{self.folder}/{count}-{accounts}.stream"
+        with open(path, "w", encoding="ascii") as file:
+            file.writelines(streams.real_lines(count, accounts))
+        return path
 
     def peak(self, text):
         """Returns the greatest memory that `books` of the script holds at once, in bytes."""
@@ -319,6 +340,23 @@ def memory(counter, table):
             table.row(f"{size:,} transfers", total, exponent, BYTES_EXPONENT)
 
 
+def saves(counter, table):
+    count, accounts = (200_000, 97_000) if counter.is_long else (20_000, 9_700)
+    stream = counter.stream_of(count, accounts)
+    runs = [counter.follow(stream), counter.follow(stream, "")]
+    # Two runs over 3,000 lines that differ in two saves, each of 1,000 lines that follow a save.
+    sizes, lines = (10, 100_000), 3_000
+    apart = {it: [counter.follow(counter.stream_of(lines, it), streams.real_book(it), every) for every in (1_000, lines)] for it in sizes}
+    without, with_book = [total_of(run.result()) for run in runs]
+    table.head(f"follow, {count:,} messages over {accounts:,} accounts: instructions; in those without a book")
+    table.row("without a book", without)
+    table.row("with one, saved after every 1,000 lines", with_book, with_book / without, WITH_BOOK)
+    table.head("follow: instructions of a save of 1,000 lines; in those with ten accounts")
+    few, many = [(more - less) / 2 for more, less in [[total_of(run.result()) for run in apart[it]] for it in sizes]]
+    table.row(f"{sizes[0]:,} accounts", round(few))
+    table.row(f"{sizes[1]:,} accounts", round(many), many / few, MANY_ACCOUNTS)
+
+
 def top(counter, count):
     """Prints the functions in which most of a full script's instructions are."""
     out = counter.run("callgrind", script(2, most_transfers(2)), None).result()
@@ -330,7 +368,8 @@ def top(counter, count):
 
 
 COUNTS = {"accounts-2": accounts_2, "accounts-5000": accounts_5000, "full": full, "subscribers": subscribers,
-          "peak": peak, "phases": phases, "chains": chains, "log": log, "memory": memory}
+          "peak": peak, "phases": phases, "chains": chains, "log": log, "memory": memory,
+          "saves": saves}
 
 
 def main(arguments):
@@ -338,13 +377,14 @@ def main(arguments):
     parser.add_argument("--jobs", type=int, default=2)
     parser.add_argument("--only", action="append", choices=COUNTS)
     parser.add_argument("--top", type=int)
+    parser.add_argument("--soak", action="store_true", help="takes a stream of 200,000 messages")
     options = rooms.options_of(parser, arguments)
     if shutil.which("valgrind") is None:
         print("cost: there is no valgrind (Debian package valgrind), and nothing else counts instructions whatever the load")
         return 2
     table = Table()
     with tempfile.TemporaryDirectory(prefix="cost-") as folder:
-        counter = Counter(options.program, folder, options.jobs)
+        counter = Counter(options.program, folder, options.jobs, options.soak)
         if options.top:
             top(counter, options.top)
             return 0

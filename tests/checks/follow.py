@@ -1,21 +1,25 @@
 #!/usr/bin/env python3
 """The command follow: streams by hand, random streams beside a model, and books that are killed and refused while they are saved.
 
-  tests/checks/follow.py [PROGRAM] [--streams N]    PROGRAM: crates/cdc_app/out/cdc_app; N random streams, 300 by default
+  tests/checks/follow.py [PROGRAM] [--streams N] [--soak]    PROGRAM: crates/cdc_app/out/cdc_app; N random streams, 300 by default
 
 By hand: each kind of line, each fault, each status, where a line ends, and what standard error reports; how often a file and a
-pipe are saved; books as logs, which are cut, and which grow to 30,000 accounts; books that something else replaces meanwhile;
-standard descriptors that are closed. Random streams of a queue are lost, repeated, shuffled and merged from two publishers; what
-is printed, and what standard error reports of gaps, has to be that of a small model, which reads JSON by Python's own parser.
-Killed: the program ends at each read, write, sync and rename of a stream with a book, and is started again with the lines from an
-earlier `saved` on; it has to come to the book of a run without a stop. Refused: each allocation, read, write, open, sync and
-rename is refused in turn; the book has to be the old one or a later one, and whole.
+pipe are saved; books as logs, which are cut at each byte, and which grow to 30,000 accounts; books that something else replaces
+meanwhile; standard descriptors that are closed. Random streams of a queue are lost, repeated, shuffled and merged from two
+publishers; what is printed, and what standard error reports of gaps, has to be that of a small model, which reads JSON by Python's
+own parser. Killed: the program ends at each read, write, sync and rename of a stream with a book, and is started again with the lines
+from an earlier `saved` on; it has to come to the book of a run without a stop. By signal 9 it is killed before each system call, and
+amid each write: what is found has all that was reported as saved, and a run over the whole stream comes to its book. Refused: each
+allocation, read, write, open, sync and rename is refused in turn; the book has to be the old one or a later one, and whole.
+Rivalry: 450 pairs of followers over one book, whose system calls come in a random order; one is refused, or both follow.
 
-Replaced, Killed, Refused, and a thread that can't be started, need a C compiler, `cc`. The last line is `follow: N passed, M
-failed`; the status is 1 where one failed.
+Replaced, Refused, ends at calls of the C library, and a thread that can't be started, need a C compiler, `cc`. Kills by signal 9 and
+Rivalry need Linux on x86-64. --soak kills at more places, cuts a longer log, and tries 9,000 pairs. The last line is `follow: N passed,
+M failed`; the status is 1 where one failed.
 """
 import concurrent.futures
 import contextlib
+import itertools
 import json
 import os
 import random
@@ -32,6 +36,7 @@ import ending
 import holding
 import interrupted
 import needs
+import rivals
 import rooms
 import sweep
 from commands import check, run
@@ -463,6 +468,10 @@ def stream_of(count):
     return queue_of(random.Random(7), count, 1)
 
 
+def text_of(lines):
+    return "".join(f"{it}\n" for it in lines).encode()
+
+
 def books(folder):
     """A book that is kept: going on, and what is refused."""
     lines = stream_of(30)
@@ -527,23 +536,39 @@ def books(folder):
     os.remove(book)
 
 
-def framed(log):
-    """The contents of the frames of a log, by its text alone."""
-    contents = []
-    while log:
-        first, rest = log.split(b"\n", 1)
-        found = re.fullmatch(rb"book (0|[1-9][0-9]*) bytes (0|[1-9][0-9]*)", first)
-        number, size = int(found[1]), int(found[2])
+def framed(log, is_cut=False):
+    """The contents of the frames of a log, by its text alone. What follows the last whole frame counts only if the log may be cut."""
+    contents, place = [], 0
+    while place < len(log):
+        number = len(contents)
+        found = re.compile(rb"book %d bytes (0|[1-9][0-9]*)\n" % number).match(log, place)
+        first, size = (found.end(), int(found[1])) if found else (place, 0)
         last = b"end %d bytes %d\n" % (number, size)
-        if number != len(contents) or rest[size : size + len(last)] != last:
+        if not found or not log.startswith(last, first + size):
+            if is_cut:
+                break
             raise ValueError(log)
-        contents.append(rest[:size])
-        log = rest[size + len(last) :]
+        contents.append(log[first : first + size])
+        place = first + size + len(last)
     return contents
 
 
+def kept_in(path):
+    """What a log holds up to its last whole frame, by its text alone: the timestamp of the last event seen, and the book. A file that
+    isn't there holds nothing; None if the base isn't whole."""
+    if not os.path.exists(path):
+        return 0, NOTHING
+    with open(path, "rb") as it:
+        contents = framed(it.read(), is_cut=True)
+    accounts = {}
+    for content in contents:
+        head, _, subscriber, *rows = content.decode().splitlines()
+        accounts.update((it.split()[1], it) for it in rows)
+    return (int(head.split()[-1]), "".join(f"{it}\n" for it in [subscriber, *accounts.values()])) if contents else None
+
+
 def logs(folder):
-    """A book is a log: each save but the first appends what changed, and a log that is cut is read up to its last whole frame."""
+    """A book is a log: each save but the first appends what changed."""
     lines = stream_of(30)
     text = lambda given: "".join(f"{it}\n" for it in given).encode()
     book = os.path.join(folder, "a.book")
@@ -556,19 +581,7 @@ def logs(folder):
     for number, (content, whole) in enumerate(zip(contents, printed)):
         rows = content.split(b"\n")[2:]
         check(f"record {number} has rows of the book", set(rows) <= set(whole.split(b"\n")), (rows, whole))
-    ends = [len(log) - len(log[log.index(b"end %d bytes" % it) :].split(b"\n", 1)[1]) for it in range(len(contents))]
-    places = {near for end in ends for near in range(end - 30, end + 30) if near <= len(log)}
-    places |= {random.Random(11).randrange(ends[0], len(log)) for _ in range(60)}
-    for place in sorted(places):
-        cut = os.path.join(folder, "cut")
-        with open(cut, "wb") as it:
-            it.write(log[:place])
-        found = run(["--chained", "--book", cut], b"")
-        whole = sum(end <= place for end in ends)
-        wanted = (0, printed[whole - 1].decode()) if whole else (1, "fault: store\n")
-        got = found[0], found[1].split("\n", 1)[1] if whole else found[1]
-        check(f"a log that is cut at {place}", got == wanted, (found, wanted))
-        os.remove(cut)
+    ends = ends_in(log)
     alone = os.path.join(folder, "alone")
     with open(alone, "wb") as it:
         it.write(contents[0])
@@ -591,6 +604,41 @@ def logs(folder):
         check(f"{name} ends the log", found[0] == 0 and found[1].endswith(printed[1 if "missing" in name else 2].decode()), found)
     os.remove(alone)
     os.remove(book)
+
+
+def ends_in(log):
+    """Where each frame of a log ends."""
+    contents = framed(log)
+    sizes = [sum(len(b"%s %d bytes %d\n" % (it, number, len(content))) for it in (b"book", b"end")) for number, content in enumerate(contents)]
+    return list(itertools.accumulate(size + len(content) for size, content in zip(sizes, contents)))
+
+
+def cuts(folder):
+    """A log that is cut at any byte is the book of its last whole frame. One that is cut within its base is refused, and stays."""
+    lines, every = stream_of(40 if commands.is_long else 12), 3
+    books, book = books_of(lines, every)[1:], os.path.join(folder, "a.book")
+    found = run(["--chained", "--book", book, "--every", str(every)], text_of(lines))
+    with open(book, "rb") as it:
+        log = it.read()
+    ends = ends_in(log)
+    check("a log to cut", found[0] == 0 and len(ends) == len(books) > 4, (found, ends))
+    with concurrent.futures.ThreadPoolExecutor(JOBS) as pool:
+        rows = [(f"{book}.{place}", log[:place], sum(it <= place for it in ends)) for place in range(len(log) + 1)]
+        for wrong in pool.map(lambda row: cut(*row, books), rows):
+            check("a log that is cut", wrong is None, wrong)
+
+
+def cut(path, log, frames, books):
+    """What is wrong with a run over a log that is cut after so many whole frames, or None."""
+    with open(path, "wb") as it:
+        it.write(log)
+    last, text = books[frames - 1]
+    found = run(["--chained", "--book", path], b"")
+    wanted = (0, f"saved {last}\n{text}") if frames else (1, "fault: store\n")
+    kept = kept_in(path) == books[frames - 1] if frames else open(path, "rb").read() == log
+    is_right = found[:2] == wanted and kept and not os.path.exists(f"{path}.new")
+    os.remove(path)
+    return None if is_right else f"cut at {len(log)}: {found!r}, not {wanted!r}"
 
 
 def grown(folder):
@@ -784,72 +832,167 @@ def replaced(folder):
 
 def closed(folder):
     """With standard descriptors closed, a book, a state and a record hold what they hold otherwise: no message gets into them."""
-    lines = stream_of(20)
+    lines = [*stream_of(20), chained(5, event(10**6))]  # (standard error reports the first line and the last one)
     script = os.path.join(rooms.TOP, "examples", "two-phase.script")
     stream, bodies = os.path.join(folder, "stream"), os.path.join(folder, "bodies")
-    with open(stream, "w", encoding="ascii") as it:
-        # (standard error reports the first line and the last one)
-        it.write("".join(f"{line}\n" for line in [*lines, chained(5, event(10**6))]))
+    with open(stream, "wb") as it:
+        it.write(text_of(lines))
     messages = subprocess.run([commands.program, "messages", script], capture_output=True, check=True).stdout
     with open(bodies, "wb") as it:
         it.write(messages + b"x\n")
-    for name, arguments in (
-        ("book", ["follow", stream, "--book", "FILE", "--every", "3"]),
-        ("book in SQLite", ["follow", stream, "--book", "sqlite:FILE", "--every", "3"]),
-        ("state", ["audit", bodies, "--state", "FILE", "--every", "1"]),
-        ("record", ["run", script, "--progress", "FILE", "--close", "9:1"]),
+    book = books_of(lines, is_chained=False)[-1]
+    for name, arguments, wanted in (
+        ("book", ["follow", stream, "--book", "FILE", "--every", "3"], (1, book)),
+        ("book in SQLite", ["follow", stream, "--book", "sqlite:FILE", "--every", "3"], (1, book)),
+        ("book of nothing", ["follow", "--book", "FILE"], (0, (0, NOTHING))),
+        ("book of nothing in SQLite", ["follow", "--book", "sqlite:FILE"], (0, (0, NOTHING))),
+        ("state", ["audit", bodies, "--state", "FILE", "--every", "1"], None),
+        ("record", ["run", script, "--progress", "FILE", "--close", "9:1"], None),
     ):
         open_one = ended_with(folder, arguments, ())
+        if wanted:
+            check(f"a {name} with none closed", (open_one[0], open_one[1][:2]) == wanted, open_one)
         for numbers_closed in ((0,), (1,), (2,), (0, 1), (0, 2), (1, 2), (0, 1, 2)):
             found = ended_with(folder, arguments, numbers_closed)
             check(f"a {name} with {numbers_closed} closed", found == open_one, (found, open_one))
 
 
 def ended_with(folder, arguments, numbers_closed):
-    """The status of a run with these descriptors closed, and what its file holds then. Of a file of SQLite that is what SQL finds."""
+    """Of a run with these descriptors closed, and of one that goes on from its file: the status, what the file holds then, and the
+    names in the folder."""
     path = os.path.join(folder, "kept")
 
     def close():
         for it in numbers_closed:
             os.close(it)
 
-    given = [it.replace("FILE", path) for it in arguments]
-    status = subprocess.run(
-        [commands.program, *given], stdin=subprocess.DEVNULL, stdout=subprocess.DEVNULL, stderr=subprocess.DEVNULL,
-        preexec_fn=close, timeout=commands.SECONDS, check=False,
-    ).returncode
+    found = []
+    for _ in range(2):
+        status = subprocess.run(
+            [commands.program, *(it.replace("FILE", path) for it in arguments)], stdin=subprocess.DEVNULL,
+            stdout=subprocess.DEVNULL, stderr=subprocess.DEVNULL, preexec_fn=close, timeout=commands.SECONDS, check=False,
+        ).returncode
+        found += [status, held_in(path), sorted(os.listdir(folder))]
+    os.remove(path)
+    return found
+
+
+def held_in(path):
+    """What a log or a book in SQLite holds: the timestamp of the last event seen, the text, and what else SQL finds. Of another file
+    all of it."""
     with open(path, "rb") as it:
         held = it.read()
+    with contextlib.suppress(ValueError):
+        if framed(held):
+            return kept_in(path)
     if held.startswith(b"SQLite"):
         with contextlib.suppress(sqlite3.DatabaseError), contextlib.closing(sqlite3.connect(path)) as connection:
-            held = list(connection.iterdump())
-    names = sorted(os.listdir(folder))
-    os.remove(path)
-    return status, held, names
+            ((text,),) = connection.execute("SELECT text FROM book").fetchall()
+            head, _, rest = text.decode().split("\n", 2)
+            return int(head.split()[-1]), rest, connection.execute("PRAGMA integrity_check").fetchall(), list(connection.iterdump())
+    return held
+
+
+def books_of(lines, every=1, is_chained=True):
+    """What a book may hold that is saved after so many lines each, and at the end, or before any: the timestamp of the last event
+    seen, and the text."""
+    model, books = Model(is_chained), [(0, NOTHING)]
+    for number, line in enumerate(lines, 1):
+        model.take(number, line)
+        if number % every == 0 or number == len(lines):
+            books.append((model.seen, model.text()))
+    return books
+
+
+def timestamp_of(line):
+    """The timestamp of a line's event; of an end one above all."""
+    value = json.loads(line)
+    return GREATEST + 1 if "end" in value else int(value["body"]["timestamp"])
 
 
 class InterruptedFollow(interrupted.Interrupted):
     """A stream whose book is saved after every three events."""
 
+    every, rows = 3, 40
+
     def __init__(self, library, folder):
-        self.lines = stream_of(12)
-        self.stream = "".join(f"{it}\n" for it in self.lines).encode()
-        self.whole = run(["--chained"], self.stream)[1]
+        self.lines = self.lines_of()
+        self.stream = text_of(self.lines)
+        self.books = self.books_of()
+        self.timestamps = [timestamp_of(it) for it in self.lines]
         super().__init__(library, folder)
 
+    def lines_of(self):
+        return stream_of(12)
+
+    def books_of(self):
+        """What may be saved: a run that fails saves what it has followed."""
+        return books_of(self.lines)
+
     def arguments(self, name):
-        return ["--chained", "--book", self.path(name), "--every", "3"]
+        return ["--chained", "--book", self.path(name), "--every", str(self.every)]
 
     def wrong_of(self, name, saved):
-        """Whoever hands on the stream begins after what was reported as saved; the book is then that of the whole."""
+        """A run over what comes after what was reported as saved comes to the book of the whole."""
         last = saved[-1] if saved else 0
-        left = [it for it in self.lines if "end" in json.loads(it) or int(json.loads(it)["body"]["timestamp"]) > last]
-        again = run(["--chained", "--book", self.path(name)], "".join(f"{it}\n" for it in left).encode())
-        return None if again[0] == 0 and again[1].endswith(self.whole) else again
+        count = sum(it <= last for it in self.timestamps)
+        return self.unlike(name, last) or self.wrong_from(self.path(name), text_of(self.lines[count:]))
+
+    def wrong_of_kill(self, name, saved):
+        """A run over the whole stream comes to its book."""
+        return self.unlike(name, saved[-1] if saved else 0) or self.wrong_from(self.path(name), self.stream)
+
+    def unlike(self, name, last):
+        """What is found, if that is no book of the stream that has all up to a timestamp."""
+        found = kept_in(self.path(name))
+        return None if found in self.books and found[0] >= last else (last, found)
+
+    def wrong_from(self, path, stream):
+        """What is wrong after a run that goes on from what is there."""
+        again = run(["--chained", "--book", path], stream)
+        is_right = again[0] == 0 and again[1].endswith(self.books[-1][1]) and kept_in(path) == self.books[-1]
+        is_right = is_right and not os.path.exists(f"{path}.new")
+        os.remove(path)
+        return None if is_right else again
+
+
+class ReplacedLog(InterruptedFollow):
+    """A stream whose last save replaces the log by a new base, since its records have over 1 MiB."""
+
+    every, saves, most = 700, 6, 10**38
+    is_killed_everywhere, rows = False, 0
+
+    def books_of(self):
+        return books_of(self.lines, self.every)
+
+    def points(self, is_everywhere):
+        """The calls of the last save: it opens a file, sets its mode, writes it and renames it."""
+        points = super().points(is_everywhere)
+        renames = sorted({it.changes for it in points if it.name == "rename"})
+        check("the last save replaces the log", len(renames) == 3 and renames[-1] > 15, renames)
+        return [it for it in points if renames[-1] - 3 <= it.changes <= renames[-1]]
+
+    def lines_of(self):
+        """Each account once between two saves, with numbers as long as they may be."""
+        lines = []
+        for it in range(1, self.every * self.saves + 1):
+            debit, shown = self.most + 2 * it % (2 * self.every), [self.most + it] * 4
+            lines.append(chained(it - 1, event(it, debit, debit + 1, (shown, shown))))
+        return lines
 
 
 def killed(folder):
     interrupted.check_all(InterruptedFollow, folder)
+    room = os.path.join(folder, "replaced")
+    os.mkdir(room)
+    interrupted.check_kills(ReplacedLog, room)
+
+
+def rivalry(folder):
+    """Two followers over one book, in random starts."""
+    lines = stream_of(4)
+    left = [b"", b"book 0 by", b"book 0 bytes 87\nbook 1 chained yes seen 0\nbin"]
+    rivals.check_all(rivals.Rivals(folder, lines, books_of(lines), kept_in, left), 0.9)
 
 
 def memory(folder):
@@ -871,7 +1014,7 @@ def memory(folder):
 
 
 def main(arguments):
-    parts = [by_hand, books, logs, grown, saves, pipes, starved, replaced, closed, killed, memory]
+    parts = [by_hand, books, logs, cuts, grown, saves, pipes, starved, replaced, closed, killed, rivalry, memory]
     return commands.main(arguments, __doc__, "follow", parts, random_streams, STREAMS)
 
 

@@ -1,14 +1,17 @@
 #!/usr/bin/env python3
 """The command follow with a book in an SQLite file: what SQL finds there, beside whom it saves, and saves that are killed.
 
-  tests/checks/sqlite_books.py [PROGRAM]    PROGRAM: crates/cdc_app/out/cdc_app
+  tests/checks/sqlite_books.py [PROGRAM] [--soak]    PROGRAM: crates/cdc_app/out/cdc_app
 
 What a book has to hold comes from the model of follow.py, and is read by Python's own sqlite3. Other files are refused, and stay as
 they are. A program that has the file open, and reads nothing at that time, keeps no save waiting; one amid its rows does. Killed and
 refused: the program ends at each open, read, write and sync of a stream with a book, or one of these is refused; sqlite3 has to find
-a whole book, of what was reported as saved or of later events, and following goes on to the book of a run without a stop.
+a whole book, of what was reported as saved or of later events, and following goes on to the book of a run without a stop. The same of
+runs that are killed by signal 9 before each system call that changes something, and amid each write. Rivalry: 50 pairs of followers
+over one book, whose system calls come in a random order; one is refused, or both follow.
 
-Killed and refused need a C compiler, `cc`. The last line is `sqlite_books: N passed, M failed`; the status is 1 where one failed.
+Refused, and ends at calls of the C library, need a C compiler, `cc`; kills by signal 9 and Rivalry need Linux on x86-64. --soak kills
+before every system call, and tries 1,000 pairs. The last line is `sqlite_books: N passed, M failed`; the status is 1 where one failed.
 """
 import contextlib
 import fcntl
@@ -25,6 +28,7 @@ import commands
 import ending
 import follow
 import interrupted
+import rivals
 import rooms
 from commands import check, run
 
@@ -276,10 +280,11 @@ def readers(folder):
 class InterruptedFollow(interrupted.Interrupted):
     """A stream whose book is saved after every three events."""
 
+    is_killed_everywhere, count = False, 6
+
     def __init__(self, library, folder):
-        self.lines = follow.stream_of(6)
+        self.lines = follow.stream_of(self.count)
         self.stream = text_of(self.lines)
-        self.whole = run(["--chained"], self.stream)[1]
         self.books = [model_of(self.lines[:count]) for count in range(len(self.lines) + 1)]
         super().__init__(library, folder)
 
@@ -305,33 +310,84 @@ class InterruptedFollow(interrupted.Interrupted):
         return None if fits else (rows, text)
 
     def wrong_of(self, name, saved):
-        """sqlite3 reads a copy of the files first; of every other run also the files."""
+        """sqlite3 reads a copy of the files first; of every other run also the files. A run over what comes after what was reported as
+        saved comes to the book of the whole."""
         last, path = saved[-1] if saved else 0, self.path(name)
-        copy = path + ".copy"
-        for suffix in ("", "-wal"):
-            if os.path.exists(path + suffix):
-                shutil.copy(path + suffix, copy + suffix)
+        copy = f"{path}.copy"
+        self.copy(path, copy)
         wrong = self.unlike(copy, last)
         if not wrong and int(name.split(".")[0]) % 2:
             wrong = self.unlike(path, last)
-        if wrong:
-            return wrong
-        left = [it for it in self.lines if "end" in json.loads(it) or int(json.loads(it)["body"]["timestamp"]) > last]
-        again = run(["--chained", "--book", f"sqlite:{path}"], text_of(left))
-        if again[0] != 0 or not again[1].endswith(self.whole) or os.path.exists(path + "-wal"):
+        return wrong or self.wrong_from(path, text_of(it for it in self.lines if follow.timestamp_of(it) > last))
+
+    def wrong_of_kill(self, name, saved):
+        """sqlite3 reads a copy of the files first. A run over the whole stream comes to its book."""
+        path = self.path(name)
+        self.copy(path, f"{path}.copy")
+        return self.unlike(f"{path}.copy", saved[-1] if saved else 0) or self.wrong_from(path, self.stream)
+
+    @staticmethod
+    def copy(path, other):
+        """Copies the files of a book."""
+        for suffix in ("", "-wal"):
+            if os.path.exists(path + suffix):
+                shutil.copy(path + suffix, other + suffix)
+
+    def wrong_from(self, path, stream):
+        """What is wrong after a run that goes on from what is there."""
+        again = run(["--chained", "--book", f"sqlite:{path}"], stream)
+        is_left = any(os.path.exists(path + suffix) for suffix in ("-wal", ".new"))
+        if again[0] != 0 or not again[1].endswith(self.books[-1].text()) or is_left:
             return again
         return self.unlike(path, self.books[-1].last)
 
 
+class KilledFollow(InterruptedFollow):
+    """A shorter stream, for the kills: its book is made, saved, and saved at the end."""
+
+    count, rows = 4, 10
+
+    def points(self, is_everywhere):
+        """Of the points, not those at which a plan ends a run, too."""
+        planned = ("open", "write", "pwrite64", "rename")
+        return [it for it in super().points(is_everywhere) if is_everywhere or it.part or it.name not in planned]
+
+
 def killed(folder):
-    interrupted.check_all(InterruptedFollow, folder)
+    interrupted.check_plans(InterruptedFollow, folder)
+    room = os.path.join(folder, "kills")
+    os.mkdir(room)
+    interrupted.check_kills(KilledFollow, room)
+
+
+def kept_in(path):
+    """What sqlite3 finds: the timestamp of the last event seen, and the book. A file that isn't there holds nothing."""
+    if not os.path.exists(path):
+        return 0, follow.NOTHING
+    (_, accounts), text = rows_of(path)
+    head, _, *rest = text.splitlines(True)
+    is_same = [it.split()[1:] for it in rest[1:]] == [list(it) for it in accounts]
+    return (int(head.split()[-1]), "".join(rest)) if is_same else (accounts, text)
+
+
+class Rivals(rivals.Rivals):
+    """Pairs of followers over a book in SQLite."""
+
+    scheme, is_replaced = "sqlite:", False
+
+
+def rivalry(folder):
+    """Two followers over one book, in random starts."""
+    lines = follow.stream_of(3)
+    new = new_file(folder)
+    rivals.check_all(Rivals(folder, lines, follow.books_of(lines), kept_in, [b"", new[:16], new]), 0.1)
 
 
 def main(arguments):
-    options = rooms.options_of(rooms.parser_of_first(__doc__), arguments)
-    commands.begin(options.program, "follow")
+    options = rooms.options_of(commands.parser_of(__doc__), arguments)
+    commands.begin(options.program, "follow", options.soak)
     with rooms.room("sqlite-books-") as folder:
-        for part in (tables, others, leftovers, moved, readers, killed):
+        for part in (tables, others, leftovers, moved, readers, killed, rivalry):
             room = os.path.join(folder, part.__name__)
             os.mkdir(room)
             part(room)

@@ -8,14 +8,15 @@ import rooms
 SECONDS = 300  # that a run may take: a last guard against one that hangs
 MOST_SHOWN = 10
 program = command = None
+is_long = False  # whether more is tried than the gate does
 passed = 0
 failures = []
 
 
-def begin(of_program, of_command):
-    """Sets the program and the command that are checked."""
-    global program, command
-    program, command = of_program, of_command
+def begin(of_program, of_command, of_long=False):
+    """Sets the program and the command that are checked, and whether more is tried than the gate does."""
+    global program, command, is_long
+    program, command, is_long = of_program, of_command, of_long
 
 
 def check(name, is_right, found):
@@ -45,13 +46,20 @@ def ended(name=None):
     return 1 if failures else 0
 
 
+def parser_of(text):
+    """A parser of the arguments of a script that checks a command; `text` is the script's help."""
+    parser = rooms.parser_of_first(text)
+    parser.add_argument("--soak", action="store_true", help="tries more than the gate does, for minutes")
+    return parser
+
+
 def main(arguments, text, of_command, parts, random_streams, streams):
     """Checks a command over the program that the arguments name; `text` is the script's help. Each part has a folder of its own;
     then come the random streams, so many if the arguments give no number. Returns the status."""
-    parser = rooms.parser_of_first(text)
+    parser = parser_of(text)
     parser.add_argument("--streams", type=int, default=streams, metavar="N", help="random streams; default: %(default)s")
     options = rooms.options_of(parser, arguments)
-    begin(options.program, of_command)
+    begin(options.program, of_command, options.soak)
     with rooms.room(f"{of_command}-") as folder:
         for part in parts:
             room = os.path.join(folder, part.__name__)
