@@ -4,8 +4,9 @@ mutation baseline", has the rules; tests/mutants_baseline.py uses them.
 A crate above sees contracts, types, constants and definitions. It sees neither bodies of functions, nor functions that aren't
 public, nor lemmas: a body that breaks its contract has no proof, whatever lemmas there are. Of a public function that is no trait's
 it sees nothing unless the function's name is a word of its sources or of its edits, or of what it sees besides, since otherwise
-nothing calls it. Of specifications it sees those that what it sees leads to. Comments count nowhere. A text that these functions
-can't read counts whole. Needs no toolchain, and Python 3.8 or later.
+nothing calls it. Of the fields of a struct it sees nothing if none is public and contracts see a value of another type. Of
+specifications it sees those that what it sees leads to. Comments count nowhere. A text that these functions can't read counts
+whole. Needs no toolchain, and Python 3.8 or later.
 """
 import functools
 import hashlib
@@ -177,6 +178,20 @@ def own_types(tokens):
     return {name.text for by, it, name in found if it.kind == WORD and it.text in TYPES and name.kind == WORD and by.text != "pub"}
 
 
+def modelled(tokens):
+    """Returns the names of the types of which contracts see a value of another type, by impls of that trait among these tokens."""
+    places = [place for place, it in enumerate(tokens) if it.kind == WORD and it.text == "impl"]
+    heads = [tokens[place : next((at for at in range(place, len(tokens)) if tokens[at].text == "{"), place)] for place in places]
+    return {name for trait, name in map(target_of, heads) if trait == SEEN_AS}
+
+
+def is_all_private(fields):
+    """Returns whether nobody outside of a crate sees anything of a type but its name, if it has these fields and contracts see a
+    value of another type."""
+    pairs = zip(fields, [*fields[1:], Token(MARK, "")])
+    return not any(it.kind == CLAUSE or it.text == "pub" and after.text != "(" for it, after in pairs)
+
+
 def target_of(head):
     """Returns the last names of the trait and of the type of an impl that begins with these tokens; of no trait, an empty one."""
     words = [it.text for it in head if it.kind != CLAUSE]
@@ -193,9 +208,9 @@ def target_of(head):
 
 
 def name_in(head):
-    """Returns the name of the function, or of the module, that begins with these tokens, as they stand outside of brackets."""
+    """Returns the name of the function, the module or the struct that begins with these tokens, as they stand outside of brackets."""
     words = words_after_attributes(head)
-    return next((name for word, name in zip(words, words[1:]) if word in ("fn", "mod")), "")
+    return next((name for word, name in zip(words, words[1:]) if word in ("fn", "mod", "struct")), "")
 
 
 def hidden_parts(tokens):
@@ -203,7 +218,7 @@ def hidden_parts(tokens):
     first. Of a type that isn't public, those are its attributes and its impls, but for what contracts see of it. Then those of
     imports that count only if what is seen names them: none where a body is seen. Then what counts only if a crate above names it:
     the last places and names of public functions, and of modules without a body, and the last places of what is passed on."""
-    ends, own, scope, place, start = ends_of(tokens), own_types(tokens), [], 0, 0
+    ends, own, models, scope, place, start = ends_of(tokens), own_types(tokens), modelled(tokens), [], 0, 0
     bodies, items, uses, has_seen_body = {}, {}, {}, False
     functions, passing = {}, {}
     # (the tokens of an item so far, and those of them outside of brackets)
@@ -239,6 +254,8 @@ def hidden_parts(tokens):
                     items[start] = end
                 elif kind in TYPES and not is_public(outer):
                     items.update(attributes(tokens, ends, start))
+                elif kind == "struct" and name_in(outer) in models and is_all_private(tokens[place + 1 : end]):
+                    bodies[place] = end
                 place = end
             if is_whole:
                 head, outer, start = [], [], place + 1

@@ -162,6 +162,23 @@ impl Model for Cells {
 #[derive(Debug)]
 pub(crate) struct Place(u16);
 
+pub struct Shelf<T> {
+    boxes: Vec<T>,
+    pub(crate) width: u32,
+}
+
+impl<T> Model for Shelf<T> {
+    ghost view = { boxes_of };
+}
+
+pub struct Shown {
+    pub boxes: u64,
+}
+
+impl Model for Shown {
+    ghost view = { boxes_of };
+}
+
 pub const fn twice(x: u8) -> u8 {
     x + x
 }
@@ -452,6 +469,11 @@ SEEN = {
         ("a field of a type that isn't public", "count: u8", "count: u16", True),
         ("a field without a name", "Place(u16)", "Place(u32)", True),
         ("what contracts see of a type that isn't public", "{ count }", "{ counted }", True),
+        ("a field of a type of which contracts see another value", "Vec<T>", "Vec<u8>", False),
+        ("a field that is seen in the crate alone", "u32", "u64", False),
+        ("what contracts see of such a type", "Model for Shelf<T> {\n    ghost view = { boxes_of", "Model for Shelf<T> {\n    ghost view = { none_of", True),
+        ("a public field of such a type", "u64,", "u128,", True),
+        ("a field more that is public", "    boxes: Vec<T>,", "    pub boxes: Vec<T>,", True),
         ("a quote that isn't closed", "pub trait", "\" pub trait", True),
         ("a brace that isn't closed", "    9\n", "    9 {\n", True),
         ("a clause with a comment of antt's", "rows ≡ 1", "rows ≡ 1 -- }", True),
