@@ -382,8 +382,10 @@ def source_content(parts, is_seen_from_above, named=None):
 
 
 def words_in(parts):
-    """Returns the words that stand in parts of a source file outside of clauses, of imports and of functions."""
-    return {it for it in parts if isinstance(it, str) and it.isidentifier()}
+    """Returns the words that stand in parts of a source file outside of clauses, of imports and of functions; and those of what is
+    passed on under another name, since nobody above has the first one."""
+    renamed = [one.text for it in parts if isinstance(it, Passing) for one in it.tokens if any(other.text == "as" for other in it.tokens)]
+    return {it for it in [*parts, *renamed] if isinstance(it, str) and it.isidentifier()}
 
 
 def is_comment(line):

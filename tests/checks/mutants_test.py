@@ -658,6 +658,10 @@ def test_names(tree):
         assert tree.changed_by(contract) == {"low own", "high below", *wanted}, name
     tree.put("crates/low/src/more.rt", "pub fn more() {\n    area()\n}\n")
     assert tree.changed_by(contract) == {"low own", "high below"}
+    tree.put("crates/low/src/more.rt", "pub use parts::{area, cells};\n")
+    assert tree.changed_by(contract) == {"low own", "high below"}
+    tree.put("crates/low/src/more.rt", "pub use parts::{area as size, cells};\n")
+    assert tree.changed_by(contract) == {"low own", "mid below", "high below"}
     tree.put("crates/low/src/more.rt", "pub const fn more() {\n    area()\n}\n")
     assert tree.changed_by(contract) == {"low own", "mid below", "high below"}
 
