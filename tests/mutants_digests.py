@@ -548,28 +548,27 @@ class Tree:
                     words |= {*NAME.findall(text_in(content))}
                     first += content.imports
         is_proof = lambda path: modules[path][1].startswith("proofs/")
-        left, proofs = first, []
-        while left:
-            for path in self.ways(left.pop()):
-                if path in modules and path not in reached:
+
+        def reach(left):
+            """Adds the files to which imports lead, by way of specifications, and returns those of them that are proof files."""
+            proofs = []
+            while left:
+                for path in self.ways(left.pop()):
+                    if path not in modules or path in reached:
+                        continue
                     reached.add(path)
                     if is_proof(path):
                         proofs.append(path)
-                    else:
-                        content = self.content(*modules[path])
-                        words |= {*NAME.findall(text_in(content))}
-                        left += content.imports
+                        continue
+                    content = self.content(*modules[path])
+                    words.update(NAME.findall(text_in(content)))
+                    left += content.imports
+            return proofs
+
+        proofs = reach(first)
         named = frozenset(words)
         while proofs:
-            left = [*self.content(*modules[proofs.pop()], named).imports]
-            while left:
-                for path in self.ways(left.pop()):
-                    if path in modules and path not in reached:
-                        reached.add(path)
-                        if is_proof(path):
-                            proofs.append(path)
-                        else:
-                            left += self.content(*modules[path]).imports
+            proofs += reach([*self.content(*modules[proofs.pop()], named).imports])
         return named, reached
 
     def ways(self, path):
