@@ -49,12 +49,13 @@ def digests_of(root, crate, by):
     """Returns the digests of a crate as it stands. Which of the crates below it names itself is not in them, nor which of these
     names a library of the toolchain."""
     rows, views = rows_of(root), mutants_digests.views_below(crate)
-    names = [crate.name, *sorted(views)]
+    names = [crate.name, *sorted(it.name for it in crate.below())]
     settings = {it: rows.get(it, ("", []))[0] for it in names}
     libraries = {use for it in names for use in rows.get(it, ("", []))[1]} - {*rows}
     below = [" ".join(sorted(libraries)), settings[crate.name]]
     for it in names[1:]:
-        below += [it, settings[it], views[it]]
+        if it in views or settings[it]:
+            below += [it, settings[it], views.get(it, "")]
     return Digests(mutants_digests.own_digest(crate), mutants_digests.digest(below), by)
 
 

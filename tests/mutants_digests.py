@@ -4,9 +4,10 @@ mutation baseline", has the rules; tests/mutants_baseline.py uses them.
 A crate above sees contracts, types, constants and definitions. It sees neither bodies of functions, nor functions that aren't
 public, nor lemmas: a body that breaks its contract has no proof, whatever lemmas there are. Of a public function that is no trait's
 it sees nothing unless the function's name is a word of its sources or of its edits, or of what it sees besides, since otherwise
-nothing calls it. Of the fields of a struct it sees nothing if none is public and contracts see a value of another type. Of
-specifications it sees those that what it sees leads to. Comments count nowhere. A text that these functions can't read counts
-whole. Needs no toolchain, and Python 3.8 or later.
+nothing calls it; nor of a constant that isn't public, unless a clause, a specification or another constant names it too. Of the
+fields of a struct it sees nothing if none is public and contracts see a value of another type. Of specifications it sees those that
+what it sees leads to, and nothing of a crate that what it sees doesn't name. Comments count nowhere. A text that these functions
+can't read counts whole. Needs no toolchain, and Python 3.8 or later.
 """
 import functools
 import hashlib
@@ -23,8 +24,9 @@ WORD, MARK, LITERAL, CLAUSE = "word", "mark", "literal", "clause"
 # What counts of a file: its text with a gap for each path that it imports, those paths, and the modules that it passes on, as
 # pairs of a name and a path.
 Content = namedtuple("Content", "text imports passed_on")
-# Parts of a source file as a crate above sees it, which count if that names the function, or some of the items.
+# Parts of a source file as a crate above sees it, which count if that names the function or the constant, or some of the items.
 Function = namedtuple("Function", "name parts")
+Constant = namedtuple("Constant", "name parts")
 Passing = namedtuple("Passing", "tokens")
 GAP = "\0"
 
@@ -208,19 +210,20 @@ def target_of(head):
 
 
 def name_in(head):
-    """Returns the name of the function, the module or the struct that begins with these tokens, as they stand outside of brackets."""
+    """Returns the name of the function, module, struct or constant that begins with these tokens, as they stand outside of brackets."""
     words = words_after_attributes(head)
-    return next((name for word, name in zip(words, words[1:]) if word in ("fn", "mod", "struct")), "")
+    return next((name for word, name in zip(words, words[1:]) if word in ("fn", "mod", "struct", "const") and name != "fn"), "")
 
 
 def hidden_parts(tokens):
     """Returns what no crate above sees: the places of the braces of bodies, and the first and last places of items, each by the
     first. Of a type that isn't public, those are its attributes and its impls, but for what contracts see of it. Then those of
-    imports that count only if what is seen names them: none where a body is seen. Then what counts only if a crate above names it:
-    the last places and names of public functions, and of modules without a body, and the last places of what is passed on."""
+    imports that count only if what is seen names them: none where a body is seen. Then what counts only if it is named: the last
+    places of public functions, of modules without a body, and of constants that aren't public, each with what takes its parts, and
+    the last places of what is passed on."""
     ends, own, models, scope, place, start = ends_of(tokens), own_types(tokens), modelled(tokens), [], 0, 0
     bodies, items, uses, has_seen_body = {}, {}, {}, False
-    functions, passing = {}, {}
+    named, passing = {}, {}
     # (the tokens of an item so far, and those of them outside of brackets)
     head, outer = [], []
     while place < len(tokens):
@@ -249,7 +252,7 @@ def hidden_parts(tokens):
                     bodies[place] = end
                 elif kind == "fn" and is_public(outer):
                     bodies[place] = end
-                    functions[start] = end, name_in(outer)
+                    named[start] = end, Function(name_in(outer), [])
                 elif kind == "fn":
                     items[start] = end
                 elif kind in TYPES and not is_public(outer):
@@ -267,10 +270,12 @@ def hidden_parts(tokens):
             elif kind_of(outer)[0] == "use" and it.text == ";":
                 (passing if is_public(outer) else uses)[start] = place
             elif kind_of(outer)[0] == "mod" and it.text == ";":
-                functions[start] = place, name_in(outer)
+                named[start] = place, Function(name_in(outer), [])
+            elif kind_of(outer)[0] == "const" and it.text == ";" and not is_public(outer) and not {"trait", "trait impl"} & {*scope}:
+                named[start] = place, Constant(name_in(outer), [])
             head, outer, start = [], [], place + 1
         place += 1
-    return bodies, items, {} if has_seen_body else uses, functions, passing
+    return bodies, items, {} if has_seen_body else uses, named, passing
 
 
 def attributes(tokens, ends, start):
@@ -324,14 +329,13 @@ def used_items(tokens, words):
 def source_parts(text, is_seen_from_above):
     """Returns the parts of a source file, as a crate above sees it, or all: texts, imports, and what counts if it is named."""
     tokens = tokens_of(text)
-    bodies, items, uses, functions, passing = hidden_parts(tokens) if is_seen_from_above else ({}, {}, {}, {}, {})
-    whole, function, last, place = [], [], -1, 0
+    bodies, items, uses, named, passing = hidden_parts(tokens) if is_seen_from_above else ({}, {}, {}, {}, {})
+    whole, found_of, last, place = [], None, -1, 0
     while place < len(tokens):
-        if place in functions:
-            last, name = functions[place]
-            function = []
-            whole.append(Function(name, function))
-        found = function if place <= last else whole
+        if place in named:
+            last, found_of = named[place]
+            whole.append(found_of)
+        found = found_of.parts if place <= last else whole
         it, end = tokens[place], place
         imported = IMPORT.fullmatch(it.text) if it.kind == CLAUSE else None
         if place in items:
@@ -360,7 +364,7 @@ def source_content(parts, is_seen_from_above, named=None):
     None if it may name all."""
     found = []
     for it in parts:
-        if not isinstance(it, Function):
+        if not isinstance(it, (Function, Constant)):
             found.append(it)
         elif named is None or it.name in named:
             found += it.parts
@@ -386,6 +390,27 @@ def words_in(parts):
     passed on under another name, since nobody above has the first one."""
     renamed = [one.text for it in parts if isinstance(it, Passing) for one in it.tokens if any(other.text == "as" for other in it.tokens)]
     return {it for it in [*parts, *renamed] if isinstance(it, str) and it.isidentifier()}
+
+
+def constants_in(parts):
+    """Returns the names of the constants among parts of a source file that count only if they are named, and all words in which one
+    of them may be named there."""
+    names, words, left = set(), set(), [(it, "") for it in parts]
+    while left:
+        it, own = left.pop()
+        if isinstance(it, Constant):
+            names.add(it.name)
+        if isinstance(it, (Function, Constant)):
+            left += [(one, it.name if isinstance(it, Constant) else "") for one in it.parts]
+        elif isinstance(it, Passing):
+            words.update(one.text for one in it.tokens)
+        elif isinstance(it, list):
+            words.update(one.text for one in it)
+        elif isinstance(it, str):
+            words.update({*re.findall(r"\w+", it)} - {own})
+        else:
+            words.update(re.findall(r"\w+", it.group()))
+    return names, words
 
 
 def is_comment(line):
@@ -514,18 +539,51 @@ class Tree:
             for name, data in files.items():
                 module = module_of(crate_name, name)
                 self.passed_on.update((f"{module}.{it}", path) for it, path in content_of(name, data, False).passed_on)
-        self.words = self.all_words(files_in(crate.folder, (EDITS,)))
-        # (what specifications and sources name, and the antt files that they lead to)
-        self.named, self.reached = self.reached_files()
+        self.edits, counted = files_in(crate.folder, (EDITS,)), None
+        # (what is only in a crate that doesn't count names nothing)
+        while counted != {*self.files}:
+            self.files = {it: files for it, files in self.files.items() if counted is None or it in counted}
+            self.words = self.all_words()
+            # (what specifications and sources name, and the antt files that they lead to)
+            self.named, self.reached = self.reached_files()
+            self.words |= self.constants()
+            counted = self.counted_crates()
 
-    def all_words(self, edits):
+    def all_words(self):
         """Returns the words of the crate's sources and edits, and of what it sees of the sources below whatever it names."""
-        found = {word for data in edits.values() for word in re.findall(r"\w+", data.decode(errors="replace"))}
+        found = {word for data in self.edits.values() for word in re.findall(r"\w+", data.decode(errors="replace"))}
         for crate_name, files in self.files.items():
             for name, data in files.items():
                 read = read_of(name, data, crate_name != self.crate) if name.startswith("src/") else []
                 found |= {*re.findall(r"\w+", data.decode(errors="replace"))} if read is None else words_in(read)
         return frozenset(found)
+
+    def constants(self):
+        """Returns the names of the constants below that count only if they are named, and are."""
+        names, words = set(), set()
+        for crate_name, files in self.files.items():
+            for name, data in files.items():
+                read = read_of(name, data, True) if name.startswith("src/") and crate_name != self.crate else None
+                if isinstance(read, list):
+                    its_names, its_words = constants_in(read)
+                    names |= its_names
+                    words |= its_words
+                elif crate_name == self.crate or not name.endswith(".antt"):
+                    words.update(re.findall(r"\w+", data.decode(errors="replace")))
+                elif module_of(crate_name, name) in self.reached:
+                    words.update(re.findall(r"\w+", text_in(self.content(crate_name, name, self.named))))
+        return frozenset(names & words)
+
+    def counted_crates(self):
+        """Returns the crate, those below that it names, and those that anything names of what it sees of these."""
+        found, left = set(), [self.crate]
+        while left:
+            name = left.pop()
+            found.add(name)
+            seen = [*self.edits.values(), *self.own_parts()] if name == self.crate else self.parts_below(name)
+            words = {word for it in seen for word in re.findall(r"\w+", it if isinstance(it, str) else it.decode(errors="replace"))}
+            left += [it for it in self.files if it in words and it not in found and it not in left]
+        return found
 
     def content(self, crate_name, name, named=frozenset()):
         """Returns what counts of a file, as the crate sees it. named: the statements of lemmas that count."""
@@ -631,17 +689,17 @@ def places_of(edit, files):
 
 def own_digest(crate):
     """Returns the digest of a crate's own files and of its edits."""
-    tree, edits = Tree(crate), files_in(crate.folder, (EDITS,))
+    tree = Tree(crate)
     parts = tree.own_parts()
-    for name, data in edits.items():
+    for name, data in tree.edits.items():
         parts += [name, data, *places_of(data, tree.files[crate.name])]
     return digest(parts)
 
 
 def views_below(crate):
-    """Returns for each crate below, by name, the digest of what is seen of it from above."""
+    """Returns for each crate below that counts, by name, the digest of what is seen of it from above."""
     tree = Tree(crate)
-    return {it.name: digest(tree.parts_below(it.name)) for it in crate.below()}
+    return {it: digest(tree.parts_below(it)) for it in tree.files if it != crate.name}
 
 
 def view_of(crate):

@@ -442,7 +442,8 @@ SEEN = {
         ("a field", "rows: u8,", "rows: u16,", True),
         ("a ghost field", "List q'", "List q''", True),
         ("a constant", "[4, 5]", "[4, 6]", True),
-        ("a constant with a block", "{ make }", "{ made }", True),
+        ("a constant that isn't public", "{ make }", "{ made }", False),
+        ("a constant with a block", "const MAKE: fn(u8) -> Grid = { make };", "pub const MAKE: fn(u8) -> Grid = { make };", True),
         ("an attribute", "(Clone, Copy)", "(Clone)", True),
         ("a mark for visibility", "pub(crate) unsafe", "pub unsafe", False),
         ("a mark for visibility of a function with a name that is used", "fn declares", "pub fn cells", True),
@@ -532,6 +533,57 @@ def test_what_a_crate_above_sees(tree):
             wanted = {"low own", *(["mid below", "high below"] if is_seen else [])}
             found = tree.changed_by(replaced(name, old, new))
             assert found == wanted, (what, found)
+
+
+def test_constants(tree):
+    """A constant that isn't public counts for a crate above if a type, a clause, a specification or another constant names it."""
+    bound = lambda rest, value: {"crates/low/src/more.rt": f"const BOUND: usize = {value};\n{rest}\n"}
+    rows = [
+        ("", False),
+        ("pub fn cells() -> usize {\n    BOUND\n}", False),
+        ("pub const fn cells() -> usize {\n    BOUND\n}", True),
+        ("pub struct Bounded([u8; BOUND]);", True),
+        ("const OTHER: usize = BOUND + 1;", True),
+        ("pub fn cells() -> usize\n    ensures { result ≡ BOUND }\n{\n    3\n}", True),
+        ("ghost use Rattle.low.specs.declared.more.TheConstants.{BOUND};\n", True),
+    ]
+    for rest, is_seen in rows:
+        tree.put("crates/low/src/more.rt", bound(rest, 4)["crates/low/src/more.rt"])
+        found = tree.changed_by(bound(rest, 5))
+        assert found == {"low own", *(["mid below", "high below"] if is_seen else [])}, (rest, found)
+    tree.put("crates/low/src/more.rt", bound("", 4)["crates/low/src/more.rt"])
+    tree.put("crates/low/specs/Bounds.antt", "pub bound : ℕ\nbound = BOUND\n")
+    assert tree.changed_by(bound("", 5)) == {"low own"}
+    for name in ("mid", "high"):
+        tree.put(f"crates/{name}/specs/Bound.antt", "use Rattle.low.specs.Bounds.{bound}\n")
+        assert f"{name} below" in tree.changed_by(bound("", 5)), name
+    tree.put("crates/low/src/more.rt", "pub const BOUND: usize = 4;\n")
+    os.remove(f"{tree.folder}/crates/low/specs/Bounds.antt")
+    assert tree.changed_by({"crates/low/src/more.rt": "pub const BOUND: usize = 5;\n"}) == {"low own", "mid below", "high below"}
+
+
+def test_named_crates(tree):
+    """A crate below counts if something names it, also by way of another one."""
+    of_low = replaced("crates/low/src/lib.rt", "rows: u8,", "rows: u16,")
+    for name, text in (("crates/mid/specs/Own.antt", "pub own : ℕ\nown = 21\n"), ("crates/high/specs/Top.antt", "pub top : ℕ\n")):
+        tree.put(name, text)
+    found = tree.changed_by(of_low)
+    assert found == {"low own", "high below"}, found
+    tree.put("crates/high/src/lib.rt", "pub fn top() {}\n")
+    found = tree.changed_by(of_low)
+    assert found == {"low own"}, found
+    tree.put("crates/mid/src/more.rt", "pub struct Held(low::Grid);\n")
+    found = tree.changed_by(of_low)
+    assert found == {"low own", "mid below", "high below"}, found
+    tree.put("crates/mid/src/more.rt", "pub struct Held {\n    grids: Vec<low::Grid>,\n}\n\nimpl Model for Held {\n    ghost view = { held };\n}\n")
+    found = tree.changed_by(of_low)
+    assert found == {"low own", "mid below"}, found
+    tree.put("crates/mid/src/lib.rt", "pub fn finish()\n    requires { 1 ≡ 1 }\n{\n}\n")
+    tree.put("crates/low/src/finish.rt", "pub trait Finish {\n    fn finish(&self);\n}\n")
+    assert tree.changed_by({"crates/mid/src/lib.rt": "pub fn finish() {}\n"}) == {"mid own"}
+    tree.put("crates/high/must-fail/edit-0.edit", "file: src/lib.rt\nold: {}\nnew: { low::last() }\n")
+    found = tree.changed_by(of_low)
+    assert found == {"low own", "mid below", "high below"}, found
 
 
 def test_comments(tree):
@@ -642,7 +694,7 @@ def test_unread(tree):
 
 def test_names(tree):
     """A contract counts for a crate above whose sources or edits name the function, and a specification for one that it leads to."""
-    for name, text in (("crates/mid/src/lib.rt", "pub struct Mid;\n"), ("crates/mid/specs/Own.antt", "pub own : ℕ\nown = 21\n")):
+    for name, text in (("crates/mid/src/lib.rt", "use low::Mark;\npub struct Mid;\n"), ("crates/mid/specs/Own.antt", "pub own : ℕ\nown = 21\n")):
         tree.put(name, text)
     contract = replaced("crates/low/src/lib.rt", "rows ≡ 1", "rows ≡ 2")
     assert tree.changed_by(contract) == {"low own", "high below"}
@@ -653,7 +705,7 @@ def test_names(tree):
     for changed in (contract, definition):
         assert tree.changed_by(changed) == {"low own", "mid below", "high below"}
     tree.put("crates/mid/must-fail/edit-0.edit", "mid 0\n")
-    for name, wanted in (("macro_rules! more { area }", {"mid below"}), ("const MORE: u8 = area(1);", {"mid below"}), ("// area", set())):
+    for name, wanted in (("macro_rules! more { area }", {"mid below"}), ("pub const MORE: u8 = area(1);", {"mid below"}), ("const MORE: u8 = area(1);", set()), ("// area", set())):
         tree.put("crates/low/src/more.rt", name + "\n")
         assert tree.changed_by(contract) == {"low own", "high below", *wanted}, name
     tree.put("crates/low/src/more.rt", "pub fn more() {\n    area()\n}\n")
