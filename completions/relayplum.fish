@@ -36,6 +36,7 @@ complete -c relayplum -n '__fish_seen_subcommand_from follow' -l skip-gaps -d 'S
 complete -c relayplum -n '__fish_seen_subcommand_from follow' -l binding -x -d 'Apply only the events that match this binding'
 complete -c relayplum -n '__fish_seen_subcommand_from follow' -l book -r -d 'Save the book in this file, or sqlite:FILE, and resume from it'
 complete -c relayplum -n '__fish_seen_subcommand_from follow' -l every -x -d 'Save the book after N lines at the latest'
+complete -c relayplum -n '__fish_seen_subcommand_from follow' -l busy -x -d 'Wait so long for a program that reads the SQLite book'
 complete -c relayplum -n '__fish_seen_subcommand_from audit' -l book -d 'Print the last balances of each account'
 complete -c relayplum -n '__fish_seen_subcommand_from audit' -l foreign -d "Accept flags that this ledger doesn't have"
 complete -c relayplum -n '__fish_seen_subcommand_from audit' -l state -r -d 'Save the state in this file, and resume from it'

@@ -1,6 +1,7 @@
 """The states that `audit --state` saves: their text, going on from them, and those that are killed and refused while they are saved.
 
-Part of audit.py. By hand: the text of a state with every kind of line. Cut: each stream of the rows by hand is cut at each line,
+Part of audit.py. By hand: the text of a state with every kind of line. Logs: each save but the first appends the lines since the
+one before; a log that is cut anywhere is read up to its last whole frame. Cut: each stream of the rows by hand is cut at each line,
 audited up to there with a state, and then from there on; it has to come to what the whole stream comes to. Files that are no
 state are refused, and stay. Killed: the program ends at each open, read, write, sync and rename of a stream with a state, and is
 started again with the lines after the last one that was reported as saved, or that the state has; it has to come to the state of a
@@ -17,8 +18,10 @@ import sys
 sys.path.append(os.path.join(os.path.dirname(os.path.realpath(__file__)), "..", "faults"))
 import audit
 import interrupted
+import keeping
 from audit import END, EXPIRY, HELD, PAID, POST, SECOND, THREE, TIMED, UP, account, event, expiry, text_of, with_transfer
 from commands import check, run
+from frames import frame, framed
 from piped import Piped
 
 JOBS = 2  # runs at a time
@@ -38,6 +41,25 @@ def read(path):
 def write(path, content):
     with open(path, "wb") as it:
         it.write(content)
+
+
+def base_of(text):
+    """The text of a log that is a base with this state."""
+    return frame(0, text, b"audit-state")
+
+
+def parts_of(path):
+    """The state in the base of a log, and the lines of each of its records."""
+    base, *records = framed(read(path), b"audit-state")
+    return base.decode(), [it.decode() for it in records]
+
+
+def state_of(path):
+    """The state that a log holds, once it is read and saved as a whole."""
+    found = run(["--state", path], b"")
+    base, records = parts_of(path)
+    check("a state that is read is saved as a whole", found[0] == 0 and not records, (found, records))
+    return base
 
 
 def texts():
@@ -77,13 +99,15 @@ def by_hand(folder):
     state = os.path.join(folder, "a.state")
     for name, stream, arguments, text in texts():
         found = run([*arguments, "--state", state], text_of(stream))
-        check(f"a state's text: {name}", found[0] == 0 and read(state) == text.encode(), (found, read(state)))
+        check(f"a state's text: {name}", found[0] == 0 and state_of(state) == text, (found, read(state)))
         last = re.search(r" last (\d+)", text).group(1)
         check(f"a state's last save: {name}", interrupted.SAVED.findall(found[1])[-1:] == [last], found)
         found = run([*arguments, "--state", state, "--book"], b"")
         kept = "".join(it for it in text.splitlines(True) if it.startswith(("subscriber", "account ")))
         check(f"a state that is read: {name}", found[0] == 0 and found[1].endswith(kept), found)
-        check(f"a state that stays: {name}", read(state) == text.encode(), read(state))
+        check(f"a state that stays: {name}", read(state) == base_of(text.encode()), read(state))
+        write(state, text.encode())
+        check(f"a state that version 1.1 saved: {name}", state_of(state) == text, read(state))
         os.remove(state)
     found = run(["--state", state, "--every", "1", "--json"], text_of([PAID]))
     lines = [json.loads(it) for it in found[1].splitlines()]
@@ -94,6 +118,57 @@ def by_hand(folder):
 
 def without_saves(printed):
     return interrupted.SAVED.sub("", printed)
+
+
+def logs(folder):
+    """Each save but the first appends the lines since the one before, and a log that is cut is read up to its last whole frame."""
+    events = [PAID, TIMED, THREE, expiry(30 + SECOND, TIMED, 5), expiry(30 + 2 * SECOND, THREE, 0), END, END]
+    lines = [own(it) + "\n" for it in events]
+    state, other = os.path.join(folder, "a.state"), os.path.join(folder, "other")
+    stream = os.path.join(folder, "stream")
+    write(stream, "".join(lines).encode())
+    found = run([stream, "--state", state, "--every", "3"], b"")
+    log = read(state)
+    base, records = parts_of(state)
+    check("a base and records", found[0] == 0 and records == ["".join(lines[3:6]), lines[6]], (found, records))
+    wanted = []
+    for count in (3, 6, 7):
+        run(["--state", other], "".join(lines[:count]).encode())
+        wanted.append(state_of(other))
+        os.remove(other)
+    check("a base is the state", base == wanted[0], (base, wanted[0]))
+    ends = [log.index(b"\n", log.index(b"end %d bytes" % it)) + 1 for it in range(3)]
+    for place in range(len(log) + 1):
+        write(other, log[:place])
+        whole = sum(end <= place for end in ends)
+        if whole:
+            check(f"a log that is cut at {place}", state_of(other) == wanted[whole - 1], place)
+        else:
+            found = run(["--state", other], b"")
+            check(f"a base that is cut at {place}", found[:2] == STORE and read(other) == log[:place], (place, found))
+        os.remove(other)
+    first, second = lines[0].encode(), lines[6].encode()
+    size = log.index(b"\n", log.index(b"audit-state 2")) + 1
+    for name, last, text in (
+        ("zeros behind it", log + b"\0" * 40, wanted[2]),
+        ("a book's frame behind it", log + b"book 3 bytes 2\nx\nend 3 bytes 2\n", wanted[2]),
+        ("zeros in its last frame", log[:size] + b"\0" * len(second) + log[size + len(second) :], wanted[1]),
+        ("a frame with another number", log.replace(b"audit-state 2 bytes", b"audit-state 3 bytes"), wanted[1]),
+        ("no second record", log[: ends[0]] + log[ends[1] :], wanted[0]),
+    ):
+        write(other, last)
+        check(f"a log with {name}", state_of(other) == text, name)
+        os.remove(other)
+    for name, content in (
+        ("a record that isn't accepted before another one", base_of(base.encode()) + frame(1, first, b"audit-state") + frame(2, second, b"audit-state")),
+        ("a base that is no state", base_of(b"book 1 chained no\n") + log[ends[0] :]),
+        ("a base with a byte too many", base_of(base.encode() + b"\n") + log[ends[0] :]),
+    ):
+        write(other, content)
+        found = run(["--state", other], b"")
+        check(f"a log with {name}", found[:2] == STORE and read(other) == content, found)
+        os.remove(other)
+    os.remove(state)
 
 
 def cut(row):
@@ -130,10 +205,10 @@ def refused(folder):
     state = os.path.join(folder, "a.state")
     stream = [PAID, TIMED]
     run(["--state", state], text_of(stream))
-    before = read(state)
+    before = state_of(state).encode()
     found = run(["--foreign", "--state", state], b"")
     check("a state without --foreign", found[:2] == STORE and f"{state}: store" in found[2], found)
-    check("it stays", read(state) == before, before)
+    check("it stays", read(state) == base_of(before), before)
     plain, held = b"plain 1\n", b"held 2 10\n"
     for name, content in [
         ("empty", b""),
@@ -156,11 +231,12 @@ def refused(folder):
     ]:
         check(f"another file: {name}", content != before, name)
         other = os.path.join(folder, "other")
-        write(other, content)
-        found = run(["--state", other], text_of(stream))
-        check(f"a state that is none: {name}", found[:2] == STORE and f"{other}: store" in found[2], found)
-        check(f"it stays: {name}", read(other) == content, name)
-        os.remove(other)
+        for kept in (content, base_of(content)):
+            write(other, kept)
+            found = run(["--state", other], text_of(stream))
+            check(f"a state that is none: {name}", found[:2] == STORE and f"{other}: store" in found[2], found)
+            check(f"it stays: {name}", read(other) == kept, name)
+            os.remove(other)
     check("a folder", run(["--state", folder], b"")[:2] == STORE, folder)
     check("no folder", run(["--state", os.path.join(folder, "no", "where")], b"")[:2] == STORE, folder)
     with open(state, "rb") as it:
@@ -170,7 +246,7 @@ def refused(folder):
     write(beside, b"book 1 is mine\n")
     later = event(30, 3, audit.POSTED, 4, (1, 0, 34, 0, 0), (2, 0, 0, 0, 34), 2)
     check("a book beside a state", run(["--state", state], text_of([later]))[:2] == STORE, state)
-    check("it stays, too", read(beside) == b"book 1 is mine\n" and read(state) == before, state)
+    check("it stays, too", read(beside) == b"book 1 is mine\n" and read(state) == base_of(before), state)
     os.remove(beside)
     os.remove(state)
     for arguments in (["--every", "0"], ["--every", "x"], ["--state"]):
@@ -190,6 +266,13 @@ def slow(folder):
     check("the end of a slow pipe", found == (0, "saved 30\naccepted 3 last 30\n", ""), found)
 
 
+def last_in(path):
+    """The timestamp of the last event of a log, perhaps with a torn end."""
+    base, *records = framed(read(path), b"audit-state", is_cut=True)
+    stamps = [json.loads(it).get("timestamp", 0) for record in records for it in record.splitlines()]
+    return max(int(it) for it in [re.search(rb" last (\d+) ", base).group(1), *stamps])
+
+
 class InterruptedAudit(interrupted.Interrupted):
     """An audit that saves its state after each event."""
 
@@ -198,7 +281,7 @@ class InterruptedAudit(interrupted.Interrupted):
         self.stream = text_of(self.events)
         whole = os.path.join(folder, "whole")
         self.whole = run(["--book", "--state", whole], self.stream)
-        self.state = read(whole)
+        self.state = state_of(whole)
         super().__init__(library, folder)
 
     def arguments(self, name):
@@ -207,10 +290,9 @@ class InterruptedAudit(interrupted.Interrupted):
     def wrong_of(self, name, saved):
         """The state has every event that was reported as saved; with those after its last one it comes to the whole."""
         path = self.path(name)
-        text = read(path) if os.path.exists(path) else b" last 0 "
-        last = int(re.search(rb" last (\d+) ", text).group(1))
+        last = last_in(path) if os.path.exists(path) else 0
         again = run(["--book", "--state", path], text_of([it for it in self.events if int(it["timestamp"]) > last]))
-        is_whole = again[0] == 0 and without_saves(again[1]) == without_saves(self.whole[1]) and read(path) == self.state
+        is_whole = again[0] == 0 and without_saves(again[1]) == without_saves(self.whole[1]) and state_of(path) == self.state
         return None if last >= max(saved, default=0) and is_whole else (last, again)
 
 
@@ -218,8 +300,15 @@ def killed(folder):
     interrupted.check_all(InterruptedAudit, folder)
 
 
+def kept(folder):
+    """What a save leaves of a state. (The second run of those that keep an owner has no line, since an audit refuses duplicates.)"""
+    arguments = lambda path: ["--every", "1", "--state", path]
+    keeping.owned(folder, arguments, b"")
+    keeping.limited(folder, arguments, text_of([PAID, TIMED, THREE]))
+
+
 def states(folder):
-    for part in (by_hand, cuts, slow, refused, killed):
+    for part in (by_hand, logs, cuts, slow, refused, killed, kept):
         room = os.path.join(folder, f"state-{part.__name__}")
         os.mkdir(room)
         part(room)

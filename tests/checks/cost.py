@@ -7,9 +7,10 @@
 The parts are accounts-2 and accounts-5000 (`books` on more and more transfers), full (a script of the greatest size),
 subscribers (what each further one takes), peak (the memory that such a script holds), phases (pending transfers, posts and
 a pulse), chains (transfers that are linked), log (reads of the log under `simulate`), memory (the bytes that `books` asks
-for) and saves (`follow` with a book, of streams with a real ledger's numbers; --soak takes one ten times as large). Valgrind counts, so other work on the machine disturbs no figure. All of it takes some minutes of CPU time. The last
-line is 'N passed, M failed', of the figures that have limits; exit status 1 where one is over, 2 where nothing could be
-counted.
+for), saves (`follow` with a book, of streams with a real ledger's numbers; --soak takes one ten times as large) and chosen (streams
+whose ids collide if the key of a hash is fixed). Valgrind counts, so other work on the machine disturbs no figure. All of it takes
+some minutes of CPU time. The last line is 'N passed, M failed', of the figures that have limits; exit status 1 where one is over, 2
+where nothing could be counted.
 """
 import concurrent.futures
 import math
@@ -22,6 +23,7 @@ import tempfile
 
 sys.dont_write_bytecode = True
 sys.path[:0] = [os.path.join(os.path.dirname(os.path.realpath(__file__)), "..", it) for it in ("common", "bench")]
+import chosen as chosen_ids
 import ending
 import rooms
 import spent
@@ -50,6 +52,7 @@ BYTES_EXPONENT = 1.05  # of the bytes that growing lists ask for in all
 FIRST = 395_000  # bytes that the first transfer may ask for: a segment of the log has room for 1,024 events
 
 WITH_BOOK = 2.0  # what `follow` may take with a book, in what it takes without one
+CHOSEN = 1.3  # what a stream with chosen ids may take, in what one with random ids takes
 MANY_ACCOUNTS = 20  # what a save of 1,000 lines may take with 100,000 accounts, in what it takes with ten
 NOTED = 1.5  # what a transfer may cost if the timestamps of the script decrease, in those of a script whose timestamps don't
 
@@ -132,6 +135,19 @@ class Counter:
                 file.write(book)
         arguments = [self.program, "follow", stream] + (["--book", path, "--every", str(every)] if book is not None else [])
         return self.pool.submit(counted, [*tool_arguments("cachegrind", f"{path}.out"), *arguments], f"{path}.out")
+
+    def over(self, command, stream):
+        """A future of the instructions of a command over a stream."""
+        self.made += 1
+        out = f"{self.folder}/{self.made}.out"
+        return self.pool.submit(counted, [*tool_arguments("cachegrind", out), self.program, command, stream], out)
+
+    def chosen(self, count, kind):
+        """Writes a stream whose ids are chosen, and returns its path."""
+        path = f"{self.folder}/{kind}.stream"
+        with open(path, "w", encoding="ascii") as file:
+            file.writelines(chosen_ids.lines(kind, count))
+        return path
 
     def stream_of(self, count, accounts):
         """Writes a stream with a real ledger's numbers, and returns its path."""
@@ -357,6 +373,18 @@ def saves(counter, table):
     table.row(f"{sizes[1]:,} accounts", round(many), many / few, MANY_ACCOUNTS)
 
 
+def chosen(counter, table):
+    count, commands = 200_000 if counter.is_long else 5_000, ("follow", "audit")
+    streams_of = {kind: counter.chosen(count, kind) for kind in chosen_ids.KINDS}
+    runs = {(command, kind): counter.over(command, path) for command in commands for kind, path in streams_of.items()}
+    totals = {it: total_of(run.result()) for it, run in runs.items()}
+    table.head(f"{count:,} messages with chosen ids: instructions; in those with random ids")
+    for command in commands:
+        for kind in ("MULTIPLIER", "STATE"):
+            total = totals[command, kind]
+            table.row(f"{command}, {kind.lower()}", total, total / totals[command, "RANDOM"], CHOSEN)
+
+
 def top(counter, count):
     """Prints the functions in which most of a full script's instructions are."""
     out = counter.run("callgrind", script(2, most_transfers(2)), None).result()
@@ -369,7 +397,7 @@ def top(counter, count):
 
 COUNTS = {"accounts-2": accounts_2, "accounts-5000": accounts_5000, "full": full, "subscribers": subscribers,
           "peak": peak, "phases": phases, "chains": chains, "log": log, "memory": memory,
-          "saves": saves}
+          "saves": saves, "chosen": chosen}
 
 
 def main(arguments):

@@ -35,11 +35,13 @@ import commands
 import ending
 import holding
 import interrupted
+import keeping
 import needs
 import rivals
 import rooms
 import sweep
 from commands import check, run
+from frames import framed
 from piped import Piped
 
 JOBS = 2  # runs at a time
@@ -536,23 +538,6 @@ def books(folder):
     os.remove(book)
 
 
-def framed(log, is_cut=False):
-    """The contents of the frames of a log, by its text alone. What follows the last whole frame counts only if the log may be cut."""
-    contents, place = [], 0
-    while place < len(log):
-        number = len(contents)
-        found = re.compile(rb"book %d bytes (0|[1-9][0-9]*)\n" % number).match(log, place)
-        first, size = (found.end(), int(found[1])) if found else (place, 0)
-        last = b"end %d bytes %d\n" % (number, size)
-        if not found or not log.startswith(last, first + size):
-            if is_cut:
-                break
-            raise ValueError(log)
-        contents.append(log[first : first + size])
-        place = first + size + len(last)
-    return contents
-
-
 def kept_in(path):
     """What a log holds up to its last whole frame, by its text alone: the timestamp of the last event seen, and the book. A file that
     isn't there holds nothing; None if the base isn't whole."""
@@ -988,6 +973,13 @@ def killed(folder):
     interrupted.check_kills(ReplacedLog, room)
 
 
+def kept(folder):
+    """What a save leaves of a book."""
+    arguments = lambda path: ["--chained", "--every", "3", "--book", path]
+    keeping.owned(folder, arguments, text_of(stream_of(10)))
+    keeping.limited(folder, arguments, text_of(stream_of(40)))
+
+
 def rivalry(folder):
     """Two followers over one book, in random starts."""
     lines = stream_of(4)
@@ -1014,7 +1006,7 @@ def memory(folder):
 
 
 def main(arguments):
-    parts = [by_hand, books, logs, cuts, grown, saves, pipes, starved, replaced, closed, killed, rivalry, memory]
+    parts = [by_hand, books, logs, cuts, grown, saves, pipes, starved, replaced, closed, killed, kept, rivalry, memory]
     return commands.main(arguments, __doc__, "follow", parts, random_streams, STREAMS)
 
 

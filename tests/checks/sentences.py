@@ -105,8 +105,14 @@ def rows():
         ("--start-after", ["run", "one.script"], "x", "a timestamp in nanoseconds, from 0 to 9223372036854775807"),
         ("--lose-confirm", ["run", "one.script"], "0", "a number from 1 to 18446744073709551615"),
         ("--prefetch", ["run", "one.script"], "65", "a number from 1 to 64"),
+        ("--busy", ["follow", "gap.stream"], "86401", "a number from 0 to 86400"),
     ]:
         yield [*command, option, wrong], 2, f"error: {option} {wrong}: {wanted}\n{MORE}"
+    # A name can't move the cursor of a terminal, nor begin a line.
+    odd, shown = "a\x1b[1m\nb", r"a\u{1b}[1m\u{a}b"
+    for arguments in (["books", odd], ["messages", odd], ["follow", odd], ["audit", odd], ["simulate", "one.script", odd]):
+        yield arguments, 1, f"{shown}: read_fault: No such file or directory (os error 2)\n"
+    yield ["follow", "gap.stream", "--book", f"none/{odd}"], 1, f"none/{shown}: store: {BOOK}"
     diagram = "this file holds something else than a diagram, which would be lost; name another one"
     yield ["simulate", "one.script", "none.steps", "--diagram=something"], 2, f"error: --diagram=something: {diagram}\n"
     yield ["messages", "one.script", "--queue", "2"], 2, "relayplum: --queue 2: the script has no such subscriber\n"

@@ -27,6 +27,7 @@ sys.path += [os.path.join(os.path.dirname(os.path.realpath(__file__)), "..", it)
 import commands
 import ending
 import follow
+import frames
 import interrupted
 import rivals
 import rooms
@@ -35,6 +36,7 @@ from commands import check, run
 BALANCES = "debits_pending, debits_posted, credits_pending, credits_posted"
 EVERY = 40  # of the allocations, one in so many is refused
 REFUSED = (1, "fault: store\n")
+WAITS = b"another program is reading the book"
 
 
 def text_of(lines):
@@ -53,6 +55,11 @@ def expected(model):
     names = BALANCES.split(", ")
     accounts = [(str(id), *(str(shown[name]) for name in names)) for id, shown in model.book.items()]
     return (str(model.last), str(model.applied)), accounts
+
+
+def heading_of(model):
+    """The lines of a book's text that `book` has: all but those of the accounts."""
+    return "".join(it for it in model.text().splitlines(True) if not it.startswith("account "))
 
 
 def rows_in(connection):
@@ -90,7 +97,8 @@ def tables(folder):
         whole = os.path.join(folder, "whole.book")
         run(["--chained", "--book", whole], text_of(part))
         with open(whole, "rb") as it:
-            check("its text", [text.encode()] == follow.framed(it.read()), text)
+            lines_of = [line for line in frames.framed(it.read())[0].decode().splitlines(True) if not line.startswith("account ")]
+            check("its text", text == "rows " + "".join(lines_of), text)
         os.remove(whole)
         check("nothing is left beside it", sorted(os.listdir(folder)) == ["a.book", "a.db"], os.listdir(folder))
         check("its journal", open(path, "rb").read()[18:20] == b"\1\1", "")
@@ -160,6 +168,41 @@ def others(folder):
     check("a folder", found[:2] == REFUSED and "regular file" in found[2], found)
     found = run(["--chained", "--book", f"sqlite:{os.path.join(folder, 'no', 'where')}"], b"")
     check("a book in no folder", found[:2] == REFUSED, found)
+
+
+def earlier(folder):
+    """A book as version 1.1 saved it, whose text has the accounts, is read, and the first save makes it one of today's."""
+    lines = follow.stream_of(30)
+    path, text_path = os.path.join(folder, "a.db"), os.path.join(folder, "a.book")
+    run(["--chained", "--book", f"sqlite:{path}"], text_of(lines[:12]))
+    run(["--chained", "--book", text_path], text_of(lines[:12]))
+    with open(text_path, "rb") as it:
+        text = frames.framed(it.read())[0]
+    made(path, f"UPDATE book SET text = x'{text.hex()}'")
+    found = run(["--chained", "--book", f"sqlite:{path}"], b"")
+    rows, text = rows_of(path)
+    check("a book of version 1.1", found[0] == 0 and rows == expected(model_of(lines[:12])), (found, rows))
+    check("its text is one without accounts then", text.startswith("rows book 1 ") and "account " not in text, text)
+    found = run(["--chained", "--book", f"sqlite:{path}", "--every", "5"], text_of(lines))
+    check("it goes on", found[0] == 0 and rows_of(path)[0] == expected(model_of(lines)), found)
+
+
+def written(folder):
+    """Rows that another program has written are replaced by the next save; with another text the file is refused."""
+    lines = [it for it in follow.stream_of(24) if "end" not in json.loads(it)]
+    path = os.path.join(folder, "a.db")
+    child = followed(path)
+    for count in range(1, 5):
+        child.stdin.write(text_of(lines[count - 1 : count]))
+        check("a save", child.stdout.readline().startswith(b"saved "), count)
+    made(path, "UPDATE accounts SET debits_posted = '7'")
+    child.stdin.write(text_of(lines[4:5]))
+    check("a save after another program's", child.stdout.readline().startswith(b"saved "), "")
+    check("all rows are the book's", rows_of(path)[0] == expected(model_of(lines[:5])), rows_of(path))
+    made(path, "UPDATE book SET text = x'00'")
+    child.stdin.write(text_of(lines[5:6]))
+    child.stdin.close()
+    check("another text", (child.stdout.read(), child.wait(commands.SECONDS)) == (b"fault: store\n", 1), "")
 
 
 def leftovers(folder):
@@ -263,14 +306,14 @@ def readers(folder):
         child.stdin.close()
         check("an idle reader keeps nobody waiting", child.wait(commands.SECONDS) == 0, child.stderr.read())
     run(["--chained", "--book", f"sqlite:{path}"], b"")
-    before = rows_of(path)
     with contextlib.closing(sqlite3.connect(path, timeout=60)) as reader:
         rows = reader.execute("SELECT * FROM accounts")
         rows.fetchone()
-        found = run(["--chained", "--book", f"sqlite:{path}"], text_of(lines))
-        check("a reader amid its rows", found[:2] == REFUSED, found)
+        child = followed(path)
+        check("a reader amid its rows is waited for", WAITS in child.stderr.readline(), "")
         rows.fetchall()
-    check("its book stays", rows_of(path) == before, "")
+    child.stdin.close()
+    check("and then the save goes on", child.wait(commands.SECONDS) == 0, child.stderr.read())
 
 
 # ---------------------------------------------------------------------------------------------------------------------
@@ -306,7 +349,7 @@ class InterruptedFollow(interrupted.Interrupted):
             if not names:
                 return None if last == 0 else "no tables"
         rows, text = rows_of(path)
-        fits = any(rows == expected(it) and text.endswith(it.text()) and it.last >= last for it in self.books)
+        fits = any(rows == expected(it) and text.endswith(heading_of(it)) and it.last >= last for it in self.books)
         return None if fits else (rows, text)
 
     def wrong_of(self, name, saved):
@@ -387,7 +430,7 @@ def main(arguments):
     options = rooms.options_of(commands.parser_of(__doc__), arguments)
     commands.begin(options.program, "follow", options.soak)
     with rooms.room("sqlite-books-") as folder:
-        for part in (tables, others, leftovers, moved, readers, killed, rivalry):
+        for part in (tables, others, earlier, written, leftovers, moved, readers, killed, rivalry):
             room = os.path.join(folder, part.__name__)
             os.mkdir(room)
             part(room)

@@ -33,7 +33,6 @@ class Rivals:
 
     def __init__(self, folder, lines, books, kept, left):
         self.folder, self.lines, self.books, self.kept, self.left = folder, lines, books, kept, left
-        self.both_refused = 0
 
     def arguments(self, path):
         return ["--chained", "--every", "2", "--book", f"{self.scheme}{path}"]
@@ -77,11 +76,7 @@ class Rivals:
     def wrong_of(self, path, begun, counts, ended):
         """One run has followed its stream to the end; the other one has, too, or is refused. The book has all that was reported."""
         if all(status != 0 for status, _, _ in ended):
-            # (two runs that make one book at once may both be refused: drafts/two-makers.py)
-            is_made = begun == 0 and not any(interrupted.SAVED.search(printed) for _, printed, _ in ended)
-            self.both_refused += is_made
-            if not is_made:
-                return "both are refused"
+            return "both are refused"
         found, least = self.kept(path), 0
         for count, (status, printed, errors) in zip(counts, ended):
             saved = [int(it) for it in interrupted.SAVED.findall(printed)]
@@ -110,5 +105,3 @@ def check_all(rivals, share):
             print(f"{commands.command}: not tried: two runs over one book: {why}")
             return
         commands.check("two runs over one book", wrong is None, wrong)
-    if rivals.both_refused:
-        print(f"{commands.command}: two runs that made one book were both refused, {rivals.both_refused} times")

@@ -4,6 +4,7 @@ ghost use Rattle.std.specs.Prelude.{◌↔◌, ◌≡◌, IsTrue};
 ghost use Rattle.std.specs.IoError.{error_kind};
 
 use crate::kept::Seen;
+use crate::names::Escaped;
 use cdc_arguments::{Form, STANDARD_INPUT};
 use cdc_commands::{Ending, print_fault};
 use cdc_diagnostics::{script_fault_sentence, steps_fault_sentence};
@@ -85,10 +86,11 @@ pub fn is_reader_gone(error: io::Error) -> bool
 
 /// Writes one line, or nothing after a command that did all that was asked or lost its reader.
 fn advice(rt: &HostRuntime, place: &str, ending: Ending) -> io::Result<()> {
+    let place = Escaped(place);
     match ending {
         Ending::Done | Ending::BadWords => Ok(()),
         Ending::BadScript(fault) | Ending::BadSteps(fault) => {
-            advice_on_file(rt, place, fault, Err(AllocError))
+            advice_on_file(rt, place.0, fault, Err(AllocError))
         }
         Ending::Refused(refusal) => {
             let name = refusal.name();
@@ -145,6 +147,7 @@ fn advice_on_file(
         ..
     } = fault;
     let name = kind.name();
+    let place = Escaped(place);
     match sentence {
         Ok(sentence) if line != 0 => {
             eprintln!(rt; "{place}:{line}:{column}: {name}: {sentence}")

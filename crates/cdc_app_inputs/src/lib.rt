@@ -4,6 +4,7 @@
 mod advice;
 mod descriptors;
 mod kept;
+mod names;
 mod notes;
 mod sources;
 
@@ -12,5 +13,6 @@ pub use advice::{
 };
 pub use descriptors::open_standard;
 pub use kept::{Kept, Seen};
+pub use names::{Escaped, escaped};
 pub use notes::{EXPLAIN, hint, note, report_count, report_no_subscriber};
 pub use sources::{Source, Stream};

@@ -3,7 +3,7 @@
 use crate::progress_advice::trouble;
 use crate::run_places::Shown;
 use cdc_actors::RunFault;
-use cdc_app_inputs::{Seen, advise_on_failure, advise_on_script, shown_name};
+use cdc_app_inputs::{Escaped, Seen, advise_on_failure, advise_on_script, escaped, shown_name};
 use cdc_commands::Ending;
 use cdc_diagnostics::{RunExplanation, Submitted, run_explanation};
 use cdc_output::ProgramFault;
@@ -24,6 +24,7 @@ pub fn advise_on_run(
         (Ending::Failed(ProgramFault::Store(error)), Some(saved), _) => {
             let name = error.name();
             let why = trouble(rt, saved, error);
+            let saved = Escaped(saved);
             let _ = eprintln!(rt; "{saved}: store: {name}: {why}");
         }
         (Ending::Failed(fault), _, Some((place, met))) => {
@@ -68,7 +69,10 @@ pub fn explain_run(
     lines: ScriptLines,
     report: &Report,
 ) {
-    let name = shown_name(file);
+    let Ok(name) = escaped(rt.alloc(), shown_name(file)) else {
+        return;
+    };
+    let name = name.as_str();
     let submitted = Submitted {
         owners,
         order: report.order.as_slice(),

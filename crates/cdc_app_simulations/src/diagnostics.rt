@@ -2,7 +2,7 @@
 //! a step was refused, and what each step did. If memory runs out on the way, nothing is reported. A write that fails
 //! is ignored, since the command has ended by then.
 
-use cdc_app_inputs::is_reader_gone;
+use cdc_app_inputs::{Escaped, is_reader_gone};
 use cdc_arguments::{Diagnostics, STANDARD_ERROR};
 use cdc_commands::Ending;
 use cdc_diagnostics::{Asked, Observed, RefusedStep};
@@ -53,6 +53,7 @@ pub fn report_simulation(
     match &observed.refusal {
         Some(RefusedStep { line, why }) => {
             let why = why.as_str();
+            let step_file = Escaped(step_file);
             let _ = eprintln!(rt; "{step_file}:{line}: {why}");
             true
         }
@@ -75,6 +76,7 @@ pub fn can_draw(rt: &HostRuntime, diagnostics: Diagnostics<'_>, inputs: &[&str])
     if out == STANDARD_ERROR || !inputs.contains(&out) && may_draw(rt, out) {
         return true;
     }
+    let out = Escaped(out);
     let _ = eprintln!(rt;
         "error: --diagram={out}: this file holds something else than a diagram, which would be lost; name another one"
     );
@@ -109,6 +111,7 @@ pub fn draw(rt: &HostRuntime, file: &str, diagram: &str) {
     }
     match fs::write(rt, file, diagram) {
         Err(error) if !is_reader_gone(error) => {
+            let file = Escaped(file);
             let _ = eprintln!(rt; "{file}: write_fault: {error}");
         }
         _ => {}

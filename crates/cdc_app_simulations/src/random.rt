@@ -5,7 +5,9 @@ ghost use Rattle.cdc_types.specs.Windows.{IsWindow};
 
 use crate::diagnostics::{asked, can_draw, draw, is_reported};
 use crate::simulation::{Wanted, report_counts};
-use cdc_app_inputs::{Kept, Seen, Source, advise_on_script, report_no_subscriber, shown_name};
+use cdc_app_inputs::{
+    Kept, Seen, Source, advise_on_script, escaped, report_no_subscriber, shown_name,
+};
 use cdc_arguments::{Diagnostics, Form, STANDARD_ERROR};
 use cdc_commands::simulate::simulation_of_steps;
 use cdc_commands::{
@@ -43,9 +45,12 @@ pub fn run_random(
     let Ok(RandomSteps { text, steps }) = random_steps(rt.alloc(), &script, window, chances) else {
         return abort(rt, seen, ProgramFault::OutOfMemory, form);
     };
+    let Ok(name) = escaped(rt.alloc(), shown_name(file)) else {
+        return abort(rt, seen, ProgramFault::OutOfMemory, form);
+    };
     let mut observers = Both {
         first: Recorder::new(rt.alloc()),
-        second: Observation::new(rt.alloc(), shown_name(file), asked(diagnostics)),
+        second: Observation::new(rt.alloc(), name.as_str(), asked(diagnostics)),
     };
     let Ended {
         ending,
@@ -73,7 +78,7 @@ pub fn run_random(
             if !diagnostics.explain {
                 hint(rt, tally);
             }
-            if let Some(text) = notes_text(rt.alloc(), shown_name(file), notes, true) {
+            if let Some(text) = notes_text(rt.alloc(), name.as_str(), notes, true) {
                 comment(rt, text.as_str());
             }
         }

@@ -4,15 +4,15 @@ ghost use Rattle.cdc_types.specs.Windows.{IsWindow};
 
 use crate::diagnostics::{asked, can_draw, is_reported, report_simulation};
 use cdc_app_inputs::{
-    EXPLAIN, Kept, Source, advise_on_steps, hint, note, report_count, report_no_subscriber,
-    shown_name,
+    EXPLAIN, Kept, Source, abort, advise_on_steps, escaped, hint, note, report_count,
+    report_no_subscriber, shown_name,
 };
 use cdc_arguments::{Diagnostics, Form};
 use cdc_commands::simulate::simulate_command;
 use cdc_commands::{Ended, Ending, Form as PrintForm, Report};
 use cdc_deliveries::{Asked, Both, Recorder, count_of};
 use cdc_diagnostics::Observation;
-use cdc_output::{Json, Text};
+use cdc_output::{Json, ProgramFault, Text};
 use cdc_types::Limits;
 use std::io;
 
@@ -42,9 +42,12 @@ pub fn run_simulation(
     }
     let mut script = Kept::new(rt.alloc(), Source::of_script(rt, file));
     let mut step_file = Kept::new(rt.alloc(), Source::of_file(rt, steps));
+    let Ok(name) = escaped(rt.alloc(), shown_name(file)) else {
+        return abort(rt, ProgramFault::OutOfMemory, wanted.form);
+    };
     let mut observers = Both {
         first: Recorder::new(rt.alloc()),
-        second: Observation::new(rt.alloc(), shown_name(file), asked(diagnostics)),
+        second: Observation::new(rt.alloc(), name.as_str(), asked(diagnostics)),
     };
     let Ended {
         ending,

@@ -1,7 +1,11 @@
 -- What is kept of a book: in a log, or in rows.
-use Rattle.std.specs.Prelude.{◌≡◌, List, [], ◌∷◌, Some}
+use Rattle.std.specs.Prelude.{◌≡◌, List, [], ◌∷◌, ◌++◌, Some}
 use Rattle.std.specs.Option.{option_map}
+use Rattle.cdc_subscriber.specs.Book.{entries_of}
+use Rattle.cdc_follow.specs.Following.{FollowState}
 use Rattle.cdc_follow.specs.Saved.{book_text}
+use Rattle.cdc_book_log.specs.Replay.{emptied}
+use Rattle.cdc_sqlite_book.specs.Tables.{rows_mark}
 use Rattle.cdc_follow_command.specs.declared.books.BookLog.{BookLog}
 use Rattle.cdc_follow_command.specs.declared.followers.Followed.{Followed}
 use Rattle.cdc_follow_command.specs.declared.followers.FollowSetup.{FollowSetup}
@@ -15,11 +19,20 @@ OfLast Holds [] = Unit {0}
 OfLast Holds (state ∷ []) = Holds state
 OfLast Holds (state ∷ later) = OfLast Holds later
 
--- the store of rows has last loaded or saved this follower's book
+-- the store of rows has last saved this follower: the mark and the text of its book without accounts, and its accounts
+abbrev pub HoldsFollower : FollowSetup → RowBook → FollowState → Type 0
+HoldsFollower setup rows state =
+    (option_map (λ text. text.items) rows.book.known
+    ≡ Some (rows_mark ++ book_text setup.rules.chained setup.binding_text.items (emptied state)))
+    × (entries_of rows.book.accounts.entries ≡ state.kept.book)
+
 abbrev pub HoldsBook : FollowSetup → RowBook → Followed → Type 0
-HoldsBook setup rows it =
-    option_map (λ text. text.items) rows.book.known
-    ≡ Some (book_text setup.rules.chained setup.binding_text.items it.follower)
+HoldsBook setup rows it = HoldsFollower setup rows it.follower
+
+-- two stores of rows have last saved the same
+abbrev pub HoldSame : RowBook → RowBook → Type 0
+HoldSame old new =
+    (new.book.known ≡ old.book.known) × (new.book.accounts.entries ≡ old.book.accounts.entries)
 
 -- a store of rows came from another one, and was given these books meanwhile; it holds the last one
 abbrev pub HasKeptRows : FollowSetup → RowBook → RowBook → List Followed → Type 0

@@ -1,1 +1,2 @@
 pub mod KeptBooks
+pub mod Private

@@ -1,13 +1,15 @@
 //! The command `audit`: a stream in, and whether a ledger can have published it.
 
+use crate::failures::print_failure;
 use crate::follow_advice::{advise_on_line, unread};
+use crate::keys::{random_key, refuse_key};
 use crate::lines::{Lines, lines_of, refuse_reading};
-use cdc_app_inputs::{Stream, advise_on_failure, shown_name};
+use cdc_app_inputs::{Escaped, Stream, advise_on_failure, shown_name};
 use cdc_arguments::{AuditPlan, Form};
 use cdc_audit::{AuditStop, Auditor};
-use cdc_audit_command::{AuditEnding, AuditSetup, StateFile, StreamAuditor, audit_command, resume};
+use cdc_audit_command::{AuditEnding, AuditSetup, StateLog, StreamAuditor, audit_command, resume};
 use cdc_audit_state::STATE_MARK;
-use cdc_commands::print_fault;
+use cdc_keys::HashKey;
 use cdc_output::{Json, ProgramFault, Text};
 use cdc_progress::StoreError;
 use cdc_streams::{Keeps, LineReader, LogFile, Saver, StreamEnding};
@@ -31,7 +33,11 @@ pub fn run_audit<T: Threads + Wait + Copy + Send + 'static>(
         every,
     } = plan;
     let setup = AuditSetup { shows_book };
-    let (store, mut audited) = match open_state(rt, state, foreign, &setup) {
+    let key = match random_key(rt) {
+        Ok(key) => key,
+        Err(error) => return StreamEnding::Failed(refuse_key(rt, error, form)),
+    };
+    let (store, mut audited) = match open_state(rt, key, state, foreign, &setup) {
         Ok(opened) => opened,
         Err(error) => return refuse_state(rt, file, state, error, form),
     };
@@ -87,22 +93,23 @@ fn audit_lines<B: LineReader, K: Keeps<StreamAuditor> + Drop>(
 /// there yet is made at once, so that the file is locked from the start.
 fn open_state<'a>(
     rt: &'a HostRuntime,
+    key: HashKey,
     state: Option<&str>,
     foreign: bool,
     setup: &AuditSetup,
-) -> Result<(Option<StateFile<LogFile<'a, HostRuntime>>>, StreamAuditor), StoreError> {
+) -> Result<(Option<StateLog<LogFile<'a, HostRuntime>>>, StreamAuditor), StoreError> {
     let Some(path) = state else {
-        let auditor = Auditor::new(rt.alloc(), foreign);
-        return Ok((None, StreamAuditor { auditor }));
+        let auditor = Auditor::keyed(rt.alloc(), key, foreign);
+        return Ok((None, StreamAuditor::new(auditor)));
     };
     let (file, text) = LogFile::open(rt, path, STATE_MARK)?;
-    let mut store = StateFile::new(file);
+    let mut store = StateLog::new(file);
     if let Some(text) = text {
-        let auditor = resume(rt.alloc(), text.as_slice(), foreign)?;
-        return Ok((Some(store), StreamAuditor { auditor }));
+        let auditor = resume(rt.alloc(), key, text.as_slice(), foreign)?;
+        return Ok((Some(store), StreamAuditor::new(auditor)));
     }
-    let auditor = Auditor::new(rt.alloc(), foreign);
-    let begun = StreamAuditor { auditor };
+    let auditor = Auditor::keyed(rt.alloc(), key, foreign);
+    let begun = StreamAuditor::new(auditor);
     store.keep(setup, rt.alloc(), &begun)?;
     Ok((Some(store), begun))
 }
@@ -116,11 +123,7 @@ fn refuse_state(
     form: Form,
 ) -> AuditEnding {
     let fault = ProgramFault::from(error);
-    let mut writer = io::writer(rt);
-    let _ending = match form {
-        Form::Text => print_fault(&Text, &mut writer, fault),
-        Form::Json => print_fault(&Json, &mut writer, fault),
-    };
+    print_failure(rt, form, fault);
     advise_on_state(rt, shown_name(file), state, fault);
     StreamEnding::Failed(fault)
 }
@@ -132,6 +135,7 @@ fn advise_on_audit(rt: &HostRuntime, file: &str, state: Option<&str>, ending: Au
         StreamEnding::Stopped(AuditStop::AtEnd) => Ok(()),
         StreamEnding::Stopped(AuditStop::Refused(line, why)) => {
             let rule = why.name();
+            let place = Escaped(place);
             eprintln!(rt;
                 "{place}:{line}: {rule}: no ledger publishes this event after those before it: one of them was lost, \
                  duplicated, moved or changed, or this one was"
@@ -152,6 +156,7 @@ fn advise_on_state(rt: &HostRuntime, place: &str, state: Option<&str>, fault: Pr
     if let (Some(state), ProgramFault::Store(error)) = (state, fault) {
         let name = error.name();
         let why = trouble(rt, state, error);
+        let state = Escaped(state);
         let _ = eprintln!(rt; "{state}: store: {name}: {why}");
         return;
     }

@@ -1,16 +1,18 @@
 //! The command `follow`: a stream in, and its book out.
 
+use crate::failures::print_failure;
 use crate::follow_advice::{advise_on_book, advise_on_gaps, advise_on_stream};
 use crate::kept_book::{BookFile, open_book_file};
+use crate::keys::{random_key, refuse_key};
 use crate::lines::{Lines, lines_of, refuse_reading};
 use crate::watched::Watched;
 use cdc_app_inputs::{Stream, shown_name};
 use cdc_arguments::{FollowPlan, Form};
-use cdc_commands::print_fault;
 use cdc_follow::Follower;
 use cdc_follow_command::{
     FollowEnding, FollowSetup, StreamFollower, begin, follow_command, resume,
 };
+use cdc_keys::HashKey;
 use cdc_output::{Json, ProgramFault, Text};
 use cdc_progress::StoreError;
 use cdc_streams::{Keeps, LineReader, Saver, StreamEnding};
@@ -33,13 +35,18 @@ pub fn run_follow<T: Threads + Wait + Copy + Send + 'static>(
         binding_text,
         book,
         every,
+        busy,
     } = plan;
     let setup = FollowSetup {
         binding,
         rules,
         binding_text,
     };
-    let (store, follower) = match open_book(rt, book, &setup) {
+    let key = match random_key(rt) {
+        Ok(key) => key,
+        Err(error) => return StreamEnding::Failed(refuse_key(rt, error, form)),
+    };
+    let (store, follower) = match open_book(rt, key, book, busy, &setup) {
         Ok(opened) => opened,
         Err(error) => return refuse_book(rt, file, book, error, form),
     };
@@ -100,21 +107,24 @@ fn follow_lines<B: LineReader, K: Keeps<StreamFollower> + Drop>(
 /// there yet is made at once, so that the file is locked from the start.
 fn open_book<'a>(
     rt: &'a HostRuntime,
+    key: HashKey,
     book: Option<&str>,
+    busy: u64,
     setup: &FollowSetup,
 ) -> Result<(Option<BookFile<'a>>, Follower), StoreError> {
     let Some(name) = book else {
-        return Ok((None, begin(rt.alloc())));
+        return Ok((None, begin(rt.alloc(), key)));
     };
-    let (mut store, text) = open_book_file(rt, name)?;
+    let (mut store, text) = open_book_file(rt, name, key, busy)?;
     if let Some(text) = text {
         let binding = setup.binding_text.as_slice();
-        let follower = resume(rt.alloc(), text.as_slice(), setup.rules.chained, binding)?;
+        let chained = setup.rules.chained;
+        let follower = resume(rt.alloc(), key, text.as_slice(), chained, binding)?;
         return Ok((Some(store), follower));
     }
-    let begun = StreamFollower::new(begin(rt.alloc()));
+    let begun = StreamFollower::new(begin(rt.alloc(), key));
     store.keep(setup, rt.alloc(), &begun)?;
-    Ok((Some(store), begin(rt.alloc())))
+    Ok((Some(store), begin(rt.alloc(), key)))
 }
 
 /// Prints the fault of a book that can't be opened, and reports why on standard error.
@@ -126,11 +136,7 @@ fn refuse_book(
     form: Form,
 ) -> FollowEnding {
     let fault = ProgramFault::from(error);
-    let mut writer = io::writer(rt);
-    let _ending = match form {
-        Form::Text => print_fault(&Text, &mut writer, fault),
-        Form::Json => print_fault(&Json, &mut writer, fault),
-    };
+    print_failure(rt, form, fault);
     advise_on_book(rt, shown_name(file), book, fault);
     StreamEnding::Failed(fault)
 }

@@ -1,7 +1,7 @@
 //! What standard error reports of a stream that is followed.
 
 use crate::kept_book::{is_in_sqlite, path_of_book};
-use cdc_app_inputs::{advise_on_failure, shown_name};
+use cdc_app_inputs::{Escaped, advise_on_failure, shown_name};
 use cdc_follow::{Content, Entry, Follower, LineError, Stop};
 use cdc_follow_command::FollowEnding;
 use cdc_message::{DecodeError, Field, Part};
@@ -37,7 +37,7 @@ pub fn advise_on_stream(
 
 /// Reports how many gaps were skipped in the stream in the file of this name; nothing if none was.
 pub fn advise_on_gaps(rt: &HostRuntime, file: &str, gaps: u64) {
-    let place = shown_name(file);
+    let place = Escaped(shown_name(file));
     let _ = match gaps {
         0 => Ok(()),
         1 => eprintln!(rt; "{place}: 1 gap was skipped"),
@@ -50,6 +50,7 @@ pub fn advise_on_book(rt: &HostRuntime, place: &str, book: Option<&str>, fault: 
     if let (Some(book), ProgramFault::Store(error)) = (book, fault) {
         let name = error.name();
         let why = trouble(rt, book, error);
+        let book = Escaped(book);
         let _ = eprintln!(rt; "{book}: store: {name}: {why}");
         return;
     }
@@ -65,6 +66,7 @@ fn advise_on_gap(
     seen: u64,
 ) -> io::Result<()> {
     let previous = entry.previous.unwrap_or(0);
+    let place = Escaped(place);
     if previous > seen {
         return eprintln!(rt;
             "{place}:{line}: gap: the message before this one in its queue has the timestamp {previous}, and the last \
@@ -85,6 +87,7 @@ fn advise_on_contradiction(
     entry: Entry,
     seen: u64,
 ) -> io::Result<()> {
+    let place = Escaped(place);
     match entry.content {
         Content::Event(event) => {
             let timestamp = event.timestamp;
@@ -111,6 +114,7 @@ pub fn advise_on_line(
     error: LineError,
 ) -> io::Result<()> {
     let name = error.name();
+    let place = Escaped(place);
     match error {
         LineError::Decode(why) => match field_of(why) {
             Some((field, trouble)) => {
@@ -153,7 +157,7 @@ fn trouble(rt: &HostRuntime, book: &str, error: StoreError) -> &'static str {
         StoreError::ReadFault => unread(rt, path_of_book(book)),
         StoreError::WriteFault if is_in_sqlite(book) => {
             "the book can't be written: the file and its folder have to be writable and to have room, nobody else may \
-             change the file, a program that reads it has to end within five seconds, and a file at its name with .new \
+             change the file, a program that reads it has to end within the seconds of --busy, and a file at its name with .new \
              appended has to be what an interrupted start left"
         }
         StoreError::WriteFault => {

@@ -2,9 +2,11 @@
 #![tactic(auto)]
 
 mod audit;
+mod failures;
 mod follow;
 mod follow_advice;
 mod kept_book;
+mod keys;
 mod lines;
 mod watched;
 

@@ -1,12 +1,11 @@
 //! How the lines of a stream are read: those of a regular file directly, all others ahead, by a thread.
 
+use crate::failures::print_failure;
 use cdc_arguments::Form;
-use cdc_commands::print_fault;
-use cdc_output::{Json, ProgramFault, Text};
+use cdc_output::ProgramFault;
 use cdc_read_ahead::{AheadReader, StartFault, Unknown};
 use cdc_types::Limits;
 use std::alloc::Global;
-use std::io;
 use std::io::{BufReader, Read};
 use std::sync::Wait;
 use std::thread::Threads;
@@ -38,11 +37,7 @@ pub fn lines_of<S: Read + Drop + Send + 'static, T: Threads + Wait + Copy + Send
 
 /// Prints the fault of a command that can't begin to read, and reports why on standard error.
 pub fn refuse_reading(rt: &HostRuntime, fault: StartFault, form: Form) -> ProgramFault {
-    let mut writer = io::writer(rt);
-    let _ending = match form {
-        Form::Text => print_fault(&Text, &mut writer, ProgramFault::OutOfMemory),
-        Form::Json => print_fault(&Json, &mut writer, ProgramFault::OutOfMemory),
-    };
+    print_failure(rt, form, ProgramFault::OutOfMemory);
     let why = match fault {
         StartFault::OutOfMemory => "no memory was left",
         StartFault::ThreadRefused => "no thread could be started",

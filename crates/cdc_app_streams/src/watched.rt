@@ -1,5 +1,6 @@
 //! A stream that is watched while it is read.
 
+use cdc_app_inputs::Escaped;
 use std::alloc::AllocError;
 use std::io;
 use std::io::{IsTerminal, Read};
@@ -61,7 +62,7 @@ impl<T> Watched<T> {
             return;
         }
         if piece.windows(PREVIOUS.len()).any(|part| part == PREVIOUS) {
-            let place = self.place.as_str();
+            let place = Escaped(self.place.as_str());
             let _ = eprintln!(self.rt;
                 "{place}: lines have previous, which is ignored without --chained"
             );
@@ -84,7 +85,7 @@ impl<T> Watched<T> {
         let seconds = elapsed.as_secs();
         if seconds > self.seconds {
             self.seconds = seconds;
-            let place = self.place.as_str();
+            let place = Escaped(self.place.as_str());
             let lines = self.lines;
             let rate = lines / seconds;
             let _ = eprintln!(self.rt; "{place}: {lines} lines read, {rate} a second");

@@ -13,6 +13,12 @@ use std::alloc::{AllocError, Global};
 /// How many lines are followed, at most, before the book is saved, if no number is given.
 const DEFAULT_EVERY: u64 = 1000;
 
+/// For how many seconds, at most, a program is waited for that reads the book, if no number is given.
+const DEFAULT_BUSY: u64 = 30;
+
+/// For how many seconds, at most, one can be waited for: a day.
+const MOST_BUSY: u64 = 86_400;
+
 /// How a stream is followed.
 #[derive(Drop)]
 pub struct FollowPlan<'a> {
@@ -25,6 +31,8 @@ pub struct FollowPlan<'a> {
     pub book: Option<&'a str>,
     /// How many lines are followed, at most, before the book is saved.
     pub every: u64,
+    /// For how many seconds, at most, a save waits for a program that reads the book.
+    pub busy: u64,
 }
 
 pub fn follow_arguments<'a>(alloc: Global) -> Result<Command<'a>, AllocError> {
@@ -59,6 +67,11 @@ pub fn follow_arguments<'a>(alloc: Global) -> Result<Command<'a>, AllocError> {
                 "every",
                 "N",
                 "Save the book after N lines at the latest [1-18446744073709551615; default: 1000]",
+            ),
+            Argument::option(
+                "busy",
+                "SECONDS",
+                "Wait so long for a program that reads the SQLite book [0-86400; default: 30]",
             ),
             json_flag(),
         ],
@@ -103,6 +116,7 @@ pub fn follow_plan<'a>(
         binding_text: joined(alloc, parts.as_slice())?,
         book: arguments.get_str("book"),
         every: asked_every(alloc, arguments)?,
+        busy: asked_busy(alloc, arguments)?,
     })
 }
 
@@ -145,5 +159,16 @@ pub fn asked_every(alloc: Global, arguments: &ArgMatches<'_>) -> Result<u64, Opt
             word,
             "a number from 1 to 18446744073709551615",
         )?),
+    }
+}
+
+/// For how many seconds a save waits for a program that reads the book.
+fn asked_busy(alloc: Global, arguments: &ArgMatches<'_>) -> Result<u64, OptionsFault> {
+    let Some(word) = arguments.get_str("busy") else {
+        return Ok(DEFAULT_BUSY);
+    };
+    match decimal_up_to(word.as_bytes(), u128::from(MOST_BUSY)) {
+        Some(number) => Ok(number as u64),
+        None => Err(bad_value(alloc, "busy", word, "a number from 0 to 86400")?),
     }
 }

@@ -97,6 +97,8 @@ book was saved, and what was applied before is a duplicate.
 
 With --book sqlite:FILE, the book is kept in an SQLite file, which other programs may read between saves: the table
 accounts has the balances, and the table book the timestamp of the last event applied and the count of these events.
+A program that is in the middle of reading is waited for, for as many seconds as --busy names; standard error reports
+that. A save that waits longer fails.
 
 The output is these lines, and at the end how far the stream was applied and its book: for each account its pending
 debits, posted debits, pending credits and posted credits.

@@ -34,6 +34,10 @@ LineLeadsTo number line old None new = (state : AuditState) → StandsFor old st
 LineLeadsTo number line old (Some stop) new = (state : AuditState) → StandsFor old state
     → (rest : List (List ℕ)) → EndsAs (lines_audited state number (line ∷ rest)) stop new
 
+-- a line is audited, whatever its number is, and the audit goes on after it
+abbrev pub IsTaken : List ℕ → AuditorState → AuditorState → Type 0
+IsTaken line old new = (number : ℕ) → LineLeadsTo number line old None new
+
 -- the first line of bytes, which has this number, is audited and taken off; or the audit stops
 abbrev pub StepLeadsTo : ℕ → AuditorState → List ℕ → Option AuditStop → AuditorState → Option (List ℕ) → Type 0
 StepLeadsTo number old bytes None new left =

@@ -13,6 +13,7 @@ ghost use Rattle.cdc_audit.specs.Standing.{AreInOrder, IsTimeIndex};
 
 use crate::fields::{FixedFields, fixed_fields};
 use crate::refusals::Refusal;
+use cdc_keys::KeyedMap;
 use cdc_types::{Event, EventAccount};
 use indexmap::IndexMap;
 use std::alloc::{AllocError, Global};
@@ -68,7 +69,7 @@ pub(crate) fn apart_refusal(debit: Times, credit: Times, event: &Event) -> Optio
 }
 
 /// Keeps which account was created at a timestamp, unless one is known.
-fn put_created(created: &mut IndexMap<u64, u128>, timestamp: u64, id: u128)
+fn put_created(created: &mut KeyedMap<u64, u128>, timestamp: u64, id: u128)
     requires { 1 ≤ spare created.old }
     ensures index { (t : ℕ) → lookup (nat_eq t) created.new.entries
         ≡ option_or (lookup (nat_eq t) created.old.entries) (if timestamp == t then Some id else None) }
@@ -80,7 +81,7 @@ fn put_created(created: &mut IndexMap<u64, u128>, timestamp: u64, id: u128)
 }
 
 /// Keeps the fields of the account with this id.
-fn put_fields(fields: &mut IndexMap<u128, FixedFields>, id: u128, shown: FixedFields)
+fn put_fields(fields: &mut KeyedMap<u128, FixedFields>, id: u128, shown: FixedFields)
     requires { 1 ≤ spare fields.old }
     ensures entries { fields.new.entries ≡ insert_entry nat_eq fields.old.entries id shown }
     ensures room { spare fields.old ≤ spare fields.new + 1 }
@@ -90,8 +91,8 @@ fn put_fields(fields: &mut IndexMap<u128, FixedFields>, id: u128, shown: FixedFi
 
 /// Keeps an account that isn't known.
 fn add_account(
-    fields: &mut IndexMap<u128, FixedFields>,
-    created: &mut IndexMap<u64, u128>,
+    fields: &mut KeyedMap<u128, FixedFields>,
+    created: &mut KeyedMap<u64, u128>,
     id: u128,
     shown: FixedFields,
 )
@@ -110,8 +111,8 @@ fn add_account(
 
 /// Keeps an account of this ledger, unless it is known.
 fn keep_account(
-    fields: &mut IndexMap<u128, FixedFields>,
-    created: &mut IndexMap<u64, u128>,
+    fields: &mut KeyedMap<u128, FixedFields>,
+    created: &mut KeyedMap<u64, u128>,
     ledger: u32,
     account: &EventAccount,
 )
@@ -131,8 +132,8 @@ fn keep_account(
 
 /// Keeps both accounts of an accepted event, by their ids and by the timestamps at which they were created.
 pub(crate) fn keep_accounts(
-    fields: &mut IndexMap<u128, FixedFields>,
-    created: &mut IndexMap<u64, u128>,
+    fields: &mut KeyedMap<u128, FixedFields>,
+    created: &mut KeyedMap<u64, u128>,
     event: &Event,
 )
     requires fields_fit { 2 ≤ spare fields.old }
@@ -148,11 +149,11 @@ pub(crate) fn keep_accounts(
 /// Which of these accounts was created at each timestamp.
 pub(crate) fn index_of(
     alloc: Global,
-    fields: &IndexMap<u128, FixedFields>,
-) -> Result<IndexMap<u64, u128>, AllocError>
+    fields: &KeyedMap<u128, FixedFields>,
+) -> Result<KeyedMap<u64, u128>, AllocError>
     ensures { IfOk result (λ index. IsTimeIndex index.entries fields.now.entries) }
 {
-    let mut created = IndexMap::new(alloc);
+    let mut created = IndexMap::with_hasher(alloc, *fields.hasher());
     for (id, shown) in fields.iter() {
         created.reserve(1)?;
         put_created(&mut created, shown.timestamp, *id);

@@ -25,7 +25,8 @@ use crate::foreign::audited_event;
 use crate::open_ones::OpenOnes;
 use crate::refusals::Refusal;
 use cdc_follow::Content;
-use cdc_subscriber::Subscriber;
+use cdc_keys::{HashKey, KeyedMap};
+use cdc_subscriber::{Book, Subscriber};
 use cdc_types::{Balances, Event, EventAccount};
 use indexmap::IndexMap;
 use std::alloc::{AllocError, Global};
@@ -36,12 +37,12 @@ pub struct Auditor {
     /// Whether the stream is another ledger's.
     foreign: bool,
     subscriber: Subscriber,
-    transfers: IndexMap<u128, Stored>,
+    transfers: KeyedMap<u128, Stored>,
     open_ones: OpenOnes,
     /// The fields of each account that never change, as its first event shows them.
-    fields: IndexMap<u128, FixedFields>,
+    fields: KeyedMap<u128, FixedFields>,
     /// Which account was created at each timestamp.
-    created: IndexMap<u64, u128>,
+    created: KeyedMap<u64, u128>,
     /// The timestamps of the events.
     times: Vec<u64>,
     /// Whether the last event stored a linked transfer.
@@ -56,10 +57,10 @@ pub struct AuditorParts {
     /// Whether the stream is another ledger's.
     pub foreign: bool,
     pub subscriber: Subscriber,
-    pub transfers: IndexMap<u128, Stored>,
+    pub transfers: KeyedMap<u128, Stored>,
     pub open_ones: OpenOnes,
     /// The fields of each account that never change, as its first event shows them.
-    pub fields: IndexMap<u128, FixedFields>,
+    pub fields: KeyedMap<u128, FixedFields>,
     /// The timestamps of the events.
     pub times: Vec<u64>,
     /// Whether the last event stored a linked transfer.
@@ -104,18 +105,25 @@ impl Model for Auditor {
 }
 
 impl Auditor {
-    /// An auditor of a stream from a ledger's first event on. `foreign`: another ledger's, whose flags may have more
-    /// bits than ours; these are let be.
+    /// An auditor of a stream from a ledger's first event on, which hashes ids with a fixed key. `foreign`: another
+    /// ledger's, whose flags may have more bits than ours; these are let be.
     pub fn new(alloc: Global, foreign: bool) -> Auditor
+        ensures { StandsFor result (begins foreign) }
+    {
+        Auditor::keyed(alloc, HashKey::Fixed, foreign)
+    }
+
+    /// The same auditor, which hashes ids with this key.
+    pub fn keyed(alloc: Global, key: HashKey, foreign: bool) -> Auditor
         ensures { StandsFor result (begins foreign) }
     {
         Auditor {
             foreign,
-            subscriber: Subscriber::new(alloc),
-            transfers: IndexMap::new(alloc),
-            open_ones: OpenOnes::new(alloc),
-            fields: IndexMap::new(alloc),
-            created: IndexMap::new(alloc),
+            subscriber: Subscriber::resume(Book::keyed(alloc, key), 0, 0, false),
+            transfers: IndexMap::with_hasher(alloc, key),
+            open_ones: OpenOnes::new(alloc, key),
+            fields: IndexMap::with_hasher(alloc, key),
+            created: IndexMap::with_hasher(alloc, key),
             times: Vec::new(alloc),
             linked: false,
             expired: None,
@@ -198,7 +206,7 @@ impl Auditor {
     }
 
     /// What is known of each stored transfer, by its id.
-    pub fn transfers(&self) -> &IndexMap<u128, Stored>
+    pub fn transfers(&self) -> &KeyedMap<u128, Stored>
         ensures { result.now.entries ≡ self.now.transfers }
     {
         &self.transfers
@@ -212,7 +220,7 @@ impl Auditor {
     }
 
     /// The fields of each account that never change, by its id.
-    pub fn fields(&self) -> &IndexMap<u128, FixedFields>
+    pub fn fields(&self) -> &KeyedMap<u128, FixedFields>
         ensures { result.now.entries ≡ self.now.fields }
     {
         &self.fields
@@ -360,7 +368,7 @@ impl Auditor {
 }
 
 /// Keeps what is known of a transfer.
-fn put(transfers: &mut IndexMap<u128, Stored>, id: u128, stored: Stored)
+fn put(transfers: &mut KeyedMap<u128, Stored>, id: u128, stored: Stored)
     requires { 1 ≤ spare transfers.old }
     ensures entries { transfers.new.entries ≡ insert_entry nat_eq transfers.old.entries id stored }
     ensures room { spare transfers.old ≤ spare transfers.new + 1 }
@@ -369,7 +377,7 @@ fn put(transfers: &mut IndexMap<u128, Stored>, id: u128, stored: Stored)
 }
 
 /// Keeps the transfer that an event stores, if it stores one.
-fn keep_own(transfers: &mut IndexMap<u128, Stored>, event: &Event)
+fn keep_own(transfers: &mut KeyedMap<u128, Stored>, event: &Event)
     requires { 2 ≤ spare transfers.old }
     ensures entries { transfers.new.entries ≡ standing.with_own transfers.old.entries event.now }
     ensures room { 1 ≤ spare transfers.new }
@@ -381,7 +389,7 @@ fn keep_own(transfers: &mut IndexMap<u128, Stored>, event: &Event)
 
 /// Keeps the transfers of an accepted event: the one that it stores, and the pending one, of this amount, that it
 /// settles.
-fn keep(transfers: &mut IndexMap<u128, Stored>, event: &Event, amount: u128)
+fn keep(transfers: &mut KeyedMap<u128, Stored>, event: &Event, amount: u128)
     requires { 2 ≤ spare transfers.old }
     ensures { transfers.new.entries
         ≡ standing.with_settled (standing.with_own transfers.old.entries event.now) event.now amount }

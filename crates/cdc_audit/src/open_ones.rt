@@ -10,6 +10,7 @@ ghost use Rattle.cdc_audit.specs.Standing as spec;
 ghost use Rattle.cdc_audit.specs.Standing.{IsFirst, IsIndexOf};
 
 use crate::settling::expires_at;
+use cdc_keys::{HashKey, KeyedMap};
 use cdc_types::Event;
 use indexmap::IndexMap;
 use std::alloc::{AllocError, Global};
@@ -27,7 +28,7 @@ pub(crate) struct Due {
 /// The events that stored the open pending transfers, by these transfers' ids.
 #[derive(Drop)]
 pub struct OpenOnes {
-    events: IndexMap<u128, Event>,
+    events: KeyedMap<u128, Event>,
     /// Those with a timeout, in the order in which they expire.
     index: BTreeSet<Due>,
 }
@@ -45,18 +46,18 @@ impl Model for OpenOnes {
 }
 
 impl OpenOnes {
-    /// No open pending transfer.
-    pub fn new(alloc: Global) -> OpenOnes
+    /// No open pending transfer. Ids are hashed with this key.
+    pub fn new(alloc: Global, key: HashKey) -> OpenOnes
         ensures { result ≡ [] }
     {
         OpenOnes {
-            events: IndexMap::new(alloc),
+            events: IndexMap::with_hasher(alloc, key),
             index: BTreeSet::new(alloc),
         }
     }
 
     /// The events, by the ids of the transfers that they stored.
-    pub fn events(&self) -> &IndexMap<u128, Event>
+    pub fn events(&self) -> &KeyedMap<u128, Event>
         ensures { result.now.entries ≡ self.now }
     {
         &self.events
@@ -139,7 +140,7 @@ fn add_due(index: &mut BTreeSet<Due>, id: u128, event: &Event) -> Result<(), All
 }
 
 /// Adds an event under an id.
-fn insert_event(events: &mut IndexMap<u128, Event>, id: u128, event: &Event)
+fn insert_event(events: &mut KeyedMap<u128, Event>, id: u128, event: &Event)
     requires { 1 ≤ spare events.old }
     ensures { events.new.entries ≡ insert_entry nat_eq events.old.entries id event.now }
 {

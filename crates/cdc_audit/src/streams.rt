@@ -1,7 +1,8 @@
 //! Auditing a reader: its lines one after another, up to an event that is refused, a line that is no entry, or the end.
 
-ghost use Rattle.std.specs.Prelude.{◌≡◌, ◌≢◌, Some, IfOk, IfSome, OnErr};
-ghost use Rattle.cdc_audit.specs.Stops.{Audits, KeepsFirst, LineLeadsTo, StepLeadsTo};
+ghost use Rattle.std.specs.Prelude.{◌≡◌, ◌≢◌, Some, None, IfOk, IfSome, IsSome, OnErr};
+ghost use Rattle.cdc_follow.specs.LineParts.{HasNoFeed};
+ghost use Rattle.cdc_audit.specs.Stops.{Audits, IsTaken, KeepsFirst, LineLeadsTo, StepLeadsTo};
 
 use crate::auditor::Auditor;
 use crate::refusals::Refusal;
@@ -40,6 +41,8 @@ fn audit_bytes(
     auditor: &mut Auditor,
 ) -> Result<Option<AuditStop>, FollowError>
     ensures leads { IfOk result (λ stop. LineLeadsTo number line.now auditor.old stop auditor.new) }
+    ensures taken { IfOk result (λ stop. stop ≡ None → IsTaken line.now auditor.old auditor.new) }
+    ensures stays { IfOk result (λ stop. IsSome stop → auditor.new ≡ auditor.old) }
     ensures err { OnErr result (auditor.new ≡ auditor.old) }
 {
     let entry = match read_entry(alloc, line, false) {
@@ -54,8 +57,8 @@ fn audit_bytes(
     Ok(None)
 }
 
-/// Reads the line of this number into the buffer and audits it. `None`: the lines after it are to be audited too.
-/// After an error the auditor is as it was.
+/// Reads the line of this number into the buffer and audits it. `None`: the lines after it are to be audited too. If the
+/// audit stops, and after an error, the auditor is as it was.
 pub fn audit_line<B: BufRead>(
     alloc: Global,
     reader: &mut B,
@@ -65,6 +68,9 @@ pub fn audit_line<B: BufRead>(
 ) -> Result<Option<AuditStop>, FollowError>
     ensures leads { IfOk result (λ stop. IfSome (B.remaining reader.old) (λ bytes. StepLeadsTo number auditor.old
         bytes stop auditor.new (B.remaining reader.new))) }
+    ensures taken { IfOk result (λ stop. stop ≡ None
+        → HasNoFeed line.new.items × IsTaken line.new.items auditor.old auditor.new) }
+    ensures stays { IfOk result (λ stop. IsSome stop → auditor.new ≡ auditor.old) }
     ensures err { OnErr result (auditor.new ≡ auditor.old) }
 {
     match read_line(reader, line) {

@@ -1,8 +1,7 @@
 -- What an auditor stands for while a stream is audited, line by line.
 use Rattle.std.proofs.Common.{◌≡◌, ℕ, ◌+◌, ◌≤◌, List, [], ◌∷◌, ◌++◌, append-nil, append_assoc, false}
 use Rattle.std.proofs.Common.{Option, None, Some, refl, sym, ap, ◌∙◌, subst}
-use Rattle.std.specs.Prelude.{IfSome, IfOk, Result, Ok, Err}
-use Rattle.cdc_follow.specs.declared.streams.FollowError.{FollowError}
+use Rattle.std.specs.Prelude.{IfSome}
 use Rattle.cdc_follow.specs.Lines.{lines_of}
 use Rattle.cdc_streams.specs.Taking.{LeadsOn}
 use Rattle.cdc_streams.proofs.EntryLemmas.{count_grows, entry_count}
@@ -13,10 +12,10 @@ use Rattle.cdc_audit.specs.Stops.{EndsAs, StepLeadsTo}
 use Rattle.cdc_audit_command.specs.Auditing.{StandsAfter, StopsAt}
 use Rattle.cdc_audit_command.specs.Private.Audited.{HasAudited, lines_keep}
 use Rattle.cdc_audit_command.specs.declared.auditors.AuditSetup.{AuditSetup}
-use Rattle.cdc_audit_command.specs.declared.auditors.StreamAuditor.{StreamAuditor}
+use Rattle.cdc_audit_command.specs.declared.auditors.StreamAudit.{StreamAudit}
 
 -- one more line was audited
-leads_on : (setup : AuditSetup) (start old : StreamAuditor) (bytes : List ℕ) (count number : ℕ) (mid : List ℕ)
+leads_on : (setup : AuditSetup) (start old : StreamAudit) (bytes : List ℕ) (count number : ℕ) (mid : List ℕ)
     (auditor : AuditorState) (left : Option (List ℕ)) → HasAudited setup start bytes count old number mid
     → StepLeadsTo number old.auditor mid None auditor left
     → LeadsOn (HasAudited setup start bytes) (StopsAt setup start bytes) (StandsAfter setup start bytes) count number
@@ -54,7 +53,7 @@ leads_on setup start old bytes count number mid auditor left has step =
     )
 
 -- auditing stops at a line
-leads_to_stop : (setup : AuditSetup) (start old : StreamAuditor) (bytes : List ℕ) (count number : ℕ) (mid : List ℕ)
+leads_to_stop : (setup : AuditSetup) (start old : StreamAudit) (bytes : List ℕ) (count number : ℕ) (mid : List ℕ)
     (auditor : AuditorState) (stop : AuditStop) (left : Option (List ℕ))
     → HasAudited setup start bytes count old number mid → StepLeadsTo number old.auditor mid (Some stop) auditor left
     → LeadsOn (HasAudited setup start bytes) (StopsAt setup start bytes) (StandsAfter setup start bytes) count number
@@ -79,10 +78,10 @@ leads_to_stop setup start old bytes count number mid auditor stop left has step 
     )
 
 -- a line of bytes that may be unknown was audited
-line_leads : (setup : AuditSetup) (old : StreamAuditor) (number : ℕ) (auditor : AuditorState)
+pub line_leads : (setup : AuditSetup) (old : StreamAudit) (number : ℕ) (auditor : AuditorState)
     (stop : Option AuditStop) (mid left : Option (List ℕ))
     → IfSome mid (λ bytes. StepLeadsTo number old.auditor bytes stop auditor left)
-    → IfSome mid (λ rest. (start : StreamAuditor) (bytes : List ℕ) (count : ℕ)
+    → IfSome mid (λ rest. (start : StreamAudit) (bytes : List ℕ) (count : ℕ)
     → HasAudited setup start bytes count old number rest
     → LeadsOn (HasAudited setup start bytes) (StopsAt setup start bytes) (StandsAfter setup start bytes) count number
     stop (record { auditor = auditor }) left)
@@ -91,15 +90,3 @@ line_leads setup old number auditor None (Some mid) left step = λ start bytes c
     leads_on setup start old bytes count number mid auditor left has step
 line_leads setup old number auditor (Some stop) (Some mid) left step = λ start bytes count has.
     leads_to_stop setup start old bytes count number mid auditor stop left has step
-
--- the same unless reading failed
-pub answer_leads : (setup : AuditSetup) (old : StreamAuditor) (number : ℕ) (auditor : AuditorState)
-    (answer : Result (Option AuditStop) FollowError) (mid left : Option (List ℕ))
-    → IfOk answer (λ stop. IfSome mid (λ bytes. StepLeadsTo number old.auditor bytes stop auditor left))
-    → IfOk answer (λ stop. IfSome mid (λ rest. (start : StreamAuditor) (bytes : List ℕ) (count : ℕ)
-    → HasAudited setup start bytes count old number rest
-    → LeadsOn (HasAudited setup start bytes) (StopsAt setup start bytes) (StandsAfter setup start bytes) count number
-    stop (record { auditor = auditor }) left))
-answer_leads setup old number auditor (Ok stop) mid left step =
-    line_leads setup old number auditor stop mid left step
-answer_leads setup old number auditor (Err error) mid left step = tt

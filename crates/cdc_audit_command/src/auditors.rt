@@ -1,8 +1,8 @@
 //! The command `audit`: audits a stream up to its end, saves its state, and prints what it finds.
 
-ghost use Rattle.std.specs.Prelude.{is_some, IfSome};
+ghost use Rattle.std.specs.Prelude.{◌≡◌, ◌++◌, ◌∷◌, [], is_some, None, IfSome, IsSomeAnd, IsTrue};
 ghost use Rattle.cdc_audit.specs.Stops.{Audits};
-ghost use Rattle.cdc_audit_command.specs.Auditing.{StandsAfter, last_of, prints_end_of};
+ghost use Rattle.cdc_audit_command.specs.Auditing.{StandsAfter, audit_of, last_of, prints_end_of};
 ghost use Rattle.cdc_streams.specs.Saving.{AreSaved, IfStopped, PrintsStream, saves_text};
 
 use crate::endings::AuditEnding;
@@ -20,32 +20,102 @@ pub struct AuditSetup {
     pub shows_book: bool,
 }
 
-/// What audits a stream.
+/// What auditing a stream has come to. Contracts alone speak of it; no value of it is made.
 #[derive(Drop)]
-pub struct StreamAuditor {
-    /// The auditor, with its state.
+pub struct StreamAudit {
+    /// The auditor, with what it keeps.
     pub auditor: Auditor,
 }
 
+/// What audits a stream.
+#[derive(Drop)]
+pub struct StreamAuditor {
+    /// The auditor, with what it keeps.
+    auditor: Auditor,
+    /// The lines that it has taken since it was saved, each with its line feed; `None` if they aren't kept, so the whole
+    /// state has to be saved.
+    lines: Option<Vec<u8>>,
+}
+
+/// How many bytes of lines are kept, at most.
+const MOST_BYTES: usize = 1 << 24;
+
+/// Adds a line, and its line feed. `false`: it isn't added as a whole, since there are too many bytes, or memory ran out.
+fn add_line(lines: &mut Vec<u8>, line: &[u8]) -> bool
+    ensures { IsTrue result → lines.new.items ≡ lines.old.items ++ (line.now ++ 10 ∷ []) }
+{
+    if line.len() >= MOST_BYTES.saturating_sub(lines.len()) {
+        return false;
+    }
+    lines.extend_from_slice(line).is_ok() && lines.push(b'\n').is_ok()
+}
+
+impl StreamAuditor {
+    /// An auditor that goes on from this one. No lines are kept.
+    pub fn new(auditor: Auditor) -> StreamAuditor
+        ensures auditor { result.auditor ≡ auditor }
+        ensures lines { result.lines ≡ None }
+    {
+        StreamAuditor {
+            auditor,
+            lines: None,
+        }
+    }
+
+    /// The auditor, with what it keeps.
+    pub fn auditor(&self) -> &Auditor
+        ensures { result.now ≡ self.now.auditor }
+    {
+        &self.auditor
+    }
+
+    /// The lines that were taken since it was saved, if they are kept.
+    pub(crate) fn lines(&self) -> &Option<Vec<u8>>
+        ensures { result.now ≡ self.now.lines }
+    {
+        &self.lines
+    }
+
+    /// Keeps a line that was taken, if the others are kept. If that isn't possible, they aren't kept any longer.
+    fn keep_line(&mut self, line: &[u8])
+        ensures auditor { self.new.auditor ≡ self.old.auditor }
+        ensures lines { IfSome self.new.lines (λ new. IsSomeAnd self.old.lines (λ old.
+            new.items ≡ old.items ++ (line.now ++ 10 ∷ []))) }
+    {
+        let is_kept = match &mut self.lines {
+            Some(lines) => add_line(lines, line),
+            None => true,
+        };
+        if !is_kept {
+            self.lines = None;
+        }
+    }
+}
+
 impl Saved for StreamAuditor {
-    ghost use Rattle.std.specs.Prelude.{⊤};
+    ghost use Rattle.std.specs.Prelude.{◌≡◌, None};
+    ghost use Rattle.cdc_audit_command.specs.Auditing.{audit_of};
+    ghost use Rattle.cdc_audit_command.specs.Private.Kept.{GoesOn, IsSince};
 
     type Setup = AuditSetup;
 
-    type State = StreamAuditor;
+    type State = StreamAudit;
 
-    ghost state = { λ it. it };
+    ghost state = { audit_of };
 
-    ghost since = { λ _ _. ⊤ };
+    ghost since = { λ past now. IsSince past.auditor now };
 
-    ghost is_untracked = { λ _. ⊤ };
+    ghost is_untracked = { λ now. now.lines ≡ None };
 
-    ghost moves = { λ _ _. ⊤ };
+    ghost moves = { GoesOn };
 
-    // (each save is of the whole state)
-    fn begin_changes(&mut self, _alloc: Global) {}
+    fn begin_changes(&mut self, alloc: Global) {
+        self.lines = Some(Vec::new(alloc));
+    }
 
-    fn forget_changes(&mut self) {}
+    fn forget_changes(&mut self) {
+        self.lines = None;
+    }
 }
 
 impl<F: AuditForm> Consumer<F> for StreamAuditor {
@@ -72,7 +142,14 @@ impl<F: AuditForm> Consumer<F> for StreamAuditor {
         line: &mut Vec<u8>,
         number: u64,
     ) -> Result<Option<AuditStop>, FollowError> {
-        audit_line(alloc, reader, line, number, &mut self.auditor)
+        match audit_line(alloc, reader, line, number, &mut self.auditor) {
+            Ok(None) => {
+                self.keep_line(line.as_slice());
+                Ok(None)
+            }
+            Ok(Some(stop)) => Ok(Some(stop)),
+            Err(error) => Err(error),
+        }
     }
 
     fn last_timestamp(&self) -> u64 {
@@ -110,10 +187,10 @@ pub fn audit_command<F: AuditForm, B: LineReader, W: Write, K: Keeps<StreamAudit
     ensures audits { IfStopped result (λ stop. IfSome (B.remaining reader.old) (λ bytes.
         Audits audited.old.auditor bytes stop audited.new.auditor)) }
     ensures printed { PrintsStream
-        (AreSaved (StandsAfter setup.now audited.old) (K.has_kept setup.now) (B.remaining reader.old)
+        (AreSaved (StandsAfter setup.now (audit_of audited.old)) (K.has_kept setup.now) (B.remaining reader.old)
         saver.old.store saver.new.store)
         (saves_text F.prints_saved last_of (is_some saver.old.store)) (prints_end_of F.prints_audit setup.now)
-        F.prints_failure (W.contents writer.old) (W.contents writer.new) audited.new result }
+        F.prints_failure (W.contents writer.old) (W.contents writer.new) (audit_of audited.new) result }
 {
     stream_command(form, alloc, reader, writer, saver, setup, audited)
 }

@@ -8,7 +8,7 @@ mod json_lines;
 mod refusals;
 mod states;
 
-pub use auditors::{AuditSetup, StreamAuditor, audit_command};
+pub use auditors::{AuditSetup, StreamAudit, StreamAuditor, audit_command};
 pub use endings::{AuditEnding, audit_status};
 pub use forms::AuditForm;
-pub use states::{StateFile, resume};
+pub use states::{StateLog, resume};

@@ -138,7 +138,7 @@ renumbers count state number (line ∷ rest) =
 
 -- ---- lines after others
 
-abbrev GoesOn : AuditState → ℕ → List (List ℕ) → List (List ℕ) → Type 0
+abbrev pub GoesOn : AuditState → ℕ → List (List ℕ) → List (List ℕ) → Type 0
 GoesOn state number front rest =
     (lines_audited state number front).stop ≡ stop.AtEnd
     → lines_audited state number (front ++ rest)
@@ -176,7 +176,7 @@ go_on_line state number line front rest (Ok (Some entry)) is later ends = by _ r
         let never : stop.Refused number why ≡ stop.AtEnd = ap (λ (a : Audited). a.stop) (sym first) ∙ ends in
         absurd cc
 
-go_on : (state : AuditState) (number : ℕ) (front rest : List (List ℕ)) → GoesOn state number front rest
+pub go_on : (state : AuditState) (number : ℕ) (front rest : List (List ℕ)) → GoesOn state number front rest
 go_on state number [] rest ends =
     let same : (lines_audited state number []).state ≡ state = ap (λ (a : Audited). a.state) (no_lines state number) in
     let count : number ≡ number + 0 = omega arith in
@@ -205,7 +205,7 @@ some_lines (byte ∷ front) =
     joined byte [] = omega arith
     joined byte (line ∷ lines) = omega arith
 
-cut_lines : (front rest : List ℕ) → lines_of (front ++ 10 ∷ rest) ≡ lines_of (front ++ 10 ∷ []) ++ lines_of rest
+pub cut_lines : (front rest : List ℕ) → lines_of (front ++ 10 ∷ rest) ≡ lines_of (front ++ 10 ∷ []) ++ lines_of rest
 unfolding lines_of
 cut_lines [] rest = refl
 cut_lines (byte ∷ front) rest =

@@ -6,4 +6,5 @@ pub mod PrintingLemmas
 pub mod SavedLemmas
 pub mod WidthLemmas
 pub mod LawLemmas
+pub mod ReplayLemmas
 pub mod Words

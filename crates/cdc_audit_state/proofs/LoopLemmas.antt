@@ -38,7 +38,7 @@ none_left rest (row ∷ more) none lines =
     absurd (omega (arith, some_byte row, byte))
 
 -- text is left, or not
-empty_is : (rest : List ℕ) (empty : Bool) → empty ≡ (length rest == 0) → empty ≡ true → rest ≡ []
+pub empty_is : (rest : List ℕ) (empty : Bool) → empty ≡ (length rest == 0) → empty ≡ true → rest ≡ []
 empty_is [] empty is end = refl
 empty_is (b ∷ rest) empty is end = grind arith
 

@@ -2,7 +2,9 @@
 pub mod States
 pub mod Saveable
 pub mod Laws
+pub mod Logs
 -- private: what the code's own contracts cite
 pub mod Rows
 pub mod Parts
 pub mod Headings
+pub mod Records

@@ -2,11 +2,13 @@
 #![tactic(auto)]
 
 pub mod laws;
+pub mod logs;
 pub mod parts;
 pub mod printing;
 pub mod rows;
 pub mod saved;
 
-pub use laws::{audited_events_fit, audits_can_be_saved, audits_go_on};
+pub use laws::{audited_events_fit, audits_can_be_saved, audits_go_on, logs_can_be_cut};
+pub use logs::{base_text, read_log, record_text};
 pub use printing::push_state;
 pub use saved::{STATE_MARK, read_state};

@@ -7,6 +7,7 @@ ghost use Rattle.cdc_audit_state.specs.States.{rows_text};
 
 use crate::rows::{Row, read_row};
 use cdc_audit::{FixedFields, OpenOnes, Stored};
+use cdc_keys::{HashKey, KeyedMap};
 use cdc_subscriber::Book;
 use cdc_types::Event;
 use indexmap::IndexMap;
@@ -18,9 +19,9 @@ use std::marker::Model;
 pub(crate) struct Parts {
     pub(crate) book: Book,
     pub(crate) expired: Option<Event>,
-    pub(crate) transfers: IndexMap<u128, Stored>,
+    pub(crate) transfers: KeyedMap<u128, Stored>,
     pub(crate) open_ones: OpenOnes,
-    pub(crate) fields: IndexMap<u128, FixedFields>,
+    pub(crate) fields: KeyedMap<u128, FixedFields>,
     pub(crate) times: Vec<u64>,
 }
 
@@ -40,15 +41,15 @@ impl Model for Parts {
 }
 
 impl Parts {
-    fn new(alloc: Global) -> Parts
+    fn new(alloc: Global, key: HashKey) -> Parts
         ensures { result ≡ no_parts }
     {
         Parts {
-            book: Book::new(alloc),
+            book: Book::keyed(alloc, key),
             expired: None,
-            transfers: IndexMap::new(alloc),
-            open_ones: OpenOnes::new(alloc),
-            fields: IndexMap::new(alloc),
+            transfers: IndexMap::with_hasher(alloc, key),
+            open_ones: OpenOnes::new(alloc, key),
+            fields: IndexMap::with_hasher(alloc, key),
             times: Vec::new(alloc),
         }
     }
@@ -86,10 +87,14 @@ impl Parts {
 }
 
 /// The parts of a text of such lines. `None`: a line is none.
-pub(crate) fn read_parts(alloc: Global, text: &[u8]) -> Result<Option<Parts>, AllocError>
+pub(crate) fn read_parts(
+    alloc: Global,
+    key: HashKey,
+    text: &[u8],
+) -> Result<Option<Parts>, AllocError>
     ensures { IfOk result (λ read. GivesParts text.now read) }
 {
-    let mut parts = Parts::new(alloc);
+    let mut parts = Parts::new(alloc, key);
     let mut rest = text;
     while !rest.is_empty() {
         let Some(read) = read_row(alloc, rest)? else {

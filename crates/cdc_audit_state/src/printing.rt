@@ -8,9 +8,9 @@ ghost use Rattle.cdc_audit_state.specs.States.{open_rows, rows_text, state_text,
 
 use cdc_audit::{Auditor, FixedFields, Stored};
 use cdc_codec::{write_flagged, write_named, write_spaced, write_text};
+use cdc_keys::KeyedMap;
 use cdc_message::encode;
 use cdc_types::Event;
-use indexmap::IndexMap;
 use std::alloc::{AllocError, Global};
 use std::io;
 
@@ -92,7 +92,7 @@ fn push_transfer(text: &mut Vec<u8>, id: u128, stored: Stored) -> io::Result<()>
 }
 
 /// Adds the lines of the stored transfers.
-fn push_transfers(text: &mut Vec<u8>, transfers: &IndexMap<u128, Stored>) -> io::Result<()>
+fn push_transfers(text: &mut Vec<u8>, transfers: &KeyedMap<u128, Stored>) -> io::Result<()>
     ensures { OnOk result
         (text.new.items ≡ text.old.items ++ rows_text (transfer_rows transfers.now.entries)) }
 {
@@ -103,7 +103,7 @@ fn push_transfers(text: &mut Vec<u8>, transfers: &IndexMap<u128, Stored>) -> io:
 }
 
 /// Adds the lines of the open pending transfers.
-fn push_open(alloc: Global, text: &mut Vec<u8>, events: &IndexMap<u128, Event>) -> io::Result<()>
+fn push_open(alloc: Global, text: &mut Vec<u8>, events: &KeyedMap<u128, Event>) -> io::Result<()>
     ensures { OnOk result
         (text.new.items ≡ text.old.items ++ rows_text (open_rows events.now.entries)) }
 {
@@ -129,7 +129,7 @@ fn push_fields(text: &mut Vec<u8>, id: u128, fields: &FixedFields) -> io::Result
 }
 
 /// Adds the lines of the fixed fields of all accounts.
-fn push_all_fields(text: &mut Vec<u8>, fields: &IndexMap<u128, FixedFields>) -> io::Result<()>
+fn push_all_fields(text: &mut Vec<u8>, fields: &KeyedMap<u128, FixedFields>) -> io::Result<()>
     ensures { OnOk result
         (text.new.items ≡ text.old.items ++ rows_text (fields_rows fields.now.entries)) }
 {

@@ -10,6 +10,7 @@ use crate::parts::{Parts, read_parts};
 use crate::printing::push_state;
 use cdc_audit::{Auditor, AuditorParts};
 use cdc_codec::{flag, number, number_64, skip};
+use cdc_keys::HashKey;
 use cdc_subscriber::Subscriber;
 use std::alloc::{AllocError, Global};
 
@@ -100,15 +101,15 @@ fn auditor_of(alloc: Global, front: &Front<'_>, parts: Parts) -> Result<Auditor,
     )
 }
 
-/// Reads the text of a saved state. `None`: it is the text of no state that can be saved. The only error is that memory
+/// Reads the text of a saved state, whose auditor hashes ids with this key. `None`: it is the text of no state that can be saved. The only error is that memory
 /// ran out.
-pub fn read_state(alloc: Global, text: &[u8]) -> Result<Option<Auditor>, AllocError>
+pub fn read_state(alloc: Global, key: HashKey, text: &[u8]) -> Result<Option<Auditor>, AllocError>
     ensures exact { IfOk result (λ read. IfSome read (λ auditor. text.now ≡ state_text auditor)) }
     ensures all { (state : AuditorState) → CanBeSaved state → text.now ≡ state_text state
         → IfOk result (λ read. IsSomeAnd read (λ auditor. auditor ≡ state)) }
 {
     let front = read_front(text);
-    let Some(parts) = read_parts(alloc, front.lines)? else {
+    let Some(parts) = read_parts(alloc, key, front.lines)? else {
         return Ok(None);
     };
     let auditor = auditor_of(alloc, &front, parts)?;

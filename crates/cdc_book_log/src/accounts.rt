@@ -4,15 +4,15 @@ ghost use Rattle.std.specs.Prelude.{◌≡◌, IfOk, OnOk};
 ghost use Rattle.cdc_book_log.specs.Replay.{put_all};
 ghost use Rattle.cdc_subscriber.specs.Book.{entries_of};
 
+use cdc_keys::KeyedMap;
 use cdc_subscriber::{Book, BookEntry};
 use cdc_types::Balances;
-use indexmap::IndexMap;
 use std::alloc::{AllocError, Global};
 
 /// Puts the accounts of a book into others: each takes the place of the one with its number, or comes last. After an
 /// error, the first ones may have been put.
 pub(crate) fn put_accounts(
-    accounts: &mut IndexMap<u128, Balances>,
+    accounts: &mut KeyedMap<u128, Balances>,
     changed: &Book,
 ) -> Result<(), AllocError>
     ensures { OnOk result (entries_of accounts.new.entries
@@ -29,11 +29,11 @@ pub(crate) fn put_accounts(
 /// The book of accounts.
 pub(crate) fn book_of(
     alloc: Global,
-    accounts: &IndexMap<u128, Balances>,
+    accounts: &KeyedMap<u128, Balances>,
 ) -> Result<Book, AllocError>
     ensures { IfOk result (λ book. book ≡ entries_of accounts.now.entries) }
 {
-    let mut book = Book::new(alloc);
+    let mut book = Book::keyed(alloc, *accounts.hasher());
     for (id, balances) in accounts.iter() {
         let entry = BookEntry {
             id: *id,

@@ -12,6 +12,7 @@ ghost use Rattle.cdc_book_log.specs.Replay.{with_changes};
 use crate::replaying::Replaying;
 use cdc_follow::{Follower, SavedBook, read_book};
 use cdc_frames::read_frame;
+use cdc_keys::HashKey;
 use std::alloc::{AllocError, Global};
 
 /// A log that was read.
@@ -48,14 +49,19 @@ fn is_of(book: &SavedBook, base: &SavedBook) -> bool
 }
 
 /// Reads what a record contains. `None`: it is no book of the base's stream and binding.
-fn read_change(alloc: Global, text: &[u8], base: &SavedBook) -> Result<Option<Follower>, AllocError>
+fn read_change(
+    alloc: Global,
+    key: HashKey,
+    text: &[u8],
+    base: &SavedBook,
+) -> Result<Option<Follower>, AllocError>
     ensures exact { IfOk result (λ read. IfSome read (λ change.
         text.now ≡ book_text base.now.chained base.now.binding.items change)) }
     ensures all { (state : FollowState) → CanBeSaved base.now.binding.items state
         → text.now ≡ book_text base.now.chained base.now.binding.items state
         → IfOk result (λ read. IsSomeAnd read (λ change. change ≡ state)) }
 {
-    match read_book(alloc, text)? {
+    match read_book(alloc, key, text)? {
         Some(saved) if is_of(&saved, base) => Ok(Some(saved.follower)),
         _ => Ok(None),
     }
@@ -64,6 +70,7 @@ fn read_change(alloc: Global, text: &[u8], base: &SavedBook) -> Result<Option<Fo
 /// Reads the records that follow a base. `None`: a frame with something else is followed by other bytes.
 fn read_changes(
     alloc: Global,
+    key: HashKey,
     text: &[u8],
     base: &SavedBook,
     replaying: &mut Replaying,
@@ -88,7 +95,7 @@ fn read_changes(
                 torn: rest.len(),
             }));
         };
-        let Some(change) = read_change(alloc, found.content, base)? else {
+        let Some(change) = read_change(alloc, key, found.content, base)? else {
             let left = found.rest.len();
             if left > 0 {
                 return Ok(None);
@@ -104,11 +111,11 @@ fn read_changes(
     }
 }
 
-/// Reads the text of a log, in one pass. What follows the last whole record is ignored: a part of a frame, or a last
+/// Reads the text of a log, in one pass. Its book hashes ids with this key. What follows the last whole record is ignored: a part of a frame, or a last
 /// frame that contains no book of the base's stream and binding, such as one of which a crash kept only the two lines.
 /// `None`: the text begins with no whole base, or such a frame is followed by other bytes. The only error is that
 /// memory ran out.
-pub fn read_log(alloc: Global, text: &[u8]) -> Result<Option<SavedLog>, AllocError>
+pub fn read_log(alloc: Global, key: HashKey, text: &[u8]) -> Result<Option<SavedLog>, AllocError>
     ensures exact { IfOk result (λ read. IfSome read (λ log. IsRead text.now log)) }
     ensures all { (chained : Bool) (binding : List ℕ) (base : FollowState) (changes : List FollowState) (torn : List ℕ)
         → CanBeLogged binding base changes → IsLogText text.now chained binding base changes torn
@@ -117,11 +124,11 @@ pub fn read_log(alloc: Global, text: &[u8]) -> Result<Option<SavedLog>, AllocErr
     let Some(found) = read_frame(alloc, text, "book", 0)? else {
         return Ok(None);
     };
-    let Some(base) = read_book(alloc, found.content)? else {
+    let Some(base) = read_book(alloc, key, found.content)? else {
         return Ok(None);
     };
-    let mut replaying = Replaying::new(alloc, &base.follower)?;
-    let Some(tail) = read_changes(alloc, found.rest, &base, &mut replaying)? else {
+    let mut replaying = Replaying::new(alloc, key, &base.follower)?;
+    let Some(tail) = read_changes(alloc, key, found.rest, &base, &mut replaying)? else {
         return Ok(None);
     };
     let follower = replaying.follower(alloc)?;

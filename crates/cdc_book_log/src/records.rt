@@ -9,7 +9,6 @@ ghost use Rattle.cdc_book_log.specs.Replay.{emptied};
 use crate::places::Place;
 use cdc_follow::{Follower, write_book};
 use cdc_frames::write_frame;
-use cdc_subscriber::Book;
 use std::alloc::{AllocError, Global};
 
 /// The text of the record of this number, from 1 on. `change` has only the accounts that changed since the record
@@ -44,5 +43,6 @@ pub fn record_text(
 pub fn without_accounts(alloc: Global, follower: &Follower) -> Follower
     ensures { result ≡ emptied follower.now }
 {
-    Place::of(follower).follower(Book::new(alloc))
+    let subscriber = follower.subscriber();
+    Place::of(follower).follower(subscriber.book().emptied(alloc))
 }

@@ -6,6 +6,7 @@ ghost use Rattle.cdc_book_log.specs.Replay.{with_changes};
 use crate::accounts::{book_of, put_accounts};
 use crate::places::Place;
 use cdc_follow::Follower;
+use cdc_keys::{HashKey, KeyedMap};
 use cdc_types::Balances;
 use indexmap::IndexMap;
 use std::alloc::{AllocError, Global};
@@ -14,7 +15,7 @@ use std::marker::Model;
 /// A follower, into whose book the accounts of records can be put. Contracts see the follower.
 #[derive(Drop)]
 pub(crate) struct Replaying {
-    accounts: IndexMap<u128, Balances>,
+    accounts: KeyedMap<u128, Balances>,
     place: Place,
 }
 
@@ -29,11 +30,11 @@ impl Model for Replaying {
 }
 
 impl Replaying {
-    /// Begins with the follower of a base.
-    pub(crate) fn new(alloc: Global, base: &Follower) -> Result<Replaying, AllocError>
+    /// Begins with the follower of a base. Its book hashes ids with this key.
+    pub(crate) fn new(alloc: Global, key: HashKey, base: &Follower) -> Result<Replaying, AllocError>
         ensures { IfOk result (λ replaying. replaying ≡ base.now) }
     {
-        let mut accounts = IndexMap::new(alloc);
+        let mut accounts = IndexMap::with_hasher(alloc, key);
         let subscriber = base.subscriber();
         let book = subscriber.book();
         // (by its contract no account occurs twice)

@@ -5,6 +5,7 @@ ghost use Rattle.std.specs.Prelude.{◌≡◌, OnErr};
 use crate::tries::{Tried, first, second};
 use cdc_audit::{Auditor, Refusal};
 use cdc_audit_state::{push_state, read_state};
+use cdc_keys::HashKey;
 use cdc_follow::{Content, Entry, Follower, Following, SavedBook, read_book, read_entry};
 use cdc_match::Binding;
 use std::alloc::{AllocError, Global};
@@ -33,9 +34,9 @@ pub fn followed(follower: &mut Follower, binding: &Binding, entry: &Entry) -> Tr
 pub fn resumed_book(alloc: Global, text: &[u8]) -> Tried<Option<SavedBook>>
     ensures { OnErr result.last (result.refused ≡ 2) }
 {
-    match read_book(alloc, text) {
+    match read_book(alloc, HashKey::Fixed, text) {
         Ok(book) => first(book),
-        Err(_) => second(read_book(alloc, text)),
+        Err(_) => second(read_book(alloc, HashKey::Fixed, text)),
     }
 }
 
@@ -70,8 +71,8 @@ fn state_text(alloc: Global, auditor: &Auditor) -> Result<Vec<u8>, AllocError> {
 pub fn resumed_state(alloc: Global, text: &[u8]) -> Tried<Option<Auditor>>
     ensures { OnErr result.last (result.refused ≡ 2) }
 {
-    match read_state(alloc, text) {
+    match read_state(alloc, HashKey::Fixed, text) {
         Ok(auditor) => first(auditor),
-        Err(_) => second(read_state(alloc, text)),
+        Err(_) => second(read_state(alloc, HashKey::Fixed, text)),
     }
 }

@@ -1,6 +1,7 @@
 //! A book's log, by a worked example: written, read back, cut after each byte, and with a record that was not written
 //! whole.
 
+use cdc_keys::HashKey;
 use cdc_book_log::{SavedLog, read_log, record_text, without_accounts};
 use cdc_data_tests::bodies::FIRST;
 use cdc_follow::{Content, Entry, Follower, write_book};
@@ -75,14 +76,14 @@ fn a_cut_log_is_that_of_the_last_whole_record(rt: HostRuntime) -> Result<(), Fai
     let made = log_of_an_event(alloc).expect(&rt, "an example");
     let text = made.log.as_slice();
     for cut in 0..text.len() {
-        let read = read_log(alloc, &text[..cut])?;
+        let read = read_log(alloc, HashKey::Fixed, &text[..cut])?;
         if cut < made.base.len() {
             assert!(rt; read.is_none());
         } else {
             assert!(rt; is_read(alloc, read, 0, made.base.len(), made.before.as_slice())?);
         }
     }
-    let read = read_log(alloc, text)?;
+    let read = read_log(alloc, HashKey::Fixed, text)?;
     assert!(rt; is_read(alloc, read, 1, text.len(), made.after.as_slice())?);
     Ok(())
 }
@@ -95,10 +96,10 @@ fn a_last_record_without_a_book_is_ignored(rt: HostRuntime) -> Result<(), Fail> 
     let base = made.base.len();
     let mut text = made.base.clone()?;
     text.extend_from_slice(b"book 1 bytes 4\n\0\0\0\0end 1 bytes 4\n")?;
-    let read = read_log(alloc, text.as_slice())?;
+    let read = read_log(alloc, HashKey::Fixed, text.as_slice())?;
     assert!(rt; is_read(alloc, read, 0, base, made.before.as_slice())?);
     text.extend_from_slice(b"b")?;
-    assert!(rt; read_log(alloc, text.as_slice())?.is_none());
+    assert!(rt; read_log(alloc, HashKey::Fixed, text.as_slice())?.is_none());
     Ok(())
 }
 
@@ -107,6 +108,6 @@ fn a_last_record_without_a_book_is_ignored(rt: HostRuntime) -> Result<(), Fail> 
 fn a_book_is_no_log(rt: HostRuntime) -> Result<(), Fail> {
     let alloc = rt.alloc();
     let made = log_of_an_event(alloc).expect(&rt, "an example");
-    assert!(rt; read_log(alloc, made.after.as_slice())?.is_none());
+    assert!(rt; read_log(alloc, HashKey::Fixed, made.after.as_slice())?.is_none());
     Ok(())
 }

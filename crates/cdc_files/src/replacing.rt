@@ -5,13 +5,22 @@ ghost use Rattle.std.specs.Io.KnownBytes.{Appends, Consumes, IsAtEnd};
 ghost use Rattle.cdc_files.specs.Leftovers.{is_short_leftover as may_be_left};
 
 use std::alloc::{AllocError, Global};
-use std::fs::{File, Files, OpenFile, Permissions, TryLockError};
+use std::fs::{File, Files, Metadata, OpenFile, OpenOptions, TryLockError};
 use std::io::{ErrorKind, Read, Write};
-use std::os::unix::fs::MetadataExt;
+use std::os::unix::fs::{MetadataExt, OpenOptionsExt, PermissionsExt, fchown};
 use std::{fs, io};
 
 /// The bytes that are read at a time.
 const PIECE_BYTES: usize = 4096;
+
+/// The bytes that are written at a time.
+const WRITTEN_BYTES: usize = 1 << 20;
+
+/// The mode of a file that replaces none, from which the user's mask takes bits.
+const NEW_MODE: u32 = 0o666;
+
+/// The bits of a mode that say who may read, write and run a file.
+const PERMISSION_BITS: u32 = 0o777;
 
 /// How often a file is opened that something else replaces before it is locked.
 const OPENINGS: u32 = 100;
@@ -159,42 +168,67 @@ fn rest_after<F: Read>(reader: &mut F, bytes: &[u8]) -> io::Result<Option<usize>
     Ok(None)
 }
 
-/// Writes a whole text, sets this mode, if one is given, and syncs the file to the disk.
-fn write_whole(file: &mut File, mode: Option<Permissions>, text: &[u8]) -> io::Result<()> {
-    if let Some(mode) = mode {
-        file.set_permissions(mode)?;
+/// Gives a new file the owner, the group and the mode of the one that it is to replace.
+fn keep_owner(file: &File, current: &Metadata) -> io::Result<()> {
+    let made = file.metadata()?;
+    if made.uid() != current.uid() || made.gid() != current.gid() {
+        fchown(file, Some(current.uid()), Some(current.gid()))?;
+    }
+    file.set_permissions(current.permissions())
+}
+
+/// Writes a whole text into a new file, whose owner and mode are those of the current one, if there is one, and syncs it
+/// to the disk.
+fn write_whole(file: &mut File, current: &Option<Metadata>, text: &[u8]) -> io::Result<()> {
+    if let Some(current) = current {
+        keep_owner(file, current)?;
     }
     write_text(file, text)?;
     file.sync_all()
 }
 
-/// Writes a whole text.
+/// Writes a whole text. If a part of it alone can be written, as on a full disk, that is the error `WriteZero`: at a limit
+/// on the size of files, a further write would end the process.
 fn write_text<W: Write>(writer: &mut W, text: &[u8]) -> io::Result<()>
     ensures { OnOk result (Appends (W.contents writer.old) (W.contents writer.new) text.now) }
 {
-    writer.write_all(text)
+    let mut rest = text;
+    for _ in 0..u64::MAX {
+        if rest.is_empty() {
+            return Ok(());
+        }
+        let size = rest.len().min(WRITTEN_BYTES);
+        match writer.write(&rest[..size]) {
+            Ok(count) if count == size => rest = &rest[count..],
+            Ok(_) => break,
+            Err(error) if error.kind() == ErrorKind::Interrupted => {}
+            Err(error) => return Err(error),
+        }
+    }
+    Err(io::Error::from(ErrorKind::WriteZero))
 }
 
-/// Whether the file at this path can be the leftover of an interrupted replacement: a plain file that nobody has
-/// locked, with such a content.
-fn is_leftover<R: Files<File = File>>(
+/// Opens and locks the file at this path, if it can be the leftover of an interrupted replacement: a plain file that nobody
+/// has locked, with such a content. Nobody else takes it for a leftover, or writes it, while it is locked.
+fn open_leftover<R: Files<File = File>>(
     rt: &R,
     path: &str,
     leftover: Leftover,
     mark: &[u8],
-) -> io::Result<bool> {
+) -> io::Result<Option<File>> {
     if !fs::symlink_metadata(rt, path)?.is_file() {
-        return Ok(false);
+        return Ok(None);
     }
     let mut file = File::open(rt, path)?;
-    if is_taken(&file) {
-        return Ok(false);
+    if is_taken(&file) || !names(rt, path, &file)? {
+        return Ok(None);
     }
-    match leftover {
-        Leftover::Begins => begins(&mut file, mark, usize::MAX),
-        Leftover::Short(most) => begins(&mut file, mark, most),
-        Leftover::PrefixOf => Ok(rest_after(&mut file, mark)?.is_some()),
-    }
+    let is_left = match leftover {
+        Leftover::Begins => begins(&mut file, mark, usize::MAX)?,
+        Leftover::Short(most) => begins(&mut file, mark, most)?,
+        Leftover::PrefixOf => rest_after(&mut file, mark)?.is_some(),
+    };
+    Ok(if is_left { Some(file) } else { None })
 }
 
 /// Whether the bytes of a reader begin with a mark, as far as they go, and are at most so many.
@@ -211,30 +245,45 @@ fn is_short_leftover(bytes: &[u8], mark: &[u8], most: usize) -> bool
     bytes.len() <= most && (bytes.starts_with(mark) || mark.starts_with(bytes))
 }
 
-/// Creates the file that is written first, and locks it, in place of the leftover of an interrupted replacement, if
-/// there is one.
-fn make_new<R: Files<File = File>>(rt: &R, file: Replaced<'_>) -> io::Result<File> {
-    let made = match File::create_new(rt, file.new_path) {
+/// Creates a file of this mode, which isn't there yet.
+fn create<R: Files<File = File>>(rt: &R, path: &str, mode: u32) -> io::Result<File> {
+    OpenOptions::new()
+        .read(true)
+        .write(true)
+        .create_new(true)
+        .mode(mode)
+        .open(rt, path)
+}
+
+/// Creates the file that is written first, with this mode, and locks it, in place of the leftover of an interrupted
+/// replacement, if there is one.
+fn make_new<R: Files<File = File>>(rt: &R, file: Replaced<'_>, mode: u32) -> io::Result<File> {
+    let made = match create(rt, file.new_path, mode) {
         Err(error) if error.kind() == ErrorKind::AlreadyExists => {
-            if !is_leftover(rt, file.new_path, file.leftover, file.mark)? {
+            let Some(_left) = open_leftover(rt, file.new_path, file.leftover, file.mark)? else {
                 return Err(error);
-            }
+            };
             fs::remove_file(rt, file.new_path)?;
-            File::create_new(rt, file.new_path)?
+            create(rt, file.new_path, mode)?
         }
         made => made?,
     };
-    if is_taken(&made) {
+    // (before it was locked, another run may have taken it for a leftover)
+    if is_taken(&made) || !names(rt, file.new_path, &made)? {
         return Err(io::Error::from(ErrorKind::WouldBlock));
     }
     Ok(made)
 }
 
-/// Whether a mode is given in which nobody may write.
-fn is_readonly(mode: &Option<Permissions>) -> bool {
-    match mode {
-        Some(mode) => mode.readonly(),
-        None => false,
+/// The mode with which a new file is made: that of the current one, if there is one, as far as others are concerned, so
+/// that nobody can read the new file who can't read this. One in which nobody may write is the error `PermissionDenied`.
+fn mode_of_new(current: &Option<Metadata>) -> io::Result<u32> {
+    match current {
+        Some(current) if current.permissions().readonly() => {
+            Err(io::Error::from(ErrorKind::PermissionDenied))
+        }
+        Some(current) => Ok(current.permissions().mode() & PERMISSION_BITS),
+        None => Ok(NEW_MODE),
     }
 }
 
@@ -257,23 +306,20 @@ fn put_in_place<R: Files<File = File>>(
 
 /// Replaces the content of a file, and returns the file with this content, locked. `current`: the file that is
 /// replaced, locked; `None` makes a new one. An interrupted replacement leaves the old content, and so does one whose
-/// path no longer names the current file. The mode is kept; one in which nobody may write is the error
-/// `PermissionDenied`.
+/// path no longer names the current file. Owner, group and mode are kept; if that isn't permitted, or in this mode nobody
+/// may write, the error is `PermissionDenied`.
 pub fn replace<R: Files<File = File>>(
     rt: &R,
     file: Replaced<'_>,
     current: Option<&File>,
     text: &[u8],
 ) -> io::Result<File> {
-    let mode = match current {
-        Some(current) => Some(current.metadata()?.permissions()),
+    let metadata = match current {
+        Some(current) => Some(current.metadata()?),
         None => None,
     };
-    if is_readonly(&mode) {
-        return Err(io::Error::from(ErrorKind::PermissionDenied));
-    }
-    let mut made = make_new(rt, file)?;
-    let written = match write_whole(&mut made, mode, text) {
+    let mut made = make_new(rt, file, mode_of_new(&metadata)?)?;
+    let written = match write_whole(&mut made, &metadata, text) {
         Ok(()) => put_in_place(rt, file, current),
         Err(error) => Err(error),
     };

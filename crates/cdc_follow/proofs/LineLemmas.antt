@@ -90,6 +90,10 @@ clean_both : (line part after : List ℕ) → after ≡ line ++ part → HasNoFe
 clean_both line part after added clean more =
     All-same (λ b. b ≢ 10) after (line ++ part) added (All-append (λ b. b ≢ 10) line part clean more)
 
+pub clean_after : (old new : Option (List ℕ)) (line after : List ℕ) (end : PartEnd) → HasNoFeed line
+    → AddsPart old new line after end → HasNoFeed after
+clean_after old new line after end clean adds = clean_both line adds.part after adds.added clean adds.clean
+
 -- what was read of a line, and then the rest of it with its line feed
 pub line_fed : (old mid new : Option (List ℕ)) (line part after : List ℕ) → Consumes old mid line → HasNoFeed line
     → after ≡ line ++ part → HasNoFeed part → Consumes mid new (part ++ 10 ∷ [])

@@ -2,7 +2,7 @@
 
 ghost use Rattle.std.specs.Prelude.{◌≡◌, ◌≤◌, IfOk, IfErr, IfSome, OnOk, length};
 ghost use Rattle.cdc_follow.specs.Lines.{FirstLineIsLong, TakesLine};
-ghost use Rattle.cdc_follow.specs.LineParts.{AddsPart, IsPart, PartIsLong};
+ghost use Rattle.cdc_follow.specs.LineParts.{AddsPart, HasNoFeed, IsPart, PartIsLong};
 
 use crate::entries::LONGEST_LINE;
 use memchr::memchr;
@@ -108,6 +108,7 @@ pub fn read_line<B: BufRead>(reader: &mut B, line: &mut Vec<u8>) -> Result<bool,
     ensures line { IfOk result (λ more. IfSome (B.remaining reader.old) (λ bytes.
         TakesLine more bytes line.new.items (B.remaining reader.new))) }
     ensures within { OnOk result (length line.new.items ≤ LONGEST_LINE) }
+    ensures clean { OnOk result (HasNoFeed line.new.items) }
     ensures long { IfErr result (λ error. error ≡ ReadError.TooLong
         → IfSome (B.remaining reader.old) FirstLineIsLong) }
 {

@@ -14,6 +14,7 @@ ghost use Rattle.cdc_follow.specs.SavedParts.{ReadsAccount, ReadsFront};
 
 use crate::follower::Follower;
 use cdc_codec::{flag, line, number, number_64, skip, write_flagged, write_named, write_text};
+use cdc_keys::HashKey;
 use cdc_subscriber::{Book, BookEntry, Subscriber};
 use cdc_types::Balances;
 use std::alloc::{AllocError, Global};
@@ -88,11 +89,11 @@ pub fn read_account(text: &[u8]) -> (BookEntry, &[u8])
 }
 
 // The book whose accounts have these lines.
-fn read_accounts(alloc: Global, text: &[u8]) -> Result<Book, AllocError>
+fn read_accounts(alloc: Global, key: HashKey, text: &[u8]) -> Result<Book, AllocError>
     ensures { IfOk result (λ book. (entries : List Shown) → AreBook entries
         → text.now ≡ flat_map account_line entries → book ≡ entries) }
 {
-    let mut book = Book::new(alloc);
+    let mut book = Book::keyed(alloc, key);
     let mut rest = text;
     while !rest.is_empty() {
         let (entry, after) = read_account(rest);
@@ -173,9 +174,9 @@ fn is_text_of(
     }
 }
 
-/// Reads the text of a saved book. `None`: it is the text of no book that can be saved. The only
-/// error is that memory ran out.
-pub fn read_book(alloc: Global, text: &[u8]) -> Result<Option<SavedBook>, AllocError>
+/// Reads the text of a saved book, which then hashes ids with this key. `None`: it is the text of no book that can be
+/// saved. The only error is that memory ran out.
+pub fn read_book(alloc: Global, key: HashKey, text: &[u8]) -> Result<Option<SavedBook>, AllocError>
     ensures exact { IfOk result (λ saved. IfSome saved (λ book.
         text.now ≡ book_text book.chained book.binding.items book.follower)) }
     ensures all { (chained : Bool) (binding : List ℕ) (state : FollowState)
@@ -192,7 +193,7 @@ pub fn read_book(alloc: Global, text: &[u8]) -> Result<Option<SavedBook>, AllocE
         closed,
         accounts,
     } = read_front(text);
-    let book = read_accounts(alloc, accounts)?;
+    let book = read_accounts(alloc, key, accounts)?;
     let follower = Follower::new(resume(book, last, applied, ended, closed), seen);
     if is_text_of(alloc, text, chained, binding, &follower)? {
         let binding = Vec::from_slice(alloc, binding)?;

@@ -1,7 +1,7 @@
 -- The log of a follower's book: a base, and records after it.
 use Rattle.std.proofs.Common.{◌≡◌, ℕ, ◌+◌, List, [], ◌∷◌, ◌++◌, length, Option, None, Some, refl, sym, ap, ◌∙◌, subst}
 use Rattle.std.proofs.Common.{arith}
-use Rattle.std.specs.Prelude.{IfSome, OnOk, Result, Ok, Err}
+use Rattle.std.specs.Prelude.{IfSome}
 use Rattle.std.proofs.lemmas.List.{length-append}
 use Rattle.cdc_follow.specs.Following.{FollowState}
 use Rattle.cdc_follow.specs.Saved.{book_text}
@@ -11,8 +11,8 @@ use Rattle.cdc_book_log.specs.Logs.{log_name}
 use Rattle.cdc_book_log.specs.Replay.{with_changes}
 use Rattle.cdc_book_log.specs.Tracking.{Leads}
 use Rattle.cdc_streams.proofs.KeepingLemmas.{adds_one, last_of_more}
-use Rattle.cdc_streams.specs.Keeping.{AddsTexts, last_text}
-use Rattle.cdc_follow_command.specs.Books.{AppendsText, IsTextOf, ReplacesText}
+use Rattle.cdc_streams.specs.Keeping.{AddsTexts, AppendsText, ReplacesText, last_text}
+use Rattle.cdc_follow_command.specs.Books.{IsTextOf}
 use Rattle.cdc_follow_command.specs.declared.followers.Followed.{Followed}
 use Rattle.cdc_follow_command.specs.Private.Logged.{Fits, HasRecords}
 use Rattle.cdc_follow_command.specs.declared.followers.FollowSetup.{FollowSetup}
@@ -115,14 +115,3 @@ module _ (setup : FollowSetup) where
   fits_record old new records later number change state changes now fits next same is leads =
       subst (λ n. Fits setup new n changes now) (sym same)
       (fits_after new number state changes now (has_record old new records number change state fits next is) leads)
-
--- ---- what holds after a call that may fail
-
-pub ok_map : {T E A B : Type 0} (result : Result T E) → (A → B) → OnOk result A → OnOk result B
-ok_map (Ok done) maps holds = maps holds
-ok_map (Err why) maps holds = tt
-
-pub ok_map_two : {T E A B C : Type 0} (result : Result T E) → (A → B → C) → OnOk result A → OnOk result B
-    → OnOk result C
-ok_map_two (Ok done) maps one two = maps one two
-ok_map_two (Err why) maps one two = tt

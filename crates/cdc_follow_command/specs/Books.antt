@@ -1,6 +1,5 @@
 -- A follower's book: what is kept of it, and how a later run goes on from it.
 use Rattle.std.specs.Prelude.{◌≡◌, ◌≢◌, ◌⊎◌, ◌++◌, ◌∷◌, [], ℕ, Bool, List, Option}
-use Rattle.std.specs.Option.{option_map}
 use Rattle.cdc_files.specs.declared.errors.StoreError.{StoreError}
 use Rattle.cdc_files.specs.declared.errors.StoreError.TheVariants.{BadRecord, OutOfMemory}
 use Rattle.cdc_follow.specs.Following.{FollowState}
@@ -8,7 +7,7 @@ use Rattle.cdc_follow.specs.Saved.{CanBeSaved, book_text}
 use Rattle.cdc_book_log.specs.Logs.{CanBeLogged, IsLogText, IsRead, log_text}
 use Rattle.cdc_book_log.specs.Replay.{replay}
 use Rattle.cdc_book_log.specs.declared.logs.SavedLog.{SavedLog}
-use Rattle.cdc_streams.specs.Keeping.{AddsTexts, with_text}
+use Rattle.cdc_streams.specs.Keeping.{AddsTexts}
 use Rattle.cdc_follow_command.specs.declared.followers.Followed.{Followed}
 use Rattle.cdc_follow_command.specs.declared.books.BookLog.{BookLog}
 use Rattle.cdc_follow_command.specs.declared.followers.FollowSetup.{FollowSetup}
@@ -26,7 +25,7 @@ IsTextOf setup text it = IsLogOf setup.rules.chained setup.binding_text.items it
 -- one log came from another, and meanwhile the store held the texts of logs of these, one after another
 abbrev pub HasLogged : {L : Type 0} → (L → Option (List (List ℕ))) → FollowSetup → BookLog L → BookLog L
     → List Followed → Type 0
-HasLogged texts setup old new states = AddsTexts (IsTextOf setup) (texts old.store) (texts new.store) states
+HasLogged texts setup old new states = AddsTexts (IsTextOf setup) (texts old.log.store) (texts new.log.store) states
 
 -- a follower goes on from a text: that of a log, with a torn end perhaps, or that of a book alone
 abbrev pub IsResumed : Bool → List ℕ → List ℕ → FollowState → Type 0
@@ -50,11 +49,3 @@ IsNoLog chained binding text =
 abbrev pub IsRefused : Bool → List ℕ → List ℕ → StoreError → Type 0
 IsRefused chained binding text error =
     (error ≡ OutOfMemory) ⊎ ((error ≡ BadRecord) × IsNoBook chained binding text × IsNoLog chained binding text)
-
--- a text was held after those that were held before, as far as these are known
-abbrev pub ReplacesText : Option (List (List ℕ)) → Option (List (List ℕ)) → List ℕ → Type 0
-ReplacesText old new text = new ≡ option_map (λ before. before ++ (text ∷ [])) old
-
--- so was the last one of them with a text after it
-abbrev pub AppendsText : Option (List (List ℕ)) → Option (List (List ℕ)) → List ℕ → Type 0
-AppendsText old new text = new ≡ option_map (λ before. with_text before text) old

@@ -1,62 +1,38 @@
 //! A follower's book: how it begins, how it is kept, and how it goes on.
 
-ghost use Rattle.std.specs.Prelude.{◌≡◌, ◌⊎◌, ◌+◌, ◌↔◌, ℕ, List, IfOk, IfErr, IfSome, IsTrue, OnErr, OnOk};
+ghost use Rattle.std.specs.Prelude.{◌≡◌, ◌⊎◌, ◌↔◌, ℕ, List, IfOk, IfErr, IsTrue, OnErr, OnOk};
 ghost use Rattle.cdc_follow.specs.Following.{FollowState};
 ghost use Rattle.cdc_follow.specs.Laws.{begins};
 ghost use Rattle.cdc_follow.specs.Saved.{book_text};
 ghost use Rattle.cdc_frames.specs.Frames.{frame};
 ghost use Rattle.cdc_book_log.specs.Logs.{CanBeLogged, IsLogText, log_name};
 ghost use Rattle.cdc_book_log.specs.Replay.{replay};
-ghost use Rattle.cdc_follow_command.specs.Books.{AppendsText, IsNoBook, IsRefused, IsResumed, ReplacesText};
+ghost use Rattle.cdc_streams.specs.Keeping.{AppendsText, ReplacesText};
+ghost use Rattle.cdc_follow_command.specs.Books.{IsNoBook, IsRefused, IsResumed};
 
 use crate::followers::{FollowSetup, StreamFollower};
 use cdc_book_log::{read_log, record_text};
 use cdc_files::StoreError;
 use cdc_follow::{Follower, read_book};
-use cdc_streams::{Keeps, LogStore};
-use cdc_subscriber::Subscriber;
+use cdc_keys::HashKey;
+use cdc_streams::{Keeps, Log, LogStore};
+use cdc_subscriber::{Book, Subscriber};
 use std::alloc::Global;
 
-/// How many bytes of records a log may have whatever its base has.
-const RECORD_BYTES: usize = 1 << 20;
-
-/// How many times as many bytes as its base the records of a log may have.
-const RECORDS_PER_BASE: usize = 2;
-
-/// A follower's book, kept as a log: a base with the whole book, and a record for each save after it, with what
-/// changed.
-/// Once the records outgrow the base, a new base replaces all.
+/// A follower's book, kept as a log: a base with the whole book, and a record for each save after it, with what changed.
 #[derive(Drop)]
 pub struct BookLog<L> {
-    store: L,
-    /// How many records follow the base.
-    records: u64,
-    base_bytes: usize,
-    record_bytes: usize,
+    log: Log<L>,
 }
 
 impl<L: LogStore> BookLog<L> {
     /// A log in this store, whose next save is of the whole book.
     pub fn new(store: L) -> BookLog<L>
-        ensures store { result.store ≡ store }
+        ensures store { result.log.store ≡ store }
     {
         BookLog {
-            store,
-            records: 0,
-            base_bytes: 0,
-            record_bytes: 0,
+            log: Log::new(store),
         }
-    }
-
-    /// The number of the next record; `None` if the records have outgrown the base.
-    fn next_record(&self) -> Option<u64>
-        ensures { IfSome result (λ number. number ≡ self.now.records + 1) }
-    {
-        let most = self.base_bytes.saturating_mul(RECORDS_PER_BASE);
-        if self.record_bytes > most && self.record_bytes > RECORD_BYTES {
-            return None;
-        }
-        self.records.checked_add(1)
     }
 
     /// Replaces all by a base with the book of this follower.
@@ -66,18 +42,14 @@ impl<L: LogStore> BookLog<L> {
         alloc: Global,
         follower: &Follower,
     ) -> Result<(), StoreError>
-        ensures saved { OnOk result (ReplacesText (L.texts self.old.store) (L.texts self.new.store)
+        ensures saved { OnOk result (ReplacesText (L.texts self.old.log.store) (L.texts self.new.log.store)
             (frame log_name 0 (book_text setup.now.rules.chained setup.now.binding_text.items follower.now))) }
-        ensures records { OnOk result (self.new.records ≡ 0) }
-        ensures refused { OnErr result (L.texts self.new.store ≡ L.texts self.old.store) }
+        ensures records { OnOk result (self.new.log.records ≡ 0) }
+        ensures refused { OnErr result (L.texts self.new.log.store ≡ L.texts self.old.log.store) }
     {
         let binding = setup.binding_text.as_slice();
         let text = record_text(alloc, 0, setup.rules.chained, binding, follower)?;
-        self.store.replace(text.as_slice())?;
-        self.records = 0;
-        self.base_bytes = text.len();
-        self.record_bytes = 0;
-        Ok(())
+        self.log.save_base(text.as_slice())
     }
 
     /// Appends the record of this number, with this change.
@@ -88,17 +60,14 @@ impl<L: LogStore> BookLog<L> {
         number: u64,
         change: &Follower,
     ) -> Result<(), StoreError>
-        ensures saved { OnOk result (AppendsText (L.texts self.old.store) (L.texts self.new.store)
+        ensures saved { OnOk result (AppendsText (L.texts self.old.log.store) (L.texts self.new.log.store)
             (frame log_name number (book_text setup.now.rules.chained setup.now.binding_text.items change.now))) }
-        ensures records { OnOk result (self.new.records ≡ number) }
-        ensures refused { OnErr result (L.texts self.new.store ≡ L.texts self.old.store) }
+        ensures records { OnOk result (self.new.log.records ≡ number) }
+        ensures refused { OnErr result (L.texts self.new.log.store ≡ L.texts self.old.log.store) }
     {
         let binding = setup.binding_text.as_slice();
         let text = record_text(alloc, number, setup.rules.chained, binding, change)?;
-        self.store.append(text.as_slice())?;
-        self.records = number;
-        self.record_bytes = self.record_bytes.saturating_add(text.len());
-        Ok(())
+        self.log.save_record(number, text.as_slice())
     }
 }
 
@@ -117,31 +86,33 @@ impl<L: LogStore> Keeps<StreamFollower> for BookLog<L> {
         alloc: Global,
         consumer: &StreamFollower,
     ) -> Result<(), StoreError> {
-        match (consumer.changes(), self.next_record()) {
+        match (consumer.changes(), self.log.next_record()) {
             (Some(change), Some(number)) => self.save_record(setup, alloc, number, change),
             _ => self.save_base(setup, alloc, consumer.follower()),
         }
     }
 
-    ghost has_kept_none = { λ setup it. adds_none (IsTextOf setup) (L.texts it.store) };
+    ghost has_kept_none = { λ setup it. adds_none (IsTextOf setup) (L.texts it.log.store) };
 
     ghost fits_untracked = { fits_none L.texts };
 
     ghost fits_on = { goes_on L.texts };
 }
 
-/// A follower that begins, with an empty book.
-pub fn begin(alloc: Global) -> Follower
+/// A follower that begins, with an empty book, which hashes ids with this key.
+pub fn begin(alloc: Global, key: HashKey) -> Follower
     ensures { result ≡ begins }
 {
-    Follower::new(Subscriber::new(alloc), 0)
+    let book = Book::keyed(alloc, key);
+    Follower::new(Subscriber::resume(book, 0, 0, false), 0)
 }
 
-/// The follower of a saved book with this text: of a log, whose torn end is ignored, or of the book alone, as it was
+/// The follower of a saved book with this text, which hashes ids with this key: of a log, whose torn end is ignored, or of the book alone, as it was
 /// saved before version 1.2. `BadRecord`: the text is neither, or its book is one of another binding, or of a chained
 /// stream where this one isn't, or the other way round.
 pub fn resume(
     alloc: Global,
+    key: HashKey,
     text: &[u8],
     chained: bool,
     binding: &[u8],
@@ -152,17 +123,18 @@ pub fn resume(
         → IfOk result (λ follower. follower ≡ replay base changes) }
     ensures refused { IfErr result (IsRefused chained binding.now text.now) }
 {
-    match read_log(alloc, text)? {
+    match read_log(alloc, key, text)? {
         Some(log) if is_same(log.chained, log.binding.as_slice(), chained, binding) => {
             Ok(log.follower)
         }
-        _ => resume_text(alloc, text, chained, binding),
+        _ => resume_text(alloc, key, text, chained, binding),
     }
 }
 
 /// The follower of a book with this text, which is no log.
 fn resume_text(
     alloc: Global,
+    key: HashKey,
     text: &[u8],
     chained: bool,
     binding: &[u8],
@@ -171,7 +143,7 @@ fn resume_text(
     ensures refused { IfErr result (λ error. (error ≡ StoreError.OutOfMemory)
         ⊎ ((error ≡ StoreError.BadRecord) × IsNoBook chained binding.now text.now)) }
 {
-    match read_book(alloc, text)? {
+    match read_book(alloc, key, text)? {
         Some(saved) if is_same(saved.chained, saved.binding.as_slice(), chained, binding) => {
             Ok(saved.follower)
         }

@@ -66,7 +66,7 @@ impl StreamFollower {
     }
 
     /// What changed of the follower since it was saved, if that is kept.
-    pub(crate) fn changes(&self) -> &Option<Follower>
+    pub fn changes(&self) -> &Option<Follower>
         ensures { result.now ≡ self.now.tracked.changes }
     {
         self.tracked.changes()

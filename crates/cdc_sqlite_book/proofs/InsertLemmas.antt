@@ -25,11 +25,13 @@ use Rattle.cdc_sqlite_book.specs.Tables.{book_schema, book_table, account_table,
 use Rattle.cdc_sqlite_book.proofs.CreateLemmas.{went, same_value}
 use Rattle.cdc_sqlite_book.proofs.RowLemmas.{put_end, rows_end, next_is}
 
-either : (b : Bool) (x : Value) → cond b x x ≡ x
+-- whatever a test comes to, one value comes out of it
+pub either : (b : Bool) (x : Value) → cond b x x ≡ x
 either true x = refl
 either false x = refl
 
-cast_null : cast Integer Null ≡ Null
+-- nothing stays nothing
+pub cast_null : cast Integer Null ≡ Null
 unfolding unary
 cast_null = either _ Null
 

@@ -5,7 +5,8 @@ use Rattle.sqlite.specs.State.{State, Survives}
 use Rattle.sqlite.specs.declared.error.Error.{Error}
 use Rattle.sqlite.proofs.StateLemmas.{survives_weaker}
 use Rattle.cdc_subscriber.specs.SubscriberState.{SubscriberState}
-use Rattle.cdc_sqlite_book.specs.Tables.{no_schema, book_schema, IsOfBook, MayHold}
+use Rattle.cdc_subscriber.specs.declared.book.BookEntry.{BookEntry}
+use Rattle.cdc_sqlite_book.specs.Tables.{no_schema, book_schema, IsOfBook, MayHold, MayChange}
 
 -- a fact holds after a success
 pub always : {T : Type 0} (r : Result T Error) (P : Type 0) → P → OnOk r P
@@ -45,5 +46,15 @@ unreplaced old new text kept target of s = survives_weaker old new _ _
     (λ _ db made. (
       record { schema = no_schema; trees = db },
       λ known. absurd (made (subst IsOfBook (sym known) of)),
+      refl,
+    )) s
+
+-- what a crash leaves, where nothing was changed
+pub unchanged_book : (old new : State) (book : List BookEntry) (text : List ℕ) (change : SubscriberState)
+    → Survives old new (λ _. ¬ IsOfBook old.now.schema) → Survives old new (MayChange old.now book text change)
+unchanged_book old new book text change s = survives_weaker old new _ _
+    (λ _ db made. (
+      record { schema = old.now.schema; trees = db },
+      λ held kept holds same. absurd (made (inr holds.schema)),
       refl,
     )) s

@@ -2,6 +2,9 @@ pub mod CreateLemmas
 pub mod DropLemmas
 pub mod InsertLemmas
 pub mod KeptLemmas
+pub mod PlaceLemmas
+pub mod ReplaceLemmas
 pub mod RowLemmas
 pub mod SelectLemmas
 pub mod StepLemmas
+pub mod UpsertLemmas

@@ -1,5 +1,5 @@
 -- The rows of accounts.
-use Rattle.std.proofs.Common.{◌≡◌, ℕ, ◌+◌, ◌<◌, suc, ℤ, pos, ◌+ℤ◌, List, [], ◌∷◌, ◌++◌, length, fold, Less, refl, ap, ◌∙◌, arith}
+use Rattle.std.proofs.Common.{◌≡◌, ℕ, ◌+◌, ◌<◌, suc, pos, ◌+ℤ◌, List, [], ◌∷◌, ◌++◌, length, fold, Less, refl, ap, ◌∙◌, arith}
 use Rattle.std.proofs.lemmas.Int.{ints}
 use Rattle.std.proofs.lemmas.Bool.Decides.{nat_tests}
 use Rattle.sqlite.specs.declared.types.Value.TheVariants.{Int}

@@ -10,7 +10,6 @@ use Rattle.sqlite.specs.Command.TheVariants.{Select}
 use Rattle.sqlite_tied.specs.Compute.{everything}
 use Rattle.sqlite.specs.declared.error.Error.{Error}
 use Rattle.sqlite.specs.Listing.{understood, reads_listing}
-use Rattle.sqlite.specs.Effect.{Database}
 use Rattle.sqlite.specs.Tree.{Trees}
 use Rattle.sqlite.specs.State.{State, QueriesRow, Shown, CommitsShowing}
 use Rattle.sqlite.proofs.Callers.{IsPlain, command_of, first_as, one_permutation}
@@ -62,16 +61,16 @@ finds old new text last applied (Ok row) has one h =
 
 -- a read that found the text changes nothing
 pub changes_nothing : (old new : State) (r : Result Row Error) → old.now.schema ≡ book_schema
-    → QueriesRow select_text [] old new r → OnOk r (new.now.schema ≡ book_schema)
+    → QueriesRow select_text [] old new r → OnOk r (new.now ≡ old.now)
 unfolding QueriesRow Shown
 changes_nothing old new (Err e) has h = tt
-changes_nothing old new (Ok row) has (inl h) = ap (λ (d : Database). d.schema) h.1.0.now_is ∙ has
+changes_nothing old new (Ok row) has (inl h) = h.1.0.now_is
 changes_nothing old new (Ok row) has (inr h) =
     let shown = h.1 in
     let known = sym shown.1.is ∙ ap (λ s. understood s select_text) has in
     let bare = subst IsPlain (sym known) select_plain in
     let same = (rw bare.0 at shown.2).3 in
-    ap (λ (d : Database). d.schema) same.0.now_is ∙ has
+    same.0.now_is
 
 -- nor does it commit
 pub commits_nothing : (old : State) (db : Trees) → CommitsShowing select_text [] old db → old.now.schema ≢ book_schema

@@ -1,5 +1,6 @@
 -- The tables of a book in SQLite.
-use Rattle.std.specs.Prelude.{◌≡◌, ◌⊎◌, true, false, [], ◌∷◌, Some, codes, decimal, List, ℕ, suc, pos}
+use Rattle.std.specs.Prelude.{◌≡◌, ◌==◌, ◌⊎◌, true, false, [], ◌∷◌, Some, codes, decimal, List, ℕ, suc, pos}
+use Rattle.std.specs.Prelude.{if◌then◌else◌}
 use Rattle.sqlite.specs.Collation.TheVariants.{Binary}
 use Rattle.sqlite.specs.declared.types.Value.TheVariants.{Null, Int, Text as Words, Blob as Bytes}
 use Rattle.sqlite.specs.Order.{Row}
@@ -10,6 +11,7 @@ use Rattle.sqlite.specs.Tree.{Trees}
 use Rattle.sqlite.specs.Effect.{Database}
 use Rattle.cdc_subscriber.specs.SubscriberState.{SubscriberState}
 use Rattle.cdc_subscriber.specs.declared.book.BookEntry.{BookEntry}
+use Rattle.cdc_book_log.specs.Replay.{put_all}
 use Rattle.sqlite.specs.Kind.{Kind}
 use Rattle.sqlite.specs.Kind.TheVariants.{Integer, Text, Blob}
 
@@ -69,6 +71,10 @@ book_schema = record { tables = book_table ∷ account_table ∷ []; indexes = [
 abbrev pub IsOfBook : Schema → Type 0
 IsOfBook schema = (schema ≡ no_schema) ⊎ (schema ≡ book_schema)
 
+-- what the text of a book begins with, if its accounts are in rows of their own
+abbrev pub rows_mark : List ℕ
+rows_mark = codes "rows "
+
 -- the row of the book's text, of the timestamp of the last event applied and of how many were
 abbrev pub book_row : List ℕ → ℕ → ℕ → Row
 book_row text last applied = Int (pos 1) ∷ Null ∷ Bytes text ∷ Words (decimal last) ∷ Words (decimal applied) ∷ []
@@ -94,3 +100,21 @@ pub record HoldsBook (text : List ℕ) (kept : SubscriberState) (db : Database) 
 -- what a crash during a save may leave, besides what was there: if the schema is known, a database that holds the book
 abbrev pub MayHold : Type 0 → List ℕ → SubscriberState → Trees → Type 0
 MayHold known text kept trees = (db : Database) × (known → HoldsBook text kept db) × (trees ≡ db.trees)
+
+-- the index of the account with this number, from 0, or of the next account, if it isn't there
+abbrev pub place_in : List BookEntry → ℕ → ℕ
+place_in [] id = 0
+place_in (other ∷ rest) id = if other.id == id then 0 else suc (place_in rest id)
+
+-- what a subscriber keeps after a save by changes: the changed accounts are put into its book, and all else is theirs
+abbrev pub changed : SubscriberState → SubscriberState → SubscriberState
+changed kept change = record change { book = put_all change.book kept.book }
+
+-- what a crash during a save by changes may leave, besides what was there: if the tables held these accounts, the book
+-- with the changes
+abbrev pub MayChange : Database → List BookEntry → List ℕ → SubscriberState → Trees → Type 0
+MayChange before book text change trees =
+    (after : Database)
+    × ((held : List ℕ) (kept : SubscriberState) → HoldsBook held kept before → kept.book ≡ book
+    → HoldsBook text (changed kept change) after)
+    × (trees ≡ after.trees)

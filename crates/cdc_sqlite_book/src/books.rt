@@ -5,10 +5,13 @@ ghost use Rattle.std.specs.Option.{option_map};
 ghost use Rattle.sqlite.specs.Held.{state};
 ghost use Rattle.sqlite.specs.State.{HasCleanDisk, Survives};
 ghost use Rattle.cdc_subscriber.specs.SubscriberState.{SubscriberState};
-ghost use Rattle.cdc_sqlite_book.specs.Tables.{no_schema, book_schema, HoldsBook, IsOfBook, MayHold};
+ghost use Rattle.cdc_subscriber.specs.Book.{entries_of};
+ghost use Rattle.cdc_sqlite_book.specs.Tables.{no_schema, book_schema, HoldsBook, IsOfBook, MayHold, changed as kept_after, MayChange};
 
-use crate::tables::{find_text, save_rows};
+use crate::tables::{find_text, save_changes, save_rows};
+use cdc_keys::KeyedMap;
 use cdc_subscriber::Subscriber;
+use cdc_types::Balances;
 use sqlite::{Alter, Connection, Error, ErrorCode};
 use sqlite_schema::schema::Schema;
 
@@ -38,8 +41,8 @@ pub fn read_text<S: Alter>(conn: &mut Connection<S>) -> Result<Option<Vec<u8>>, 
     ensures found { HasCleanDisk (state S.Store conn.new) → (text : List ℕ) → (kept : SubscriberState)
         → HoldsBook text kept (state S.Store conn.old).now
         → IfOk result (λ found. IsSomeAnd found (λ it. it.items ≡ text)) }
-    ensures schema { HasCleanDisk (state S.Store conn.new) → IsOfBook (state S.Store conn.old).now.schema
-        → OnOk result ((state S.Store conn.new).now.schema ≡ (state S.Store conn.old).now.schema) }
+    ensures same { HasCleanDisk (state S.Store conn.new) → IsOfBook (state S.Store conn.old).now.schema
+        → OnOk result ((state S.Store conn.new).now ≡ (state S.Store conn.old).now) }
     ensures survives { Survives (state S.Store conn.old) (state S.Store conn.new)
         (λ _. ¬ IsOfBook (state S.Store conn.old).now.schema) }
 {
@@ -99,4 +102,30 @@ pub fn replace<S: Alter>(
         return Err(NO_BOOK);
     }
     save_rows(conn, known.is_none(), text, subscriber)
+}
+
+/// Saves what changed of the book that is known to be there, with this text and these accounts. It is refused if
+/// another text is there.
+pub fn update<S: Alter>(
+    conn: &mut Connection<S>,
+    known: Option<&[u8]>,
+    accounts: &KeyedMap<u128, Balances>,
+    text: &[u8],
+    change: &Subscriber,
+) -> Result<(), Error>
+    requires { conn.old.in_transaction ≡ false }
+    ensures saved { HasCleanDisk (state S.Store conn.new) → (held : List ℕ) (kept : SubscriberState)
+        → HoldsBook held kept (state S.Store conn.old).now → kept.book ≡ entries_of accounts.now.entries
+        → OnOk result (HoldsBook text.now (kept_after kept change.now) (state S.Store conn.new).committed) }
+    ensures known { HasCleanDisk (state S.Store conn.new) → (held : List ℕ) (kept : SubscriberState)
+        → HoldsBook held kept (state S.Store conn.old).now
+        → OnOk result (option_map (λ it. it.now) known.entry ≡ Some held) }
+    ensures crash { Survives (state S.Store conn.old) (state S.Store conn.new)
+        (MayChange (state S.Store conn.old).now (entries_of accounts.now.entries) text.now change.now) }
+{
+    let held = read_text(conn)?;
+    if !is_same(text_in(&held), known) {
+        return Err(NO_BOOK);
+    }
+    save_changes(conn, accounts, text, change)
 }

@@ -2,25 +2,44 @@
 
 ghost use Rattle.std.specs.Prelude.{◌≡◌, ◌++◌, false, codes, IfOk, OnOk, OnErr, Some, string_bytes};
 ghost use Rattle.std.specs.Option.{option_map};
+ghost use Rattle.cdc_subscriber.specs.Book.{entries_of};
+ghost use Rattle.cdc_book_log.specs.Replay.{put_all};
 
-use crate::books::{NO_BOOK, read_text, replace, text_in};
+use crate::accounts::{accounts_of, put_accounts};
+use crate::books::{NO_BOOK, read_text, replace, text_in, update};
+use crate::loading::{read_accounts, whole_text};
 use crate::new_file::{MAGIC, put_new};
 use cdc_files::{StoreError, names, open_locked, target_of};
-use cdc_follow::read_book;
-use cdc_subscriber::Subscriber;
-use sqlite::{Connection, Error, ErrorCode, File as DiskFile, FileStore, Files as DiskFiles};
+use cdc_keys::{HashKey, KeyedMap};
+use cdc_subscriber::{Book, Subscriber};
+use cdc_types::Balances;
+use indexmap::IndexMap;
+use sqlite::{
+    Connection, Error, ErrorCode, File as DiskFile, FileStore, Files as DiskFiles, Options,
+};
 use sqlite_disk::{Disk, Unknown};
+use sqlite_std_file::OpenError;
 use std::alloc::{AllocError, Global};
 use std::fs::File;
+use std::hash::{BuildHasher, RandomState};
 use std::io::{ErrorKind, Read};
+use std::os::unix::fs::FileExt;
 use std::time::Duration;
 use std::{fs, io, thread};
 
-/// How often, at most, a file is opened while another program is reading it.
-const TRIES: u32 = 500;
-
-/// How long to wait between two tries, in milliseconds.
+/// How long to wait between two tries to open a file that another program is reading, in milliseconds.
 const PAUSE: u64 = 10;
+
+/// The length of a page, in bytes.
+const PAGE_BYTES: u64 = 4096;
+
+/// How many pages are kept in memory, at least and at most. An opening fills the room for them with zeros.
+const LEAST_CACHE: u64 = 16;
+
+const MOST_CACHE: u64 = 2000;
+
+/// The length of the header of an SQLite file, which counts the changes by other programs.
+const HEADER_BYTES: usize = 100;
 
 /// Where the header of an SQLite file states its journal.
 const JOURNAL_PLACE: usize = 18;
@@ -36,6 +55,9 @@ const BUSY: Error = Error::SqliteFailure(ErrorCode::DatabaseBusy);
 
 /// The error of a read or write that failed.
 const IO_FAULT: Error = Error::SqliteFailure(ErrorCode::SystemIoFailure);
+
+/// The error of a file that can't be opened.
+const CANNOT_OPEN: Error = Error::SqliteFailure(ErrorCode::CannotOpen);
 
 /// A connection to a file.
 type Opened = Connection<FileStore<DiskFile>>;
@@ -104,31 +126,88 @@ fn drop_empty_log(rt: &HostRuntime, mut files: Held, log_path: &str) {
     }
 }
 
+/// The error of files that SQLite's locks or their kind keep closed.
+fn open_error(error: OpenError) -> Error {
+    match error {
+        OpenError::OutOfMemory => Error::SqliteFailure(ErrorCode::OutOfMemory),
+        OpenError::Busy => BUSY,
+        OpenError::Io(error) if error.kind() == ErrorKind::OutOfMemory => {
+            Error::SqliteFailure(ErrorCode::OutOfMemory)
+        }
+        _ => CANNOT_OPEN,
+    }
+}
+
+/// How many pages of a file of this length are kept in memory: all, within limits.
+fn cache_pages(bytes: u64) -> usize {
+    (bytes / PAGE_BYTES).clamp(LEAST_CACHE, MOST_CACHE) as usize
+}
+
+/// How the file at a path is opened. The port would keep 2,000 pages in memory whatever the file has, and fill them with
+/// zeros first, which takes longer than all else that a save of few accounts does.
+fn options_for(rt: &HostRuntime, path: &str) -> io::Result<Options> {
+    let bytes = fs::metadata(rt, path)?.len();
+    let seed = RandomState::new(rt)?.hash_one(&0u8);
+    let mut options = Options::new(seed);
+    options.cache_pages = cache_pages(bytes);
+    Ok(options)
+}
+
 /// Opens the file at a path, once. A file that can't be opened is left as it was.
 fn open_once(rt: &HostRuntime, path: &str, log_path: &str) -> Result<Opened, Error>
     ensures { IfOk result (λ conn. conn.in_transaction ≡ false) }
 {
-    match Connection::open_from(rt, path, false, Unknown) {
+    let options = options_for(rt, path).or(Err(CANNOT_OPEN))?;
+    let files = match sqlite_std_file::open(rt, path, Unknown) {
+        Ok(files) => files,
+        Err(error) => return Err(open_error(error)),
+    };
+    match Connection::open_files(rt.alloc(), files, options) {
         Ok(conn) => Ok(conn),
-        Err((error, None)) => Err(error),
-        Err((error, Some(left))) => {
+        Err((error, left)) => {
             drop_empty_log(rt, left.into_files(), log_path);
             Err(error)
         }
     }
 }
 
-/// Opens the file at a path, and waits a while if another program is reading it.
-fn open_waiting(rt: &HostRuntime, path: &str, log_path: &str) -> Result<Opened, Error>
+/// How a save waits for a program that is in the middle of reading.
+#[derive(Clone, Copy)]
+pub struct Waiting<'a> {
+    /// How long, at most.
+    pub busy: Duration,
+    /// What is printed on standard error, as a line, when a wait begins.
+    pub notice: &'a str,
+}
+
+/// How many tries fit into a time.
+fn tries_in(busy: Duration) -> u64 {
+    let millis = u64::try_from(busy.as_millis()).unwrap_or(u64::MAX);
+    millis / PAUSE
+}
+
+/// Opens the file at a path, and waits if another program is reading it.
+fn open_waiting(
+    rt: &HostRuntime,
+    path: &str,
+    log_path: &str,
+    waiting: Waiting<'_>,
+) -> Result<Opened, Error>
     ensures { IfOk result (λ conn. conn.in_transaction ≡ false) }
 {
-    for _ in 0..TRIES {
+    match open_once(rt, path, log_path) {
+        Ok(conn) => return Ok(conn),
+        Err(error) if error == BUSY => {}
+        Err(error) => return Err(error),
+    }
+    let _ = eprintln!(rt; "{}", waiting.notice);
+    for _ in 0..tries_in(waiting.busy) {
+        thread::sleep(rt, Duration::from_millis(PAUSE));
         match open_once(rt, path, log_path) {
             Ok(conn) => return Ok(conn),
             Err(error) if error == BUSY => {}
             Err(error) => return Err(error),
         }
-        thread::sleep(rt, Duration::from_millis(PAUSE));
     }
     Err(BUSY)
 }
@@ -191,70 +270,123 @@ fn lock_at(rt: &HostRuntime, path: &str) -> Result<File, StoreError> {
     Ok(file)
 }
 
-/// A follower's book in an SQLite file: the table `book` has the book's text, the timestamp of the last event applied
-/// and the count of these events; the table `accounts` has a row for each account. All numbers are decimal text. A save
-/// opens the file, replaces both tables in one transaction and closes it, so an interrupted save leaves the old book or
-/// the new one. Between two saves the file has no log and no lock of SQLite's, so others may read it. A save waits up
-/// to five seconds for a program that is in the middle of reading.
+/// The header of a file; zeros, as no SQLite file has, if it can't be read.
+fn header_of(file: &File) -> [u8; HEADER_BYTES] {
+    let mut header = [0u8; HEADER_BYTES];
+    match file.read_at(&mut header, 0) {
+        Ok(count) if count == HEADER_BYTES => header,
+        _ => [0u8; HEADER_BYTES],
+    }
+}
+
+/// A follower's book in an SQLite file: the table `book` has the text of the book without its accounts, the timestamp of
+/// the last event applied and the count of these events; the table `accounts` has a row for each account. All numbers
+/// are decimal text. A save opens the file, writes in one transaction, and closes the file, so an interrupted save leaves
+/// the old book or the new one. Between two saves the file has no log and no lock of SQLite's, so others may read it. A
+/// save waits for a program that is in the middle of reading.
+///
+/// A save of the whole book replaces both tables. It can follow any other one, and a book of version 1.1, whose text has
+/// the accounts, too. A save by changes writes the rows of the accounts that changed, each found by its number, and the
+/// row of the text.
 ///
 /// The file is locked against another `follow` from its opening on. A file that isn't SQLite's, or that has other
 /// tables, is refused and left as it was; a log that its own program left beside it may get some zeros at its end,
 /// which SQLite ignores. A save is refused if the path no longer names the locked file, or if the file no longer has
 /// the text that this store has last loaded or saved. It never makes a file.
 ///
-/// No contract can state what a file holds. `known` is the text that this store has last loaded or saved; that the file
-/// returns it is an assumption of the store's user. Nor does one cover the two bytes of the header that are written
-/// after a close. What a save does to the tables of a connection, and what a crash leaves of them, is proved
-/// (`replace`).
+/// No contract can state what a file holds. `known` is the text that this store has last loaded or saved, and `accounts`
+/// are those that it has last saved; that the file returns them is an assumption of the store's user. If another program
+/// has written to the file, its header differs (`is_as_left`); rows that it wrote into `accounts` stay until the next
+/// save of the whole book. Nor does a contract cover the two bytes of the header that are written after a close. What a
+/// save does to the tables of a connection, and what a crash leaves of them, is proved (`replace`, `update`).
 #[derive(Drop)]
 pub struct SqliteBook<'a> {
     rt: &'a HostRuntime,
     path: String,
     log_path: String,
+    waiting: Waiting<'a>,
     /// The file, locked.
     lock: File,
+    /// The file's header, as the last load or save left it.
+    header: [u8; HEADER_BYTES],
     known: Option<Vec<u8>>,
+    /// The accounts of the last save, in the order of their rows.
+    accounts: KeyedMap<u128, Balances>,
 }
 
 impl<'a> SqliteBook<'a> {
-    /// Opens the book at this path, and locks and reads it. If the file is missing, a new one is written at its name
-    /// with `.new` appended and put in its place. `BadRecord`: the file holds no book, or it is empty; `ReadFault`: it
-    /// can't be opened, or another program holds it; `WriteFault`: it can't be made.
-    pub fn open(rt: &'a HostRuntime, path: &str) -> Result<SqliteBook<'a>, StoreError> {
+    /// Opens the book at this path, locks and reads it, and returns it with the text of the whole book, if there is one.
+    /// The numbers of its accounts are hashed with this key.
+    /// If the file is missing, a new one is written at its name with `.new` appended and put in its place. `BadRecord`:
+    /// the file holds no book, or it is empty; `ReadFault`: it can't be opened, or another program holds it;
+    /// `WriteFault`: it can't be made.
+    pub fn open(
+        rt: &'a HostRuntime,
+        path: &str,
+        key: HashKey,
+        waiting: Waiting<'a>,
+    ) -> Result<(SqliteBook<'a>, Option<Vec<u8>>), StoreError> {
         let named = target_of(rt, path).map_err(read_error)?;
         let lock = lock_at(rt, named.as_str())?;
         // (the file exists now, so its path is absolute, and SQLite takes it for no other name, such as `:memory:`)
         let path = target_of(rt, named.as_str()).map_err(read_error)?;
         let log_path = path_of_log(rt.alloc(), path.as_str())?;
-        let known = load_at(rt, path.as_str(), log_path.as_str()).map_err(load_error)?;
-        Ok(SqliteBook {
-            rt,
-            path,
-            log_path,
-            lock,
-            known,
-        })
+        let loaded = load_at(rt, path.as_str(), log_path.as_str(), key, waiting);
+        let (known, whole) = loaded.map_err(load_error)?;
+        let header = header_of(&lock);
+        Ok((
+            SqliteBook {
+                rt,
+                path,
+                log_path,
+                waiting,
+                lock,
+                header,
+                known,
+                accounts: IndexMap::with_hasher(rt.alloc(), key),
+            },
+            whole,
+        ))
     }
 
-    /// The text of the book that was last loaded or saved, if there is one.
-    pub fn text(&self) -> Option<&[u8]>
-        ensures { option_map (λ it. it.now) result ≡ option_map (λ it. it.items) self.now.known }
-    {
-        text_in(&self.known)
+    /// Whether the file is as the last load or save left it, by its header, which other programs change when they write.
+    pub fn is_as_left(&self) -> bool {
+        header_of(&self.lock).as_slice() == self.header.as_slice()
     }
 
-    /// Saves a book with this text. `BadRecord`: it is the text of no book. After an error the file holds the old book
-    /// or this one.
-    pub fn save(&mut self, text: Vec<u8>) -> Result<(), StoreError>
+    /// Saves a whole book: its text without accounts, and what its subscriber keeps. After an error the file holds the
+    /// old book or this one.
+    pub fn save(&mut self, text: Vec<u8>, subscriber: &Subscriber) -> Result<(), StoreError>
         ensures saved { OnOk result (option_map (λ it. it.items) self.new.known ≡ Some text.items) }
+        ensures accounts { OnOk result (entries_of self.new.accounts.entries ≡ subscriber.now.book) }
         ensures refused { OnErr result (self.new.known ≡ self.old.known) }
+        ensures stay { OnErr result (self.new.accounts.entries ≡ self.old.accounts.entries) }
     {
-        let Some(saved) = read_book(self.rt.alloc(), text.as_slice())? else {
-            return Err(StoreError::BadRecord);
-        };
-        self.put(text.as_slice(), saved.follower.subscriber())
-            .map_err(save_error)?;
+        let accounts = accounts_of(self.rt.alloc(), *self.accounts.hasher(), subscriber.book())?;
+        self.put(text.as_slice(), subscriber).map_err(save_error)?;
+        self.header = header_of(&self.lock);
         self.known = Some(text);
+        self.accounts = accounts;
+        Ok(())
+    }
+
+    /// Saves what changed of the book that was saved last: its text without accounts, and the accounts that changed.
+    /// After an error the file holds the old book or the new one.
+    pub fn save_changes(&mut self, text: Vec<u8>, change: &Subscriber) -> Result<(), StoreError>
+        ensures saved { OnOk result (option_map (λ it. it.items) self.new.known ≡ Some text.items) }
+        ensures accounts { OnOk result (entries_of self.new.accounts.entries
+            ≡ put_all change.now.book (entries_of self.old.accounts.entries)) }
+        ensures refused { OnErr result (self.new.known ≡ self.old.known) }
+        ensures stay { OnErr result (self.new.accounts.entries ≡ self.old.accounts.entries) }
+    {
+        let changed = change.book();
+        self.accounts.reserve(changed.len())?;
+        self.put_changes(text.as_slice(), change)
+            .map_err(save_error)?;
+        self.header = header_of(&self.lock);
+        let known = Some(text);
+        self.known = known;
+        put_accounts(&mut self.accounts, changed);
         Ok(())
     }
 
@@ -266,36 +398,89 @@ impl<'a> SqliteBook<'a> {
         }
     }
 
-    /// Replaces the book in the file.
-    fn put(&self, text: &[u8], subscriber: &Subscriber) -> Result<(), Error> {
-        let (path, log_path) = (self.path.as_str(), self.log_path.as_str());
+    /// Opens the file for a save.
+    fn reopen(&self) -> Result<Opened, Error>
+        ensures { IfOk result (λ conn. conn.in_transaction ≡ false) }
+    {
         // (a file that isn't there would be made by its opening)
         self.check_name()?;
-        let mut conn = open_waiting(self.rt, path, log_path)?;
-        match replace(&mut conn, self.text(), text, subscriber) {
+        open_waiting(
+            self.rt,
+            self.path.as_str(),
+            self.log_path.as_str(),
+            self.waiting,
+        )
+    }
+
+    /// Closes the file after a save. A file that holds another book is left as it was.
+    fn end(&self, conn: Opened, saved: Result<(), Error>) -> Result<(), Error> {
+        match saved {
             Err(error) if error == NO_BOOK => {
-                leave(self.rt, conn, log_path);
+                leave(self.rt, conn, self.log_path.as_str());
                 Err(error)
             }
             saved => {
-                let closed = close(self.rt, conn, log_path);
+                let closed = close(self.rt, conn, self.log_path.as_str());
                 saved.and(closed)
             }
         }
     }
+
+    /// Replaces the book in the file.
+    fn put(&self, text: &[u8], subscriber: &Subscriber) -> Result<(), Error> {
+        let mut conn = self.reopen()?;
+        let saved = replace(&mut conn, text_in(&self.known), text, subscriber);
+        self.end(conn, saved)
+    }
+
+    /// Puts what changed into the book in the file.
+    fn put_changes(&self, text: &[u8], change: &Subscriber) -> Result<(), Error> {
+        let mut conn = self.reopen()?;
+        let saved = update(
+            &mut conn,
+            text_in(&self.known),
+            &self.accounts,
+            text,
+            change,
+        );
+        self.end(conn, saved)
+    }
 }
 
-/// Reads the text of the book in the file at a path; `None` if the file has no table yet.
-fn load_at(rt: &HostRuntime, path: &str, log_path: &str) -> Result<Option<Vec<u8>>, Error> {
-    let mut conn = open_waiting(rt, path, log_path)?;
-    match read_text(&mut conn) {
-        Ok(text) => {
-            close(rt, conn, log_path)?;
-            Ok(text)
-        }
+/// Reads the text of a book's row, and the accounts; `None` if there is no table yet.
+fn read_all(
+    alloc: Global,
+    key: HashKey,
+    conn: &mut Opened,
+) -> Result<Option<(Vec<u8>, Book)>, Error> {
+    let Some(text) = read_text(conn)? else {
+        return Ok(None);
+    };
+    let accounts = read_accounts(alloc, key, conn)?;
+    Ok(Some((text, accounts)))
+}
+
+/// Reads the book in the file at a path: the text of its row, and that of the whole book; neither if the file has no
+/// table yet.
+fn load_at(
+    rt: &HostRuntime,
+    path: &str,
+    log_path: &str,
+    key: HashKey,
+    waiting: Waiting<'_>,
+) -> Result<(Option<Vec<u8>>, Option<Vec<u8>>), Error> {
+    let mut conn = open_waiting(rt, path, log_path, waiting)?;
+    let read = match read_all(rt.alloc(), key, &mut conn) {
+        Ok(read) => read,
         Err(error) => {
             leave(rt, conn, log_path);
-            Err(error)
+            return Err(error);
         }
-    }
+    };
+    close(rt, conn, log_path)?;
+    let Some((text, accounts)) = read else {
+        return Ok((None, None));
+    };
+    let whole = whole_text(rt.alloc(), key, text.as_slice(), accounts)?;
+    Ok((Some(text), Some(whole)))
 }

@@ -1,9 +1,12 @@
 //! A book in SQLite, which others may query while it is kept.
 #![tactic(auto)]
 
+pub mod accounts;
 pub mod books;
 pub mod files;
+pub mod loading;
 pub mod new_file;
 pub mod tables;
 
-pub use files::SqliteBook;
+pub use files::{SqliteBook, Waiting};
+pub use loading::begin_text;

@@ -1,14 +1,19 @@
 //! The tables of a book, and the statements that make and fill them.
 
-ghost use Rattle.std.specs.Prelude.{◌≡◌, ◌≢◌, [], ◌∷◌, ◌++◌, ℕ, List, false, if◌then◌else◌, IsTrue, IfOk, OnOk, OnErr};
+ghost use Rattle.std.specs.Prelude.{◌≡◌, ◌≢◌, [], ◌∷◌, ◌++◌, ℕ, suc, List, false, if◌then◌else◌, IsTrue, IfOk, OnOk, OnErr};
 ghost use Rattle.sqlite.specs.declared.types.Value.TheVariants.{Blob};
 ghost use Rattle.sqlite.specs.Held.{state};
 ghost use Rattle.sqlite.specs.State.{HasCleanDisk, KeepsCommit, Survives};
 ghost use Rattle.cdc_subscriber.specs.SubscriberState.{SubscriberState};
 ghost use Rattle.cdc_subscriber.specs.declared.book.BookEntry.{BookEntry as Shown};
-ghost use Rattle.cdc_sqlite_book.specs.Tables.{no_schema, book_only, book_schema, book_row, rows_from, HoldsBook, MayHold};
+ghost use Rattle.cdc_subscriber.specs.Book.{entries_of, put};
+ghost use Rattle.cdc_book_log.specs.Replay.{put_all};
+ghost use Rattle.cdc_sqlite_book.specs.Tables.{no_schema, book_only, book_schema, book_row, rows_from, HoldsBook, MayHold, place_in, changed as kept_after, MayChange};
 
+use crate::accounts::place_for;
+use cdc_keys::KeyedMap;
 use cdc_subscriber::{Book, BookEntry, Subscriber};
+use cdc_types::Balances;
 use itoa::Buffer;
 use sqlite::{Alter, Connection, Error, ErrorCode, Row, Transaction, params};
 
@@ -238,14 +243,154 @@ pub fn save_rows<S: Alter>(
     tx.commit()
 }
 
+/// Replaces the row of the book's text, with the timestamp of the last event applied and the count of those.
+pub fn replace_text<S: Alter>(
+    tx: &mut Transaction<'_, S>,
+    text: &[u8],
+    last: u64,
+    applied: u64,
+) -> Result<usize, Error>
+    ensures same_reference { tx.new.conn.ghost_name ≡ tx.old.conn.ghost_name }
+    ensures holds { HasCleanDisk (state S.Store tx.new.conn.now) → (held : List ℕ) (kept : SubscriberState)
+        → HoldsBook held kept (state S.Store tx.old.conn.now).now
+        → OnOk result (HoldsBook text.now (record kept { last = last; applied = applied })
+        (state S.Store tx.new.conn.now).now) }
+    ensures kept { HasCleanDisk (state S.Store tx.new.conn.now)
+        → KeepsCommit (state S.Store tx.old.conn.now) (state S.Store tx.new.conn.now) }
+    ensures survives { Survives (state S.Store tx.old.conn.now) (state S.Store tx.new.conn.now) (λ _. ⊥) }
+{
+    let (mut last_text, mut applied_text) = (Buffer::new(), Buffer::new());
+    tx.execute(
+        "INSERT OR REPLACE INTO book (id, text, last, applied) VALUES (1, ?1, ?2, ?3)",
+        params![text, last_text.format(last), applied_text.format(applied)],
+    )
+}
+
+/// Puts the row of an account at its place, counted from 1: it replaces the row there, or comes last.
+pub fn replace_account<S: Alter>(
+    tx: &mut Transaction<'_, S>,
+    place: u32,
+    entry: &BookEntry,
+) -> Result<usize, Error>
+    ensures same_reference { tx.new.conn.ghost_name ≡ tx.old.conn.ghost_name }
+    ensures holds { HasCleanDisk (state S.Store tx.new.conn.now) → (held : List ℕ) (kept : SubscriberState)
+        → HoldsBook held kept (state S.Store tx.old.conn.now).now → place ≡ suc (place_in kept.book entry.now.id)
+        → OnOk result (HoldsBook held (record kept { book = put entry.now kept.book })
+        (state S.Store tx.new.conn.now).now) }
+    ensures kept { HasCleanDisk (state S.Store tx.new.conn.now)
+        → KeepsCommit (state S.Store tx.old.conn.now) (state S.Store tx.new.conn.now) }
+    ensures survives { Survives (state S.Store tx.old.conn.now) (state S.Store tx.new.conn.now) (λ _. ⊥) }
+{
+    let (mut id, mut debits_pending, mut debits_posted) = (
+        Buffer::new(),
+        Buffer::new(),
+        Buffer::new(),
+    );
+    let (mut credits_pending, mut credits_posted) = (Buffer::new(), Buffer::new());
+    let balances = entry.balances;
+    tx.execute(
+        "INSERT OR REPLACE INTO accounts (place, id, debits_pending, debits_posted, credits_pending, credits_posted) \
+         VALUES (?1, ?2, ?3, ?4, ?5, ?6)",
+        params![
+            place,
+            id.format(entry.id),
+            debits_pending.format(balances.debits_pending),
+            debits_posted.format(balances.debits_posted),
+            credits_pending.format(balances.credits_pending),
+            credits_posted.format(balances.credits_posted)
+        ],
+    )
+}
+
+/// The number of the row of the account at an index. It is refused if it doesn't fit.
+fn row_number(index: usize) -> Result<u32, Error>
+    ensures { IfOk result (λ number. number ≡ suc index) }
+{
+    match u32::try_from(index) {
+        Ok(index) if index < u32::MAX => Ok(index + 1),
+        _ => Err(Error::SqliteFailure(ErrorCode::TooBig)),
+    }
+}
+
+/// Puts the rows of accounts that changed into those of a book that has these accounts.
+pub fn replace_accounts<S: Alter>(
+    tx: &mut Transaction<'_, S>,
+    accounts: &KeyedMap<u128, Balances>,
+    changed: &Book,
+) -> Result<(), Error>
+    ensures same_reference { tx.new.conn.ghost_name ≡ tx.old.conn.ghost_name }
+    ensures holds { HasCleanDisk (state S.Store tx.new.conn.now) → (held : List ℕ) (kept : SubscriberState)
+        → HoldsBook held kept (state S.Store tx.old.conn.now).now → kept.book ≡ entries_of accounts.now.entries
+        → OnOk result (HoldsBook held (record kept { book = put_all changed.now kept.book })
+        (state S.Store tx.new.conn.now).now) }
+    ensures kept { HasCleanDisk (state S.Store tx.new.conn.now)
+        → KeepsCommit (state S.Store tx.old.conn.now) (state S.Store tx.new.conn.now) }
+    ensures survives { Survives (state S.Store tx.old.conn.now) (state S.Store tx.new.conn.now) (λ _. ⊥) }
+{
+    let count = changed.len();
+    let mut next = accounts.len();
+    'accounts: for at in 0..count {
+        let Some((id, balances)) = changed.at_place(at) else {
+            return Err(Error::SqliteFailure(ErrorCode::Closed));
+        };
+        let index = place_for(accounts, id, next);
+        let number = row_number(index)?;
+        replace_account(tx, number, &BookEntry { id, balances })?;
+        next = next.max(number as usize);
+    }
+    Ok(())
+}
+
+/// Puts the accounts that changed, and the text of a book and its place, in the rows of a book with these accounts.
+pub fn refill<S: Alter>(
+    tx: &mut Transaction<'_, S>,
+    accounts: &KeyedMap<u128, Balances>,
+    text: &[u8],
+    change: &Subscriber,
+) -> Result<(), Error>
+    ensures same_reference { tx.new.conn.ghost_name ≡ tx.old.conn.ghost_name }
+    ensures holds { HasCleanDisk (state S.Store tx.new.conn.now) → (held : List ℕ) (kept : SubscriberState)
+        → HoldsBook held kept (state S.Store tx.old.conn.now).now → kept.book ≡ entries_of accounts.now.entries
+        → OnOk result (HoldsBook text.now (kept_after kept change.now) (state S.Store tx.new.conn.now).now) }
+    ensures kept { HasCleanDisk (state S.Store tx.new.conn.now)
+        → KeepsCommit (state S.Store tx.old.conn.now) (state S.Store tx.new.conn.now) }
+    ensures survives { Survives (state S.Store tx.old.conn.now) (state S.Store tx.new.conn.now) (λ _. ⊥) }
+{
+    replace_accounts(tx, accounts, change.book())?;
+    replace_text(tx, text, change.last(), change.applied_count())?;
+    Ok(())
+}
+
+/// Saves what changed of a book, in one transaction: the text of the book without accounts, its place, and the rows of
+/// the accounts that changed. `accounts` are those that the tables hold.
+pub fn save_changes<S: Alter>(
+    conn: &mut Connection<S>,
+    accounts: &KeyedMap<u128, Balances>,
+    text: &[u8],
+    change: &Subscriber,
+) -> Result<(), Error>
+    requires { conn.old.in_transaction ≡ false }
+    ensures saved { HasCleanDisk (state S.Store conn.new) → (held : List ℕ) (kept : SubscriberState)
+        → HoldsBook held kept (state S.Store conn.old).now → kept.book ≡ entries_of accounts.now.entries
+        → OnOk result (HoldsBook text.now (kept_after kept change.now) (state S.Store conn.new).committed) }
+    ensures refused { HasCleanDisk (state S.Store conn.new) → IsTrue (state S.Store conn.new).is_open
+        → OnErr result ((state S.Store conn.new).committed ≡ (state S.Store conn.old).committed) }
+    ensures crash { Survives (state S.Store conn.old) (state S.Store conn.new)
+        (MayChange (state S.Store conn.old).now (entries_of accounts.now.entries) text.now change.now) }
+{
+    let mut tx = conn.transaction();
+    refill(&mut tx, accounts, text, change)?;
+    tx.commit()
+}
+
 /// The row of the book's text.
 pub fn find_text<S: Alter>(conn: &mut Connection<S>) -> Result<Row, Error>
     ensures mode { conn.old.in_transaction ≡ false → conn.new.in_transaction ≡ false }
     ensures found { HasCleanDisk (state S.Store conn.new) → (text : List ℕ) → (kept : SubscriberState)
         → HoldsBook text kept (state S.Store conn.old).now
         → IfOk result (λ row. row ≡ Blob text ∷ []) }
-    ensures schema { HasCleanDisk (state S.Store conn.new) → (state S.Store conn.old).now.schema ≡ book_schema
-        → OnOk result ((state S.Store conn.new).now.schema ≡ book_schema) }
+    ensures same { HasCleanDisk (state S.Store conn.new) → (state S.Store conn.old).now.schema ≡ book_schema
+        → OnOk result ((state S.Store conn.new).now ≡ (state S.Store conn.old).now) }
     ensures survives { Survives (state S.Store conn.old) (state S.Store conn.new)
         (λ _. (state S.Store conn.old).now.schema ≢ book_schema) }
 {

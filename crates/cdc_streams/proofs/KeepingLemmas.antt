@@ -1,7 +1,7 @@
 -- Texts that are held one after another.
 use Rattle.std.proofs.Common.{◌≡◌, ℕ, List, [], ◌∷◌, ◌++◌, Option, None, Some, sym, ap, ◌∙◌, subst, append-nil}
 use Rattle.std.proofs.Common.{append_assoc, refl}
-use Rattle.std.specs.Prelude.{IfSome}
+use Rattle.std.specs.Prelude.{Err, IfSome, Ok, OnOk, Result}
 use Rattle.std.specs.List.{AllZip}
 use Rattle.cdc_streams.specs.Keeping.{AddsTexts, last_text}
 
@@ -42,3 +42,14 @@ module _ {S : Type 0} (IsText : List ℕ → S → Type 0) where
         last.1 ∙ ap Some (append_assoc held adds.0 (last.0 ∷ [])),
         zip_more adds.0 states last.0 state adds.2 last.2,
       )
+
+-- ---- what holds after a call that may fail
+
+pub ok_map : {T E A B : Type 0} (result : Result T E) → (A → B) → OnOk result A → OnOk result B
+ok_map (Ok done) maps holds = maps holds
+ok_map (Err why) maps holds = tt
+
+pub ok_map_two : {T E A B C : Type 0} (result : Result T E) → (A → B → C) → OnOk result A → OnOk result B
+    → OnOk result C
+ok_map_two (Ok done) maps one two = maps one two
+ok_map_two (Err why) maps one two = tt

@@ -16,11 +16,10 @@ use std::os::unix::fs::MetadataExt;
 /// text is left. `append` writes at the end of PATH and syncs that, so if it is interrupted, the old text is left, and
 /// perhaps a part of the new one after it; if it fails, the file is cut to the old text again. It is refused after
 /// another one that failed. If PATH is a link, both names refer to the link's target, and the link stays. The file's
-/// mode is kept, its owner isn't.
+/// owner, group and mode are kept; `replace` is refused if that isn't permitted.
 ///
 /// The file is locked from its opening or its first writing on, and another process that uses it is refused. Writing is
-/// refused if PATH no longer names this file, if something else has written into the file, by its length and the time
-/// of
+/// refused if PATH no longer names this file, if something else has written into the file, by its length and the time of
 /// its last change, or if nobody may write it; and `replace` is if `PATH.new` exists and can't be the leftover of an
 /// interrupted one, by the text's mark.
 ///
@@ -64,14 +63,13 @@ fn stamp_of(metadata: &Metadata) -> Stamp {
 }
 
 impl HeldFile {
-    /// A file that was just read or written.
-    fn new(file: File) -> io::Result<HeldFile> {
-        let stamp = stamp_of(&file.metadata()?);
-        Ok(HeldFile {
+    /// A file that nobody else has written into since it had this stamp.
+    fn new(file: File, stamp: Stamp) -> HeldFile {
+        HeldFile {
             file,
             stamp,
             is_torn: false,
-        })
+        }
     }
 
     /// Whether nothing else has written into it.
@@ -82,7 +80,10 @@ impl HeldFile {
     /// Appends a text, and syncs it to the disk.
     fn append(&mut self, text: &[u8]) -> io::Result<()> {
         self.is_torn = true;
-        self.file.write_all(text)?;
+        // (at a limit on the size of files, a write after one of a part would end the process)
+        if self.file.write(text)? < text.len() {
+            return Err(io::Error::from(ErrorKind::WriteZero));
+        }
         self.file.sync_data()?;
         self.stamp = stamp_of(&self.file.metadata()?);
         self.is_torn = false;
@@ -162,7 +163,9 @@ impl<'a, R: Files<File = File> + AllocGlobal> LogFile<'a, R> {
             leftover: Leftover::Begins,
             mark: self.mark,
         };
-        HeldFile::new(replace(self.rt, file, current, text)?)
+        let made = replace(self.rt, file, current, text)?;
+        let stamp = stamp_of(&made.metadata()?);
+        Ok(HeldFile::new(made, stamp))
     }
 
     /// An error unless a text may be appended.
@@ -189,15 +192,26 @@ impl<'a, R: Files<File = File> + AllocGlobal> LogFile<'a, R> {
         if added.is_err() {
             held.cut();
         }
-        added
+        added?;
+        self.check_name()
+    }
+
+    /// An error unless the path names the file still. What was written into a file that something else has replaced
+    /// isn't saved.
+    fn check_name(&self) -> io::Result<()> {
+        match &self.held {
+            Some(held) if names(self.rt, self.path.as_str(), &held.file)? => Ok(()),
+            _ => Err(io::Error::from(ErrorKind::InvalidData)),
+        }
     }
 }
 
-/// Reads the text of a locked file.
+/// Reads the text of a locked file. Its stamp is that of before, so what is written into it meanwhile is noticed.
 fn read_held(alloc: Global, mut file: File) -> io::Result<(HeldFile, Vec<u8>)> {
+    let stamp = stamp_of(&file.metadata()?);
     let mut text = Vec::new(alloc);
     file.read_to_end(&mut text)?;
-    Ok((HeldFile::new(file)?, text))
+    Ok((HeldFile::new(file, stamp), text))
 }
 
 impl<'a, R: Files<File = File> + AllocGlobal> LogStore for LogFile<'a, R> {

@@ -1,8 +1,7 @@
 //! Where what takes a stream is kept, so that a later run can go on from there.
 
 ghost use Rattle.std.specs.Prelude.{◌≡◌, ◌++◌, ◌∷◌, [], ℕ, List, Option, OnOk, OnErr};
-ghost use Rattle.std.specs.Option.{option_map};
-ghost use Rattle.cdc_streams.specs.Keeping.{with_text};
+ghost use Rattle.cdc_streams.specs.Keeping.{AppendsText, ReplacesText};
 
 use cdc_files::StoreError;
 use std::alloc::Global;
@@ -75,13 +74,11 @@ pub trait LogStore {
 
     /// Replaces the text. After an error, the old text is held, or this one.
     fn replace(&mut self, text: &[u8]) -> Result<(), StoreError>
-        ensures saved { OnOk result (texts self.new
-            ≡ option_map (λ before. before ++ (text.now ∷ [])) (texts self.old)) }
+        ensures saved { OnOk result (ReplacesText (texts self.old) (texts self.new) text.now) }
         ensures refused { OnErr result (texts self.new ≡ texts self.old) };
 
     /// Appends to the last text. After an error, that one is held, and perhaps a part of this one after it.
     fn append(&mut self, text: &[u8]) -> Result<(), StoreError>
-        ensures saved { OnOk result (texts self.new
-            ≡ option_map (λ before. with_text before text.now) (texts self.old)) }
+        ensures saved { OnOk result (AppendsText (texts self.old) (texts self.new) text.now) }
         ensures refused { OnErr result (texts self.new ≡ texts self.old) };
 }

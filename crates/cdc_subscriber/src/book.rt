@@ -6,6 +6,7 @@ ghost use Rattle.cdc_types.specs.declared.events.Event.{Event as Emitted};
 ghost use Rattle.cdc_subscriber.specs.Book.{are_distinct, balances_in, balances_shown, entries_of, entry_of as shown_entry, book_of, id_and_balances, ids_of, has_both as has_both_in, is_among, put as put_entry};
 ghost use Rattle.cdc_subscriber.specs.Steps.{book_after};
 
+use cdc_keys::{HashKey, KeyedMap};
 use cdc_types::{Balances, Event, EventAccount};
 use indexmap::IndexMap;
 use indexmap::map::Iter;
@@ -26,7 +27,7 @@ pub struct BookEntry {
 #[derive(Drop)]
 pub struct Book {
     // The balances of each account by its number; new numbers come last.
-    accounts: IndexMap<u128, Balances>,
+    accounts: KeyedMap<u128, Balances>,
 }
 
 impl Model for Book {
@@ -40,13 +41,27 @@ impl Model for Book {
 }
 
 impl Book {
-    /// Creates an empty book.
+    /// Creates an empty book, which hashes ids with a fixed key.
     pub fn new(alloc: Global) -> Book
         ensures { result ≡ book_of [] }
     {
+        Book::keyed(alloc, HashKey::Fixed)
+    }
+
+    /// Creates an empty book, which hashes ids with this key.
+    pub fn keyed(alloc: Global, key: HashKey) -> Book
+        ensures { result ≡ book_of [] }
+    {
         Book {
-            accounts: IndexMap::new(alloc),
+            accounts: IndexMap::with_hasher(alloc, key),
         }
+    }
+
+    /// Creates an empty book, which hashes ids with the key of this one.
+    pub fn emptied(&self, alloc: Global) -> Book
+        ensures { result ≡ book_of [] }
+    {
+        Book::keyed(alloc, *self.accounts.hasher())
     }
 
     /// The balances of the account with this number, or `None` if no event has shown it.
@@ -135,7 +150,7 @@ fn entry_of(account: &EventAccount) -> BookEntry
 }
 
 /// Makes room for the accounts of an event. It allocates only if one of them is missing.
-fn reserve_for(accounts: &mut IndexMap<u128, Balances>, event: &Event) -> Result<(), AllocError>
+fn reserve_for(accounts: &mut KeyedMap<u128, Balances>, event: &Event) -> Result<(), AllocError>
     ensures entries { accounts.new.entries ≡ accounts.old.entries }
     ensures room { OnOk result (has_both_in (entries_of accounts.old.entries) event.now ≡ false
         → 2 ≤ spare accounts.new) }
@@ -149,7 +164,7 @@ fn reserve_for(accounts: &mut IndexMap<u128, Balances>, event: &Event) -> Result
 }
 
 /// Whether both accounts of an event are there.
-fn has_both(accounts: &IndexMap<u128, Balances>, event: &Event) -> bool
+fn has_both(accounts: &KeyedMap<u128, Balances>, event: &Event) -> bool
     ensures { result ≡ has_both_in (entries_of accounts.now.entries) event.now }
 {
     accounts.contains_key(&event.debit_account.id)
@@ -157,7 +172,7 @@ fn has_both(accounts: &IndexMap<u128, Balances>, event: &Event) -> bool
 }
 
 /// Replaces the entry with the same number, or adds the entry last. Only a new number needs room.
-fn put(accounts: &mut IndexMap<u128, Balances>, entry: BookEntry)
+fn put(accounts: &mut KeyedMap<u128, Balances>, entry: BookEntry)
     requires { is_among entry.id (ids_of (entries_of accounts.old.entries)) ≡ false → 0 < spare accounts.old }
     ensures entries { entries_of accounts.new.entries
         ≡ put_entry entry (entries_of accounts.old.entries) }

@@ -1,6 +1,5 @@
--- What was audited of a stream so far, line by line: the ghost members of an auditor, and their laws. No public
--- contract
--- cites them.
+-- What was audited of a stream so far, line by line: the ghost members of an auditor, and their laws. Cited by no public
+-- contract.
 use Rattle.std.proofs.Common.{◌≡◌, ℕ, List, [], ◌∷◌, ◌++◌, append-nil, false}
 use Rattle.std.proofs.Common.{Option, None, Some, refl, sym, ap, ◌∙◌, subst}
 use Rattle.cdc_follow.specs.Lines.{lines_of}
@@ -15,10 +14,10 @@ use Rattle.cdc_audit.specs.Standing.{AuditorState, StandsFor}
 use Rattle.cdc_audit.proofs.AuditLemmas.{AuditsTo, no_lines}
 use Rattle.cdc_audit_command.specs.Auditing.{StandsAfter, audited_after}
 use Rattle.cdc_audit_command.specs.declared.auditors.AuditSetup.{AuditSetup}
-use Rattle.cdc_audit_command.specs.declared.auditors.StreamAuditor.{StreamAuditor}
+use Rattle.cdc_audit_command.specs.declared.auditors.StreamAudit.{StreamAudit}
 
 -- some of the first lines of bytes were audited, which have so many entries
-pub record HasAudited (setup : AuditSetup) (start : StreamAuditor) (bytes : List ℕ) (count : ℕ) (now : StreamAuditor)
+pub record HasAudited (setup : AuditSetup) (start : StreamAudit) (bytes : List ℕ) (count : ℕ) (now : StreamAudit)
     (number : ℕ) (left : List ℕ) : Type 0 where
   pub front : List (List ℕ)
   pub whole : lines_of bytes ≡ front ++ lines_of left
@@ -26,7 +25,7 @@ pub record HasAudited (setup : AuditSetup) (start : StreamAuditor) (bytes : List
   pub goes : (state : AuditState) → StandsFor start.auditor state
       → (to : AuditsTo state bytes now.auditor number left) × (to.front ≡ front)
 
-pub audited_none : (setup : AuditSetup) (start : StreamAuditor) (bytes : List ℕ)
+pub audited_none : (setup : AuditSetup) (start : StreamAudit) (bytes : List ℕ)
     → HasAudited setup start bytes 0 start 1 bytes
 unfolding stream_of_lines
 audited_none setup start bytes = record {
@@ -74,7 +73,7 @@ so_far state bytes auditor number left goes =
     ∙ ap (λ lines. (lines_audited state 1 lines).state) (append-nil goes.front) in
     subst (StandsFor auditor) (same ∙ lines_keep state bytes goes.front (lines_of left) goes.whole) goes.stands
 
-pub stands_after : (setup : AuditSetup) (start : StreamAuditor) (bytes : List ℕ) (count : ℕ) (now : StreamAuditor)
+pub stands_after : (setup : AuditSetup) (start : StreamAudit) (bytes : List ℕ) (count : ℕ) (now : StreamAudit)
     (number : ℕ) (left : List ℕ) → HasAudited setup start bytes count now number left
     → StandsAfter setup start bytes count now
 stands_after setup start bytes count now number left has = λ state stands.

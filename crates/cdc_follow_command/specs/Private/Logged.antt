@@ -24,13 +24,13 @@ Fits setup texts records changes now =
     (past : FollowState) × HasRecords setup (last_text held) records past × Leads past change now))
 
 abbrev pub FitsLog : {L : Type 0} → (L → Option (List (List ℕ))) → FollowSetup → BookLog L → StreamFollower → Type 0
-FitsLog texts setup log it = Fits setup (texts log.store) log.records it.tracked.changes it.tracked.follower
+FitsLog texts setup log it = Fits setup (texts log.log.store) log.log.records it.tracked.changes it.tracked.follower
 
 -- a follower that keeps no changes fits
 pub fits_none : {L : Type 0} (texts : L → Option (List (List ℕ))) (setup : FollowSetup) (log : BookLog L)
     (it : StreamFollower) → it.tracked.changes ≡ None → FitsLog texts setup log it
 fits_none texts setup log it none =
-    subst (λ changes. Fits setup (texts log.store) log.records changes it.tracked.follower) (sym none) tt
+    subst (λ changes. Fits setup (texts log.log.store) log.log.records changes it.tracked.follower) (sym none) tt
 
 -- one that goes on keeping its changes fits still
 fits_later : (setup : FollowSetup) (texts : Option (List (List ℕ))) (records : ℕ) (was now : Option FollowState)
@@ -48,5 +48,5 @@ pub goes_on : {L : Type 0} (texts : L → Option (List (List ℕ))) (setup : Fol
     (old new : StreamFollower) → GoesOn old.tracked new.tracked → FitsLog texts setup log old
     → FitsLog texts setup log new
 goes_on texts setup log old new moves fits =
-    fits_later setup (texts log.store) log.records old.tracked.changes new.tracked.changes old.tracked.follower
+    fits_later setup (texts log.log.store) log.log.records old.tracked.changes new.tracked.changes old.tracked.follower
     new.tracked.follower moves fits

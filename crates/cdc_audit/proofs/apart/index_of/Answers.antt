@@ -4,8 +4,8 @@ use Rattle.cdc_audit.proofs.apart.index_of.Goals as goal
 
 pub loop-id-init : goal.loop-id-init
 loop-id-init c =
-    indexed_none c.args.fields.now.entries c.into_iter-id-iterator.result c.new-created.result.entries (search rules)
-    c.new-created.ensures.empty
+    indexed_none c.args.fields.now.entries c.into_iter-id-iterator.result c.with_hasher-created.result.entries (search rules)
+    c.with_hasher-created.ensures.empty
 
 pub loop-id-preserved : goal.loop-id-preserved
 loop-id-preserved c =

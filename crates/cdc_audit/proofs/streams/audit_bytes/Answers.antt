@@ -22,3 +22,14 @@ returns-clause-leads c =
     leads_when_accepted c.args.number c.args.line.now c.args.auditor.now c.in-Ok-Some.field-0 c.in-Ok-Some.entry
     c.in_ok-answer.answer c.take.new.self c.in-Ok-Some.ensures c.in-Ok-Some.field-0-is c.in_default.is
     c.in_ok-answer.ensures.answer c.in_ok-answer.ensures.accepted
+
+pub returns-in-Ok-None-clause-taken : goal.returns-in-Ok-None-clause-taken
+returns-in-Ok-None-clause-taken c = λ _ number.
+    leads_when_none number c.args.line.now c.args.auditor.now c.in-Ok-None.field-0 c.in-Ok-None.ensures
+    c.in-Ok-None.field-0-is
+
+pub returns-clause-taken : goal.returns-clause-taken
+returns-clause-taken c = λ _ number.
+    leads_when_accepted number c.args.line.now c.args.auditor.now c.in-Ok-Some.field-0 c.in-Ok-Some.entry
+    c.in_ok-answer.answer c.take.new.self c.in-Ok-Some.ensures c.in-Ok-Some.field-0-is c.in_default.is
+    c.in_ok-answer.ensures.answer c.in_ok-answer.ensures.accepted

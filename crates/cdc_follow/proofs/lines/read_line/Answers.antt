@@ -1,6 +1,6 @@
 use Rattle.std.specs.Prelude.{not}
 use Rattle.std.proofs.lemmas.Result.{err_from_is_err_and}
-use Rattle.cdc_follow.proofs.LineLemmas.{ended, fed, line_long}
+use Rattle.cdc_follow.proofs.LineLemmas.{clean_after, ended, fed, line_long}
 use Rattle.cdc_follow.proofs.lines.read_line.Goals as goal
 
 pub returns-in_err-add_part-clause-long : goal.returns-in_err-add_part-clause-long
@@ -22,3 +22,13 @@ returns-in-Stream-clause-line g c =
     (not c.is_empty.result)
     c.in-Stream.is c.loop.invariant.reads c.loop.invariant.clean c.in_ok-add_part.ensures.part
     (cc (c.is_empty.ensures, c.add_part.new.line.ok.0))
+
+pub returns-in-Feed-clause-clean : goal.returns-in-Feed-clause-clean
+returns-in-Feed-clause-clean g c =
+    clean_after (g.B.Read.remaining c.loop.reader) (g.B.Read.remaining c.add_part.new.reader) c.loop.line.items
+    c.add_part.new.line.items c.in_ok-add_part.field-0 c.loop.invariant.clean c.in_ok-add_part.ensures.part
+
+pub returns-in-Stream-clause-clean : goal.returns-in-Stream-clause-clean
+returns-in-Stream-clause-clean g c =
+    clean_after (g.B.Read.remaining c.loop.reader) (g.B.Read.remaining c.add_part.new.reader) c.loop.line.items
+    c.add_part.new.line.items c.in_ok-add_part.field-0 c.loop.invariant.clean c.in_ok-add_part.ensures.part

@@ -43,8 +43,8 @@ returns-clause-survives g c =
     ))
     (cc c.if-is_new.false) c.find_text.ensures.survives
 
-pub returns-clause-schema : goal.returns-clause-schema
-returns-clause-schema g c clean of = elim of [
+pub returns-clause-same : goal.returns-clause-same
+returns-clause-same g c clean of = elim of [
   | inl none ↦ absurd (
       let yes = c.is_new.ensures.1 (
         ap (λ (s : Schema). s.tables) (c.schema.ensures.value ∙ none),
@@ -53,5 +53,5 @@ returns-clause-schema g c clean of = elim of [
       ) in
       cc (yes, c.if-is_new.false)
       )
-  | inr book ↦ c.in_ok-row.ensures.schema clean book ∙ sym book
+  | inr book ↦ c.in_ok-row.ensures.same clean book
 ]

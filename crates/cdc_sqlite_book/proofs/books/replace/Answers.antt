@@ -1,5 +1,6 @@
 use Rattle.std.proofs.Common.{◌≡◌, is_none, cond, refl, sym, ap, subst, ◌∙◌, arith}
 use Rattle.sqlite.specs.State.{HasCleanDisk}
+use Rattle.sqlite.specs.Effect.{Database}
 use Rattle.sqlite.specs.Held.{state}
 use Rattle.sqlite.proofs.StateLemmas.{survives_then}
 use Rattle.cdc_sqlite_book.specs.Tables.{no_schema, book_schema, IsOfBook, MayHold}
@@ -35,7 +36,7 @@ returns-clause-crash g c =
     let same : c.is_none.result ≡ is_none c.args.known = none_is c.is_none.result c.args.known c.is_none.ensures in
     let P = MayHold (old.now.schema ≡ target) c.args.text.now c.args.subscriber.now in
     let schema = λ (clean : HasCleanDisk mid) (known : old.now.schema ≡ target).
-    c.in_ok-found.ensures.schema clean (subst IsOfBook (sym known) of) ∙ known
+    ap (λ (d : Database). d.schema) (c.in_ok-found.ensures.same clean (subst IsOfBook (sym known) of)) ∙ known
     ∙ ap (λ b. cond b no_schema book_schema) (sym same) in
     survives_then old mid new _ _ P
     (λ _ db made. (

@@ -9,8 +9,8 @@ returns-clause-found g c clean text kept holds =
     c.query_row.result holds.schema holds.book
     (c.query_row.ensures.row clean)
 
-pub returns-clause-schema : goal.returns-clause-schema
-returns-clause-schema g c clean has =
+pub returns-clause-same : goal.returns-clause-same
+returns-clause-same g c clean has =
     changes_nothing (state g.S.Store c.args.conn.now) (state g.S.Store c.query_row.new.self) c.query_row.result has
     (c.query_row.ensures.row clean)
 

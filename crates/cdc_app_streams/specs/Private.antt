@@ -1,0 +1,2 @@
+-- Definitions and lemmas that no public contract cites.
+pub mod Rows
