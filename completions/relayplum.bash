@@ -31,7 +31,7 @@ _relayplum() {
                 words+=' --deliveries --expect --explain --trace --json -h --help'
                 ;;
             follow) words='--chained --skip-gaps --binding --book --every --busy --json -h --help' ;;
-            audit) words='--book --foreign --state --every --json -h --help' ;;
+            audit) words='--book --foreign --duplicates --state --every --json -h --help' ;;
         esac
     fi
     # Where there is no such word, files are offered.

@@ -39,6 +39,7 @@ complete -c relayplum -n '__fish_seen_subcommand_from follow' -l every -x -d 'Sa
 complete -c relayplum -n '__fish_seen_subcommand_from follow' -l busy -x -d 'Wait so long for a program that reads the SQLite book'
 complete -c relayplum -n '__fish_seen_subcommand_from audit' -l book -d 'Print the last balances of each account'
 complete -c relayplum -n '__fish_seen_subcommand_from audit' -l foreign -d "Accept flags that this ledger doesn't have"
+complete -c relayplum -n '__fish_seen_subcommand_from audit' -l duplicates -d "Skip and count events that aren't later than the last accepted one"
 complete -c relayplum -n '__fish_seen_subcommand_from audit' -l state -r -d 'Save the state in this file, and resume from it'
 complete -c relayplum -n '__fish_seen_subcommand_from audit' -l every -x -d 'Save the state after N lines at the latest'
 # Called by a path, it may be the launcher in the repository, which takes options before the command.

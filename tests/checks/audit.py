@@ -10,6 +10,8 @@ just what a small model of the rules does, at the same line and by the same rule
 double, a swap, another balance, and another amount that is moved or held have to be refused; so has what follows an event that is
 left out, if its amount isn't 0 and one of its accounts appears again. What no rule finds is counted by kind and printed. Random
 scripts of pending transfers that expire, many of them at once, do the same with two expiries exchanged, and with one left out.
+Each stream is also delivered again from random places on, with --duplicates: it comes to what it comes to without, and each
+redelivery is counted. A changed stream comes to what the model makes of what is left of it.
 States that are saved are tried by audit_states.py; --soak kills these runs at more places.
 
 The last line is `audit: N passed, M failed`; the status is 1 if one failed.
@@ -284,17 +286,21 @@ class Audit:
         return "".join(f"account {id} {' '.join(map(str, shown))}\n" for id, shown in self.balances.items())
 
 
-def audited(bodies, book=False):
-    """What the program has to print of these events, and its status."""
-    it, refused = Audit(), ""
+def audited(bodies, book=False, skips=False):
+    """What the program has to print of these events, with --duplicates if `skips` is true, and its status."""
+    it, refused, skipped = Audit(), "", 0
     for number, body in enumerate(bodies, 1):
+        if skips and int(body["timestamp"]) <= it.last:
+            skipped += 1
+            continue
         why = it.refusal(body)
         if why:
             refused = f"refused: line {number}: {why}\n"
             break
         it.take(body)
     shown = f"subscriber 1 applied {it.count} last {it.last} ended no closed no\n{it.book()}" if book else ""
-    return f"accepted {it.count} last {it.last}\n{shown}{refused}", 1 if refused else 0
+    counted = f"duplicates {skipped}\n" if skips else ""
+    return f"accepted {it.count} last {it.last}\n{counted}{shown}{refused}", 1 if refused else 0
 
 
 # ---------------------------------------------------------------------------------------------------------------------
@@ -563,7 +569,66 @@ def rows_of_another_ledger():
     yield "a limit and a flag", [limited], first + "limits: account 1 has debits of 30, above its credits of 0\n", 1
 
 
+def rows_with_duplicates():
+    """What a stream is, the stream, and what is printed with --duplicates, with the status."""
+    yield "nothing", [], "accepted 0 last 0\nduplicates 0\n", 0
+    yield "no duplicate", [PAID, HELD, POST], "accepted 3 last 30\nduplicates 0\n", 0
+    yield "an event twice", [PAID, PAID], "accepted 1 last 10\nduplicates 1\n", 0
+    yield "an event three times", [PAID, HELD, HELD, HELD, POST], "accepted 3 last 30\nduplicates 2\n", 0
+    yield "a rewind", [PAID, HELD, PAID, HELD, POST], "accepted 3 last 30\nduplicates 2\n", 0
+    yield "a rewind within a chain", [with_transfer(PAID, flags=1), with_transfer(PAID, flags=1)], (
+        "accepted 1 last 10\nduplicates 1\n"
+    ), 0
+    yield "all again, after the end", [PAID, HELD, END, PAID, HELD, END], "accepted 2 last 20\nduplicates 2\n", 0
+    yield "a later event after the end", [PAID, END, PAID, HELD], (
+        "accepted 1 last 10\nduplicates 1\nrefused: line 4: end: event 20 came after the end\n"
+    ), 1
+    yield "an event that is lost", [PAID, PAID, POST, PAID], (
+        "accepted 1 last 10\nduplicates 1\nrefused: line 3: pending: no pending transfer 2 came before\n"
+    ), 1
+    yield "an event that is lost before a rewind", [PAID, POST, PAID, HELD, POST], (
+        "accepted 1 last 10\nduplicates 0\nrefused: line 2: pending: no pending transfer 2 came before\n"
+    ), 1
+    # (what isn't found)
+    yield "an event that is changed and comes late", [PAID, HELD, {**PAID, "ledger": 0}], "accepted 2 last 20\nduplicates 1\n", 0
+    apart = event(20, 2, SINGLE, 5, (3, 0, 5, 0, 0), (4, 0, 0, 0, 5))
+    yield "two events that are swapped", [apart, PAID], "accepted 1 last 20\nduplicates 1\n", 0
+    later = event(40, 4, SINGLE, 1, (1, 0, 31, 0, 0), (2, 0, 0, 0, 31))
+    yield "the next event after a swap", [apart, PAID, later], (
+        "accepted 1 last 20\nduplicates 1\n"
+        "refused: line 3: balances: account 1 has debits_posted 31, after 0 and this transfer's 1\n"
+    ), 1
+    yield "the timestamp 0", [at(0, PAID), PAID], "accepted 1 last 10\nduplicates 1\n", 0
+
+
+def with_duplicates(folder):
+    for name, stream, printed, status in rows_with_duplicates():
+        found = run(["--duplicates"], text_of(stream))
+        check(f"--duplicates, {name}", found[:2] == (status, printed) and bool(found[2]) == (status != 0), found)
+    for name, stream, printed, status in rows():
+        # (each of these streams has at most one event that isn't later, which is the one that is refused)
+        found = run(["--duplicates"], text_of(stream))
+        lines = printed.splitlines(True)
+        if any(": timestamps: " in it and ", after " in it for it in lines):
+            check(f"--duplicates, {name}", found[0] == 0 and lines[0] + "duplicates 1\n" == found[1], found)
+        else:
+            wanted = "".join([lines[0], "duplicates 0\n", *lines[1:]])
+            check(f"--duplicates, {name}", found[:2] == (status, wanted), found)
+    found = run(["--duplicates", "--json"], text_of([PAID, PAID]))
+    lines = '{"kind":"accepted","events":1,"last":"10"}\n{"kind":"duplicates","events":1}\n'
+    check("duplicates as JSON", found[:2] == (0, lines), found)
+    found = run(["--duplicates", "--book"], text_of([PAID, PAID]))
+    book = "subscriber 1 applied 1 last 10 ended no closed no\naccount 1 0 30 0 0\naccount 2 0 0 0 30\n"
+    check("duplicates and the book", found[:2] == (0, "accepted 1 last 10\nduplicates 1\n" + book), found)
+    found = run(["--duplicates"], text_of([PAID, PAID]) + b"\n{\n")
+    check("a bad line after a duplicate", found[:2] == (2, "accepted 1 last 10\nduplicates 1\nfault: line 4: not_json\n"), found)
+    other = with_transfer(PAID, flags=16)
+    found = run(["--duplicates", "--foreign"], text_of([other, other]))
+    check("another ledger's duplicate", found[:2] == (0, "accepted 1 last 10\nduplicates 1\n"), found)
+
+
 def by_hand(folder):
+    with_duplicates(folder)
     for name, stream, printed, status in rows_of_another_ledger():
         found = run(["--foreign"], text_of(stream))
         check(f"--foreign, {name}", found[:2] == (status, printed), found)
@@ -771,6 +836,18 @@ def mutants(rng, bodies):
         yield name, stream, must_be_found(kind, path, bodies, place)
 
 
+def redelivered(rng, bodies):
+    """A stream that is rewound a few times, and how many of its events are redeliveries."""
+    stream, again, place = [], 0, 0
+    while place < len(bodies):
+        stream.append(bodies[place])
+        place += 1
+        if rng.random() < 0.1:
+            back = rng.randrange(1, place + 1)
+            again, place = again + back, place - back
+    return stream, again
+
+
 def random_stream(seed):
     """What is wrong with what the program makes of a random stream and of its mutants, and what of these it didn't refuse."""
     rng = random.Random(f"audit {seed}")
@@ -780,6 +857,11 @@ def random_stream(seed):
         found = run(["--book"], text_of(stream))
         if status or found[:2] != (0, text):
             wrong.append(f"seed {seed}: {found!r}, not {text!r}")
+        again, count = redelivered(rng, stream)
+        first, book = text.split("\n", 1)
+        found = run(["--book", "--duplicates"], text_of(again))
+        if found[:2] != (0, f"{first}\nduplicates {count}\n{book}"):
+            wrong.append(f"seed {seed}, {count} duplicates: {found!r}, not {text!r}")
     changes = list(mutants(rng, bodies)) if bodies else []
     for others in (list(exchanged(expiries)), list(kept(expiries))):
         changes += rng.sample(others, min(1, len(others)))
@@ -788,6 +870,10 @@ def random_stream(seed):
         found = run([], text_of(stream))
         if found[:2] != (status, text) or must and status == 0:
             wrong.append(f"seed {seed}, {kind}: {found!r}, not {text!r}")
+        text, status = audited(stream, skips=True)
+        found = run(["--duplicates"], text_of(stream))
+        if found[:2] != (status, text):
+            wrong.append(f"seed {seed}, {kind}, --duplicates: {found!r}, not {text!r}")
         missed.append((kind, status))
     return wrong, missed
 

@@ -3,7 +3,8 @@
 Part of audit.py. By hand: the text of a state with every kind of line. Logs: each save but the first appends the lines since the
 one before; a log that is cut anywhere is read up to its last whole frame. Cut: each stream of the rows by hand is cut at each line,
 audited up to there with a state, and then from there on; it has to come to what the whole stream comes to. Files that are no
-state are refused, and stay. Killed: the program ends at each open, read, write, sync and rename of a stream with a state, and is
+state are refused, and stay. Duplicates: a state doesn't have the lines that were skipped, and a stream may be delivered again from its first
+event to an audit that is resumed. Killed: the program ends at each open, read, write, sync and rename of a stream with a state, and is
 started again with the lines after the last one that was reported as saved, or that the state has; it has to come to the state of a
 run without a stop. By signal 9 it is killed before each system call, and amid each write. Refused: each allocation and each of
 these calls is refused in turn. Refused, and ends at calls of the C library, need `cc`; kills by signal 9 need Linux on x86-64.
@@ -254,6 +255,40 @@ def refused(folder):
         check(f"usage: {arguments}", found[0] == 2 and not found[1] and found[2].startswith("error: "), found)
 
 
+def duplicates(folder):
+    """With --duplicates a state has only what was audited, and a resumed audit skips what was audited before."""
+    state, plain = os.path.join(folder, "a.state"), os.path.join(folder, "plain.state")
+    events = [PAID, TIMED, THREE, expiry(30 + SECOND, TIMED, 5), expiry(30 + 2 * SECOND, THREE, 0)]
+    lines = [own(it) + "\n" for it in events]
+    skips = ["--duplicates", "--state", state, "--every", "1"]
+    found = run(skips, "".join([lines[0], lines[0], lines[1], lines[0], lines[2], lines[1]]).encode())
+    records = parts_of(state)[1]
+    check("a skipped line isn't saved", found[0] == 0 and "".join(records) == "".join(lines[1:3]), (found, records))
+    run(["--state", plain], "".join(lines[:3]).encode())
+    check("a state without duplicates", state_of(state) == state_of(plain), read(state))
+    found = run(skips, "".join(lines).encode())
+    wanted = f"accepted 5 last {30 + 2 * SECOND}\nduplicates 3\n"
+    check("what was audited before is skipped", (found[0], without_saves(found[1])) == (0, wanted), found)
+    run(["--state", plain], "".join(lines[3:]).encode())
+    check("a resumed state without duplicates", state_of(state) == state_of(plain), read(state))
+    before = state_of(state)
+    found = run(["--state", state], "".join(lines).encode())
+    refused = "refused: line 1: timestamps: 10, after " + str(30 + 2 * SECOND) + "\n"
+    check("without the flag it is refused", found[0] == 1 and found[1].endswith(refused), found)
+    check("a state of such a refusal", state_of(state) == before, read(state))
+    for place in range(len(lines) + 1):
+        other = os.path.join(folder, "other")
+        first = ["--duplicates", "--state", other, "--every", "2"]
+        run(first, "".join(lines[:place]).encode())
+        found = run(first, "".join(lines).encode())
+        wanted = f"accepted 5 last {30 + 2 * SECOND}\nduplicates {place}\n"
+        check(f"a redelivery after {place} events", (found[0], without_saves(found[1])) == (0, wanted), found)
+        check(f"its state after {place} events", state_of(other) == before, read(other))
+        os.remove(other)
+    os.remove(state)
+    os.remove(plain)
+
+
 def slow(folder):
     """Each line of a pipe is saved before the next one is awaited."""
     piped = Piped(["--state", os.path.join(folder, "a.state"), "--every", "1000000"])
@@ -308,7 +343,7 @@ def kept(folder):
 
 
 def states(folder):
-    for part in (by_hand, logs, cuts, slow, refused, killed, kept):
+    for part in (by_hand, logs, cuts, duplicates, slow, refused, killed, kept):
         room = os.path.join(folder, f"state-{part.__name__}")
         os.mkdir(room)
         part(room)

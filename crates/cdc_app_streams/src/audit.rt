@@ -29,10 +29,14 @@ pub fn run_audit<T: Threads + Wait + Copy + Send + 'static>(
     let AuditPlan {
         shows_book,
         foreign,
+        skips_duplicates,
         state,
         every,
     } = plan;
-    let setup = AuditSetup { shows_book };
+    let setup = AuditSetup {
+        shows_book,
+        skips_duplicates,
+    };
     let key = match random_key(rt) {
         Ok(key) => key,
         Err(error) => return StreamEnding::Failed(refuse_key(rt, error, form)),

@@ -15,6 +15,8 @@ pub struct AuditPlan<'a> {
     pub shows_book: bool,
     /// Whether it is another ledger's, whose flags may have more bits.
     pub foreign: bool,
+    /// Whether events that aren't later than the last accepted one are skipped and counted.
+    pub skips_duplicates: bool,
     /// The file of the state; `None` if it isn't kept.
     pub state: Option<&'a str>,
     /// How many lines are audited, at most, before the state is saved.
@@ -32,6 +34,10 @@ pub fn audit_arguments<'a>(alloc: Global) -> Result<Command<'a>, AllocError> {
         &[
             Argument::flag("book", "Print the last balances of each account"),
             Argument::flag("foreign", "Accept flags that this ledger doesn't have"),
+            Argument::flag(
+                "duplicates",
+                "Skip and count events that aren't later than the last accepted one",
+            ),
             Argument::option(
                 "state",
                 "STATE",
@@ -55,6 +61,7 @@ pub fn audit_plan<'a>(
     Ok(AuditPlan {
         shows_book: arguments.get_flag("book"),
         foreign: arguments.get_flag("foreign"),
+        skips_duplicates: arguments.get_flag("duplicates"),
         state: arguments.get_str("state"),
         every: asked_every(alloc, arguments)?,
     })

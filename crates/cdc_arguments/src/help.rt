@@ -127,18 +127,23 @@ docs/AUDIT.md lists what can't be.
 Another ledger of this kind may have more flags. With --foreign they are ignored, and a transfer that is stored with
 such a flag may have any timestamp.
 
+With --duplicates an event that isn't later than the last accepted one is skipped and counted, so redeliveries don't stop
+the audit. It isn't compared with what came before: of such an event no change is found, nor that it is out of order.
+
 With --state, what was audited is saved after every N lines, each time that no whole line of a pipe or a terminal is
 waiting, and at the end. After each save a line with saved and the timestamp of the last accepted event is printed. If
 auditing is stopped at any time and started again with that file, it goes on there: the stream has to begin with the
-event after that one.
+event after that one, or with --duplicates anywhere before.
 
-The output is these lines; then how many events are accepted and the last one's timestamp; with --book also the balances
-that they show last, as the command books prints them; and at the end the line of the event that is refused, if one is.
+The output is these lines; then how many events are accepted and the last one's timestamp; with --duplicates how many
+events were skipped; with --book also the balances that the accepted ones show last, as the command books prints them;
+and at the end the line of the event that is refused, if one is.
 
 Examples:
   relayplum messages examples/two-phase.script | relayplum audit
   relayplum audit archive.jsonl --book
   relayplum audit today.jsonl --state audit.state
+  consume-from-my-queue | relayplum audit --duplicates
 
 Exit status:
   0  all events are accepted

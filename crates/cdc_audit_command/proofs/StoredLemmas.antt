@@ -107,13 +107,15 @@ one_kept past old new lines line clean taken leads = (
 )
 
 -- a line was taken, and is kept with the others, if these are
-pub goes_on_one : (was now : Option (Vec ℕ Global)) (line : List ℕ) (old new : AuditorState) → HasNoFeed line
+pub goes_on_one : (was now : Option (Vec ℕ Global)) (line : List ℕ) (old new : AuditorState) (had has : ℕ)
+    → HasNoFeed line
     → IsTaken line old new
     → IfSome now (λ later. IsSomeAnd was (λ lines. later.items ≡ lines.items ++ (line ++ 10 ∷ [])))
-    → GoesOn (record { auditor = old; lines = was }) (record { auditor = new; lines = now })
-goes_on_one was None line old new clean taken kept = tt
-goes_on_one None (Some later) line old new clean taken kept = absurd kept
-goes_on_one (Some lines) (Some later) line old new clean taken kept = λ past leads.
+    → GoesOn (record { auditor = old; lines = was; duplicates = had })
+    (record { auditor = new; lines = now; duplicates = has })
+goes_on_one was None line old new had has clean taken kept = tt
+goes_on_one None (Some later) line old new had has clean taken kept = absurd kept
+goes_on_one (Some lines) (Some later) line old new had has clean taken kept = λ past leads.
     subst (λ l. Leads past l new) (sym kept) (one_kept past old new lines.items line clean taken leads)
 
 -- nothing was taken

@@ -1,5 +1,5 @@
 -- What `audit` prints as JSON.
-use Rattle.std.specs.Prelude.{ℕ, Bool, List, [], ◌++◌, codes, if◌then◌else◌}
+use Rattle.std.specs.Prelude.{ℕ, Bool, List, [], ◌++◌, Option, Some, None, codes, if◌then◌else◌}
 use Rattle.serde_json.specs.Data.{Data, Members, string, no_members, member}
 use Rattle.cdc_output.specs.Values.{narrow, wide}
 use Rattle.cdc_subscriber.specs.SubscriberState.{SubscriberState}
@@ -25,6 +25,15 @@ accepted_value kept =
     member (codes "events") (narrow kept.applied) (
     member (codes "last") (wide kept.last)
     no_members))
+
+-- how many duplicates were skipped
+abbrev pub duplicates_value : ℕ → Data
+duplicates_value skipped = line_of (codes "duplicates") (member (codes "events") (narrow skipped) no_members)
+
+-- the line of this count; none if duplicates aren't to be skipped
+abbrev pub duplicates_lines : Option ℕ → List ℕ
+duplicates_lines None = []
+duplicates_lines (Some skipped) = json_line (duplicates_value skipped)
 
 -- the numbers of a refusal
 abbrev pub refusal_members : Refusal → Members
@@ -123,7 +132,9 @@ audit_stop_lines (BadLine line error) = json_line (bad_line_value line error)
 abbrev pub audit_book_lines : Bool → SubscriberState → List ℕ
 audit_book_lines shows kept = if shows then json_lines (subscriber_values 1 kept) else []
 
--- all that is printed: how much is accepted, the book if it is asked for, and why auditing stopped
-abbrev pub audit_lines : Bool → SubscriberState → AuditStop → List ℕ
-audit_lines shows kept stop =
-    json_line (accepted_value kept) ++ (audit_book_lines shows kept ++ audit_stop_lines stop)
+-- all that is printed: how much is accepted, how many duplicates were skipped if they are to be, the book if it is
+-- asked for, and why auditing stopped
+abbrev pub audit_lines : Bool → Option ℕ → SubscriberState → AuditStop → List ℕ
+audit_lines shows skipped kept stop =
+    json_line (accepted_value kept)
+    ++ (duplicates_lines skipped ++ (audit_book_lines shows kept ++ audit_stop_lines stop))

@@ -1,4 +1,5 @@
 pub mod Auditing
+pub mod Duplicates
 pub mod Endings
 pub mod JsonLines
 pub mod Private

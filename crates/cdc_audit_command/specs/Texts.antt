@@ -1,5 +1,5 @@
 -- What `audit` prints as text.
-use Rattle.std.specs.Prelude.{ℕ, Bool, List, [], ◌++◌, codes, decimal, if◌then◌else◌}
+use Rattle.std.specs.Prelude.{ℕ, Bool, List, [], ◌++◌, Option, Some, None, codes, decimal, if◌then◌else◌}
 use Rattle.cdc_codec.specs.Texts.{named}
 use Rattle.cdc_subscriber.specs.Lines.{subscriber_text}
 use Rattle.cdc_subscriber.specs.SubscriberState.{SubscriberState}
@@ -12,6 +12,11 @@ use Rattle.cdc_audit.specs.declared.streams.AuditStop.TheVariants.{AtEnd, Refuse
 abbrev pub accepted_line : SubscriberState → List ℕ
 accepted_line kept = named (codes "accepted") kept.applied ++ (named (codes " last") kept.last ++ codes "\n")
 
+-- the line of how many duplicates were skipped; none if they aren't to be
+abbrev pub duplicates_line : Option ℕ → List ℕ
+duplicates_line None = []
+duplicates_line (Some skipped) = named (codes "duplicates") skipped ++ codes "\n"
+
 -- the line of why auditing stopped; none at the end
 abbrev pub stop_line : AuditStop → List ℕ
 stop_line AtEnd = []
@@ -23,6 +28,8 @@ stop_line (BadLine line error) = bad_line_text line error
 abbrev pub book_text : Bool → SubscriberState → List ℕ
 book_text shows kept = if shows then subscriber_text 1 kept else []
 
--- all that is printed: how much is accepted, the book if it is asked for, and why auditing stopped
-abbrev pub audit_text : Bool → SubscriberState → AuditStop → List ℕ
-audit_text shows kept stop = accepted_line kept ++ (book_text shows kept ++ stop_line stop)
+-- all that is printed: how much is accepted, how many duplicates were skipped if they are to be, the book if it is
+-- asked for, and why auditing stopped
+abbrev pub audit_text : Bool → Option ℕ → SubscriberState → AuditStop → List ℕ
+audit_text shows skipped kept stop =
+    accepted_line kept ++ (duplicates_line skipped ++ (book_text shows kept ++ stop_line stop))

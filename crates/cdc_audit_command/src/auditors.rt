@@ -1,23 +1,26 @@
 //! The command `audit`: audits a stream up to its end, saves its state, and prints what it finds.
 
 ghost use Rattle.std.specs.Prelude.{◌≡◌, ◌++◌, ◌∷◌, [], is_some, None, IfSome, IsSomeAnd, IsTrue};
-ghost use Rattle.cdc_audit.specs.Stops.{Audits};
-ghost use Rattle.cdc_audit_command.specs.Auditing.{StandsAfter, audit_of, last_of, prints_end_of};
+ghost use Rattle.cdc_audit_command.specs.Auditing.{StandsAfter, audit_of, begun_of, duplicates_by, last_of, prints_end_of};
+ghost use Rattle.cdc_audit_command.specs.Duplicates.{AuditsBy};
 ghost use Rattle.cdc_streams.specs.Saving.{AreSaved, IfStopped, PrintsStream, saves_text};
 
 use crate::endings::AuditEnding;
 use crate::forms::AuditForm;
-use cdc_audit::{AuditStop, Auditor, audit_line};
+use crate::turns::{Turn, take_turn};
+use cdc_audit::{AuditStop, Auditor};
 use cdc_follow::FollowError;
 use cdc_streams::{Consumer, Keeps, LineReader, Saved, Saver, stream_command};
 use std::alloc::{AllocError, Global};
 use std::io::{BufRead, Write};
 
-/// What is printed of an audit.
+/// How a stream is audited, and what is printed of it.
 #[derive(Clone, Copy)]
 pub struct AuditSetup {
     /// Whether the last balances are printed.
     pub shows_book: bool,
+    /// Whether events that aren't later than the last accepted one are skipped and counted.
+    pub skips_duplicates: bool,
 }
 
 /// What auditing a stream has come to. Contracts alone speak of it; no value of it is made.
@@ -25,6 +28,8 @@ pub struct AuditSetup {
 pub struct StreamAudit {
     /// The auditor, with what it keeps.
     pub auditor: Auditor,
+    /// How many duplicates were skipped.
+    pub duplicates: u64,
 }
 
 /// What audits a stream.
@@ -35,6 +40,8 @@ pub struct StreamAuditor {
     /// The lines that it has taken since it was saved, each with its line feed; `None` if they aren't kept, so the whole
     /// state has to be saved.
     lines: Option<Vec<u8>>,
+    /// How many duplicates were skipped.
+    duplicates: u64,
 }
 
 /// How many bytes of lines are kept, at most.
@@ -51,14 +58,16 @@ fn add_line(lines: &mut Vec<u8>, line: &[u8]) -> bool
 }
 
 impl StreamAuditor {
-    /// An auditor that goes on from this one. No lines are kept.
+    /// An auditor that goes on from this one. No lines are kept, and no duplicate was skipped yet.
     pub fn new(auditor: Auditor) -> StreamAuditor
         ensures auditor { result.auditor ≡ auditor }
         ensures lines { result.lines ≡ None }
+        ensures duplicates { result.duplicates ≡ 0 }
     {
         StreamAuditor {
             auditor,
             lines: None,
+            duplicates: 0,
         }
     }
 
@@ -79,6 +88,7 @@ impl StreamAuditor {
     /// Keeps a line that was taken, if the others are kept. If that isn't possible, they aren't kept any longer.
     fn keep_line(&mut self, line: &[u8])
         ensures auditor { self.new.auditor ≡ self.old.auditor }
+        ensures duplicates { self.new.duplicates ≡ self.old.duplicates }
         ensures lines { IfSome self.new.lines (λ new. IsSomeAnd self.old.lines (λ old.
             new.items ≡ old.items ++ (line.now ++ 10 ∷ []))) }
     {
@@ -89,6 +99,17 @@ impl StreamAuditor {
         if !is_kept {
             self.lines = None;
         }
+    }
+}
+
+/// How many duplicates were skipped, if they are to be.
+fn skipped_by(setup: &AuditSetup, duplicates: u64) -> Option<u64>
+    ensures { result ≡ duplicates_by setup.now duplicates }
+{
+    if setup.skips_duplicates {
+        Some(duplicates)
+    } else {
+        None
     }
 }
 
@@ -136,18 +157,29 @@ impl<F: AuditForm> Consumer<F> for StreamAuditor {
 
     fn take_line<B: BufRead>(
         &mut self,
-        _setup: &AuditSetup,
+        setup: &AuditSetup,
         alloc: Global,
         reader: &mut B,
         line: &mut Vec<u8>,
         number: u64,
     ) -> Result<Option<AuditStop>, FollowError> {
-        match audit_line(alloc, reader, line, number, &mut self.auditor) {
-            Ok(None) => {
+        match take_turn(
+            alloc,
+            reader,
+            line,
+            number,
+            setup.skips_duplicates,
+            &mut self.auditor,
+        ) {
+            Ok(Turn::Audited) => {
                 self.keep_line(line.as_slice());
                 Ok(None)
             }
-            Ok(Some(stop)) => Ok(Some(stop)),
+            Ok(Turn::Duplicate) => {
+                self.duplicates = self.duplicates.saturating_add(1);
+                Ok(None)
+            }
+            Ok(Turn::Stops(stop)) => Ok(Some(stop)),
             Err(error) => Err(error),
         }
     }
@@ -163,7 +195,9 @@ impl<F: AuditForm> Consumer<F> for StreamAuditor {
         alloc: Global,
         stop: AuditStop,
     ) -> Result<Vec<u8>, AllocError> {
-        form.audit(alloc, setup.shows_book, self.auditor.subscriber(), stop)
+        let skipped = skipped_by(setup, self.duplicates);
+        let subscriber = self.auditor.subscriber();
+        form.audit(alloc, setup.shows_book, skipped, subscriber, stop)
     }
 
     ghost begins = { audited_none };
@@ -173,8 +207,9 @@ impl<F: AuditForm> Consumer<F> for StreamAuditor {
 
 /// Audits the lines of a reader, numbered from 1. It saves the state after every so many lines, each time that no whole
 /// line is waiting, and at the end, and prints each save once the store holds its state; and at the end how much of the
-/// stream is accepted, the last balances if they are to be shown, and why auditing stopped, or the fault of a command
-/// that failed. Nothing is written after a write that failed.
+/// stream is accepted, how many duplicates were skipped if they are to be, the last balances if they are to be shown,
+/// and why auditing stopped, or the fault of a command that failed. Nothing is written after a write that failed.
+/// Duplicates that were skipped before are not counted.
 pub fn audit_command<F: AuditForm, B: LineReader, W: Write, K: Keeps<StreamAuditor>>(
     form: &F,
     alloc: Global,
@@ -184,13 +219,14 @@ pub fn audit_command<F: AuditForm, B: LineReader, W: Write, K: Keeps<StreamAudit
     setup: &AuditSetup,
     audited: &mut StreamAuditor,
 ) -> AuditEnding
-    ensures audits { IfStopped result (λ stop. IfSome (B.remaining reader.old) (λ bytes.
-        Audits audited.old.auditor bytes stop audited.new.auditor)) }
+    ensures audits { IfStopped result (λ stop. IfSome (B.remaining reader.old) (λ bytes. AuditsBy
+        setup.now.skips_duplicates audited.old.auditor bytes stop audited.new.auditor audited.new.duplicates)) }
     ensures printed { PrintsStream
-        (AreSaved (StandsAfter setup.now (audit_of audited.old)) (K.has_kept setup.now) (B.remaining reader.old)
+        (AreSaved (StandsAfter setup.now (begun_of audited.old)) (K.has_kept setup.now) (B.remaining reader.old)
         saver.old.store saver.new.store)
         (saves_text F.prints_saved last_of (is_some saver.old.store)) (prints_end_of F.prints_audit setup.now)
         F.prints_failure (W.contents writer.old) (W.contents writer.new) (audit_of audited.new) result }
 {
+    audited.duplicates = 0;
     stream_command(form, alloc, reader, writer, saver, setup, audited)
 }

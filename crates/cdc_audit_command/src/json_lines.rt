@@ -5,6 +5,7 @@ ghost use Rattle.cdc_audit.specs.declared.refusals.Refusal.{Refusal as Refusals}
 ghost use Rattle.cdc_audit_command.specs.JsonLines.{
   accepted_value,
   audit_stop_lines,
+  duplicates_lines,
   refusal_members,
   refused_value,
   rule_value,
@@ -34,11 +35,13 @@ impl AuditForm for Json {
         &self,
         alloc: Global,
         shows: bool,
+        skipped: Option<u64>,
         subscriber: &Subscriber,
         stop: AuditStop,
     ) -> Result<Vec<u8>, AllocError> {
         let mut lines = Lines::new(alloc);
         push_accepted(alloc, &mut lines, subscriber)?;
+        push_duplicates(alloc, &mut lines, skipped)?;
         if shows {
             push_subscriber(alloc, &mut lines, 1, subscriber)?;
         }
@@ -64,6 +67,16 @@ fn push_accepted(
             Member("last", Wide(subscriber.last().into())),
         ],
     )
+}
+
+/// Adds the line of how many duplicates were skipped; none if they aren't to be.
+fn push_duplicates(alloc: Global, lines: &mut Lines, skipped: Option<u64>) -> Result<(), AllocError>
+    ensures { OnOk result (lines.new.text.items ≡ lines.old.text.items ++ duplicates_lines skipped) }
+{
+    match skipped {
+        None => Ok(()),
+        Some(skipped) => lines.push(alloc, "duplicates", &[Member("events", Number(skipped))]),
+    }
 }
 
 /// Adds the line of why auditing stopped; none at the end.

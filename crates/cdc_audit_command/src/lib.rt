@@ -5,10 +5,13 @@ mod auditors;
 mod endings;
 mod forms;
 mod json_lines;
+mod laws;
 mod refusals;
 mod states;
+mod turns;
 
 pub use auditors::{AuditSetup, StreamAudit, StreamAuditor, audit_command};
 pub use endings::{AuditEnding, audit_status};
 pub use forms::AuditForm;
+pub use laws::duplicates_are_left_out;
 pub use states::{StateLog, resume};
