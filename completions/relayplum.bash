@@ -30,7 +30,7 @@ _relayplum() {
                 words='--window --prefetch --lose-confirm --lose-publish --restart-after --repeat --close --start-after --progress'
                 words+=' --deliveries --expect --explain --trace --json -h --help'
                 ;;
-            follow) words='--chained --skip-gaps --binding --book --every --busy --json -h --help' ;;
+            follow) words='--chained --skip-gaps --binding --after --book --every --busy --json -h --help' ;;
             audit) words='--book --foreign --duplicates --state --every --json -h --help' ;;
         esac
     fi

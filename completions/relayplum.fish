@@ -34,6 +34,7 @@ complete -c relayplum -n '__fish_seen_subcommand_from run' -l progress -r -d "Sa
 complete -c relayplum -n '__fish_seen_subcommand_from follow' -l chained -d 'Apply an event only if it follows the last one of its queue'
 complete -c relayplum -n '__fish_seen_subcommand_from follow' -l skip-gaps -d 'Skip an event that does not follow the last one, and go on'
 complete -c relayplum -n '__fish_seen_subcommand_from follow' -l binding -x -d 'Apply only the events that match this binding'
+complete -c relayplum -n '__fish_seen_subcommand_from follow' -l after -x -d 'Begin a new book after the event with this timestamp'
 complete -c relayplum -n '__fish_seen_subcommand_from follow' -l book -r -d 'Save the book in this file, or sqlite:FILE, and resume from it'
 complete -c relayplum -n '__fish_seen_subcommand_from follow' -l every -x -d 'Save the book after N lines at the latest'
 complete -c relayplum -n '__fish_seen_subcommand_from follow' -l busy -x -d 'Wait so long for a program that reads the SQLite book'

@@ -319,6 +319,22 @@ def rows():
     yield "a chain past an event that the binding doesn't take", [*chain, "--binding", "all ledger=700"], lines(
         chained(0, {**FIRST, "ledger": 701}), chained(10, SECOND)
     ), TWO.replace("applied 2", "applied 1"), 0, ""
+    later = TWO.replace("applied 2", "applied 1")
+    late = ["--after", "10"]
+    yield "a late start of a chain", [*chain, *late], lines(chained(10, SECOND)), later, 0, ""
+    yield "a late start, and a redelivery from before it", [*chain, *late], lines(chained(0, FIRST), chained(10, SECOND)), later, 0, ""
+    yield "a late start amid an event", [*chain, *late], lines(chained(15, SECOND)), (
+        NOTHING + "gap: line 1: after 15, expected after 10\n"
+    ), 1, "has the timestamp 15, and the last one that came has 10"
+    yield "a late start and a first event", [*chain, *late], lines(chained(0, SECOND)), (
+        NOTHING + "gap: line 1: after 0, expected after 10\n"
+    ), 1, ":1: gap: "
+    yield "a late start at the end", [*chain, *late], lines(end(10)), NOTHING.replace("ended no", "ended yes"), 0, ""
+    yield "a late start and an earlier end", [*chain, *late], lines(end(0)), NOTHING + "gap: line 1: after 0, expected after 10\n", 1, "gap"
+    yield "a late start without --chained", late, lines(first, second), later, 0, ""
+    yield "a late start before all events", ["--after", "9"], lines(first, second), TWO, 0, ""
+    yield "a late start after all events", ["--after", "20"], lines(first, second), NOTHING, 0, ""
+    yield "the latest start", ["--after", str(GREATEST)], lines(first, own(event(GREATEST))), NOTHING, 0, ""
 
 
 JSON_ROWS = [
@@ -374,7 +390,7 @@ JSON_ROWS = [
         2,
     ),
 ]
-USAGE = [["--skip-gaps"], ["--every", "0"], ["--every", "x"], ["--binding", ""], ["--binding", "some"], ["--binding", "all x=1"], ["a", "b"]]
+USAGE = [["--skip-gaps"], ["--after", "0"], ["--after", "9223372036854775808"], ["--after", "x"], ["--every", "0"], ["--every", "x"], ["--binding", ""], ["--binding", "some"], ["--binding", "all x=1"], ["a", "b"]]
 
 
 def by_hand(folder):
@@ -536,6 +552,31 @@ def books(folder):
     check("a book that nobody may write", found[:2] == (1, "fault: store\n"), found)
     os.chmod(book, 0o600)
     os.remove(book)
+
+
+def late_starts(folder):
+    """A book that begins after an event is resumed with --after only while that event is the last one seen."""
+    text = lambda *given: "".join(f"{it}\n" for it in given).encode()
+    later = TWO.replace("applied 2", "applied 1")
+    for name in ("late.book", "sqlite:late.db"):
+        book = os.path.join(folder, name) if name == "late.book" else f"sqlite:{folder}/late.db"
+        path = os.path.join(folder, name.removeprefix("sqlite:"))
+        options = ["--chained", "--book", book, "--after"]
+        found = run([*options, "10"], b"")
+        check(f"{name}: a late start without a line", found == (0, f"saved 10\n{NOTHING}", ""), found)
+        found = run([*options, "10"], text(chained(10, SECOND)))
+        check(f"{name}: it begins there", found == (0, f"saved 20\n{later}", ""), found)
+        before = open(path, "rb").read()
+        for timestamp in ("10", "19", "21"):
+            found = run([*options, timestamp], text(chained(20, event(30))))
+            check(f"{name}: --after {timestamp} of a book at 20", found[:2] == (1, "fault: store\n"), found)
+            check(f"{name}: what is reported then", "bad_record: the last event that it has seen has the timestamp 20, and --after" in found[2], found)
+            check(f"{name}: it stays then", open(path, "rb").read() == before, timestamp)
+        found = run([*options, "20"], text(chained(10, SECOND)))
+        check(f"{name}: --after 20 of a book at 20", found == (0, f"saved 20\n{later}", ""), found)
+        found = run(["--chained", "--book", book], text(end(20)))
+        check(f"{name}: no --after", found == (0, f"saved 20\n{later.replace('ended no', 'ended yes')}", ""), found)
+        os.remove(path)
 
 
 def kept_in(path):
@@ -1006,7 +1047,7 @@ def memory(folder):
 
 
 def main(arguments):
-    parts = [by_hand, books, logs, cuts, grown, saves, pipes, starved, replaced, closed, killed, kept, rivalry, memory]
+    parts = [by_hand, books, late_starts, logs, cuts, grown, saves, pipes, starved, replaced, closed, killed, kept, rivalry, memory]
     return commands.main(arguments, __doc__, "follow", parts, random_streams, STREAMS)
 
 

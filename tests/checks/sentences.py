@@ -106,6 +106,7 @@ def rows():
         ("--lose-confirm", ["run", "one.script"], "0", "a number from 1 to 18446744073709551615"),
         ("--prefetch", ["run", "one.script"], "65", "a number from 1 to 64"),
         ("--busy", ["follow", "gap.stream"], "86401", "a number from 0 to 86400"),
+        ("--after", ["follow", "gap.stream"], "0", "a timestamp in nanoseconds, from 1 to 9223372036854775807"),
     ]:
         yield [*command, option, wrong], 2, f"error: {option} {wrong}: {wanted}\n{MORE}"
     # A name can't move the cursor of a terminal, nor begin a line.

@@ -1,7 +1,7 @@
 //! The command `follow`: a stream in, and its book out.
 
 use crate::failures::print_failure;
-use crate::follow_advice::{advise_on_book, advise_on_gaps, advise_on_stream};
+use crate::follow_advice::{advise_on_book, advise_on_gaps, advise_on_place, advise_on_stream};
 use crate::kept_book::{BookFile, open_book_file};
 use crate::keys::{random_key, refuse_key};
 use crate::lines::{Lines, lines_of, refuse_reading};
@@ -10,7 +10,7 @@ use cdc_app_inputs::{Stream, shown_name};
 use cdc_arguments::{FollowPlan, Form};
 use cdc_follow::Follower;
 use cdc_follow_command::{
-    FollowEnding, FollowSetup, StreamFollower, begin, follow_command, resume,
+    FollowEnding, FollowSetup, ResumeError, StreamFollower, begin, follow_command, resume_at,
 };
 use cdc_keys::HashKey;
 use cdc_output::{Json, ProgramFault, Text};
@@ -33,6 +33,7 @@ pub fn run_follow<T: Threads + Wait + Copy + Send + 'static>(
         rules,
         binding,
         binding_text,
+        after,
         book,
         every,
         busy,
@@ -46,9 +47,10 @@ pub fn run_follow<T: Threads + Wait + Copy + Send + 'static>(
         Ok(key) => key,
         Err(error) => return StreamEnding::Failed(refuse_key(rt, error, form)),
     };
-    let (store, follower) = match open_book(rt, key, book, busy, &setup) {
+    let (store, follower) = match open_book(rt, key, book, busy, &setup, after) {
         Ok(opened) => opened,
-        Err(error) => return refuse_book(rt, file, book, error, form),
+        Err(ResumeError::Store(error)) => return refuse_book(rt, file, book, error, form),
+        Err(ResumeError::Elsewhere(seen)) => return refuse_place(rt, book, seen, form),
     };
     let mut followed = StreamFollower::new(follower);
     let saver = Saver::new(store, every);
@@ -103,28 +105,30 @@ fn follow_lines<B: LineReader, K: Keeps<StreamFollower> + Drop>(
     }
 }
 
-/// Opens the book of this name, if there is one, and returns it with the follower that it holds. A book that isn't
-/// there yet is made at once, so that the file is locked from the start.
+/// Opens the book of this name, if there is one, and returns it with the follower that it holds, which is to begin after
+/// the event of this timestamp, if one is named. A book that isn't there yet is made at once, so that the file is locked
+/// from the start.
 fn open_book<'a>(
     rt: &'a HostRuntime,
     key: HashKey,
     book: Option<&str>,
     busy: u64,
     setup: &FollowSetup,
-) -> Result<(Option<BookFile<'a>>, Follower), StoreError> {
+    after: Option<u64>,
+) -> Result<(Option<BookFile<'a>>, Follower), ResumeError> {
     let Some(name) = book else {
-        return Ok((None, begin(rt.alloc(), key)));
+        return Ok((None, begin(rt.alloc(), key, after)));
     };
     let (mut store, text) = open_book_file(rt, name, key, busy)?;
     if let Some(text) = text {
         let binding = setup.binding_text.as_slice();
         let chained = setup.rules.chained;
-        let follower = resume(rt.alloc(), key, text.as_slice(), chained, binding)?;
+        let follower = resume_at(rt.alloc(), key, text.as_slice(), chained, binding, after)?;
         return Ok((Some(store), follower));
     }
-    let begun = StreamFollower::new(begin(rt.alloc(), key));
+    let begun = StreamFollower::new(begin(rt.alloc(), key, after));
     store.keep(setup, rt.alloc(), &begun)?;
-    Ok((Some(store), begin(rt.alloc(), key)))
+    Ok((Some(store), begin(rt.alloc(), key, after)))
 }
 
 /// Prints the fault of a book that can't be opened, and reports why on standard error.
@@ -138,5 +142,15 @@ fn refuse_book(
     let fault = ProgramFault::from(error);
     print_failure(rt, form, fault);
     advise_on_book(rt, shown_name(file), book, fault);
+    StreamEnding::Failed(fault)
+}
+
+/// Prints the fault of a book whose last event seen has this timestamp, and not the one that `--after` names, and reports
+/// it on standard error.
+fn refuse_place(rt: &HostRuntime, book: Option<&str>, seen: u64, form: Form) -> FollowEnding {
+    let error = StoreError::BadRecord;
+    let fault = ProgramFault::from(error);
+    print_failure(rt, form, fault);
+    advise_on_place(rt, book, error, seen);
     StreamEnding::Failed(fault)
 }

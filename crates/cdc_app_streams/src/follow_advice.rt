@@ -57,6 +57,18 @@ pub fn advise_on_book(rt: &HostRuntime, place: &str, book: Option<&str>, fault: 
     advise_on_failure(rt, place, fault);
 }
 
+/// Reports that a book isn't resumed, since its last event seen has this timestamp.
+pub fn advise_on_place(rt: &HostRuntime, book: Option<&str>, error: StoreError, seen: u64) {
+    if let Some(book) = book {
+        let name = error.name();
+        let book = Escaped(book);
+        let _ = eprintln!(rt;
+            "{book}: store: {name}: the last event that it has seen has the timestamp {seen}, and --after names another \
+             one: leave out --after to resume it, or name another file"
+        );
+    }
+}
+
 /// Reports a gap before the entry of the line of this number.
 fn advise_on_gap(
     rt: &HostRuntime,

@@ -7,6 +7,7 @@ use crate::parsing::{STANDARD_INPUT, bad_value, json_flag, usage_error};
 use cdc_follow::Rules;
 use cdc_match::{BindError, Binding};
 use cdc_message::decimal_up_to;
+use cdc_types::Limits;
 use clap::{Arg, ArgAction, ArgMatches, Command};
 use std::alloc::{AllocError, Global};
 
@@ -27,6 +28,8 @@ pub struct FollowPlan<'a> {
     pub binding: Binding,
     /// The binding's text, with a space between its parts.
     pub binding_text: Vec<u8>,
+    /// The timestamp of the event after which a new book begins; `None`: it begins at the first event.
+    pub after: Option<u64>,
     /// The file of the book; `None` if it isn't kept.
     pub book: Option<&'a str>,
     /// How many lines are followed, at most, before the book is saved.
@@ -58,6 +61,11 @@ pub fn follow_arguments<'a>(alloc: Global) -> Result<Command<'a>, AllocError> {
                 "Apply only the events that match this binding, such as 'all ledger=700'",
             )
             .or("all"),
+            Argument::option(
+                "after",
+                "T",
+                "Begin a new book after the event with this timestamp, in nanoseconds [1-9223372036854775807]",
+            ),
             Argument::option(
                 "book",
                 "BOOK",
@@ -114,6 +122,7 @@ pub fn follow_plan<'a>(
             parts.as_slice(),
         )?,
         binding_text: joined(alloc, parts.as_slice())?,
+        after: asked_after(alloc, arguments)?,
         book: arguments.get_str("book"),
         every: asked_every(alloc, arguments)?,
         busy: asked_busy(alloc, arguments)?,
@@ -144,6 +153,22 @@ fn joined(alloc: Global, parts: &[&str]) -> Result<Vec<u8>, AllocError> {
         text.extend_from_slice(part.as_bytes())?;
     }
     Ok(text)
+}
+
+/// After the event of which timestamp a new book begins.
+fn asked_after(alloc: Global, arguments: &ArgMatches<'_>) -> Result<Option<u64>, OptionsFault> {
+    let Some(word) = arguments.get_str("after") else {
+        return Ok(None);
+    };
+    match decimal_up_to(word.as_bytes(), u128::from(Limits::TIMESTAMP)) {
+        Some(number) if number != 0 => Ok(Some(number as u64)),
+        _ => Err(bad_value(
+            alloc,
+            "after",
+            word,
+            "a timestamp in nanoseconds, from 1 to 9223372036854775807",
+        )?),
+    }
 }
 
 /// After how many lines a book or a state is saved.

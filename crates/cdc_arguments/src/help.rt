@@ -86,7 +86,8 @@ Each event that is later than the last one is applied to the book, and any other
 to keep its order: an event that a later one overtakes is lost. With --chained that is noticed: each line has a member
 previous, the timestamp of the message before it in its queue (0 before the first), and an event is applied only if that
 is the last event that was received. If it isn't, there is a gap, and following stops. So if each line is one of the
-queue, no event is lost or applied twice, whatever was lost, repeated or reordered on the way.
+queue, no event is lost or applied twice, whatever was lost, repeated or reordered on the way. A line of another queue
+is a gap too, unless it names the last event that was received: lines are compared with that, not believed.
 
 An event that is later than the end of the stream contradicts it, and following stops there.
 
@@ -94,6 +95,9 @@ With --book, the book is saved after every N lines, each time that no whole line
 at the end. After each save a line with saved and the timestamp of the last event is printed: events up to there may be
 acknowledged, and none later. If following is stopped at any time and started again with that book, it goes on where the
 book was saved, and what was applied before is a duplicate.
+
+With --after, a new book begins after the event with that timestamp: with --chained at the line that has it as its
+previous, else at the first later event. A saved book is resumed only if that event is the last one that it has seen.
 
 With --book sqlite:FILE, the book is kept in an SQLite file, which other programs may read between saves: the table
 accounts has the balances, and the table book the timestamp of the last event applied and the count of these events.

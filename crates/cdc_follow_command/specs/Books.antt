@@ -1,8 +1,10 @@
 -- A follower's book: what is kept of it, and how a later run goes on from it.
-use Rattle.std.specs.Prelude.{◌≡◌, ◌≢◌, ◌⊎◌, ◌++◌, ◌∷◌, [], ℕ, Bool, List, Option}
+use Rattle.std.specs.Prelude.{◌≡◌, ◌≢◌, ◌⊎◌, ℕ, Bool, true, false, List, Option, Some, None}
+use Rattle.std.specs.Prelude.{nat_eq, unwrap_or}
 use Rattle.cdc_files.specs.declared.errors.StoreError.{StoreError}
 use Rattle.cdc_files.specs.declared.errors.StoreError.TheVariants.{BadRecord, OutOfMemory}
 use Rattle.cdc_follow.specs.Following.{FollowState}
+use Rattle.cdc_follow.specs.Laws.{begins}
 use Rattle.cdc_follow.specs.Saved.{CanBeSaved, book_text}
 use Rattle.cdc_book_log.specs.Logs.{CanBeLogged, IsLogText, IsRead, log_text}
 use Rattle.cdc_book_log.specs.Replay.{replay}
@@ -10,6 +12,8 @@ use Rattle.cdc_book_log.specs.declared.logs.SavedLog.{SavedLog}
 use Rattle.cdc_streams.specs.Keeping.{AddsTexts}
 use Rattle.cdc_follow_command.specs.declared.followers.Followed.{Followed}
 use Rattle.cdc_follow_command.specs.declared.books.BookLog.{BookLog}
+use Rattle.cdc_follow_command.specs.declared.books.ResumeError.{ResumeError}
+use Rattle.cdc_follow_command.specs.declared.books.ResumeError.TheVariants.{Store, Elsewhere}
 use Rattle.cdc_follow_command.specs.declared.followers.FollowSetup.{FollowSetup}
 
 -- a text is that of a log of this follower's book: a base, and the changes of the saves after it
@@ -49,3 +53,23 @@ IsNoLog chained binding text =
 abbrev pub IsRefused : Bool → List ℕ → List ℕ → StoreError → Type 0
 IsRefused chained binding text error =
     (error ≡ OutOfMemory) ⊎ ((error ≡ BadRecord) × IsNoBook chained binding text × IsNoLog chained binding text)
+
+-- a follower that begins after the event of this timestamp, if there is one: it has applied nothing, and that event is
+-- the last one seen
+abbrev pub begins_after : Option ℕ → FollowState
+begins_after after = record begins { seen = unwrap_or after 0 }
+
+-- following may begin after the last event seen, if it is to begin after that of this timestamp
+abbrev pub is_at : Option ℕ → ℕ → Bool
+is_at None seen = true
+is_at (Some timestamp) seen = nat_eq seen timestamp
+
+-- a follower is where following is to begin
+abbrev pub IsAt : Option ℕ → FollowState → Type 0
+IsAt after state = is_at after state.seen ≡ true
+
+-- a text isn't resumed, or its follower isn't where following is to begin
+abbrev pub IsRefusedAt : Bool → List ℕ → List ℕ → Option ℕ → ResumeError → Type 0
+IsRefusedAt chained binding text after (Store error) = IsRefused chained binding text error
+IsRefusedAt chained binding text after (Elsewhere seen) = (state : FollowState) × IsResumed chained binding text state
+    × (state.seen ≡ seen) × (is_at after seen ≡ false)

@@ -3,12 +3,13 @@
 ghost use Rattle.std.specs.Prelude.{◌≡◌, ◌⊎◌, ◌↔◌, ℕ, List, IfOk, IfErr, IsTrue, OnErr, OnOk};
 ghost use Rattle.cdc_follow.specs.Following.{FollowState};
 ghost use Rattle.cdc_follow.specs.Laws.{begins};
-ghost use Rattle.cdc_follow.specs.Saved.{book_text};
+ghost use Rattle.cdc_follow.specs.Saved.{CanBeSaved, book_text};
 ghost use Rattle.cdc_frames.specs.Frames.{frame};
 ghost use Rattle.cdc_book_log.specs.Logs.{CanBeLogged, IsLogText, log_name};
 ghost use Rattle.cdc_book_log.specs.Replay.{replay};
 ghost use Rattle.cdc_streams.specs.Keeping.{AppendsText, ReplacesText};
-ghost use Rattle.cdc_follow_command.specs.Books.{IsNoBook, IsRefused, IsResumed};
+ghost use Rattle.cdc_follow_command.specs.Books.{IsAt, IsNoBook, IsRefused, IsRefusedAt, IsResumed, begins_after};
+ghost use Rattle.cdc_follow_command.specs.Books as spec;
 
 use crate::followers::{FollowSetup, StreamFollower};
 use cdc_book_log::{read_log, record_text};
@@ -99,12 +100,70 @@ impl<L: LogStore> Keeps<StreamFollower> for BookLog<L> {
     ghost fits_on = { goes_on L.texts };
 }
 
-/// A follower that begins, with an empty book, which hashes ids with this key.
-pub fn begin(alloc: Global, key: HashKey) -> Follower
-    ensures { result ≡ begins }
+/// Why a saved book isn't resumed.
+#[derive(Clone, Copy, Debug, PartialEq, Eq)]
+pub enum ResumeError {
+    /// Its store failed, or its text isn't that of such a book.
+    Store(StoreError),
+    /// Its last event seen has this timestamp, and not the one after which following is to begin.
+    Elsewhere(u64),
+}
+
+impl From<StoreError> for ResumeError {
+    ghost use Rattle.std.specs.Prelude.{◌≡◌};
+    ghost use Rattle.cdc_follow_command.specs.declared.books.ResumeError.TheVariants.{Store};
+
+    ghost from_gives = { λ error fault. fault ≡ Store error };
+
+    fn from(error: StoreError) -> ResumeError {
+        ResumeError::Store(error)
+    }
+}
+
+/// A follower that begins, with an empty book, which hashes ids with this key: at the first event, or after the event of
+/// this timestamp, as if that one and all before it had been seen.
+pub fn begin(alloc: Global, key: HashKey, after: Option<u64>) -> Follower
+    ensures begins { result ≡ begins_after after }
+    ensures saved { (binding : List ℕ) → CanBeSaved binding begins → CanBeSaved binding result }
 {
     let book = Book::keyed(alloc, key);
-    Follower::new(Subscriber::resume(book, 0, 0, false), 0)
+    Follower::new(Subscriber::resume(book, 0, 0, false), after.unwrap_or(0))
+}
+
+/// The follower of a saved book with this text, as `resume` returns it. If following is to begin after the event of some
+/// timestamp, that has to be the last event that it has seen.
+pub fn resume_at(
+    alloc: Global,
+    key: HashKey,
+    text: &[u8],
+    chained: bool,
+    binding: &[u8],
+    after: Option<u64>,
+) -> Result<Follower, ResumeError>
+    ensures resumed { IfOk result (λ follower. IsResumed chained binding.now text.now follower
+        × IsAt after follower) }
+    ensures all { (base : FollowState) (changes : List FollowState) (torn : List ℕ)
+        → CanBeLogged binding.now base changes → IsLogText text.now chained binding.now base changes torn
+        → IsAt after (replay base changes) → IfOk result (λ follower. follower ≡ replay base changes) }
+    ensures refused { IfErr result (IsRefusedAt chained binding.now text.now after) }
+{
+    let follower = resume(alloc, key, text, chained, binding)?;
+    let seen = follower.seen();
+    if is_at(after, seen) {
+        Ok(follower)
+    } else {
+        Err(ResumeError::Elsewhere(seen))
+    }
+}
+
+/// Whether following may begin after the event of this timestamp, if it is to begin after that of another.
+fn is_at(after: Option<u64>, seen: u64) -> bool
+    ensures { result ≡ spec.is_at after seen }
+{
+    match after {
+        Some(timestamp) => seen == timestamp,
+        None => true,
+    }
 }
 
 /// The follower of a saved book with this text, which hashes ids with this key: of a log, whose torn end is ignored, or of the book alone, as it was

@@ -7,7 +7,7 @@ mod followers;
 mod forms;
 mod json_lines;
 
-pub use books::{BookLog, begin, resume};
+pub use books::{BookLog, ResumeError, begin, resume, resume_at};
 pub use endings::{FollowEnding, follow_status};
 pub use followers::{FollowSetup, Followed, StreamFollower, follow_command};
 pub use forms::FollowForm;

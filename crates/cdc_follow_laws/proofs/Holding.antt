@@ -1,15 +1,9 @@
 -- The books of followers of a ledger's events.
-use Rattle.std.proofs.Common.{◌≡◌, ℕ, Bool, true, false, cond, List, [], ◌∷◌, ◌++◌, filter, refl, sym, ap, ◌∙◌, subst}
-use Rattle.std.specs.List.{AllByRecursion}
+use Rattle.std.proofs.Common.{◌≡◌, Bool, cond, List, [], ◌∷◌, ◌++◌, refl, sym, ap, ◌∙◌, subst}
 use Rattle.cdc_types.specs.declared.events.Event.{Event}
-use Rattle.cdc_types.specs.Timestamps.{RiseFrom}
 use Rattle.cdc_ledger.specs.Events.{events}
-use Rattle.cdc_ledger.specs.History.{History}
 use Rattle.cdc_ledger.proofs.KeptLaws.{IsSound-from_legal}
-use Rattle.cdc_message.specs.Headers.{headers_of_event}
 use Rattle.cdc_match.specs.Arguments.{Arguments}
-use Rattle.cdc_match.specs.Matching.{matches}
-use Rattle.cdc_subscriber.specs.SubscriberState.{SubscriberState}
 use Rattle.cdc_laws.proofs.Books.{holds-balances}
 use Rattle.cdc_laws.proofs.Rising.{events_rise}
 use Rattle.cdc_follow.specs.Following.{follow_all}

@@ -1,1 +1,4 @@
+pub mod ChainBytes
+mod ChainExamples
+pub mod ChainLemmas
 pub mod Holding

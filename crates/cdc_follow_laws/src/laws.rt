@@ -1,5 +1,7 @@
 //! Laws of followers of a ledger's events. They are the postconditions of functions that do nothing.
 
+ghost use Rattle.cdc_follow_laws.specs.Chains.{ChainedLinesNamePrevious, FollowedStreamsAreChains};
+ghost use Rattle.cdc_follow_laws.specs.Chains.{WhateverBytesComeAreAChain, WhateverComesIsAChain};
 ghost use Rattle.cdc_follow_laws.specs.Laws.{FollowersHoldBalances, PrefixesHoldBalances};
 ghost use Rattle.cdc_follow_laws.specs.Laws.{LedgerEventsRise, LedgerQueuesArriveAsPrefixes};
 
@@ -17,4 +19,25 @@ pub fn followers_hold_balances()
 pub fn ledger_events_are_rising()
     ensures rising { LedgerEventsRise }
     ensures arrives { LedgerQueuesArriveAsPrefixes }
+{}
+
+/// Does nothing. Whatever entries reach a follower, in whatever order, number and choice, if each names a timestamp as
+/// that of the event before it: what it sees is a chain. Each event that it applies or passes by is later than the one
+/// before and names that one's timestamp, from the last event seen on, and the end is received only if it names the
+/// last one's. Nothing is assumed of where the entries come from: each is compared with what was seen. The same holds
+/// of a follower that resumes.
+pub fn whatever_comes_is_a_chain()
+    ensures { WhateverComesIsAChain }
+{}
+
+/// Does nothing. The same holds of a follower that goes through such entries of a stream, wherever it stops.
+pub fn followed_streams_are_chains()
+    ensures { FollowedStreamsAreChains }
+{}
+
+/// Does nothing. The same holds of any bytes that a follower of a chained stream reads, since each entry that it reads
+/// names such a timestamp.
+pub fn whatever_bytes_come_are_a_chain()
+    ensures lines { ChainedLinesNamePrevious }
+    ensures bytes { WhateverBytesComeAreAChain }
 {}

@@ -3,4 +3,7 @@
 
 mod laws;
 
-pub use laws::{followers_hold_balances, ledger_events_are_rising};
+pub use laws::{
+    followed_streams_are_chains, followers_hold_balances, ledger_events_are_rising,
+    whatever_bytes_come_are_a_chain, whatever_comes_is_a_chain,
+};
