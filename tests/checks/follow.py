@@ -579,6 +579,35 @@ def late_starts(folder):
         os.remove(path)
 
 
+def meanings(folder):
+    """A book is resumed under any text of its binding that means the same, and under no other."""
+    text = lambda *given: "".join(f"{it}\n" for it in given).encode()
+    ten = "all ledger=700" + " transfer_code=1" * 9
+    for name, path in (("a log", os.path.join(folder, "m.book")), ("SQLite", os.path.join(folder, "m.db"))):
+        book = path if name == "a log" else f"sqlite:{path}"
+        for saved, same, others in (
+            ("all ledger=0700", ["all ledger=700", "all  ledger=00700", "all ledger=700 ledger=700"], ["all", "any ledger=700", "all ledger=70"]),
+            (
+                "any transfer_code=1 ledger=700",
+                ["any ledger=700 transfer_code=01", "any ledger=700 transfer_code=1 ledger=0700"],
+                ["any ledger=700", "any transfer_code=1", "any ledger=700 transfer_code=1 ledger=701", "all transfer_code=1 ledger=700"],
+            ),
+            ("all event_type=single_phase", ["all event_type=single_phase event_type=single_phase"], ["all event_type=two_phase_pending"]),
+            ("all", [" all "], ["all ledger=700"]),
+            (ten, ["all transfer_code=1 ledger=700"], [f"{ten[:-1]}2"]),
+        ):
+            run(["--chained", "--book", book, "--binding", saved], text(chained(0, FIRST)))
+            before = open(path, "rb").read()
+            for binding in others:
+                found = run(["--chained", "--book", book, "--binding", binding], text(chained(10, SECOND)))
+                check(f"{name} of {saved!r}: {binding!r}", found[:2] == (1, "fault: store\n") and "bad_record" in found[2], found)
+                check(f"{name} of {saved!r}: it stays", open(path, "rb").read() == before, binding)
+            for binding in [saved, *same]:
+                found = run(["--chained", "--book", book, "--binding", binding], text(chained(0, FIRST)))
+                check(f"{name} of {saved!r}: {binding!r}", found == (0, f"saved 10\n{ONE}", ""), found)
+            os.remove(path)
+
+
 def kept_in(path):
     """What a log holds up to its last whole frame, by its text alone: the timestamp of the last event seen, and the book. A file that
     isn't there holds nothing; None if the base isn't whole."""
@@ -1047,7 +1076,7 @@ def memory(folder):
 
 
 def main(arguments):
-    parts = [by_hand, books, late_starts, logs, cuts, grown, saves, pipes, starved, replaced, closed, killed, kept, rivalry, memory]
+    parts = [by_hand, books, late_starts, meanings, logs, cuts, grown, saves, pipes, starved, replaced, closed, killed, kept, rivalry, memory]
     return commands.main(arguments, __doc__, "follow", parts, random_streams, STREAMS)
 
 

@@ -121,8 +121,8 @@ fn open_book<'a>(
     };
     let (mut store, text) = open_book_file(rt, name, key, busy)?;
     if let Some(text) = text {
-        let binding = setup.binding_text.as_slice();
         let chained = setup.rules.chained;
+        let binding = &setup.binding;
         let follower = resume_at(rt.alloc(), key, text.as_slice(), chained, binding, after)?;
         return Ok((Some(store), follower));
     }

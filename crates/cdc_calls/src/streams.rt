@@ -5,8 +5,8 @@ ghost use Rattle.std.specs.Prelude.{◌≡◌, OnErr};
 use crate::tries::{Tried, first, second};
 use cdc_audit::{Auditor, Refusal};
 use cdc_audit_state::{push_state, read_state};
-use cdc_keys::HashKey;
 use cdc_follow::{Content, Entry, Follower, Following, SavedBook, read_book, read_entry};
+use cdc_keys::HashKey;
 use cdc_match::Binding;
 use std::alloc::{AllocError, Global};
 

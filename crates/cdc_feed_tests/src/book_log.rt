@@ -1,10 +1,10 @@
 //! A book's log, by a worked example: written, read back, cut after each byte, and with a record that was not written
 //! whole.
 
-use cdc_keys::HashKey;
 use cdc_book_log::{SavedLog, read_log, record_text, without_accounts};
 use cdc_data_tests::bodies::FIRST;
 use cdc_follow::{Content, Entry, Follower, write_book};
+use cdc_keys::HashKey;
 use cdc_match::Binding;
 use cdc_message::decode;
 use cdc_subscriber::Subscriber;

@@ -1,3 +1,4 @@
+pub mod BindingLemmas
 pub mod GapLemmas
 pub mod KeptLemmas
 pub mod LogLemmas

@@ -2,6 +2,7 @@
 use Rattle.std.specs.Prelude.{◌≡◌, ◌≢◌, ◌⊎◌, ℕ, Bool, true, false, List, Option, Some, None}
 use Rattle.std.specs.Prelude.{nat_eq, unwrap_or}
 use Rattle.cdc_files.specs.declared.errors.StoreError.{StoreError}
+use Rattle.cdc_match.specs.Arguments.{Arguments}
 use Rattle.cdc_files.specs.declared.errors.StoreError.TheVariants.{BadRecord, OutOfMemory}
 use Rattle.cdc_follow.specs.Following.{FollowState}
 use Rattle.cdc_follow.specs.Laws.{begins}
@@ -10,6 +11,7 @@ use Rattle.cdc_book_log.specs.Logs.{CanBeLogged, IsLogText, IsRead, log_text}
 use Rattle.cdc_book_log.specs.Replay.{replay}
 use Rattle.cdc_book_log.specs.declared.logs.SavedLog.{SavedLog}
 use Rattle.cdc_streams.specs.Keeping.{AddsTexts}
+use Rattle.cdc_follow_command.specs.Bindings.{is_of}
 use Rattle.cdc_follow_command.specs.declared.followers.Followed.{Followed}
 use Rattle.cdc_follow_command.specs.declared.books.BookLog.{BookLog}
 use Rattle.cdc_follow_command.specs.declared.books.ResumeError.{ResumeError}
@@ -31,26 +33,27 @@ abbrev pub HasLogged : {L : Type 0} → (L → Option (List (List ℕ))) → Fol
     → List Followed → Type 0
 HasLogged texts setup old new states = AddsTexts (IsTextOf setup) (texts old.log.store) (texts new.log.store) states
 
--- a follower goes on from a text: that of a log, with a torn end perhaps, or that of a book alone
-abbrev pub IsResumed : Bool → List ℕ → List ℕ → FollowState → Type 0
+-- a follower goes on from a text: that of a log, with a torn end perhaps, or that of a book alone, of a binding that
+-- means the same as this one
+abbrev pub IsResumed : Bool → Arguments → List ℕ → FollowState → Type 0
 IsResumed chained binding text state =
-    (text ≡ book_text chained binding state)
-    ⊎ ((log : SavedLog) × IsRead text log × (log.chained ≡ chained) × (log.binding.items ≡ binding)
+    ((saved : List ℕ) × (is_of binding saved ≡ true) × (text ≡ book_text chained saved state))
+    ⊎ ((log : SavedLog) × IsRead text log × (log.chained ≡ chained) × (is_of binding log.binding.items ≡ true)
     × (log.follower ≡ state))
 
--- a text is that of no book that can be saved, of such a stream and this binding
-abbrev pub IsNoBook : Bool → List ℕ → List ℕ → Type 0
-IsNoBook chained binding text =
-    (state : FollowState) → CanBeSaved binding state → text ≢ book_text chained binding state
+-- a text is that of no book that can be saved, of such a stream and a binding that means the same as this one
+abbrev pub IsNoBook : Bool → Arguments → List ℕ → Type 0
+IsNoBook chained binding text = (saved : List ℕ) (state : FollowState) → is_of binding saved ≡ true
+    → CanBeSaved saved state → text ≢ book_text chained saved state
 
 -- nor of a log of such books
-abbrev pub IsNoLog : Bool → List ℕ → List ℕ → Type 0
+abbrev pub IsNoLog : Bool → Arguments → List ℕ → Type 0
 IsNoLog chained binding text =
-    (base : FollowState) (changes : List FollowState) (torn : List ℕ) → CanBeLogged binding base changes
-    → ¬ IsLogText text chained binding base changes torn
+    (saved : List ℕ) (base : FollowState) (changes : List FollowState) (torn : List ℕ) → is_of binding saved ≡ true
+    → CanBeLogged saved base changes → ¬ IsLogText text chained saved base changes torn
 
 -- a text isn't resumed because memory runs out, or because it is neither
-abbrev pub IsRefused : Bool → List ℕ → List ℕ → StoreError → Type 0
+abbrev pub IsRefused : Bool → Arguments → List ℕ → StoreError → Type 0
 IsRefused chained binding text error =
     (error ≡ OutOfMemory) ⊎ ((error ≡ BadRecord) × IsNoBook chained binding text × IsNoLog chained binding text)
 
@@ -69,7 +72,7 @@ abbrev pub IsAt : Option ℕ → FollowState → Type 0
 IsAt after state = is_at after state.seen ≡ true
 
 -- a text isn't resumed, or its follower isn't where following is to begin
-abbrev pub IsRefusedAt : Bool → List ℕ → List ℕ → Option ℕ → ResumeError → Type 0
+abbrev pub IsRefusedAt : Bool → Arguments → List ℕ → Option ℕ → ResumeError → Type 0
 IsRefusedAt chained binding text after (Store error) = IsRefused chained binding text error
 IsRefusedAt chained binding text after (Elsewhere seen) = (state : FollowState) × IsResumed chained binding text state
     × (state.seen ≡ seen) × (is_at after seen ≡ false)

@@ -1,3 +1,4 @@
+pub mod Bindings
 pub mod Books
 pub mod Endings
 pub mod Following

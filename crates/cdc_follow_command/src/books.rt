@@ -1,6 +1,6 @@
 //! A follower's book: how it begins, how it is kept, and how it goes on.
 
-ghost use Rattle.std.specs.Prelude.{◌≡◌, ◌⊎◌, ◌↔◌, ℕ, List, IfOk, IfErr, IsTrue, OnErr, OnOk};
+ghost use Rattle.std.specs.Prelude.{◌≡◌, ◌⊎◌, ◌↔◌, ℕ, List, IfOk, IfErr, IsTrue, OnErr, OnOk, true};
 ghost use Rattle.cdc_follow.specs.Following.{FollowState};
 ghost use Rattle.cdc_follow.specs.Laws.{begins};
 ghost use Rattle.cdc_follow.specs.Saved.{CanBeSaved, book_text};
@@ -8,17 +8,20 @@ ghost use Rattle.cdc_frames.specs.Frames.{frame};
 ghost use Rattle.cdc_book_log.specs.Logs.{CanBeLogged, IsLogText, log_name};
 ghost use Rattle.cdc_book_log.specs.Replay.{replay};
 ghost use Rattle.cdc_streams.specs.Keeping.{AppendsText, ReplacesText};
+ghost use Rattle.cdc_follow_command.specs.Bindings.{is_of as is_text_of};
 ghost use Rattle.cdc_follow_command.specs.Books.{IsAt, IsNoBook, IsRefused, IsRefusedAt, IsResumed, begins_after};
 ghost use Rattle.cdc_follow_command.specs.Books as spec;
 
+use crate::bindings::is_of as is_text_of_binding;
 use crate::followers::{FollowSetup, StreamFollower};
 use cdc_book_log::{read_log, record_text};
 use cdc_files::StoreError;
 use cdc_follow::{Follower, read_book};
 use cdc_keys::HashKey;
+use cdc_match::Binding;
 use cdc_streams::{Keeps, Log, LogStore};
 use cdc_subscriber::{Book, Subscriber};
-use std::alloc::Global;
+use std::alloc::{AllocError, Global};
 
 /// A follower's book, kept as a log: a base with the whole book, and a record for each save after it, with what changed.
 #[derive(Drop)]
@@ -137,14 +140,15 @@ pub fn resume_at(
     key: HashKey,
     text: &[u8],
     chained: bool,
-    binding: &[u8],
+    binding: &Binding,
     after: Option<u64>,
 ) -> Result<Follower, ResumeError>
     ensures resumed { IfOk result (λ follower. IsResumed chained binding.now text.now follower
         × IsAt after follower) }
-    ensures all { (base : FollowState) (changes : List FollowState) (torn : List ℕ)
-        → CanBeLogged binding.now base changes → IsLogText text.now chained binding.now base changes torn
-        → IsAt after (replay base changes) → IfOk result (λ follower. follower ≡ replay base changes) }
+    ensures all { (saved : List ℕ) (base : FollowState) (changes : List FollowState) (torn : List ℕ)
+        → is_text_of binding.now saved ≡ true → CanBeLogged saved base changes
+        → IsLogText text.now chained saved base changes torn → IsAt after (replay base changes)
+        → IfOk result (λ follower. follower ≡ replay base changes) }
     ensures refused { IfErr result (IsRefusedAt chained binding.now text.now after) }
 {
     let follower = resume(alloc, key, text, chained, binding)?;
@@ -166,27 +170,32 @@ fn is_at(after: Option<u64>, seen: u64) -> bool
     }
 }
 
-/// The follower of a saved book with this text, which hashes ids with this key: of a log, whose torn end is ignored, or of the book alone, as it was
-/// saved before version 1.2. `BadRecord`: the text is neither, or its book is one of another binding, or of a chained
-/// stream where this one isn't, or the other way round.
+/// The follower of a saved book with this text, which hashes ids with this key: of a log, whose torn end is ignored, or
+/// of the book alone, as it was saved before version 1.2. `BadRecord`: the text is neither, or its book is one of a
+/// binding that doesn't mean the same as this one, or of a chained stream where this one isn't, or the other way round.
 pub fn resume(
     alloc: Global,
     key: HashKey,
     text: &[u8],
     chained: bool,
-    binding: &[u8],
+    binding: &Binding,
 ) -> Result<Follower, StoreError>
     ensures resumed { IfOk result (IsResumed chained binding.now text.now) }
-    ensures all { (base : FollowState) (changes : List FollowState) (torn : List ℕ)
-        → CanBeLogged binding.now base changes → IsLogText text.now chained binding.now base changes torn
+    ensures all { (saved : List ℕ) (base : FollowState) (changes : List FollowState) (torn : List ℕ)
+        → is_text_of binding.now saved ≡ true → CanBeLogged saved base changes
+        → IsLogText text.now chained saved base changes torn
         → IfOk result (λ follower. follower ≡ replay base changes) }
     ensures refused { IfErr result (IsRefused chained binding.now text.now) }
 {
     match read_log(alloc, key, text)? {
-        Some(log) if is_same(log.chained, log.binding.as_slice(), chained, binding) => {
-            Ok(log.follower)
+        Some(log) => {
+            if is_same(alloc, log.chained, log.binding.as_slice(), chained, binding)? {
+                Ok(log.follower)
+            } else {
+                resume_text(alloc, key, text, chained, binding)
+            }
         }
-        _ => resume_text(alloc, key, text, chained, binding),
+        None => resume_text(alloc, key, text, chained, binding),
     }
 }
 
@@ -196,23 +205,46 @@ fn resume_text(
     key: HashKey,
     text: &[u8],
     chained: bool,
-    binding: &[u8],
+    binding: &Binding,
 ) -> Result<Follower, StoreError>
-    ensures resumed { IfOk result (λ follower. text.now ≡ book_text chained binding.now follower) }
+    ensures resumed { IfOk result (λ follower. (saved : List ℕ) × (is_text_of binding.now saved ≡ true)
+        × (text.now ≡ book_text chained saved follower)) }
     ensures refused { IfErr result (λ error. (error ≡ StoreError.OutOfMemory)
         ⊎ ((error ≡ StoreError.BadRecord) × IsNoBook chained binding.now text.now)) }
 {
     match read_book(alloc, key, text)? {
-        Some(saved) if is_same(saved.chained, saved.binding.as_slice(), chained, binding) => {
-            Ok(saved.follower)
+        Some(saved) => {
+            if is_same(
+                alloc,
+                saved.chained,
+                saved.binding.as_slice(),
+                chained,
+                binding,
+            )? {
+                Ok(saved.follower)
+            } else {
+                Err(StoreError::BadRecord)
+            }
         }
-        _ => Err(StoreError::BadRecord),
+        None => Err(StoreError::BadRecord),
     }
 }
 
-/// Whether a book is of such a stream and of this binding.
-fn is_same(of_chained: bool, of_binding: &[u8], chained: bool, binding: &[u8]) -> bool
-    ensures { IsTrue result ↔ ((of_chained ≡ chained) × (of_binding.now ≡ binding.now)) }
+/// Whether a book is of such a stream, and of a binding that means the same as this one. The one error is that memory
+/// ran out.
+fn is_same(
+    alloc: Global,
+    of_chained: bool,
+    of_binding: &[u8],
+    chained: bool,
+    binding: &Binding,
+) -> Result<bool, AllocError>
+    ensures { IfOk result (λ same. IsTrue same
+        ↔ ((of_chained ≡ chained) × (is_text_of binding.now of_binding.now ≡ true))) }
 {
-    of_chained == chained && of_binding == binding
+    if of_chained == chained {
+        is_text_of_binding(alloc, of_binding, binding)
+    } else {
+        Ok(false)
+    }
 }

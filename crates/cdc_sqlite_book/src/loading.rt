@@ -18,7 +18,7 @@ use std::alloc::{AllocError, Global};
 /// text reads none that begins so.
 const ROWS_MARK: &[u8] = b"rows ";
 
-/// The beginning of the text of a book's row. The text of the book without its accounts comes after it.
+/// The start of the text of a book's row. The text of the book without its accounts comes after it.
 pub fn begin_text(alloc: Global) -> Result<Vec<u8>, AllocError>
     ensures { IfOk result (λ text. text.items ≡ rows_mark) }
 {

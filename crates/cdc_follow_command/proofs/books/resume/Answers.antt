@@ -1,13 +1,14 @@
-use Rattle.std.proofs.Common.{inr, refl, sym, ◌∙◌}
+use Rattle.std.proofs.Common.{◌≡◌, ℕ, List, true, inr, refl, subst}
+use Rattle.cdc_follow_command.specs.Bindings.{is_of}
 use Rattle.cdc_follow_command.proofs.books.resume.Goals as goal
 
-pub returns-in-Some-clause-resumed : goal.returns-in-Some-clause-resumed
-returns-in-Some-clause-resumed c =
-    let same = c.is_same.ensures.0 c.if-is_same.true in
+pub returns-then-branch-clause-resumed : goal.returns-then-branch-clause-resumed
+returns-then-branch-clause-resumed c =
+    let same = c.in_ok-is_same-in-Some.ensures.0 c.if-branch.true in
     inr (
       c.in-Some.log,
       rw c.in-Some.is at c.in_ok-log.ensures.exact,
       same.0,
-      sym c.as_slice.ensures.value ∙ same.1,
+      subst (λ (saved : List ℕ). is_of c.args.binding.now saved ≡ true) c.as_slice.ensures.value same.1,
       refl,
     )
