@@ -843,7 +843,7 @@ def redelivered(rng, bodies):
         stream.append(bodies[place])
         place += 1
         if rng.random() < 0.1:
-            back = rng.randrange(1, place + 1)
+            back = rng.randrange(1, min(place, 6) + 1)
             again, place = again + back, place - back
     return stream, again
 

@@ -117,9 +117,9 @@ def end(previous=None):
 class Model:
     """What a follower keeps and prints, by streams of well-formed lines."""
 
-    def __init__(self, is_chained, ledger=None):
-        self.is_chained, self.ledger = is_chained, ledger
-        self.applied = self.last = self.seen = self.gaps = 0
+    def __init__(self, is_chained, ledger=None, after=0):
+        self.is_chained, self.ledger, self.seen = is_chained, ledger, after
+        self.applied = self.last = self.gaps = 0
         self.ended = False
         self.book = {}
 
@@ -456,7 +456,9 @@ def random_stream(seed):
         other = disturbed(rng, queue_of(rng, rng.randrange(MOST_LINES), 3))
         lines = [it for pair in zip(lines, other) for it in pair] + lines[len(other) :] + other[len(lines) :]
     is_chained, skips, ledger = rng.random() < 0.7, rng.random() < 0.5, rng.choice([None, 700])
-    model, printed, status = Model(is_chained, ledger), "", 0
+    starts = [int(json.loads(it)["previous"]) for it in lines]
+    after = rng.choice([0, 0, rng.choice(starts)]) if starts else 0
+    model, printed, status = Model(is_chained, ledger, after), "", 0
     for number, line in enumerate(lines, 1):
         stop = model.take(number, line)
         if stop and not (skips and stop.startswith("gap: ")):
@@ -464,6 +466,7 @@ def random_stream(seed):
             break
     arguments = ["--chained"] * is_chained + ["--skip-gaps"] * (is_chained and skips)
     arguments += ["--binding", f"all ledger={ledger}"] if ledger else []
+    arguments += ["--after", str(after)] if after else []
     found = run(arguments, "".join(f"{it}\n" for it in lines).encode())
     expected = (status, model.text() + printed)
     said = "" if is_chained or not lines else UNREAD

@@ -10,7 +10,7 @@ from .crates import APP
 # The flags with a value that is no file, even if a file has its name.
 NUMBERED = (
     "--window", "--prefetch", "--lose-confirm", "--lose-publish", "--restart-after", "--repeat", "--close", "--start-after",
-    "--random", "--steps", "--faults", "--queue", "--every", "--busy", "--binding",
+    "--random", "--steps", "--faults", "--queue", "--every", "--busy", "--binding", "--after",
 )
 
 

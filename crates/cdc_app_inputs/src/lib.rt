@@ -13,6 +13,6 @@ pub use advice::{
 };
 pub use descriptors::open_standard;
 pub use kept::{Kept, Seen};
-pub use names::{Escaped, escaped};
+pub use names::{Escaped, escaped_text};
 pub use notes::{EXPLAIN, hint, note, report_count, report_no_subscriber};
 pub use sources::{Source, Stream};

@@ -24,7 +24,7 @@ impl<'a> Display for Escaped<'a> {
 }
 
 /// The same as a text.
-pub fn escaped(alloc: Global, name: &str) -> Result<String, AllocError> {
+pub fn escaped_text(alloc: Global, name: &str) -> Result<String, AllocError> {
     let name = Escaped(name);
     let mut text = String::new(alloc);
     // (a write to a text fails only if memory runs out)

@@ -2,7 +2,7 @@
 //! is ignored, since the command has ended by then.
 
 use crate::advice::shown_name;
-use crate::names::escaped;
+use crate::names::escaped_text;
 use cdc_commands::{Notes, Tally};
 use cdc_deliveries::{Asked, Count};
 use cdc_diagnostics::notes_text;
@@ -24,7 +24,7 @@ pub fn hint(rt: &HostRuntime, tally: Tally, why: &str) {
 /// Prints the notes on a valid script. If the batches of several clients come in any order, as in a run, no note is
 /// on their timestamps.
 pub fn note(rt: &HostRuntime, file: &str, notes: Notes, is_in_order: bool) {
-    let Ok(name) = escaped(rt.alloc(), shown_name(file)) else {
+    let Ok(name) = escaped_text(rt.alloc(), shown_name(file)) else {
         return;
     };
     if let Some(text) = notes_text(rt.alloc(), name.as_str(), notes, is_in_order) {

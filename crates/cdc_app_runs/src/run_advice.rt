@@ -3,7 +3,9 @@
 use crate::progress_advice::trouble;
 use crate::run_places::Shown;
 use cdc_actors::RunFault;
-use cdc_app_inputs::{Escaped, Seen, advise_on_failure, advise_on_script, escaped, shown_name};
+use cdc_app_inputs::{
+    Escaped, Seen, advise_on_failure, advise_on_script, escaped_text, shown_name,
+};
 use cdc_commands::Ending;
 use cdc_diagnostics::{RunExplanation, Submitted, run_explanation};
 use cdc_output::ProgramFault;
@@ -69,7 +71,7 @@ pub fn explain_run(
     lines: ScriptLines,
     report: &Report,
 ) {
-    let Ok(name) = escaped(rt.alloc(), shown_name(file)) else {
+    let Ok(name) = escaped_text(rt.alloc(), shown_name(file)) else {
         return;
     };
     let name = name.as_str();

@@ -6,7 +6,7 @@ ghost use Rattle.cdc_types.specs.Windows.{IsWindow};
 use crate::diagnostics::{asked, can_draw, draw, is_reported};
 use crate::simulation::{Wanted, report_counts};
 use cdc_app_inputs::{
-    Kept, Seen, Source, advise_on_script, escaped, report_no_subscriber, shown_name,
+    Kept, Seen, Source, advise_on_script, escaped_text, report_no_subscriber, shown_name,
 };
 use cdc_arguments::{Diagnostics, Form, STANDARD_ERROR};
 use cdc_commands::simulate::simulation_of_steps;
@@ -45,7 +45,7 @@ pub fn run_random(
     let Ok(RandomSteps { text, steps }) = random_steps(rt.alloc(), &script, window, chances) else {
         return abort(rt, seen, ProgramFault::OutOfMemory, form);
     };
-    let Ok(name) = escaped(rt.alloc(), shown_name(file)) else {
+    let Ok(name) = escaped_text(rt.alloc(), shown_name(file)) else {
         return abort(rt, seen, ProgramFault::OutOfMemory, form);
     };
     let mut observers = Both {

@@ -4,7 +4,7 @@ ghost use Rattle.cdc_types.specs.Windows.{IsWindow};
 
 use crate::diagnostics::{asked, can_draw, is_reported, report_simulation};
 use cdc_app_inputs::{
-    EXPLAIN, Kept, Source, abort, advise_on_steps, escaped, hint, note, report_count,
+    EXPLAIN, Kept, Source, abort, advise_on_steps, escaped_text, hint, note, report_count,
     report_no_subscriber, shown_name,
 };
 use cdc_arguments::{Diagnostics, Form};
@@ -42,7 +42,7 @@ pub fn run_simulation(
     }
     let mut script = Kept::new(rt.alloc(), Source::of_script(rt, file));
     let mut step_file = Kept::new(rt.alloc(), Source::of_file(rt, steps));
-    let Ok(name) = escaped(rt.alloc(), shown_name(file)) else {
+    let Ok(name) = escaped_text(rt.alloc(), shown_name(file)) else {
         return abort(rt, ProgramFault::OutOfMemory, wanted.form);
     };
     let mut observers = Both {

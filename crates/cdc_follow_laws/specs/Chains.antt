@@ -3,7 +3,7 @@ use Rattle.std.specs.Prelude.{◌≡◌, ℕ, List, [], ◌∷◌, ◌++◌, Boo
 use Rattle.std.specs.Prelude.{Ok}
 use Rattle.std.specs.List.{AllByRecursion}
 use Rattle.cdc_types.specs.declared.events.Event.{Event}
-use Rattle.cdc_types.specs.Timestamps.{RiseFrom, last_timestamp_from}
+use Rattle.cdc_types.specs.Timestamps.{RiseFrom, last_timestamp, last_timestamp_from}
 use Rattle.cdc_match.specs.Arguments.{Arguments}
 use Rattle.cdc_subscriber.specs.Steps.{next_state}
 use Rattle.cdc_follow.specs.declared.entries.Content.TheVariants as content
@@ -13,7 +13,7 @@ use Rattle.cdc_follow.specs.declared.follower.Following.TheVariants.{Applied, Pa
 use Rattle.cdc_follow.specs.declared.streams.Rules.{Rules}
 use Rattle.cdc_follow.specs.Entries.{line_entry}
 use Rattle.cdc_follow.specs.Following.{FollowState, follow, follow_all, next_follow, outcome_of}
-use Rattle.cdc_follow.specs.Laws.{entries_in, reception_of, taken_by}
+use Rattle.cdc_follow.specs.Laws.{IsOfQueue, begins, entries_in, kept_after, reception_of, taken_by}
 use Rattle.cdc_follow.specs.Stops.{bytes_followed}
 use Rattle.cdc_follow.specs.Streams.{NumberedEntry, stream_of}
 
@@ -86,3 +86,19 @@ abbrev pub WhateverBytesComeAreAChain : Type 0
 WhateverBytesComeAreAChain = (binding : Arguments) (rules : Rules) (state : FollowState) (bytes : List ℕ)
     → rules.chained ≡ true
     → SeesAChainFirst binding state (stream_of true bytes).entries (bytes_followed binding rules state bytes).state
+
+-- a follower that began after the first events of a queue has applied just those events of a prefix of the later ones
+-- that its binding takes, each once and in order; the prefix is all of them once the end is received
+pub record KeepsLaterPrefix (binding : Arguments) (first later : List Event) (state : FollowState) : Type 0 where
+  pub before : List Event
+  pub after : List Event
+  pub whole : later ≡ before ++ after
+  pub seen : state.seen ≡ last_timestamp (first ++ before)
+  pub kept : state.kept ≡ kept_after (taken_by binding before) state.kept.ended
+  pub complete : state.kept.ended ≡ true → after ≡ []
+
+-- so it is of a follower that begins after the last one of the first events, whatever entries of the queue reach it
+abbrev pub LateFollowersKeepAPrefix : Type 0
+LateFollowersKeepAPrefix = (binding : Arguments) (first later : List Event) (entries : List Entry)
+    → RiseFrom 0 (first ++ later) → AllByRecursion (IsOfQueue (first ++ later)) entries
+    → KeepsLaterPrefix binding first later (follow_all binding (record begins { seen = last_timestamp first }) entries)

@@ -1,6 +1,7 @@
 //! Laws of followers of a ledger's events. They are the postconditions of functions that do nothing.
 
 ghost use Rattle.cdc_follow_laws.specs.Chains.{ChainedLinesNamePrevious, FollowedStreamsAreChains};
+ghost use Rattle.cdc_follow_laws.specs.Chains.{LateFollowersKeepAPrefix};
 ghost use Rattle.cdc_follow_laws.specs.Chains.{WhateverBytesComeAreAChain, WhateverComesIsAChain};
 ghost use Rattle.cdc_follow_laws.specs.Laws.{FollowersHoldBalances, PrefixesHoldBalances};
 ghost use Rattle.cdc_follow_laws.specs.Laws.{LedgerEventsRise, LedgerQueuesArriveAsPrefixes};
@@ -40,4 +41,12 @@ pub fn followed_streams_are_chains()
 pub fn whatever_bytes_come_are_a_chain()
     ensures lines { ChainedLinesNamePrevious }
     ensures bytes { WhateverBytesComeAreAChain }
+{}
+
+/// Does nothing. A follower that begins after some events of a chained queue, as one with `--after` does, keeps a prefix
+/// of the later ones, whatever entries of the queue reach it, in whatever order, number and choice. It has applied just
+/// those of the prefix that its binding takes, and the prefix is all of them once it has received the end. A follower
+/// that resumes is one that got all entries in one go.
+pub fn late_followers_keep_a_prefix()
+    ensures { LateFollowersKeepAPrefix }
 {}

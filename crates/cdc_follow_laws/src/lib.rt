@@ -4,6 +4,6 @@
 mod laws;
 
 pub use laws::{
-    followed_streams_are_chains, followers_hold_balances, ledger_events_are_rising,
-    whatever_bytes_come_are_a_chain, whatever_comes_is_a_chain,
+    followed_streams_are_chains, followers_hold_balances, late_followers_keep_a_prefix,
+    ledger_events_are_rising, whatever_bytes_come_are_a_chain, whatever_comes_is_a_chain,
 };
