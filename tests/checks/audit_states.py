@@ -55,9 +55,9 @@ def parts_of(path):
     return base.decode(), [it.decode() for it in records]
 
 
-def state_of(path):
-    """The state that a log holds, once it is read and saved as a whole."""
-    found = run(["--state", path], b"")
+def state_of(path, *arguments):
+    """The state that a log holds, once it is read with these arguments and saved as a whole."""
+    found = run([*arguments, "--state", path], b"")
     base, records = parts_of(path)
     check("a state that is read is saved as a whole", found[0] == 0 and not records, (found, records))
     return base
@@ -100,7 +100,7 @@ def by_hand(folder):
     state = os.path.join(folder, "a.state")
     for name, stream, arguments, text in texts():
         found = run([*arguments, "--state", state], text_of(stream))
-        check(f"a state's text: {name}", found[0] == 0 and state_of(state) == text, (found, read(state)))
+        check(f"a state's text: {name}", found[0] == 0 and state_of(state, *arguments) == text, (found, read(state)))
         last = re.search(r" last (\d+)", text).group(1)
         check(f"a state's last save: {name}", interrupted.SAVED.findall(found[1])[-1:] == [last], found)
         found = run([*arguments, "--state", state, "--book"], b"")
@@ -108,7 +108,7 @@ def by_hand(folder):
         check(f"a state that is read: {name}", found[0] == 0 and found[1].endswith(kept), found)
         check(f"a state that stays: {name}", read(state) == base_of(text.encode()), read(state))
         write(state, text.encode())
-        check(f"a state that version 1.1 saved: {name}", state_of(state) == text, read(state))
+        check(f"a state that version 1.1 saved: {name}", state_of(state, *arguments) == text, read(state))
         os.remove(state)
     found = run(["--state", state, "--every", "1", "--json"], text_of([PAID]))
     lines = [json.loads(it) for it in found[1].splitlines()]

@@ -936,8 +936,8 @@ def ended_with(folder, arguments, numbers_closed):
 
 
 def held_in(path):
-    """What a log or a book in SQLite holds: the timestamp of the last event seen, the text, and what else SQL finds. Of another file
-    all of it."""
+    """What a log or a book in SQLite holds: the timestamp of the last event seen, the text with its accounts, and what else SQL finds.
+    Of another file all of it."""
     with open(path, "rb") as it:
         held = it.read()
     with contextlib.suppress(ValueError):
@@ -947,6 +947,8 @@ def held_in(path):
         with contextlib.suppress(sqlite3.DatabaseError), contextlib.closing(sqlite3.connect(path)) as connection:
             ((text,),) = connection.execute("SELECT text FROM book").fetchall()
             head, _, rest = text.decode().split("\n", 2)
+            accounts = connection.execute("SELECT id, debits_pending, debits_posted, credits_pending, credits_posted FROM accounts ORDER BY place")
+            rest += "".join(f"account {' '.join(row)}\n" for row in accounts.fetchall())
             return int(head.split()[-1]), rest, connection.execute("PRAGMA integrity_check").fetchall(), list(connection.iterdump())
     return held
 

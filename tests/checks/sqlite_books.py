@@ -409,8 +409,8 @@ def kept_in(path):
         return 0, follow.NOTHING
     (_, accounts), text = rows_of(path)
     head, _, *rest = text.splitlines(True)
-    is_same = [it.split()[1:] for it in rest[1:]] == [list(it) for it in accounts]
-    return (int(head.split()[-1]), "".join(rest)) if is_same else (accounts, text)
+    rest += [f"account {' '.join(it)}\n" for it in accounts]
+    return (int(head.split()[-1]), "".join(rest)) if head.startswith("rows book ") else text
 
 
 class Rivals(rivals.Rivals):

@@ -4,6 +4,9 @@ use Rattle.std.proofs.Common.{Option, None, Some, refl, sym, ap, ◌∙◌, subs
 use Rattle.std.proofs.Math.Nat.{min-eq_left}
 use Rattle.std.specs.Prelude.{IfSome}
 use Rattle.cdc_follow.specs.Lines.{lines_of}
+use Rattle.cdc_streams.specs.declared.endings.StreamEnding.{StreamEnding}
+use Rattle.cdc_streams.specs.declared.endings.StreamEnding.TheVariants.{Stopped, Failed}
+use Rattle.cdc_streams.specs.Saving.{IfStopped}
 use Rattle.cdc_streams.specs.Taking.{LeadsOn}
 use Rattle.cdc_streams.proofs.EntryLemmas.{count_grows, entry_count}
 use Rattle.cdc_audit.specs.declared.streams.AuditStop.{AuditStop}
@@ -11,8 +14,8 @@ use Rattle.cdc_audit.specs.Audits.{AuditState}
 use Rattle.cdc_audit.specs.Standing.{AuditorState, StandsFor}
 use Rattle.cdc_audit_command.specs.Auditing.{StandsAfter, StopsAt}
 use Rattle.cdc_audit_command.specs.Duplicates.{EndsSkipping, SkippingAudit, bytes_audited_by, lines_audited_by, skipping_more}
-use Rattle.cdc_audit_command.specs.Private.Audited.{GoesTo, HasAudited, lines_keep}
-use Rattle.cdc_audit_command.specs.Private.Turns.{Passes, StepPasses, StepTurns}
+use Rattle.cdc_audit_command.specs.Private.Audited.{HasAudited, lines_keep}
+use Rattle.cdc_audit_command.specs.Private.Turns.{StepPasses, StepTurns}
 use Rattle.cdc_audit_command.specs.declared.turns.Turn.TheVariants as turn
 use Rattle.cdc_audit_command.proofs.SkipLemmas.{more_more}
 use Rattle.cdc_audit_command.specs.declared.auditors.AuditSetup.{AuditSetup}
@@ -135,3 +138,12 @@ pub line_stops : (setup : AuditSetup) (old : StreamAudit) (number : ℕ) (audito
 line_stops setup old number auditor stop None left step = tt
 line_stops setup old number auditor stop (Some mid) left step = λ start bytes count has.
     leads_to_stop setup start old bytes count number mid auditor stop left has step
+
+-- auditing began without a skipped duplicate
+pub begun_stops : (duplicates : ℕ) (ending : StreamEnding AuditStop) (known : Option (List ℕ))
+    (Holds : List ℕ → AuditStop → Type 0) → duplicates ≡ 0
+    → IfStopped ending (λ stop. IfSome known (λ bytes. duplicates ≡ 0 → Holds bytes stop))
+    → IfStopped ending (λ stop. IfSome known (λ bytes. Holds bytes stop))
+begun_stops duplicates (Stopped stop) None Holds none stops = tt
+begun_stops duplicates (Stopped stop) (Some bytes) Holds none stops = stops none
+begun_stops duplicates (Failed why) known Holds none stops = tt

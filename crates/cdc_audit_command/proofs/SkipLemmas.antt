@@ -25,7 +25,7 @@ use Rattle.cdc_audit.specs.Foreign.{audited_event}
 use Rattle.cdc_audit.specs.Standing.{AuditorState, StandsFor}
 use Rattle.cdc_audit.specs.Stops.{StepLeadsTo}
 use Rattle.cdc_audit_command.specs.Duplicates.{DuplicatesAreLeftOut, EndsSkipping, SkippingAudit, audit_skipping}
-use Rattle.cdc_audit_command.specs.Duplicates.{entries_audited, is_duplicate, last_after, lines_audited_by}
+use Rattle.cdc_audit_command.specs.Duplicates.{is_duplicate, last_after, lines_audited_by}
 use Rattle.cdc_audit_command.specs.Duplicates.{skipping_more, skipping_on, without_duplicates}
 use Rattle.cdc_audit_command.specs.Private.Audited.{more_none, no_lines_by}
 use Rattle.cdc_audit_command.specs.Private.Turns.{LineTurns, Passes, StepTurns}

@@ -14,9 +14,9 @@ use Rattle.cdc_follow.proofs.LineLemmas.{lines_of-feed, lines_of-none}
 use Rattle.cdc_audit.proofs.AuditLemmas.{no_lines}
 use Rattle.cdc_audit.specs.declared.streams.AuditStop.TheVariants.{AtEnd}
 use Rattle.cdc_audit.specs.Audits.{AuditState, bytes_audited, lines_audited}
-use Rattle.cdc_audit.specs.Standing.{AuditorState, StandsFor}
+use Rattle.cdc_audit.specs.Standing.{AuditorState}
 use Rattle.cdc_audit.specs.Stops.{EndsAs, IsTaken}
-use Rattle.cdc_audit_state.specs.Logs.{Replays, log_name, log_text}
+use Rattle.cdc_audit_state.specs.Logs.{log_name, log_text}
 use Rattle.cdc_audit_state.proofs.LawLemmas.{cut_lines, go_on}
 use Rattle.cdc_audit_state.proofs.ReplayLemmas.{replays_more}
 use Rattle.cdc_audit_state.specs.States.{state_text}

@@ -9,7 +9,6 @@ use Rattle.cdc_audit.specs.Stops.{Audits}
 use Rattle.cdc_audit_state.specs.Logs.{Replays, log_text}
 use Rattle.cdc_streams.specs.Keeping.{last_text}
 use Rattle.cdc_audit_command.specs.declared.auditors.AuditSetup.{AuditSetup}
-use Rattle.cdc_audit_command.specs.declared.auditors.StreamAudit.{StreamAudit}
 use Rattle.cdc_audit_command.specs.declared.auditors.StreamAuditor.{StreamAuditor}
 use Rattle.cdc_audit_command.specs.declared.states.StateLog.{StateLog}
 

@@ -2,7 +2,6 @@
 use Rattle.std.specs.Prelude.{◌≡◌, ℕ, ◌+◌, Bool, List, ◌∷◌, Option, Some}
 use Rattle.cdc_follow.specs.LineParts.{HasNoFeed}
 use Rattle.cdc_follow.specs.Lines.{lines_of}
-use Rattle.cdc_audit.specs.declared.streams.AuditStop.{AuditStop}
 use Rattle.cdc_audit.specs.Audits.{AuditState}
 use Rattle.cdc_audit.specs.Standing.{AuditorState, StandsFor}
 use Rattle.cdc_audit.specs.Stops.{IsTaken}

@@ -1,6 +1,4 @@
-use Rattle.std.proofs.Common.{None, subst}
-use Rattle.std.specs.Prelude.{IfOk}
-use Rattle.cdc_audit_command.specs.Private.Turns.{LineTurns}
+use Rattle.std.proofs.Common.{None}
 use Rattle.cdc_audit_command.proofs.SkipLemmas.{step_long, step_none, step_taken}
 use Rattle.cdc_audit_command.proofs.turns.audit_new_line.Goals as goal
 
