@@ -11,7 +11,7 @@ of sweep.py.
   - beside it is nothing, or a prefix of a record;
   - the run is refused by the store, and standard error names the file;
   - the next run goes on from what the file holds: it prints what comes after that, and leaves the last record alone.
-  The same while each write takes one byte, so that what is beside the file may end anywhere.
+  A write that takes one byte of several has failed, so its save is refused in the same way.
 """
 import itertools
 import os
@@ -227,12 +227,12 @@ class Sweep:
     def saving(self, folder, **plan):
         return self.run(CASES[0][1], ["--progress", "saved"], folder, **plan)
 
-    def calls_of(self, start, short):
+    def calls_of(self, start):
         """The calls of a good run, as they come: each with its kind, its number among these, what it is done to, and how many
         records were saved before it."""
         folder = self.place(start)
         trace = os.path.join(folder, "trace")
-        self.saving(folder, TRACE=trace, FAULT=short.strip())
+        self.saving(folder, TRACE=trace)
         counts, saved, found = {}, 0, []
         for line in contents(trace).decode().splitlines():
             what, path = line.split(" ")[:2]
@@ -245,10 +245,11 @@ class Sweep:
             self.fail(f"a run saves {saved} records, not {len(TIMESTAMPS)}")
         return found
 
-    def failing_call(self, name, start, call, how, short):
-        """One call of a run that saves fails: what is answered, what the files hold, and that the next run goes on."""
+    def failing_call(self, name, start, call, how):
+        """One call of a run that saves fails, or each write takes one byte: what is answered, what the files hold, and that the next
+        run goes on."""
         kind, number, path, saved = call
-        folder, plan = self.place(start), f"{kind}:{number}{how}{short}"
+        folder, plan = self.place(start), kind if kind == "short" else f"{kind}:{number}{how}"
         ended, errors = self.saving(folder, FAULT=plan)
         session = int(RECORD.fullmatch(start[0])[1]) + 1 if start[0] else 1
         records = [start[0], *(record(session, timestamp) for timestamp in TIMESTAMPS)]
@@ -271,11 +272,9 @@ class Sweep:
 
     def sweep_saves(self, pool, name, start):
         """Each call of a run that saves its progress fails."""
-        of_file = [it for it in self.calls_of(start, "") if it[2] in ("saved", "saved.new")]
-        tries = [(it, how, "") for it in of_file for how in HOW]
+        of_file = [it for it in self.calls_of(start) if it[2] in ("saved", "saved.new")]
+        tries = [(it, how) for it in of_file for how in HOW] + [(("short", 1, "saved.new", 0), "")]
         if start == STARTS["an old record"]:
-            writes = [it for it in self.calls_of(start, " short") if it[0] == "write" and it[2] == "saved.new"]
-            tries += [(it, how, " short") for it in writes for how in ("", " after end")]
             self.sweep_allocations(pool, name, start)
         list(pool.map(lambda it: self.failing_call(name, start, *it), tries))
         for kind in ("open", "read", "write", "sync", "rename"):
