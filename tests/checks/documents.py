@@ -46,7 +46,7 @@ BUDGETS = [
     (2_160, "docs/ARCHITECTURE.md"),
     (3_100, "CONTRIBUTING.md"),
     (3_120, "docs/DECISIONS.md"),
-    (880, "docs/MEASURED.md"),
+    (1200, "docs/MEASURED.md"),
     (1_560, "CHANGELOG.md", "ROADMAP.md"),
     (720, "contrib/rabbitmq/README.md"),
 ]
