@@ -41,6 +41,7 @@ MOVES, HOLDS = ("single_phase", "two_phase_posted"), ("two_phase_pending",)
 SETTLES = ("two_phase_posted", "two_phase_voided", "two_phase_expired")
 DATA = ("user_data_128", "user_data_64", "user_data_32")
 GREATEST = 2**63 - 1  # timestamp
+BATCH = 1000  # items
 SECOND = 10**9
 
 
@@ -142,13 +143,18 @@ def limit(account):
     return None
 
 
+def is_linked(body):
+    """Whether an event stores a transfer that is linked to the next one."""
+    return body["type"] in STORES and bool(int(body["transfer"]["flags"]) & 1)
+
+
 class Audit:
     """What an audit knows of the events so far, and why the next one is refused."""
 
     def __init__(self):
-        self.count, self.last, self.linked, self.expired = 0, 0, False, None
+        self.count, self.last, self.chain, self.expired = 0, 0, 0, None
         self.balances, self.stored, self.pending, self.settled, self.fixed = {}, set(), {}, set(), {}
-        self.open, self.times, self.created = {}, set(), {}
+        self.open, self.times, self.created, self.links = {}, set(), {}, {}
 
     def refusal(self, body):
         """Why an event is refused, as the rule and its sentence, or None."""
@@ -180,7 +186,7 @@ class Audit:
         why = self.other_order(body)
         if why:
             return why
-        if self.linked and (kind not in STORES or timestamp != self.last + 1):
+        if self.chain and (kind not in STORES or timestamp != self.last + 1):
             return f"chains: event {timestamp} isn't the next of the chain at {self.last}"
         for account in (debit, credit):
             why = limit(account)
@@ -197,7 +203,36 @@ class Audit:
                     reason = f" and this transfer's {added}" if added else ""
                     reason += f" less the pending transfer's {less}" if less else ""
                     return f"balances: account {int(account['id'])} has {name} {shown}, after {before[place]}{reason}"
+        return self.other_chains(body)
+
+    def other_chains(self, body):
+        """The sentence on a chain that can't have its next item, or None."""
+        timestamp = int(body["timestamp"])
+        if timestamp - 1 in self.links:
+            return f"links: account {self.links[timestamp - 1]} at {timestamp - 1}, linked, right before an event"
+        linked = {int(body[side]["timestamp"]) for side in SIDES if int(body[side]["flags"]) & 1}
+        for side in SIDES:
+            id, created = int(body[side]["id"]), int(body[side]["timestamp"])
+            if created in linked and int(body[side]["flags"]) & 1:
+                if created + 1 == timestamp or id not in self.fixed and created + 1 in self.times:
+                    return f"links: account {id} at {created}, linked, right before an event"
+                if id not in self.fixed and self.links_around(linked, created) >= BATCH:
+                    return f"links: account {id} at {created}, in a chain longer than a batch"
+        if is_linked(body):
+            if self.chain + 2 > BATCH:
+                return f"links: event {timestamp} is in a chain longer than a batch"
+            if timestamp >= GREATEST:
+                return f"links: event {timestamp} is linked, at the greatest timestamp"
         return None
+
+    def links_around(self, linked, created):
+        """How many linked accounts in a row this timestamp is one of, with those of an event."""
+        low = high = created
+        while low - 1 in self.links or low - 1 in linked:
+            low -= 1
+        while high + 1 in self.links or high + 1 in linked:
+            high += 1
+        return high - low + 1
 
     def other_fields(self, body):
         """The sentence on the fields of both accounts that never change, or None."""
@@ -265,7 +300,7 @@ class Audit:
             self.expired = body
         self.count, self.last = self.count + 1, int(body["timestamp"])
         self.times.add(self.last)
-        self.linked = body["type"] in STORES and bool(int(body["transfer"]["flags"]) & 1)
+        self.chain = self.chain + 1 if is_linked(body) else 0
         if body["type"] in STORES:
             self.stored.add(int(body["transfer"]["id"]))
         if body["type"] in HOLDS:
@@ -280,6 +315,8 @@ class Audit:
             account = body[side]
             self.fixed.setdefault(int(account["id"]), fixed_of(body, side))
             self.created.setdefault(int(account["timestamp"]), int(account["id"]))
+            if int(account["flags"]) & 1:
+                self.links.setdefault(int(account["timestamp"]), int(account["id"]))
             self.balances[int(account["id"])] = tuple(int(account[name]) for name in BALANCES)
 
     def book(self):
@@ -409,6 +446,7 @@ def rows():
 
     yield from rows_of_fields()
     yield from rows_of_times()
+    yield from rows_of_chains()
 
 
 def rows_of_fields():
@@ -487,6 +525,58 @@ def rows_of_fields():
     yield "credits above debits", [limited], first + "limits: account 2 has credits of 30, above its debits of 0\n", 1
     full = event(10, 1, PENDING, 1, (1, 1, 2**128 - 1, 0, 0), (2, 0, 0, 1, 0))
     yield "debits above 128 bits", [full], first + "limits: account 1 has debits above 128 bits\n", 1
+
+
+def chain_of(count, first, linked_last):
+    """So many events in a row between accounts 1 and 2, each but the last one linked, or all of them."""
+    bodies = (event(first + n, 1 + n, SINGLE, 1, (1, 0, n + 1, 0, 0), (2, 0, 0, 0, n + 1)) for n in range(count))
+    return [with_transfer(it, flags=int(linked_last or n < count - 1)) for n, it in enumerate(bodies)]
+
+
+def between_linked(timestamp, id, *sides):
+    """An event that moves nothing between two accounts: each is an id, when it was created, and its flags."""
+    debit, credit = (account(id, 0, 0, 0, 0, timestamp=str(created), flags=flags) for id, created, flags in sides)
+    body = event(timestamp, id, SINGLE, 0, (1, 0, 0, 0, 0), (2, 0, 0, 0, 0))
+    return {**body, "debit_account": debit, "credit_account": credit}
+
+
+def rows_of_chains():
+    """The rows of chains that can't have their next item."""
+    first, second = "accepted 0 last 0\nrefused: line 1: ", "accepted 1 last 10\nrefused: line 2: "
+    after = "links: account 3 at {}, linked, right before an event\n"
+    yield "a linked account before its event", [between_linked(10, 1, (3, 9, 1), (2, 2, 0))], first + after.format(9), 1
+    yield "a credited one", [between_linked(10, 1, (2, 2, 0), (3, 9, 1))], first + after.format(9), 1
+    yield "an unlinked account before its event", [between_linked(10, 1, (3, 9, 8), (2, 2, 0))], "accepted 1 last 10\n", 0
+    event_first = [between_linked(10, 1, (1, 1, 0), (2, 2, 0)), between_linked(20, 2, (3, 9, 1), (2, 2, 0))]
+    yield "a linked account before an earlier event", event_first, second + after.format(9), 1
+    event_first = [between_linked(10, 1, (1, 1, 0), (2, 2, 0)), between_linked(20, 2, (3, 11, 1), (2, 2, 0))]
+    yield "a linked account after an earlier event", event_first, "accepted 2 last 20\n", 0
+    between = [between_linked(10, 1, (3, 5, 1), (2, 6, 1)), between_linked(20, 2, (1, 7, 0), (4, 11, 0))]
+    yield "a chain of accounts", between, "accepted 2 last 20\n", 0
+    yield "a linked transfer at the greatest timestamp", [with_transfer(at(GREATEST, PAID), flags=1)], (
+        first + f"links: event {GREATEST} is linked, at the greatest timestamp\n"
+    ), 1
+    yield "a linked transfer before it", [with_transfer(at(GREATEST - 1, PAID), flags=1)], (
+        f"accepted 1 last {GREATEST - 1}\n"
+    ), 0
+    yield "a whole chain of a batch", chain_of(BATCH, 10, False), f"accepted {BATCH} last {BATCH + 9}\n", 0
+    yield "a chain of a batch, cut off", chain_of(BATCH - 1, 10, True), f"accepted {BATCH - 1} last {BATCH + 8}\n", 0
+    yield "a longer chain", chain_of(BATCH, 10, True), (
+        f"accepted {BATCH - 1} last {BATCH + 8}\nrefused: line {BATCH}: "
+        f"links: event {BATCH + 9} is in a chain longer than a batch\n"
+    ), 1
+    pairs = [(created, created + 1) for created in range(1, BATCH - 1, 2)]
+    accounts = [between_linked(5000 + one, one, (one, one, 1), (other, other, 1)) for one, other in pairs]
+    count, last = len(accounts), 5000 + pairs[-1][0]
+    ends = [(BATCH - 1, 1), (BATCH + 1, 1)], [(BATCH - 1, 1), (BATCH, 0)]
+    for name, ((one, flags), (other, others)) in zip(("with a gap", "of a batch"), ends):
+        body = between_linked(9000, 9000, (one, one, flags), (other, other, others))
+        yield f"accounts linked in a row, {name}", [*accounts, body], f"accepted {count + 1} last 9000\n", 0
+    body = between_linked(9000, 9000, (BATCH, BATCH, 1), (BATCH - 1, BATCH - 1, 1))
+    yield "too many accounts linked in a row", [*accounts, body], (
+        f"accepted {count} last {last}\nrefused: line {count + 1}: "
+        f"links: account {BATCH} at {BATCH}, in a chain longer than a batch\n"
+    ), 1
 
 
 def at(timestamp, body):
@@ -706,6 +796,8 @@ def json_rows():
     yield [limited], {"rule": "limits", "account": "1", "side": "debits", "sum": "30", "limit": "0"}
     full = event(10, 1, PENDING, 1, (1, 1, 2**128 - 1, 0, 0), (2, 0, 0, 1, 0))
     yield [full], {"rule": "limits", "account": "1", "side": "debits"}
+    yield [between_linked(10, 1, (3, 9, 1), (2, 2, 0))], {"rule": "links", "account": "3", "created": "9"}
+    yield [with_transfer(at(GREATEST, PAID), flags=1)], {"rule": "links", "timestamp": str(GREATEST)}
     shown = {"shown": "6", "before": "10", "added": "0", "released": "10"}
     yield [PAID, HELD, wrong], {"rule": "balances", "account": "1", "field": "debits_pending", **shown}
 

@@ -20,7 +20,7 @@ sys.path.append(os.path.join(os.path.dirname(os.path.realpath(__file__)), "..", 
 import audit
 import interrupted
 import keeping
-from audit import END, EXPIRY, HELD, PAID, POST, SECOND, THREE, TIMED, UP, account, event, expiry, text_of, with_transfer
+from audit import END, EXPIRY, HELD, PAID, POST, SECOND, SINGLE, THREE, TIMED, UP, account, event, expiry, text_of, with_transfer
 from commands import check, run
 from frames import frame, framed
 from piped import Piped
@@ -88,6 +88,11 @@ def texts():
     yield "a chain", [linked], [], (
         "audit-state 1 foreign no linked yes\nsubscriber 1 applied 1 last 10 ended no closed no\n" + paid + "plain 1\n" + fields
         + "time 10\n"
+    )
+    second = with_transfer(event(11, 2, SINGLE, 1, (1, 0, 31, 0, 0), (2, 0, 0, 0, 31)), flags=1)
+    yield "a chain of two so far", [linked, second], [], (
+        "audit-state 1 foreign no linked yes 2\nsubscriber 1 applied 2 last 11 ended no closed no\n"
+        "account 1 0 31 0 0\naccount 2 0 0 0 31\nplain 1\nplain 2\n" + fields + "time 10\ntime 11\n"
     )
     other = {**PAID, "debit_account": account(1, 0, 30, 0, 0, user_data_128="5", user_data_64="6", user_data_32=7, flags=24)}
     yield "another ledger's", [other], ["--foreign"], (

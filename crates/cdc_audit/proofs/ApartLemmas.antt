@@ -1,11 +1,12 @@
 -- What is known of timestamps and of accounts after one more of them.
-use Rattle.cdc_audit.proofs.Words.{AreInOrder, Bool, Err, Event, FixedFields, IsTimeIndex, List, None, Ok, Option, Result, RiseFrom, Some, [], account_at, accounts_before, accounts_of, ap, arith, cases_lt, cond, eq-eqb, eqb-true, eqb_tells, false, fields_before, fields_under, find, find-append, flat_map, fold, get_or, has_time, inl, inr, insert_entry, is_ok, is_some, length, list_any, lookup, map, nat_eq, ne_eqb, option_map, option_or, refl, suc, sym, times_of, true, with_accounts, with_shown, zero, ℕ, ◌++◌, ◌<◌, ◌==◌, ◌||◌, ◌∙◌, ◌∷◌, ◌≡◌, ◌≢◌, ◌≤◌}
+use Rattle.cdc_audit.proofs.Words.{AreInOrder, Bool, Err, Event, FixedFields, IsLinkIndex, IsTimeIndex, List, None, Ok, Option, Result, RiseFrom, Some, [], account_at, accounts_before, accounts_of, ap, arith, cases_lt, cond, eq-eqb, eqb-true, eqb_tells, false, fields_before, fields_under, find, find-append, flat_map, fold, get_or, has_time, inl, inr, insert_entry, is_link, is_ok, is_some, length, links_of, list_any, lookup, map, nat_eq, ne_eqb, option_map, option_or, refl, subst, suc, sym, times_of, true, with_accounts, with_shown, zero, ℕ, ◌++◌, ◌<◌, ◌==◌, ◌||◌, ◌∙◌, ◌∷◌, ◌≡◌, ◌≢◌, ◌≤◌}
 use Rattle.std.proofs.Common.{nat_cmp}
 use Rattle.std.specs.List.Sorted.{IsBinarySearchResult}
 use Rattle.std.proofs.lemmas.Grind.{flat_map-append}
 use Rattle.std.proofs.lemmas.List.{map-append}
 use Rattle.std.proofs.lemmas.List.Sorted.{searched}
 use Rattle.std.proofs.lemmas.List.Sums.{fold-append}
+use Rattle.std.proofs.lemmas.List.Elements.{filter-append}
 use Rattle.cdc_audit.proofs.OpenLemmas.{lookup-append}
 
 -- ---- timestamps that rise
@@ -191,3 +192,13 @@ pub key-new : {V : Type 0} (es : List (ℕ × V)) (k : ℕ) (v : V) → lookup (
 key-new es k v none t =
     ap (lookup (nat_eq t)) (insert-new es k v none) ∙ lookup-append t es ((k, v) ∷ [])
     ∙ ap (λ b. option_or (lookup (nat_eq t) es) (cond b (Some v) None)) (eqb-turn t k)
+
+-- an index of linked accounts and of one more
+pub links-push : (old new : List (ℕ × ℕ)) (fs : List (ℕ × FixedFields)) (a : ℕ × FixedFields) → is_link a ≡ true
+    → ((t : ℕ) → lookup (nat_eq t) new
+    ≡ option_or (lookup (nat_eq t) old) (cond (a.1.timestamp == t) (Some a.0) None))
+    → IsLinkIndex old fs → IsLinkIndex new (fs ++ a ∷ [])
+links-push old new fs a linked adds index =
+    subst (IsTimeIndex new)
+    (sym (filter-append is_link fs (a ∷ []) ∙ ap (λ b. links_of fs ++ cond b (a ∷ []) []) linked))
+    (index-push old new (links_of fs) a adds index)

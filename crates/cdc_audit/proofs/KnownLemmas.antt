@@ -1,5 +1,7 @@
 -- What the events show of a transfer after one more event, and what an auditor knows of it then.
-use Rattle.cdc_audit.proofs.Words.{AllByRecursion, AllByRecursion-weaker, AllByRecursion_push, Bool, Event, EventKind, IsKnownOf, IsOnce, List, None, Option, Some, Stored, [], amount_in, ap, ap₂, cond, eqb_tells, expiry_or, false, find, find-append, holds, inl, inr, insert_entry, is_linked, is_none, is_settled, is_some, is_stored, last_expiry_from, linked_from, list_any-append, nat_eq, ne_eqb, open_event, open_under, option_map, option_or, pending_amount, pending_event, refl, settled_id, settles, stored_by, stored_under, stores, sym, true, unwrap_or, was_settled, with_held, with_open, with_own, with_settled, without_settled, ℕ, ◌&&◌, ◌++◌, ◌==◌, ◌||◌, ◌∙◌, ◌∷◌, ◌≡◌}
+use Rattle.cdc_audit.proofs.Words.{AllByRecursion, AllByRecursion-weaker, AllByRecursion_push, Bool, RiseFrom, arith, chain_length, chain_length_from, ends_in_chain, last_timestamp, lt-ltb, max_64, min, nat_lt, next_chain, ◌+◌, ◌<◌, ◌≤◌, Event, EventKind, IsKnownOf, IsOnce, List, None, Option, Some, Stored, [], amount_in, ap, ap₂, cond, eqb_tells, expiry_or, false, find, find-append, holds, inl, inr, insert_entry, is_linked, is_none, is_settled, is_some, is_stored, last_expiry_from, linked_from, list_any-append, nat_eq, ne_eqb, open_event, open_under, option_map, option_or, pending_amount, pending_event, refl, settled_id, settles, stored_by, stored_under, stores, sym, true, unwrap_or, was_settled, with_held, with_open, with_own, with_settled, without_settled, ℕ, ◌&&◌, ◌++◌, ◌==◌, ◌||◌, ◌∙◌, ◌∷◌, ◌≡◌}
+use Rattle.cdc_types.specs.declared.bounds.TheConstants.Limits.{TIMESTAMP}
+use Rattle.cdc_types.specs.Timestamps.{last_timestamp_from}
 use Rattle.cdc_types.specs.declared.events.EventKind.TheVariants as kind
 use Rattle.cdc_audit.specs.declared.checks.Stored.TheVariants.{Plain, Pending, Settled}
 use Rattle.cdc_audit.proofs.OpenLemmas.{open_under-added}
@@ -325,7 +327,54 @@ pub last_expiry_from-push : (last : Option Event) (past : List Event) (e : Event
 last_expiry_from-push last [] e = refl
 last_expiry_from-push last (x ∷ past) e = last_expiry_from-push (expiry_or last x) past e
 
--- whether events end within a chain is up to the last one
-pub linked_from-push : (b : Bool) (past : List Event) (e : Event) → linked_from b (past ++ e ∷ []) ≡ is_linked e
-linked_from-push b [] e = refl
-linked_from-push b (x ∷ past) e = linked_from-push (is_linked x) past e
+-- ---- how many linked transfers events end with
+
+chain_length_from-push : (n : ℕ) (past : List Event) (e : Event)
+    → chain_length_from n (past ++ e ∷ []) ≡ cond (is_linked e) (chain_length_from n past + 1) 0
+chain_length_from-push n [] e = refl
+chain_length_from-push n (x ∷ past) e = chain_length_from-push (cond (is_linked x) (n + 1) 0) past e
+
+pub chain_length-push : (past : List Event) (e : Event)
+    → chain_length (past ++ e ∷ []) ≡ cond (is_linked e) (chain_length past + 1) 0
+chain_length-push past e = chain_length_from-push 0 past e
+
+-- events end within a chain if they end with linked transfers
+chain_length_from-some : (n : ℕ) (past : List Event)
+    → linked_from (nat_lt 0 n) past ≡ nat_lt 0 (chain_length_from n past)
+chain_length_from-some n [] = refl
+chain_length_from-some n (e ∷ past) =
+    ap (λ b. linked_from b past) (by (is_linked e)) ∙ chain_length_from-some (cond (is_linked e) (n + 1) 0) past
+  where
+    by : (b : Bool) → b ≡ nat_lt 0 (cond b (n + 1) 0)
+    by true = sym (lt-ltb 0 (n + 1) (omega arith))
+    by false = refl
+
+pub chain_length-some : (past : List Event) → ends_in_chain past ≡ nat_lt 0 (chain_length past)
+chain_length-some past = chain_length_from-some 0 past
+
+-- they are no more than the timestamps up to the last one
+chain_length_from-late : (n t : ℕ) (past : List Event) → n ≤ t → RiseFrom t past
+    → chain_length_from n past ≤ last_timestamp_from t past
+chain_length_from-late n t [] most rising = most
+chain_length_from-late n t (e ∷ past) most rising =
+    let later = rising.0 in
+    chain_length_from-late (cond (is_linked e) (n + 1) 0) e.timestamp past (by (is_linked e) later) rising.1
+  where
+    by : (b : Bool) → t < e.timestamp → cond b (n + 1) 0 ≤ e.timestamp
+    by true later = omega (arith, most, later)
+    by false later = omega arith
+
+pub chain_length-late : (past : List Event) → RiseFrom 0 past → chain_length past ≤ last_timestamp past
+chain_length-late past rising = chain_length_from-late 0 0 past (omega arith) rising
+
+-- so 64 bits count them
+pub chain_length-most : (past : List Event) (e : Event) → RiseFrom 0 past → last_timestamp past < e.timestamp
+    → e.timestamp ≤ TIMESTAMP → next_chain (chain_length past) e ≡ cond (is_linked e) (chain_length past + 1) 0
+chain_length-most past e rising later within =
+    let late = chain_length-late past rising in
+    by (is_linked e) (omega (arith, late, later, within))
+  where
+    by : (b : Bool) → chain_length past + 1 ≤ max_64
+        → cond b (min (chain_length past + 1) max_64) 0 ≡ cond b (chain_length past + 1) 0
+    by true most = omega (arith, most)
+    by false most = refl

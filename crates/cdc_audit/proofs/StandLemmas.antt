@@ -1,8 +1,10 @@
 -- An auditor's answer to an event, and what it stands for after it.
-use Rattle.cdc_audit.proofs.Words.{AfterEnd, AreInOrder, AuditState, AuditorState, Bool, Err, Event, EventAccount, Facts, FixedFields, IfOk, IsFirst, IsKnownOf, KnownId, List, None, NotPending, Ok, OnOk, Option, Refusal, Result, Settled, Some, StandsFor, Stored, [], account_lines, accounts_before, amount_in, ap, apart_lines, ap₂, arith, audited_event, balances_after, balances_lines, chain_lines, cond, created_lines, ends_in_chain, entry_refusal, event_lines, event_refusal, expiry_lines, expiry_or, facts_of, false, fields_lines, fields_under, first_due, first_line, fixed_lines, held, holds, is_err, is_linked, is_none, is_settled, is_some, is_stored, kept_after, last_expiry, last_timestamp, length, length-append, limits_lines, lines, ltb-true, max_64, min, nat_le, nat_lt, nat_tests, next_audit, next_state, not, nothing, open_under, option_or, order_lines, pending_amount, posted, refl, released, settled_event, settled_id, settles, settling_lines, shape_lines, stored_under, stores, subst, sym, times_before, times_known, times_of_account, transfer_lines, true, unwrap_or, was_settled, with_accounts, with_event, with_held, with_own, with_settled, without_settled, ℕ, ◌&&◌, ◌++◌, ◌+◌, ◌==◌, ◌∙◌, ◌∷◌, ◌≡◌}
-use Rattle.cdc_audit.specs.Rules.{refusal}
+use Rattle.cdc_audit.proofs.Words.{AfterEnd, AreInOrder, AuditState, AuditorState, Bool, Err, Event, EventAccount, Facts, FixedFields, IfOk, IsFirst, IsKnownOf, KnownId, List, None, NotPending, Ok, OnErr, OnOk, Option, Refusal, Result, Settled, Some, StandsFor, Stored, [], account_lines, accounts_before, amount_in, ap, apart_lines, ap₂, arith, audited_event, balances_after, balances_lines, can_link, chain_length, chain_lines, cond, created_lines, ends_in_chain, entry_refusal, event_lines, event_refusal, expiry_lines, expiry_or, facts_of, false, fields_lines, fields_under, first_due, first_line, fixed_lines, held, holds, is_err, is_link_at, is_linked, is_none, is_settled, is_some, is_stored, kept_after, last_expiry, last_timestamp, length, length-append, limits_lines, lines, links_before, links_known, links_of_account, ltb-true, max_64, min, nat_le, nat_lt, nat_tests, next_audit, next_chain, next_state, not, nothing, open_under, option_or, order_lines, pending_amount, posted, refl, released, room_before, room_lines, room_of, settled_event, settled_id, settles, settling_lines, shape_lines, stored_under, stores, subst, sym, times_before, times_known, times_of_account, transfer_lines, true, unwrap_or, was_settled, with_accounts, with_event, with_held, with_own, with_settled, without_settled, ℕ, ◌&&◌, ◌++◌, ◌+◌, ◌==◌, ◌∙◌, ◌∷◌, ◌≡◌, ◌≤◌, ◌-◌, account_at, has_time, links_of, ltb-false, run_down, run_up}
+use Rattle.cdc_audit.specs.Rules.{refusal_of}
+use Rattle.cdc_audit.specs.declared.rooms.Links.{Links}
+use Rattle.cdc_audit.specs.declared.rooms.Room.{Room}
 use Rattle.cdc_types.specs.declared.accounts.Balances.{Balances}
-use Rattle.cdc_types.specs.declared.bounds.TheConstants.Limits.{TIMESTAMP}
+use Rattle.cdc_types.specs.declared.bounds.TheConstants.Limits.{BATCH_ITEMS, TIMESTAMP}
 use Rattle.cdc_types.proofs.Rising.{RiseFrom-push, last_timestamp_from-push}
 use Rattle.cdc_ledger.specs.Accounts.{no_balances}
 use Rattle.cdc_ledger.proofs.LineLaws.{first_line-append, first_line_append_none_parts}
@@ -18,7 +20,7 @@ use Rattle.cdc_audit.specs.declared.apart.Times.{Times}
 use Rattle.cdc_audit.specs.Rules as rules
 use Rattle.cdc_audit.proofs.ApartLemmas.{accounts_before-fields, accounts_before-push, rising_in_order, times_of-push}
 use Rattle.cdc_audit.proofs.FirstLemmas.{first_is}
-use Rattle.cdc_audit.proofs.KnownLemmas.{known-step, last_expiry_from-push, linked_from-push, once-step, open_one-step}
+use Rattle.cdc_audit.proofs.KnownLemmas.{chain_length-most, chain_length-push, chain_length-some, known-step, last_expiry_from-push, once-step, open_one-step}
 
 -- the refusal by two parts of the lines
 pub either_is : (both one other : Option Refusal) (first second : List (Bool × Refusal)) → both ≡ option_or one other
@@ -63,6 +65,19 @@ in_order last e =
         → cond (not later) (Some r) (cond one (Some s) (cond high (Some t) None)) ≡ None
         → (later ≡ true) × (one ≡ false)
     by true false high r s t is = (refl, refl)
+    by true true high r s t is = cc
+    by false one high r s t is = cc
+
+-- and its timestamp is no greater than the greatest one
+in_bounds : (last : ℕ) (e : Event) → first_line (order_lines last e) ≡ None → e.timestamp ≤ TIMESTAMP
+in_bounds last e none =
+    ltb-false TIMESTAMP e.timestamp
+    (by (nat_lt last e.timestamp) (e.debit_account.id == e.credit_account.id) (nat_lt TIMESTAMP e.timestamp) _ _ _ none)
+  where
+    by : (later one high : Bool) (r s t : Refusal)
+        → cond (not later) (Some r) (cond one (Some s) (cond high (Some t) None)) ≡ None → high ≡ false
+    by true false false r s t is = refl
+    by true false true r s t is = cc
     by true true high r s t is = cc
     by false one high r s t is = cc
 
@@ -158,9 +173,38 @@ fixed-same : (e : Event) (d d2 c c2 : Option FixedFields) (dt dt2 ct ct2 : Times
     ++ apart_lines dt2 ct2 e
 fixed-same e d d2 c c2 dt dt2 ct ct2 p q r s = cc
 
+-- what is known of an account's links, by equal facts
+links_same : (counts counts2 : Bool) (times times2 : List ℕ) (fields fields2 : List (ℕ × FixedFields)) (e : Event)
+    (t : ℕ) → counts ≡ counts2 → times ≡ times2 → fields ≡ fields2
+    → links_known counts times (is_link_at fields e) t ≡ links_known counts2 times2 (is_link_at fields2 e) t
+links_same counts counts2 times times2 fields fields2 e t p q r = cc
+
+-- what an auditor knows of an account's links is what the events show of them
+links_are : (auditor : AuditorState) (state : AuditState) (e : Event) (a : EventAccount) → StandsFor auditor state
+    → links_of_account auditor e a ≡ links_before state.past e a
+links_are auditor state e a stands =
+    links_same _ _ _ _ _ _ e a.timestamp
+    (ap (λ o. can_link a e.timestamp && is_none o) (stands.fields a.id)) stands.times stands.shown
+
+pub room_same : (foreign foreign2 : Bool) (after after2 : Option ℕ) (debit debit2 credit credit2 : Links)
+    (chain chain2 : ℕ) → foreign ≡ foreign2 → after ≡ after2 → debit ≡ debit2 → credit ≡ credit2 → chain ≡ chain2
+    → (let one : Option Room = cond foreign None
+    (Some (record { after = after; debit = debit; credit = credit; chain = chain })) in one)
+    ≡ cond foreign2 None (Some (record { after = after2; debit = debit2; credit = credit2; chain = chain2 }))
+room_same foreign foreign2 after after2 debit debit2 credit credit2 chain chain2 p q r s t = cc
+
+-- and so it is of the chains that an event is in
+room_is : (auditor : AuditorState) (state : AuditState) (e : Event) → StandsFor auditor state
+    → room_of auditor e ≡ room_before state.foreign state.past e
+room_is auditor state e stands =
+    room_same _ _ _ _ _ _ _ _ _ _ stands.foreign (ap (λ fs. account_at (links_of fs) (e.timestamp - 1)) stands.shown)
+    (links_are auditor state e e.debit_account stands) (links_are auditor state e e.credit_account stands)
+    stands.chain
+
 -- the lines by what an auditor knows are those by the events for which it stands
 same_lines : (auditor : AuditorState) (state : AuditState) (first : Option Event) (e : Event) → StandsFor auditor state
-    → IsFirst (open_under auditor.open_ones) first → lines (facts_of auditor first e) e ≡ event_lines state.past e
+    → IsFirst (open_under auditor.open_ones) first → lines (facts_of auditor first e) e
+    ≡ event_lines state.foreign state.past e
 same_lines auditor state first e stands goes =
     let facts = facts_of auditor first e in
     let past = state.past in
@@ -172,7 +216,8 @@ same_lines auditor state first e stands goes =
     (settling_lines (settled_event past e) e ++ expiry_lines (first_due past) (last_expiry past) e)
     (chain_lines facts.linked facts.last e ++ limits_lines e)
     (chain_lines (ends_in_chain past) (last_timestamp past) e ++ limits_lines e)
-    (balances_lines facts e) (rules.balances_lines past e)
+    (balances_lines facts e ++ room_lines facts.room e)
+    (rules.balances_lines past e ++ room_lines (room_before state.foreign past e) e)
     (ap (λ (kept : SubscriberState). order_lines kept.last e) stands.kept)
     (fixed-same e _ _ _ _ _ _ _ _ (stands.fields e.debit_account.id) (stands.fields e.credit_account.id)
     (times_same auditor state e.debit_account stands) (times_same auditor state e.credit_account stands))
@@ -186,19 +231,21 @@ same_lines auditor state first e stands goes =
     (ap₂ (λ o lines. settling_lines (cond (settles e.kind) o None) e ++ lines) (stands.open_ones (settled_id e))
     (ap₂ (λ one last. expiry_lines one last e)
     (first_is auditor.open_ones past stands.open_ones stands.once first goes) stands.expired))
-    (ap₂ (λ linked last. chain_lines linked last e ++ limits_lines e) stands.linked
+    (ap₂ (λ linked last. chain_lines linked last e ++ limits_lines e)
+    (ap (nat_lt 0) stands.chain ∙ sym (chain_length-some state.past))
     (ap (λ (kept : SubscriberState). kept.last) stands.kept))
-    (balances_lines-at facts e
+    (ap₂ (λ ls more. ls ++ more) (balances_lines-at facts e
     ∙ balances_at-same e _ _ _ _ _ _
     (guarded_amount (settles e.kind) (stored_under auditor.transfers (settled_id e))
     (pending_amount past (settled_id e)) other.amount)
     (balances_known auditor state e.debit_account.id stands)
     (balances_known auditor state e.credit_account.id stands)
-    ∙ sym (rules-balances_lines-at past e))
+    ∙ sym (rules-balances_lines-at past e)) (ap (λ room. room_lines room e) (room_is auditor state e stands)))
 
-refusal-lines : (past : List Event) (e : Event) → refusal past e ≡ first_line (event_lines past e)
-unfolding refusal
-refusal-lines past e = refl
+refusal-lines : (foreign : Bool) (past : List Event) (e : Event)
+    → refusal_of foreign past e ≡ first_line (event_lines foreign past e)
+unfolding refusal_of
+refusal-lines foreign past e = refl
 
 -- an open auditor refuses an event for the reason that the audit gives
 pub answers : (auditor : AuditorState) (state : AuditState) (first : Option Event) (e : Event) (answer : Option Refusal)
@@ -206,15 +253,15 @@ pub answers : (auditor : AuditorState) (state : AuditState) (first : Option Even
     → IsFirst (open_under auditor.open_ones) first → StandsFor auditor state → answer ≡ event_refusal state e
 answers auditor state first e answer open_yet is goes stands =
     let going : state.ended ≡ false = sym (ap (λ (kept : SubscriberState). kept.ended) stands.kept) ∙ open_yet in
-    is ∙ ap first_line (same_lines auditor state first e stands goes) ∙ sym (refusal-lines state.past e)
-    ∙ sym (ap (λ ended. cond ended (Some (AfterEnd e.timestamp)) (refusal state.past e)) going)
+    is ∙ ap first_line (same_lines auditor state first e stands goes) ∙ sym (refusal-lines state.foreign state.past e)
+    ∙ sym (ap (λ ended. cond ended (Some (AfterEnd e.timestamp)) (refusal_of state.foreign state.past e)) going)
 
 -- and an auditor that received the end refuses each event
 pub answers_ended : (auditor : AuditorState) (state : AuditState) (e : Event) → auditor.kept.ended ≡ true
     → StandsFor auditor state → Some (AfterEnd e.timestamp) ≡ event_refusal state e
 answers_ended auditor state e ended stands =
     let over : state.ended ≡ true = sym (ap (λ (kept : SubscriberState). kept.ended) stands.kept) ∙ ended in
-    sym (ap (λ ended. cond ended (Some (AfterEnd e.timestamp)) (refusal state.past e)) over)
+    sym (ap (λ ended. cond ended (Some (AfterEnd e.timestamp)) (refusal_of state.foreign state.past e)) over)
 
 kept_same : (book book2 : List BookEntry) (last last2 applied applied2 : ℕ) → book ≡ book2 → last ≡ last2
     → applied ≡ applied2 → (let one : SubscriberState = record {
@@ -248,15 +295,16 @@ pub accepts : (auditor after : AuditorState) (state : AuditState) (first : Optio
     → after.transfers ≡ with_settled (with_own auditor.transfers e) e (released (facts_of auditor first e) e)
     → ((id : ℕ) → open_under after.open_ones id ≡ without_settled (with_held auditor.open_ones e) e id)
     → after.fields ≡ with_accounts auditor.fields e → after.times ≡ auditor.times ++ e.timestamp ∷ []
-    → after.linked ≡ is_linked e
+    → after.chain ≡ next_chain auditor.chain e
     → after.expired ≡ expiry_or auditor.expired e → after.foreign ≡ auditor.foreign
     → StandsFor auditor state → StandsFor after (with_event state e)
-accepts auditor after state first e open_yet none kept transfers opened fields times linked expired foreign stands =
+accepts auditor after state first e open_yet none kept transfers opened fields times chain expired foreign stands =
     let going : state.ended ≡ false = sym (ap (λ (kept : SubscriberState). kept.ended) stands.kept) ∙ open_yet in
     let facts = facts_of auditor first e in
     let parts = two_of_seven (order_lines facts.last e) (shape_lines e) (fixed_lines facts e) (transfer_lines facts e)
     (settling_lines facts.open_one e ++ expiry_lines facts.first facts.expired e)
-    (chain_lines facts.linked facts.last e ++ limits_lines e) (balances_lines facts e) none in
+    (chain_lines facts.linked facts.last e ++ limits_lines e)
+    (balances_lines facts e ++ room_lines facts.room e) none in
     let order = in_order facts.last e parts.0 in
     let free = may_be_stored facts e parts.1 in
     let later : nat_lt (last_timestamp state.past) e.timestamp ≡ true =
@@ -274,7 +322,10 @@ accepts auditor after state first e open_yet none kept transfers opened fields t
       shown = shown;
       times = times ∙ ap (λ ts. ts ++ e.timestamp ∷ []) stands.times ∙ sym (times_of-push state.past e);
       rising = RiseFrom-push 0 state.past e stands.rising (ltb-true (last_timestamp state.past) e.timestamp later);
-      linked = linked ∙ sym (linked_from-push false state.past e);
+      chain = chain ∙ ap (λ n. next_chain n e) stands.chain
+          ∙ chain_length-most state.past e stands.rising (ltb-true (last_timestamp state.past) e.timestamp later)
+          (in_bounds facts.last e parts.0)
+          ∙ sym (chain_length-push state.past e);
       expired = expired ∙ ap (λ last. expiry_or last e) stands.expired ∙ sym (last_expiry_from-push None state.past e);
       once = once-step auditor.transfers state.past e stands.transfers free.0 stands.once;
     }
@@ -308,3 +359,118 @@ taken_accepted (Ok answer) old new entry e own is own_is goes = λ state stands 
     ∙ sym (ap (next_audit state) is))
     (goes state stands none)
 taken_accepted (Err error) old new entry e own is own_is goes = tt
+
+-- ---- what an auditor knows of an event, put together
+
+-- an account is checked, or isn't
+pub links_made : (counts : Bool) (times : List ℕ) (test : ℕ → Bool) (t : ℕ) (found : Bool) (down up : ℕ)
+    → counts ≡ true → found ≡ has_time times (t + 1) → down ≡ run_down test BATCH_ITEMS t
+    → up ≡ run_up test BATCH_ITEMS (t + 1)
+    → (let one : Links = record { to_event = found; length = down + up } in one) ≡ links_known counts times test t
+links_made true times test t found down up is p q r = cc
+links_made false times test t found down up is p q r = cc
+
+pub links_none : (counts : Bool) (times : List ℕ) (test : ℕ → Bool) (t : ℕ) → counts ≡ false
+    → (let one : Links = record { to_event = false; length = 0 } in one) ≡ links_known counts times test t
+links_none true times test t is = cc
+links_none false times test t is = refl
+
+-- facts that are equal one by one
+pub facts_same : (last last2 : ℕ) (linked linked2 : Bool) (first : Option Event) (expired expired2 : Option Event)
+    (own own2 settled settled2 : Option Stored) (open_one open_one2 : Option Event)
+    (d d2 c c2 : Option FixedFields) (dt dt2 ct ct2 : Times) (debited debited2 credited credited2 : Balances)
+    (room room2 : Option Room) → last ≡ last2 → linked ≡ linked2 → expired ≡ expired2 → own ≡ own2
+    → settled ≡ settled2 → open_one ≡ open_one2 → d ≡ d2 → c ≡ c2 → dt ≡ dt2 → ct ≡ ct2 → debited ≡ debited2
+    → credited ≡ credited2 → room ≡ room2
+    → (let one : Facts = record {
+      last = last;
+      linked = linked;
+      first = first;
+      expired = expired;
+      own = own;
+      settled = settled;
+      open_one = open_one;
+      debit_fields = d;
+      credit_fields = c;
+      debit_times = dt;
+      credit_times = ct;
+      debited = debited;
+      credited = credited;
+      room = room;
+    } in one)
+    ≡ record {
+      last = last2;
+      linked = linked2;
+      first = first;
+      expired = expired2;
+      own = own2;
+      settled = settled2;
+      open_one = open_one2;
+      debit_fields = d2;
+      credit_fields = c2;
+      debit_times = dt2;
+      credit_times = ct2;
+      debited = debited2;
+      credited = credited2;
+      room = room2;
+    }
+facts_same last last2 linked linked2 first expired expired2 own own2 settled settled2 open_one open_one2 d d2 c c2 dt
+    dt2 ct ct2 debited debited2 credited credited2 room room2 p q r s t u v w x y z a b = λ i. record {
+      last = p i;
+      linked = q i;
+      first = first;
+      expired = r i;
+      own = s i;
+      settled = t i;
+      open_one = u i;
+      debit_fields = v i;
+      credit_fields = w i;
+      debit_times = x i;
+      credit_times = y i;
+      debited = z i;
+      credited = a i;
+      room = b i;
+    }
+
+-- ---- an auditor of which nothing changed
+
+-- what holds of an error
+pub if_error : {T E : Type 0} (result : Result T E) (P : Type 0) → is_err result ≡ true → OnErr result P → P
+if_error (Ok value) P is holds = cc
+if_error (Err error) P is holds = holds
+
+pub auditor_same : (foreign : Bool) (kept kept2 : SubscriberState) (transfers transfers2 : List (ℕ × Stored))
+    (open_ones open_ones2 : List (ℕ × Event)) (fields fields2 : List (ℕ × FixedFields)) (times times2 : List ℕ)
+    (chain : ℕ) (expired : Option Event) → kept ≡ kept2 → transfers ≡ transfers2 → open_ones ≡ open_ones2
+    → fields ≡ fields2 → times ≡ times2
+    → (let one : AuditorState = record {
+      foreign = foreign;
+      kept = kept;
+      transfers = transfers;
+      open_ones = open_ones;
+      fields = fields;
+      times = times;
+      chain = chain;
+      expired = expired;
+    } in one)
+    ≡ record {
+      foreign = foreign;
+      kept = kept2;
+      transfers = transfers2;
+      open_ones = open_ones2;
+      fields = fields2;
+      times = times2;
+      chain = chain;
+      expired = expired;
+    }
+auditor_same foreign kept kept2 transfers transfers2 open_ones open_ones2 fields fields2 times times2 chain expired p q
+    r s t = λ i. record {
+      foreign = foreign;
+      kept = p i;
+      transfers = q i;
+      open_ones = r i;
+      fields = s i;
+      times = t i;
+      chain = chain;
+      expired = expired;
+    }

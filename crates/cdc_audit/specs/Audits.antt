@@ -10,7 +10,7 @@ use Rattle.cdc_audit.specs.declared.refusals.Refusal.TheVariants.{AfterEnd}
 use Rattle.cdc_audit.specs.declared.streams.AuditStop.{AuditStop}
 use Rattle.cdc_audit.specs.declared.streams.AuditStop.TheVariants as stop
 use Rattle.cdc_audit.specs.Foreign.{audited_event}
-use Rattle.cdc_audit.specs.Rules.{refusal}
+use Rattle.cdc_audit.specs.Rules.{refusal, refusal_of}
 
 -- each of these events follows from those before it, the first ones after these
 unfoldable pub follows_on : List Event → List Event → Bool
@@ -34,7 +34,7 @@ begins foreign = record { foreign = foreign; past = []; ended = false }
 
 -- why an event is refused, if it is
 abbrev pub event_refusal : AuditState → Event → Option Refusal
-event_refusal state e = if state.ended then Some (AfterEnd e.timestamp) else refusal state.past e
+event_refusal state e = if state.ended then Some (AfterEnd e.timestamp) else refusal_of state.foreign state.past e
 
 -- what was audited after an event that is accepted
 abbrev pub with_event : AuditState → Event → AuditState

@@ -21,6 +21,7 @@ use Rattle.cdc_audit.specs.Expiries.{expiry_lines}
 use Rattle.cdc_audit.specs.Fields.{created_lines, fields_lines}
 use Rattle.cdc_audit.specs.Limits.{limits_lines}
 use Rattle.cdc_audit.specs.Rules.{balance_line, chain_lines, held, order_lines, posted}
+use Rattle.cdc_audit.specs.Rooms.{room_lines}
 use Rattle.cdc_audit.specs.Settling.{settling_lines}
 
 -- the amount of a stored transfer that is or was pending
@@ -99,4 +100,5 @@ abbrev pub lines : Facts → Event → List (Bool × Refusal)
 lines facts e =
     order_lines facts.last e ++ shape_lines e ++ fixed_lines facts e ++ transfer_lines facts e
     ++ (settling_lines facts.open_one e ++ expiry_lines facts.first facts.expired e)
-    ++ (chain_lines facts.linked facts.last e ++ limits_lines e) ++ balances_lines facts e
+    ++ (chain_lines facts.linked facts.last e ++ limits_lines e)
+    ++ (balances_lines facts e ++ room_lines facts.room e)

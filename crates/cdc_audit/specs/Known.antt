@@ -1,5 +1,5 @@
 -- What the events before an event show: the balances of each account, and which transfers were stored and settled.
-use Rattle.std.specs.Prelude.{ℕ, Bool, false, ◌==◌, ◌&&◌, List, [], ◌∷◌, find, Option, Some, None, option_map, unwrap_or, if◌then◌else◌}
+use Rattle.std.specs.Prelude.{ℕ, ◌+◌, Bool, false, ◌==◌, ◌&&◌, List, [], ◌∷◌, find, Option, Some, None, option_map, unwrap_or, if◌then◌else◌}
 use Rattle.std.specs.List.{list_any}
 use Rattle.cdc_types.specs.declared.accounts.Balances.{Balances}
 use Rattle.cdc_types.specs.declared.events.Event.{Event}
@@ -24,6 +24,14 @@ linked_from linked (e ∷ es) = linked_from (is_linked e) es
 -- these events end within a chain: the last one stored a linked transfer
 abbrev pub ends_in_chain : List Event → Bool
 ends_in_chain past = linked_from false past
+
+-- how many linked transfers these events end with, after so many before them
+abbrev pub chain_length_from : ℕ → List Event → ℕ
+chain_length_from n [] = n
+chain_length_from n (e ∷ es) = chain_length_from (if is_linked e then n + 1 else 0) es
+
+abbrev pub chain_length : List Event → ℕ
+chain_length past = chain_length_from 0 past
 
 -- the event if it is an expiry; otherwise this value
 abbrev pub expiry_or : Option Event → Event → Option Event

@@ -6,6 +6,7 @@ pub mod EventShapes
 pub mod Fields
 pub mod Apart
 pub mod Limits
+pub mod Rooms
 pub mod Rules
 pub mod Foreign
 pub mod Audits

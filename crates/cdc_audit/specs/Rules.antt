@@ -1,5 +1,5 @@
 -- The rules by which an event follows the events before it.
-use Rattle.std.specs.Prelude.{ℕ, ◌+◌, Bool, ◌==◌, ◌&&◌, not, nat_lt, is_none, List, [], ◌∷◌, ◌++◌, Option, None, unwrap_or, if◌then◌else◌}
+use Rattle.std.specs.Prelude.{ℕ, ◌+◌, Bool, false, ◌==◌, ◌&&◌, not, nat_lt, is_none, List, [], ◌∷◌, ◌++◌, Option, None, unwrap_or, if◌then◌else◌}
 use Rattle.cdc_types.specs.declared.bounds.TheConstants.Limits.{TIMESTAMP}
 use Rattle.cdc_types.specs.declared.events.Event.{Event}
 use Rattle.cdc_types.specs.Lines.{first_line}
@@ -15,6 +15,7 @@ use Rattle.cdc_audit.specs.Apart.{apart_lines, times_before}
 use Rattle.cdc_audit.specs.Expiries.{expiry_lines, first_due}
 use Rattle.cdc_audit.specs.Fields.{created_lines, fields_before, fields_lines}
 use Rattle.cdc_audit.specs.Limits.{limits_lines}
+use Rattle.cdc_audit.specs.Rooms.{room_before, room_lines}
 use Rattle.cdc_audit.specs.Settling.{settling_lines}
 
 -- what an event adds to the posted sums, adds to the pending sums and releases of the pending sums
@@ -100,13 +101,18 @@ abbrev pub chain_lines : Bool → ℕ → Event → List (Bool × Refusal)
 chain_lines linked last e =
     (linked && not (stores e.kind && (e.timestamp == last + 1)), BrokenChain e.timestamp last) ∷ []
 
--- all lines on an event, in order
-abbrev pub event_lines : List Event → Event → List (Bool × Refusal)
-event_lines past e =
+-- all lines on an event, in order, of another ledger's stream or of ours
+abbrev pub event_lines : Bool → List Event → Event → List (Bool × Refusal)
+event_lines foreign past e =
     order_lines (last_timestamp past) e ++ shape_lines e ++ fixed_lines past e ++ transfer_lines past e
     ++ (settling_lines (settled_event past e) e ++ expiry_lines (first_due past) (last_expiry past) e)
-    ++ (chain_lines (ends_in_chain past) (last_timestamp past) e ++ limits_lines e) ++ balances_lines past e
+    ++ (chain_lines (ends_in_chain past) (last_timestamp past) e ++ limits_lines e)
+    ++ (balances_lines past e ++ room_lines (room_before foreign past e) e)
 
 -- why an event can't follow those before it, if it can't
 unfoldable pub refusal : List Event → Event → Option Refusal
-refusal past e = first_line (event_lines past e)
+refusal past e = first_line (event_lines false past e)
+
+-- the same of another ledger's stream, or of ours
+unfoldable pub refusal_of : Bool → List Event → Event → Option Refusal
+refusal_of foreign past e = first_line (event_lines foreign past e)

@@ -1,5 +1,5 @@
 -- What an auditor keeps, and for which audits it stands.
-use Rattle.std.specs.Prelude.{◌≡◌, ◌<◌, ◌≤◌, ℕ, Bool, true, false, ◌==◌, ◌&&◌, not, min, fold, get_or, nat_eq, is_some, List, [], ◌∷◌, ◌++◌, length, Option, Some, None, unwrap_or, if◌then◌else◌}
+use Rattle.std.specs.Prelude.{◌≡◌, ◌<◌, ◌≤◌, ◌+◌, ◌-◌, ℕ, Bool, true, false, ◌==◌, ◌&&◌, not, nat_lt, is_none, min, fold, get_or, nat_eq, is_some, List, [], ◌∷◌, ◌++◌, length, Option, Some, None, unwrap_or, if◌then◌else◌}
 use Rattle.std.specs.List.{AllByRecursion}
 use Rattle.std.specs.Map.{lookup}
 use Rattle.std.specs.declared.cmp.Ordering.{Ordering}
@@ -24,12 +24,15 @@ use Rattle.cdc_audit.specs.Apart.{account_at, accounts_before, times_known, time
 use Rattle.cdc_audit.specs.Audits.{AuditState}
 use Rattle.cdc_audit.specs.Checks.{amount_in, stored_by, was_settled}
 use Rattle.cdc_audit.specs.Fields.{accounts_of, fields_before}
-use Rattle.cdc_audit.specs.Known.{ends_in_chain, is_settled, is_stored, last_expiry, open_event, pending_amount, pending_event, settled_id}
+use Rattle.cdc_audit.specs.Known.{chain_length, is_linked, is_settled, is_stored, last_expiry, open_event, pending_amount, pending_event, settled_id}
+use Rattle.cdc_audit.specs.declared.rooms.Links.{Links}
+use Rattle.cdc_audit.specs.declared.rooms.Room.{Room}
+use Rattle.cdc_audit.specs.Rooms.{can_link, is_link_at, links_known, links_of}
 use Rattle.cdc_audit.specs.Settling.{expires_at}
 
 -- what an auditor keeps: whether the stream is another ledger's, what its subscriber keeps, what is known of each
 -- stored transfer, by its id, the event of each open pending one, the fields of each account that never change, the
--- timestamps of the events, whether the last event stored a linked transfer, and the last expiry
+-- timestamps of the events, how many linked transfers the events end with, and the last expiry
 pub record AuditorState : Type 0 where
   pub foreign : Bool
   pub kept : SubscriberState
@@ -37,7 +40,7 @@ pub record AuditorState : Type 0 where
   pub open_ones : List (ℕ × Event)
   pub fields : List (ℕ × FixedFields)
   pub times : List ℕ
-  pub linked : Bool
+  pub chain : ℕ
   pub expired : Option Event
 
 -- what is known of the transfer with this id, if one is stored
@@ -75,7 +78,7 @@ IsOnce past e = holds e.kind ≡ true → pending_event past e.transfer.id ≡ S
 -- an auditor stands for an audit: it knows whether the stream is another ledger's; it has the book, the last timestamp,
 -- the count and the end of the audited events, each of their transfers, the events of the open pending ones, the fields
 -- of each account, in the order in which they were shown, and the timestamps of the events, which rise; it knows
--- whether they end within a chain, and the last expiry; and no two of them stored a pending transfer of one id
+-- how many linked transfers they end with, and the last expiry; and no two of them stored a pending transfer of one id
 pub record StandsFor (auditor : AuditorState) (state : AuditState) : Type 0 where
   pub foreign : auditor.foreign ≡ state.foreign
   pub kept : auditor.kept ≡ kept_after state
@@ -85,7 +88,7 @@ pub record StandsFor (auditor : AuditorState) (state : AuditState) : Type 0 wher
   pub shown : auditor.fields ≡ accounts_before state.past
   pub times : auditor.times ≡ times_of state.past
   pub rising : RiseFrom 0 state.past
-  pub linked : auditor.linked ≡ ends_in_chain state.past
+  pub chain : auditor.chain ≡ chain_length state.past
   pub expired : auditor.expired ≡ last_expiry state.past
   pub once : AllByRecursion (IsOnce state.past) state.past
 
@@ -103,6 +106,23 @@ open_if counts events id = if counts then open_under events id else None
 abbrev pub times_of_account : AuditorState → EventAccount → Times
 times_of_account auditor a =
     times_known (is_some (fields_under auditor.fields a.id)) auditor.times auditor.fields a.timestamp
+
+-- what an account of an event is linked to, as far as an auditor knows
+abbrev pub links_of_account : AuditorState → Event → EventAccount → Links
+links_of_account auditor e a =
+    links_known (can_link a e.timestamp && is_none (fields_under auditor.fields a.id)) auditor.times
+    (is_link_at auditor.fields e) a.timestamp
+
+-- what it knows of the chains that an event is in
+abbrev pub room_of : AuditorState → Event → Option Room
+room_of auditor e =
+    if auditor.foreign then None
+    else Some (record {
+      after = account_at (links_of auditor.fields) (e.timestamp - 1);
+      debit = links_of_account auditor e e.debit_account;
+      credit = links_of_account auditor e e.credit_account;
+      chain = auditor.chain;
+    })
 
 -- this is when the transfer of an event, kept under this id, expires
 abbrev pub due_of : ℕ → Event → Due
@@ -160,7 +180,7 @@ without_settled events e id = if settles e.kind && (settled_id e == id) then Non
 abbrev pub facts_of : AuditorState → Option Event → Event → Facts
 facts_of auditor first e = record {
   last = auditor.kept.last;
-  linked = auditor.linked;
+  linked = nat_lt 0 auditor.chain;
   first = first;
   expired = auditor.expired;
   own = stored_if (stores e.kind) auditor.transfers e.transfer.id;
@@ -172,7 +192,12 @@ facts_of auditor first e = record {
   credit_times = times_of_account auditor e.credit_account;
   debited = unwrap_or (balances_in auditor.kept.book e.debit_account.id) no_balances;
   credited = unwrap_or (balances_in auditor.kept.book e.credit_account.id) no_balances;
+  room = room_of auditor e;
 }
+
+-- how many linked transfers the events end with after one more, as far as 64 bits count
+abbrev pub next_chain : ℕ → Event → ℕ
+next_chain chain e = if is_linked e then min (chain + 1) max_64 else 0
 
 -- the transfers after an event that stores its own one
 abbrev pub with_own : List (ℕ × Stored) → Event → List (ℕ × Stored)
@@ -191,6 +216,10 @@ with_accounts fields e = fold with_shown fields (accounts_of e)
 -- an index has the account that was created at each timestamp, if it is among these
 abbrev pub IsTimeIndex : List (ℕ × ℕ) → List (ℕ × FixedFields) → Type 0
 IsTimeIndex index fields = (t : ℕ) → lookup (nat_eq t) index ≡ account_at fields t
+
+-- an index has the linked account that was created at each timestamp, if it is among these
+abbrev pub IsLinkIndex : List (ℕ × ℕ) → List (ℕ × FixedFields) → Type 0
+IsLinkIndex index fields = IsTimeIndex index (links_of fields)
 
 -- numbers are in order, none lower than one before it
 abbrev pub AreInOrder : List ℕ → Type 0

@@ -10,6 +10,7 @@ use Rattle.cdc_audit.specs.declared.refusals.FixedField.TheVariants.{UserData128
 use Rattle.cdc_audit.specs.declared.refusals.Mismatch.{Mismatch}
 use Rattle.cdc_audit.specs.declared.refusals.Refusal.{Refusal}
 use Rattle.cdc_audit.specs.declared.refusals.Refusal.TheVariants.{AfterEnd, NotLater, TooHigh, OneAccount, TransferShape, OtherKind, OtherTimestamp, AccountShape, AccountField, CreatedLater, CreatedAtEvent, CreatedTogether}
+use Rattle.cdc_audit.specs.declared.refusals.Refusal.TheVariants.{LongAccountChain, LongChain, NextIsEvent, NoNext}
 use Rattle.cdc_audit.specs.declared.refusals.Refusal.TheVariants.{KnownId, NotPending, Settled, OtherFields, Amount, NoTimeout, TooSoon, TooLate, ExpiresLate, ExpiresApart, BrokenChain, TooLarge, Limit, Balance}
 use Rattle.cdc_audit.specs.declared.refusals.Side.{Side}
 use Rattle.cdc_audit.specs.declared.refusals.Side.TheVariants.{Debits, Credits}
@@ -42,6 +43,10 @@ refusal_name (BrokenChain timestamp last) = codes "chains"
 refusal_name (TooLarge id side) = codes "limits"
 refusal_name (Limit excess) = codes "limits"
 refusal_name (Balance mismatch) = codes "balances"
+refusal_name (NextIsEvent id created) = codes "links"
+refusal_name (LongAccountChain id created) = codes "links"
+refusal_name (LongChain timestamp) = codes "links"
+refusal_name (NoNext timestamp) = codes "links"
 
 -- the name of a balance
 abbrev pub field_name : BalanceField → List ℕ
@@ -153,6 +158,11 @@ reason_text (TooLarge id side) =
     around (codes "account ") id (codes " has ") ++ (side_name side ++ codes " above 128 bits")
 reason_text (Limit excess) = excess_text excess
 reason_text (Balance mismatch) = mismatch_text mismatch
+reason_text (NextIsEvent id created) = shared_text id created ++ codes ", linked, right before an event"
+reason_text (LongAccountChain id created) = shared_text id created ++ codes ", in a chain longer than a batch"
+reason_text (LongChain timestamp) = around (codes "event ") timestamp (codes " is in a chain longer than a batch")
+reason_text (NoNext timestamp) =
+    around (codes "event ") timestamp (codes " is linked, at the greatest timestamp")
 
 -- the rule's name and the reason
 unfoldable pub refusal_text : Refusal → List ℕ

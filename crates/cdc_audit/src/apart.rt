@@ -1,6 +1,6 @@
 //! The rules on the timestamps at which accounts were created: each belongs to one account, and to no event.
 
-ghost use Rattle.std.specs.Prelude.{◌≡◌, ◌==◌, ◌≤◌, ◌++◌, ◌∷◌, ◌+◌, [], ℕ, vec_len, IfOk, OnOk, OnErr, Some, None, nat_eq, if◌then◌else◌};
+ghost use Rattle.std.specs.Prelude.{◌≡◌, ◌==◌, ◌≤◌, ◌++◌, ◌∷◌, ◌+◌, [], ℕ, List, vec_len, IfOk, OnOk, OnErr, Some, None, nat_eq, if◌then◌else◌};
 ghost use Rattle.std.specs.Map.{lookup};
 ghost use Rattle.std.specs.Option.{option_or};
 ghost use Rattle.std.specs.Vec.{vec_capacity};
@@ -9,10 +9,12 @@ ghost use Rattle.cdc_types.specs.Lines.{first_line};
 ghost use Rattle.cdc_audit.specs.Apart as spec;
 ghost use Rattle.cdc_audit.specs.Fields as shown;
 ghost use Rattle.cdc_audit.specs.Standing as standing;
-ghost use Rattle.cdc_audit.specs.Standing.{AreInOrder, IsTimeIndex};
+ghost use Rattle.cdc_audit.specs.declared.fields.FixedFields.{FixedFields as Shown};
+ghost use Rattle.cdc_audit.specs.Standing.{AreInOrder, IsLinkIndex, IsTimeIndex};
 
 use crate::fields::{FixedFields, fixed_fields};
 use crate::refusals::Refusal;
+use crate::rooms::is_link;
 use cdc_keys::KeyedMap;
 use cdc_types::{Event, EventAccount};
 use indexmap::IndexMap;
@@ -109,41 +111,65 @@ fn add_account(
     put_fields(fields, id, shown);
 }
 
+/// Keeps at which timestamp an account that isn't known was created, if it is linked.
+fn put_link(links: &mut KeyedMap<u64, u128>, id: u128, shown: FixedFields)
+    requires { 1 ≤ spare links.old }
+    ensures index { (fields : List (ℕ × Shown)) → IsLinkIndex links.old.entries fields
+        → IsLinkIndex links.new.entries (fields ++ (id, shown) ∷ []) }
+    ensures room { spare links.old ≤ spare links.new + 1 }
+{
+    if is_link(shown.flags) {
+        put_created(links, shown.timestamp, id);
+    }
+}
+
 /// Keeps an account of this ledger, unless it is known.
 fn keep_account(
     fields: &mut KeyedMap<u128, FixedFields>,
     created: &mut KeyedMap<u64, u128>,
+    links: &mut KeyedMap<u64, u128>,
     ledger: u32,
     account: &EventAccount,
 )
     requires fields_fit { 1 ≤ spare fields.old }
     requires created_fit { 1 ≤ spare created.old }
+    requires links_fit { 1 ≤ spare links.old }
     ensures fields { fields.new.entries
         ≡ spec.with_shown fields.old.entries (account.now.id, shown.fixed_fields ledger account.now) }
     ensures index { IsTimeIndex created.old.entries fields.old.entries
         → IsTimeIndex created.new.entries fields.new.entries }
+    ensures linked { IsLinkIndex links.old.entries fields.old.entries
+        → IsLinkIndex links.new.entries fields.new.entries }
     ensures room { spare fields.old ≤ spare fields.new + 1 }
     ensures place { spare created.old ≤ spare created.new + 1 }
+    ensures links_place { spare links.old ≤ spare links.new + 1 }
 {
     if !fields.contains_key(&account.id) {
-        add_account(fields, created, account.id, fixed_fields(ledger, account));
+        let shown = fixed_fields(ledger, account);
+        add_account(fields, created, account.id, shown);
+        put_link(links, account.id, shown);
     }
 }
 
-/// Keeps both accounts of an accepted event, by their ids and by the timestamps at which they were created.
+/// Keeps both accounts of an accepted event, by their ids and by the timestamps at which they were created; of the
+/// linked ones the timestamps alone, too.
 pub(crate) fn keep_accounts(
     fields: &mut KeyedMap<u128, FixedFields>,
     created: &mut KeyedMap<u64, u128>,
+    links: &mut KeyedMap<u64, u128>,
     event: &Event,
 )
     requires fields_fit { 2 ≤ spare fields.old }
     requires created_fit { 2 ≤ spare created.old }
+    requires links_fit { 2 ≤ spare links.old }
     ensures fields { fields.new.entries ≡ standing.with_accounts fields.old.entries event.now }
     ensures index { IsTimeIndex created.old.entries fields.old.entries
         → IsTimeIndex created.new.entries fields.new.entries }
+    ensures linked { IsLinkIndex links.old.entries fields.old.entries
+        → IsLinkIndex links.new.entries fields.new.entries }
 {
-    keep_account(fields, created, event.ledger, &event.debit_account);
-    keep_account(fields, created, event.ledger, &event.credit_account);
+    keep_account(fields, created, links, event.ledger, &event.debit_account);
+    keep_account(fields, created, links, event.ledger, &event.credit_account);
 }
 
 /// Which of these accounts was created at each timestamp.
@@ -159,6 +185,21 @@ pub(crate) fn index_of(
         put_created(&mut created, shown.timestamp, *id);
     }
     Ok(created)
+}
+
+/// Which of these accounts was created at each timestamp, of the linked ones.
+pub(crate) fn links_index_of(
+    alloc: Global,
+    fields: &KeyedMap<u128, FixedFields>,
+) -> Result<KeyedMap<u64, u128>, AllocError>
+    ensures { IfOk result (λ index. IsLinkIndex index.entries fields.now.entries) }
+{
+    let mut links = IndexMap::with_hasher(alloc, *fields.hasher());
+    for (id, shown) in fields.iter() {
+        links.reserve(1)?;
+        put_link(&mut links, *id, *shown);
+    }
+    Ok(links)
 }
 
 /// Keeps the timestamp of an event.

@@ -1,7 +1,7 @@
 //! An auditor: it accepts each event of a stream that follows from the events before it, and refuses the first other
 //! one.
 
-ghost use Rattle.std.specs.Prelude.{◌≡◌, ◌≤◌, ◌+◌, ◌==◌, ℕ, true, false, nat_eq, unwrap_or, Some, None, IsSome, IfOk, OnErr};
+ghost use Rattle.std.specs.Prelude.{◌≡◌, ◌≤◌, ◌<◌, ◌^◌, ◌+◌, ◌==◌, ◌&&◌, is_none, ℕ, true, false, nat_eq, unwrap_or, Some, None, IsSome, IfOk, OnErr};
 ghost use Rattle.std.specs.Prelude.{List, if◌then◌else◌};
 ghost use Rattle.cdc_types.specs.declared.events.Event as event;
 ghost use Rattle.indexmap.specs.IndexMap.{insert_entry, spare};
@@ -11,23 +11,25 @@ ghost use Rattle.cdc_subscriber.specs.Book.{balances_in};
 ghost use Rattle.cdc_subscriber.specs.Steps.{next_state};
 ghost use Rattle.cdc_audit.specs.Audits.{AuditState, begins, entry_refusal, event_refusal, next_audit, with_event};
 ghost use Rattle.cdc_audit.specs.Apart as apart;
+ghost use Rattle.cdc_audit.specs.Rooms as rooms;
 ghost use Rattle.cdc_audit.specs.Checks as spec;
 ghost use Rattle.cdc_audit.specs.Standing as standing;
 ghost use Rattle.cdc_audit.specs.Standing.{AreInOrder, IsFirst, IsTimeIndex, StandsFor, kept_after};
 
-use crate::apart::{Times, has_time, index_of, keep_accounts, keep_time};
+use crate::apart::{Times, has_time, index_of, keep_accounts, keep_time, links_index_of};
 use crate::checks::{
-    Facts, Stored, holds, is_linked, refusal_by, released, settled_id, settles, stored_by, stores,
+    Facts, Stored, holds, refusal_by, released, settled_id, settles, stored_by, stores,
 };
 use crate::expiries::expiry_or;
 use crate::fields::FixedFields;
 use crate::foreign::audited_event;
 use crate::open_ones::OpenOnes;
 use crate::refusals::Refusal;
+use crate::rooms::{Links, Room, can_link, next_chain, shows_link};
 use cdc_follow::Content;
 use cdc_keys::{HashKey, KeyedMap};
 use cdc_subscriber::{Book, Subscriber};
-use cdc_types::{Balances, Event, EventAccount};
+use cdc_types::{Balances, Event, EventAccount, Limits};
 use indexmap::IndexMap;
 use std::alloc::{AllocError, Global};
 use std::marker::Model;
@@ -43,10 +45,12 @@ pub struct Auditor {
     fields: KeyedMap<u128, FixedFields>,
     /// Which account was created at each timestamp.
     created: KeyedMap<u64, u128>,
+    /// The same of the accounts that are linked to the next one.
+    links: KeyedMap<u64, u128>,
     /// The timestamps of the events.
     times: Vec<u64>,
-    /// Whether the last event stored a linked transfer.
-    linked: bool,
+    /// How many linked transfers the events end with.
+    chain: u64,
     /// The last expiry.
     expired: Option<Event>,
 }
@@ -63,8 +67,8 @@ pub struct AuditorParts {
     pub fields: KeyedMap<u128, FixedFields>,
     /// The timestamps of the events.
     pub times: Vec<u64>,
-    /// Whether the last event stored a linked transfer.
-    pub linked: bool,
+    /// How many linked transfers the events end with.
+    pub chain: u64,
     /// The last expiry.
     pub expired: Option<Event>,
 }
@@ -78,15 +82,16 @@ impl Drop for Auditor {
             open_ones: _,
             fields: _,
             created: _,
+            links: _,
             times: _,
-            linked: _,
+            chain: _,
             expired: _,
         } = self;
     }
 }
 
 impl Model for Auditor {
-    ghost use Rattle.cdc_audit.specs.Standing.{AuditorState, IsTimeIndex};
+    ghost use Rattle.cdc_audit.specs.Standing.{AuditorState, IsLinkIndex, IsTimeIndex};
 
     ghost Value = { AuditorState };
 
@@ -97,11 +102,12 @@ impl Model for Auditor {
       open_ones = a.open_ones;
       fields = a.fields.entries;
       times = a.times.items;
-      linked = a.linked;
+      chain = a.chain;
       expired = a.expired;
     } };
 
-    ghost invariant = { λ a. IsTimeIndex a.created.entries a.fields.entries };
+    ghost invariant = { λ a. IsTimeIndex a.created.entries a.fields.entries
+        × IsLinkIndex a.links.entries a.fields.entries };
 }
 
 impl Auditor {
@@ -124,8 +130,9 @@ impl Auditor {
             open_ones: OpenOnes::new(alloc, key),
             fields: IndexMap::with_hasher(alloc, key),
             created: IndexMap::with_hasher(alloc, key),
+            links: IndexMap::with_hasher(alloc, key),
             times: Vec::new(alloc),
-            linked: false,
+            chain: 0,
             expired: None,
         }
     }
@@ -140,7 +147,7 @@ impl Auditor {
           open_ones = parts.open_ones;
           fields = parts.fields.entries;
           times = parts.times.items;
-          linked = parts.linked;
+          chain = parts.chain;
           expired = parts.expired;
         }) }
     {
@@ -151,10 +158,11 @@ impl Auditor {
             open_ones,
             fields,
             times,
-            linked,
+            chain,
             expired,
         } = parts;
         let created = index_of(alloc, &fields)?;
+        let links = links_index_of(alloc, &fields)?;
         Ok(Auditor {
             foreign: of_another,
             subscriber,
@@ -162,8 +170,9 @@ impl Auditor {
             open_ones,
             fields,
             created,
+            links,
             times,
-            linked,
+            chain,
             expired,
         })
     }
@@ -233,11 +242,11 @@ impl Auditor {
         self.times.as_slice()
     }
 
-    /// Whether the last event stored a linked transfer.
-    pub fn in_chain(&self) -> bool
-        ensures { result ≡ self.now.linked }
+    /// How many linked transfers the events end with; 0 if they don't end within a chain.
+    pub fn chain(&self) -> u64
+        ensures { result ≡ self.now.chain }
     {
-        self.linked
+        self.chain
     }
 
     /// The last expiry.
@@ -317,7 +326,7 @@ impl Auditor {
     {
         Facts {
             last: self.subscriber.last(),
-            linked: self.linked,
+            linked: self.chain > 0,
             first: self.open_ones.first(),
             expired: self.expired,
             own: self.stored_if(stores(event.kind), event.transfer.id),
@@ -329,7 +338,99 @@ impl Auditor {
             credit_times: self.times_of(&event.credit_account),
             debited: self.balances(event.debit_account.id),
             credited: self.balances(event.credit_account.id),
+            room: self.room(event),
         }
+    }
+
+    /// The linked account that was created at this timestamp, if an event shows it.
+    fn link_at(&self, timestamp: u64) -> Option<u128>
+        ensures { result ≡ apart.account_at (rooms.links_of self.now.fields) timestamp }
+    {
+        self.links.get(&timestamp).copied()
+    }
+
+    /// Whether a linked account was created at this timestamp, as an event before this one or this one shows.
+    fn is_link_at(&self, event: &Event, timestamp: u64) -> bool
+        ensures { result ≡ rooms.is_link_at self.now.fields event.now timestamp }
+    {
+        self.link_at(timestamp).is_some()
+            || (shows_link(&event.debit_account, timestamp)
+                || shows_link(&event.credit_account, timestamp))
+    }
+
+    /// How many timestamps in a row are those of linked accounts, from this one on; no more than so many.
+    fn run_up(&self, event: &Event, most: usize, timestamp: u64) -> usize
+        requires { timestamp + most < 2 ^ 64 }
+        ensures run { result ≡ rooms.run_up (rooms.is_link_at self.now.fields event.now) most timestamp }
+        ensures bound { result ≤ most }
+    {
+        if most == 0 || !self.is_link_at(event, timestamp) {
+            0
+        } else {
+            self.run_up(event, most - 1, timestamp + 1) + 1
+        }
+    }
+
+    /// The same, from this one back.
+    fn run_down(&self, event: &Event, most: usize, timestamp: u64) -> usize
+        ensures run { result ≡ rooms.run_down (rooms.is_link_at self.now.fields event.now) most timestamp }
+        ensures bound { result ≤ most }
+    {
+        if most == 0 || !self.is_link_at(event, timestamp) {
+            0
+        } else {
+            self.run_down(event, most - 1, timestamp.saturating_sub(1)) + 1
+        }
+    }
+
+    /// Whether an earlier event has this timestamp.
+    fn has_event(&self, timestamp: u64) -> bool
+        ensures { AreInOrder self.now.times → result ≡ apart.has_time self.now.times timestamp }
+    {
+        has_time(self.times.as_slice(), timestamp)
+    }
+
+    /// Whether an account of an event is linked and was created before it, and no earlier event shows it.
+    fn is_new_link(&self, event: &Event, account: &EventAccount) -> bool
+        ensures { result ≡ (rooms.can_link account.now event.now.timestamp
+            && is_none (standing.fields_under self.now.fields account.now.id)) }
+    {
+        can_link(account, event.timestamp) && self.fields_of(account.id).is_none()
+    }
+
+    /// What an account of an event is linked to.
+    fn links_of(&self, event: &Event, account: &EventAccount) -> Links
+        ensures { AreInOrder self.now.times
+            → result ≡ standing.links_of_account self.now event.now account.now }
+    {
+        if self.is_new_link(event, account) {
+            let next = account.timestamp + 1;
+            Links {
+                to_event: self.has_event(next),
+                length: self.run_down(event, Limits::BATCH_ITEMS, account.timestamp)
+                    + self.run_up(event, Limits::BATCH_ITEMS, next),
+            }
+        } else {
+            Links {
+                to_event: false,
+                length: 0,
+            }
+        }
+    }
+
+    /// What is known of the chains that an event is in; nothing of another ledger's.
+    fn room(&self, event: &Event) -> Option<Room>
+        ensures { AreInOrder self.now.times → result ≡ standing.room_of self.now event.now }
+    {
+        if self.foreign {
+            return None;
+        }
+        Some(Room {
+            after: self.link_at(event.timestamp.saturating_sub(1)),
+            debit: self.links_of(event, &event.debit_account),
+            credit: self.links_of(event, &event.credit_account),
+            chain: self.chain,
+        })
     }
 
     /// Takes an event, as it is audited.
@@ -351,6 +452,7 @@ impl Auditor {
         self.transfers.reserve(2)?;
         self.fields.reserve(2)?;
         self.created.reserve(2)?;
+        self.links.reserve(2)?;
         self.times.reserve(1)?;
         let added = add_open(&mut self.open_ones, event)?;
         if self.subscriber.take_event(event).is_err() {
@@ -359,9 +461,9 @@ impl Auditor {
         }
         keep(&mut self.transfers, event, released(&facts, event));
         remove_settled(&mut self.open_ones, event);
-        keep_accounts(&mut self.fields, &mut self.created, event);
+        keep_accounts(&mut self.fields, &mut self.created, &mut self.links, event);
         keep_time(&mut self.times, event.timestamp);
-        self.linked = is_linked(event);
+        self.chain = next_chain(self.chain, event);
         self.expired = expiry_or(self.expired, event);
         Ok(None)
     }

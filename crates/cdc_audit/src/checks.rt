@@ -12,6 +12,7 @@ use crate::expiries::expiry_refusal;
 use crate::fields::{FixedFields, created_refusal, fields_refusal};
 use crate::limits::limits_refusal;
 use crate::refusals::{BalanceField, Mismatch, Refusal};
+use crate::rooms::{Room, room_refusal};
 use crate::settling::settling_refusal;
 use crate::shapes::shape_refusal;
 use cdc_types::{Balances, Event, EventAccount, EventKind, Limits, TransferFlags};
@@ -56,17 +57,19 @@ pub(crate) struct Facts {
     pub(crate) debited: Balances,
     /// The balances of the credited account.
     pub(crate) credited: Balances,
+    /// What is known of the chains that the event is in; `None` in another ledger's stream.
+    pub(crate) room: Option<Room>,
 }
 
 /// What an event moves on one side of an account.
 #[derive(Clone, Copy, Debug, PartialEq, Eq)]
-struct Amounts {
+pub struct Amounts {
     /// Added to the posted sum.
-    posted: u128,
+    pub posted: u128,
     /// Added to the pending sum.
-    held: u128,
+    pub held: u128,
     /// Released of the pending sum.
-    released: u128,
+    pub released: u128,
 }
 
 /// Whether an event of this kind stores its transfer. An expiry doesn't: its transfer was stored before.
@@ -77,7 +80,7 @@ pub(crate) fn stores(kind: EventKind) -> bool
 }
 
 /// Whether an event of this kind settles a pending transfer.
-pub(crate) fn settles(kind: EventKind) -> bool
+pub fn settles(kind: EventKind) -> bool
     ensures { result ≡ kinds.settles kind }
 {
     matches!(
@@ -87,21 +90,21 @@ pub(crate) fn settles(kind: EventKind) -> bool
 }
 
 /// Whether an event of this kind moves its amount for good.
-pub(crate) fn moves(kind: EventKind) -> bool
+pub fn moves(kind: EventKind) -> bool
     ensures { result ≡ kinds.moves kind }
 {
     matches!(kind, EventKind::SinglePhase | EventKind::TwoPhasePosted)
 }
 
 /// Whether an event of this kind holds its amount back.
-pub(crate) fn holds(kind: EventKind) -> bool
+pub fn holds(kind: EventKind) -> bool
     ensures { result ≡ kinds.holds kind }
 {
     kind == EventKind::TwoPhasePending
 }
 
 /// The id of the pending transfer that an event settles; 0 if it settles none.
-pub(crate) fn settled_id(event: &Event) -> u128
+pub fn settled_id(event: &Event) -> u128
     ensures { result ≡ known.settled_id event.now }
 {
     match event.kind {
@@ -202,7 +205,7 @@ fn balance_refusal(mismatch: Mismatch) -> Option<Refusal>
 }
 
 /// The refusal of an event by the four balances that it shows of an account.
-fn account_refusal(
+pub fn account_refusal(
     account: &EventAccount,
     before: &Balances,
     debits: Amounts,
@@ -347,5 +350,5 @@ pub(crate) fn refusal_by(facts: &Facts, event: &Event) -> Option<Refusal>
             event,
         )))
         .or(chain_refusal(facts.linked, facts.last, event).or(limits_refusal(event)))
-        .or(balances_refusal(facts, event))
+        .or(balances_refusal(facts, event).or(room_refusal(facts.room, event)))
 }

@@ -10,6 +10,7 @@ pub mod foreign;
 pub mod limits;
 pub mod open_ones;
 pub mod refusals;
+pub mod rooms;
 pub mod settling;
 pub mod shapes;
 pub mod streams;

@@ -136,6 +136,16 @@ pub enum Refusal {
     Limit(Excess),
     /// A balance doesn't follow.
     Balance(Mismatch),
+    /// The account of this id, which it shows or an event before it, was created at the second number and is linked to
+    /// the next one. It has the timestamp after that one, or an event before it does.
+    NextIsEvent(u128, u64),
+    /// It is the first one that shows the account of this id, which was created at the second number. As many accounts
+    /// in a row are linked as a batch may have items, so a batch has no room for the one after them.
+    LongAccountChain(u128, u64),
+    /// It has this timestamp and stores a linked transfer, and a batch has no room for the next one of its chain.
+    LongChain(u64),
+    /// It has this timestamp, the greatest one, and stores a linked transfer.
+    NoNext(u64),
 }
 
 impl BalanceField {
@@ -223,6 +233,10 @@ impl Refusal {
             Refusal::TooLarge(_, _) => "limits",
             Refusal::Limit(_) => "limits",
             Refusal::Balance(_) => "balances",
+            Refusal::NextIsEvent(_, _) => "links",
+            Refusal::LongAccountChain(_, _) => "links",
+            Refusal::LongChain(_) => "links",
+            Refusal::NoNext(_) => "links",
         }
     }
 }

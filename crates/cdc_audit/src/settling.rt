@@ -92,7 +92,7 @@ fn has_expired(timestamp: u64, pending: &EventTransfer) -> bool
 }
 
 /// The refusal of an event by the pending transfer that it settles, which this event stored.
-pub(crate) fn settling_refusal(settled: Option<Event>, event: &Event) -> Option<Refusal>
+pub fn settling_refusal(settled: Option<Event>, event: &Event) -> Option<Refusal>
     ensures { result ≡ first_line (spec.settling_lines settled event.now) }
 {
     let Some(pending) = settled else {

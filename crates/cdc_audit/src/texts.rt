@@ -88,6 +88,26 @@ fn push_reason(why: Refusal, text: &mut Vec<u8>) -> Result<(), AllocError>
         Refusal::TooLarge(id, side) => push_side(text, id, side),
         Refusal::Limit(excess) => push_excess(&excess, text),
         Refusal::Balance(mismatch) => push_mismatch(&mismatch, text),
+        Refusal::NextIsEvent(id, created) => {
+            push_shared(text, id, created)?;
+            push(text, ", linked, right before an event")
+        }
+        Refusal::LongAccountChain(id, created) => {
+            push_shared(text, id, created)?;
+            push(text, ", in a chain longer than a batch")
+        }
+        Refusal::LongChain(timestamp) => push_around(
+            text,
+            "event ",
+            timestamp,
+            " is in a chain longer than a batch",
+        ),
+        Refusal::NoNext(timestamp) => push_around(
+            text,
+            "event ",
+            timestamp,
+            " is linked, at the greatest timestamp",
+        ),
     }
 }
 

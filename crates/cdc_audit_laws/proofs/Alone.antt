@@ -22,7 +22,7 @@ pub alone-nil : AreAlone []
 alone-nil = record { before = λ i f is. cc; no_event = λ i f is. tt; no_other = λ i j f g is other same. cc }
 
 -- no event has a timestamp that isn't among theirs
-none_at : (t : ℕ) (es : List Event) → has_time (times_of es) t ≡ false
+pub none_at : (t : ℕ) (es : List Event) → has_time (times_of es) t ≡ false
     → AllByRecursion (λ (e : Event). e.timestamp ≢ t) es
 none_at t [] none = tt
 none_at t (e ∷ es) none =

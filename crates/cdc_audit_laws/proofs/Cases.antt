@@ -1,5 +1,5 @@
 -- Cases of a test, and several facts in a row.
-use Rattle.std.proofs.Common.{◌≡◌, Bool, true, false, ◌&&◌, refl}
+use Rattle.std.proofs.Common.{◌≡◌, ◌⊎◌, inl, inr, Bool, true, false, ◌&&◌, ◌||◌, refl}
 
 infixr 5 ◌&◌
 -- one fact and another one, as in `a & b & c & tt`
@@ -10,3 +10,8 @@ a & b = (a, b)
 pub and_unless : (one other : Bool) → (one ≡ true → other ≡ false) → (one && other) ≡ false
 and_unless true other fails = fails refl
 and_unless false other fails = refl
+
+-- of two tests one passes
+pub either : (one other : Bool) → (one || other) ≡ true → (one ≡ true) ⊎ (other ≡ true)
+either true other is = inl refl
+either false other is = inr is

@@ -6,7 +6,7 @@ use Rattle.cdc_audit_laws.proofs.OfTypes.{Event, EventAccount, EventKind, EventT
 use Rattle.cdc_message.specs.Widths.{TransferFits}
 use Rattle.cdc_types.specs.declared.accounts.TheConstants.AccountFlags.{LINKED}
 use Rattle.cdc_audit_laws.proofs.OfAudit.{FixedFields}
-use Rattle.cdc_audit_laws.specs.Soundness.{IsUnlinked}
+use Rattle.cdc_audit_laws.proofs.Premises.{IsUnlinked}
 
 -- an account, created at this time, and its balances
 abbrev pub account : ℕ → ℕ → ℕ → ℕ → ℕ → ℕ → EventAccount

@@ -3,7 +3,7 @@ use Rattle.std.proofs.Common.{◌≡◌, ◌≢◌, ℕ, ◌+◌, ◌<◌, Bool,
 use Rattle.cdc_audit_laws.proofs.OfStd.{eqb-false, lt-ltb, ltb-true, ne_eqb, not-false, not_from_true}
 use Rattle.cdc_audit_laws.proofs.OfTypes.{Balances, TIMESTAMP, Event, first_line, last_timestamp}
 use Rattle.cdc_audit_laws.proofs.OfLedger.{settles, stores}
-use Rattle.cdc_audit_laws.proofs.OfAudit.{balances_after, ends_in_chain, is_settled, is_stored, last_expiry, pending_amount, settled_id, Refusal, shape_lines, expiry_lines, first_due, times_before, times_lines, together_lines, created_lines, fields_before, fields_lines, limits_lines, balances_lines, chain_lines, fixed_lines, held, order_lines, posted, refusal, released, settled_event, transfer_lines, settling_lines}
+use Rattle.cdc_audit_laws.proofs.OfAudit.{room_before, room_lines, balances_after, ends_in_chain, is_settled, is_stored, last_expiry, pending_amount, settled_id, Refusal, shape_lines, expiry_lines, first_due, times_before, times_lines, together_lines, created_lines, fields_before, fields_lines, limits_lines, balances_lines, chain_lines, fixed_lines, held, order_lines, posted, refusal, released, settled_event, transfer_lines, settling_lines}
 
 -- no line applies
 abbrev pub NoneApplies : {R : Type 0} → List (Bool × R) → Type 0
@@ -143,6 +143,12 @@ follow_balances : (past : List Event) (e : Event) → IsDebited past e (balances
     → IsCredited past e (balances_after past e.credit_account.id) → NoneApplies (balances_lines past e)
 follow_balances past e debited credited = grind arith
 
+-- the last part: the lines on balances, and those on the next items of chains
+of_last : (past : List Event) (e : Event)
+    → NoneApplies (balances_lines past e ++ room_lines (room_before false past e) e)
+    → NoneApplies (balances_lines past e) × NoneApplies (room_lines (room_before false past e) e)
+of_last past e none = none_both (balances_lines past e) (room_lines (room_before false past e) e) none
+
 -- an event that isn't refused is one that can follow
 pub unrefused : (past : List Event) (e : Event) → refusal past e ≡ None → CanFollow past e
 unfolding refusal
@@ -150,13 +156,14 @@ unrefused past e none =
     let all = of_seven (order_lines (last_timestamp past) e) (shape_lines e) (fixed_lines past e)
     (transfer_lines past e)
     (settling_lines (settled_event past e) e ++ expiry_lines (first_due past) (last_expiry past) e)
-    (chain_lines (ends_in_chain past) (last_timestamp past) e ++ limits_lines e) (balances_lines past e) none in
+    (chain_lines (ends_in_chain past) (last_timestamp past) e ++ limits_lines e)
+    (balances_lines past e ++ room_lines (room_before false past e) e) none in
     let ends = none_both (settling_lines (settled_event past e) e) (expiry_lines (first_due past) (last_expiry past) e)
     all.settling in
     let bounds = none_both (chain_lines (ends_in_chain past) (last_timestamp past) e) (limits_lines e) all.limits in
     let order = all.order in
     let transfer = all.transfer in
-    let balances = balances_follow past e all.balances in
+    let balances = balances_follow past e (of_last past e all.balances).0 in
     record {
       later = ltb-true (last_timestamp past) e.timestamp (not-false _ order.0);
       apart = eqb-false e.debit_account.id e.credit_account.id order.1.0;
@@ -174,13 +181,27 @@ unrefused past e none =
       credited = balances.1;
     }
 
--- and such an event isn't refused
-pub no_refusal : (past : List Event) (e : Event) → CanFollow past e → refusal past e ≡ None
+-- and each chain that it is in can have its next item
+pub roomy : (past : List Event) (e : Event) → refusal past e ≡ None
+    → NoneApplies (room_lines (room_before false past e) e)
 unfolding refusal
-no_refusal past e can =
+roomy past e none =
+    let all = of_seven (order_lines (last_timestamp past) e) (shape_lines e) (fixed_lines past e)
+    (transfer_lines past e)
+    (settling_lines (settled_event past e) e ++ expiry_lines (first_due past) (last_expiry past) e)
+    (chain_lines (ends_in_chain past) (last_timestamp past) e ++ limits_lines e)
+    (balances_lines past e ++ room_lines (room_before false past e) e) none in
+    (of_last past e all.balances).1
+
+-- and such an event isn't refused
+pub no_refusal : (past : List Event) (e : Event) → CanFollow past e
+    → NoneApplies (room_lines (room_before false past e) e) → refusal past e ≡ None
+unfolding refusal
+no_refusal past e can room =
     seven (order_lines (last_timestamp past) e) (shape_lines e) (fixed_lines past e) (transfer_lines past e)
     (settling_lines (settled_event past e) e ++ expiry_lines (first_due past) (last_expiry past) e)
-    (chain_lines (ends_in_chain past) (last_timestamp past) e ++ limits_lines e) (balances_lines past e) (record {
+    (chain_lines (ends_in_chain past) (last_timestamp past) e ++ limits_lines e)
+    (balances_lines past e ++ room_lines (room_before false past e) e) (record {
       order = (
         not_from_true _ (lt-ltb (last_timestamp past) e.timestamp can.later),
         (ne_eqb e.debit_account.id e.credit_account.id can.apart, (can.within, tt)),
@@ -192,5 +213,6 @@ no_refusal past e can =
           (expiry_lines (first_due past) (last_expiry past) e) can.settling can.expiry;
       limits = none_of_both (chain_lines (ends_in_chain past) (last_timestamp past) e) (limits_lines e) can.chain
           can.limits;
-      balances = follow_balances past e can.debited can.credited;
+      balances = none_of_both (balances_lines past e) (room_lines (room_before false past e) e)
+          (follow_balances past e can.debited can.credited) room;
     })

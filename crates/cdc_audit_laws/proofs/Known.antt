@@ -1,14 +1,14 @@
 -- Each account has the same fields wherever accepted events show it.
 use Rattle.std.proofs.Common.{◌≡◌, ℕ, Bool, true, false, List, [], ◌∷◌, ◌++◌, Option, Some, None, if◌then◌else◌, refl, sym, ap, ap₂, ◌∙◌, subst, append_assoc, ◌==◌, nat_eq, append-nil, arith}
-use Rattle.cdc_audit_laws.proofs.OfStd.{AllByRecursion, lookup, option_or, eq-eqb, ne_eqb, flat_map-append}
+use Rattle.cdc_audit_laws.proofs.OfStd.{AllByRecursion, lookup, option_or, eq-eqb, eqb-true, ne_eqb, flat_map-append}
 use Rattle.cdc_audit_laws.proofs.OfTypes.{Event, EventAccount}
 use Rattle.cdc_audit_laws.proofs.OfLedger.{AllByRecursion-weaker}
 use Rattle.cdc_audit_laws.proofs.OfAudit.{FixedFields, follows_on, accounts_of, fields_before, fields_lines, fixed_fields, same_lines}
-use Rattle.cdc_audit_laws.specs.Soundness.{accounts_in}
+use Rattle.cdc_audit_laws.proofs.Premises.{accounts_in}
 use Rattle.cdc_audit_laws.proofs.Following.{CanFollow, FixedParts, NoneApplies, fixed_parts}
 use Rattle.cdc_audit_laws.proofs.Streams.{first_follows}
 
-none_differs : (id : ℕ) (one other : FixedFields) → NoneApplies (same_lines id one other) → one ≡ other
+pub none_differs : (id : ℕ) (one other : FixedFields) → NoneApplies (same_lines id one other) → one ≡ other
 none_differs id one other none = grind arith
 
 -- the events show these fields of the account first
@@ -32,6 +32,39 @@ pub all_parts : (P : ℕ × FixedFields → Type 0) (first second : List (ℕ ×
     → AllByRecursion P second → AllByRecursion P (first ++ second)
 all_parts P [] second all others = others
 all_parts P (a ∷ first) second all others = (all.0, all_parts P first second all.1 others)
+
+-- what holds of all accounts holds of one that is found
+pub found_has : (P : ℕ × FixedFields → Type 0) (those : List (ℕ × FixedFields)) (a : ℕ × FixedFields)
+    → AllByRecursion P those → lookup (nat_eq a.0) those ≡ Some a.1 → P a
+found_has P [] a all found = cc
+found_has P (b ∷ those) a all found =
+    by (nat_eq a.0 b.0) refl found (found_has P those a all.1)
+  where
+    by : (same : Bool) → nat_eq a.0 b.0 ≡ same → (if same then Some b.1 else lookup (nat_eq a.0) those) ≡ Some a.1
+        → (lookup (nat_eq a.0) those ≡ Some a.1 → P a) → P a
+    by true is found more =
+        let id = eqb-true a.0 b.0 is in
+        let fields : b.1 ≡ a.1 = cc in
+        let same : b ≡ a = ap₂ (λ n f. let x : ℕ × FixedFields = (n, f) in x) (sym id) fields in
+        subst P same all.0
+    by false is found more = more found
+
+-- the parts of what holds of all accounts
+in_parts : (P : ℕ × FixedFields → Type 0) (first second : List (ℕ × FixedFields))
+    → AllByRecursion P (first ++ second) → AllByRecursion P first × AllByRecursion P second
+in_parts P [] second all = (tt, all)
+in_parts P (a ∷ first) second all =
+    let rest = in_parts P first second all.1 in ((all.0, rest.0), rest.1)
+
+-- an event among others, with the accounts of all of them
+pub accounts_parts : (P : ℕ × FixedFields → Type 0) (past : List Event) (e : Event) (rest : List Event)
+    → AllByRecursion P (accounts_in (past ++ e ∷ rest))
+    → AllByRecursion P (accounts_in past) × P (e.debit_account.id, fixed_fields e.ledger e.debit_account)
+    × P (e.credit_account.id, fixed_fields e.ledger e.credit_account)
+accounts_parts P past e rest all =
+    let parts = in_parts P (accounts_in past) (accounts_in (e ∷ rest))
+    (subst (AllByRecursion P) (flat_map-append accounts_of past (e ∷ rest)) all) in
+    (parts.0, parts.1.0, parts.1.1.0)
 
 -- one more event
 module _ (past : List Event) (e : Event) (can : CanFollow past e) where

@@ -1,13 +1,12 @@
--- The events of a ledger are accepted.
+-- The events of a ledger follow from those before them, whatever the rules on the next items of chains are.
 use Rattle.std.proofs.Common.{◌≡◌, ◌≢◌, ℕ, ◌<◌, ◌≤◌, Bool, true, false, List, [], ◌∷◌, ◌++◌, Option, Some, None, is_none, map, ◌+◌, refl, sym, ap, ap₂, ◌∙◌, subst, inl, inr, arith, ◌==◌, ◌&&◌, nat_eq, nat_le, nat_lt, not, filter, IfSome, IsSome, if◌then◌else◌}
 use Rattle.cdc_audit_laws.proofs.OfStd.{AllByRecursion, flat_map, lookup, unwrap_or, and_from, and_parts, eq-eqb, eqb-true, le-ltb, leb-true, lt-ltb, not-true, not_from_true, eqb_tells}
 use Rattle.cdc_audit_laws.proofs.OfTypes.{Balances, TIMESTAMP, Entry, Event, EventKind, TwoPhaseExpired, EventAccount, NewTransfer, NewAccount, CREDITS_MUST_NOT_EXCEED_DEBITS, DEBITS_MUST_NOT_EXCEED_CREDITS, has_flag, account_number, account_refusal, account_shape_lines, transfer_refusal, last_timestamp, last_timestamp_from, max_128, Transfer}
 use Rattle.cdc_audit_laws.proofs.OfLedger.{balances, expiry, pushed, timed, with_account, amount_of, balances_after_entry, effect_of, event_of, events, shown_transfer, expires_at, stored, Follows, SettlesOpen, History, Opened, empty_history, opened, holds, settled_id, settles, stores, HasAccounts, IsSound, IsLegal, entry_of, opened_by, max_timestamp, Follows-accepted, balances-pushed, balances_later, released_credit, released_debit, same_balances, settled_by_is, settled_by_none, AllByRecursion-every, AllByRecursion-weaker, events-pushed, events-with_account, test_fails, Follows-open, find_all, is_stored as stores_id, stored_has}
-use Rattle.cdc_audit_laws.proofs.OfAudit.{is_accepted, balances_after, ends_in_chain, is_settled, is_stored, last_expiry as last_shown, last_expiry_from, linked_from, open_event, pending_amount, pending_event, settled_id_by, FixedFields, TransferShape, OtherKind, OtherTimestamp, account_lines as shape_account_lines, asked_account, asked_transfer, is_of_kind, refused_as, shape_lines, stored_lines, apart_lines, times_before, times_lines, together_lines, accounts_of, created_lines, fields_before, fields_lines, fixed_fields, same_lines, all_credits, all_debits, limit_lines, limits_lines, chain_lines, fixed_lines, released, settled_event, expires_at as expires_at_shown, has_data_of, is_same_transfer, settling_lines, can_expire, expiry_lines, first_due, is_sooner, first_of-all, passing}
+use Rattle.cdc_audit_laws.proofs.OfAudit.{balances_after, ends_in_chain, is_settled, is_stored, last_expiry as last_shown, last_expiry_from, linked_from, open_event, pending_amount, pending_event, settled_id_by, FixedFields, TransferShape, OtherKind, OtherTimestamp, account_lines as shape_account_lines, asked_account, asked_transfer, is_of_kind, refused_as, shape_lines, stored_lines, apart_lines, times_before, times_lines, together_lines, accounts_of, created_lines, fields_before, fields_lines, fixed_fields, same_lines, all_credits, all_debits, limit_lines, limits_lines, chain_lines, fixed_lines, released, settled_event, expires_at as expires_at_shown, has_data_of, is_same_transfer, settling_lines, can_expire, expiry_lines, first_due, is_sooner, first_of-all, passing}
 use Rattle.std.specs.Option.{option_map}
 use Rattle.cdc_types.specs.declared.results.AccountResult.TheVariants as account
 use Rattle.cdc_types.specs.declared.results.TransferResult.TheVariants as transfer
-use Rattle.cdc_audit_laws.specs.Laws.{LedgersAreAccepted}
 use Rattle.cdc_audit_laws.proofs.Created.{own_pair, own_times, id_found}
 use Rattle.cdc_audit_laws.proofs.Entries.{last_timestamp-events, pending_amount-events, pending_event-events, settled_id-shown, unsettled, unstored}
 use Rattle.cdc_audit_laws.proofs.Following.{CanFollow, IsCredited, IsDebited, NoneApplies, none_of_both}
@@ -16,13 +15,14 @@ use Rattle.cdc_audit_laws.proofs.Kept.{part_other, part_own, IsCreated, IsKept, 
 use Rattle.cdc_audit_laws.proofs.Requests.{Enters, HasLedger, HasShape, KeepsFields, account_of, asked, enters-accepted, enters-expiry, keeps_data, account_is}
 use Rattle.cdc_audit_laws.proofs.Pulses.{LetsPass, expiry_from, in_turn-expiry, in_turn-stored, last_expiry}
 use Rattle.cdc_audit_laws.proofs.Shown.{balances_after-credited, balances_after-debited, balances_after-other, balances_of}
-use Rattle.cdc_audit_laws.proofs.Streams.{accepted-push, none_follows, prefixes_are_accepted}
+use Rattle.cdc_audit_laws.proofs.Streams.{FollowAll, follow_all-push}
 use Rattle.cdc_audit_laws.proofs.Cases.{◌&◌, and_unless}
 use Rattle.cdc_audit_laws.proofs.Traces.{unresolved}
 
--- the events of a history are accepted, and show last the balances of each account
+-- each event of a history follows from those before it, whatever the rules on the next items of chains are; and the
+-- events show last the balances of each account
 pub record IsAudited (h : History) : Type 0 where
-  pub accepted : is_accepted (events h) ≡ true
+  pub follow : FollowAll [] (events h)
   pub shown : (id : ℕ) → balances_after (events h) id ≡ balances h id h.last
 
 -- what is stored under an id has this id
@@ -504,12 +504,13 @@ module _ (h : History) (e : Entry) (sound : IsSound h) (follows : Follows h e) (
         ]
       ]
 
-  -- so the events of the history with the entry are accepted too
+  -- so the events of the history with the entry follow too
   audited-pushed : IsAudited (pushed h e)
   audited-pushed =
       let longer = events-pushed h e sound.past after in
       record {
-        accepted = rw longer (accepted-push (events h) event audited.accepted event_follows);
+        follow =
+            subst (FollowAll []) (sym longer) (follow_all-push [] (events h) event audited.follow event_follows);
         shown = λ id. ap (λ (es : List Event). balances_after es id) longer ∙ shown_then id;
       }
 
@@ -517,12 +518,12 @@ module _ (h : History) (e : Entry) (sound : IsSound h) (follows : Follows h e) (
 
 -- the history of a new ledger
 audited-empty : IsAudited empty_history
-audited-empty = record { accepted = none_follows []; shown = λ id. refl }
+audited-empty = record { follow = tt; shown = λ id. refl }
 
 -- a timestamp that is taken
 audited-timed : (h : History) (t : ℕ) → IsSound h → h.last ≤ t → IsAudited h → IsAudited (timed h t)
 audited-timed h t sound later audited = record {
-  accepted = audited.accepted;
+  follow = audited.follow;
   shown = λ id. audited.shown id ∙ sym (balances_later h id h.last t sound.past later);
 }
 
@@ -532,16 +533,16 @@ audited-account : (h : History) (o : Opened) → IsSound h → h.last ≤ o.time
 audited-account h o sound later audited =
     let same = events-with_account h o sound.known in
     record {
-      accepted = rw same audited.accepted;
+      follow = subst (FollowAll []) (sym same) audited.follow;
       shown = λ id. ap (λ (es : List Event). balances_after es id) same ∙ audited.shown id
           ∙ sym (balances_later h id h.last o.timestamp sound.past later);
     }
 
 -- a ledger that is closed, or not
 audited-closed : (h : History) (closed : Bool) → IsAudited h → IsAudited (record h { closed = closed })
-audited-closed h closed audited = record { accepted = audited.accepted; shown = audited.shown }
+audited-closed h closed audited = record { follow = audited.follow; shown = audited.shown }
 
--- the events of a history are accepted, and its accounts and entries are as they have to be
+-- the events of a history follow, and its accounts and entries are as they have to be
 abbrev pub IsAuditable : History → Type 0
 IsAuditable h = IsKept h × IsAudited h
 
@@ -568,7 +569,3 @@ auditable h legal =
     (kept-account g a t sound later none is.0, audited-account g (opened_by a t) sound (omega arith) is.1))
     (λ g t sound later is. (kept-timed g t sound later is.0, audited-timed g t sound later is.1))
     (λ g closed is. (kept-closed g closed is.0, audited-closed g closed is.1)) h legal
-
--- so the events of every legal history are accepted, and each prefix of them
-pub ledgers_are_accepted : LedgersAreAccepted
-ledgers_are_accepted h count legal = prefixes_are_accepted (events h) count (auditable h legal).1.accepted

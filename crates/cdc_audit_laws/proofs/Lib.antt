@@ -4,8 +4,11 @@ pub mod OfLedger
 pub mod OfAudit
 pub mod Cases
 pub mod Shown
+pub mod Premises
 pub mod Following
+pub mod Rooms
 pub mod Streams
+pub mod Runs
 pub mod Sums
 pub mod Changes
 pub mod Pulses
@@ -34,9 +37,12 @@ pub mod Walk
 pub mod Known
 pub mod Alone
 pub mod Unseen
+pub mod Completing
 pub mod Soundness
 pub mod Whole
 pub mod Links
+pub mod Gaps
+pub mod Accepted
 mod ExampleEvents
 mod Examples
 mod SoundExamples

@@ -2,14 +2,13 @@
 use Rattle.std.proofs.Common.{◌≡◌, ◌≢◌, ℕ, ◌+◌, ◌-◌, ◌<◌, ◌≤◌, Bool, true, false, List, [], ◌∷◌, Option, Some, None, Result, Ok, Err, if◌then◌else◌, length, map, refl, sym, ◌∙◌, subst, arith, ◌&&◌, ◌||◌, nat_lt, IfSome, IsSome}
 use Rattle.cdc_audit_laws.proofs.OfStd.{unwrap_or, AllByRecursion, flat_map, false≢true, ltb-false, ltb-true}
 use Rattle.cdc_audit_laws.proofs.OfTypes.{Balances, NewAccount, Batch, BatchResults, BATCH_ITEMS, Entry, Transfer, is_linked_account}
-use Rattle.cdc_audit_laws.proofs.OfLedger.{BatchError, balances, before_others, chains_from, chains_of, history_after, is_none_left, played, refused_in_chain, expiry, pushed, timed, with_account, due, event_of, events, shown_account, History, Opened, empty_history, opened, HasAccounts, IsSound, IsLegal, account_rules, after_batches, base, entry_of, expiries_from, history_or, opened_by, submit, time, transfer_rules, history_after-later, items_from-keeps, AllByRecursion-weaker, AllByRecursion_push, IsSound-from_legal, after_last, submit_parts, find_all}
+use Rattle.cdc_audit_laws.proofs.OfLedger.{BatchError, balances, before_others, chains_from, chains_of, history_after, is_none_left, played, refused_in_chain, expiry, pushed, timed, with_account, due, event_of, events, shown_account, History, Opened, empty_history, opened, HasAccounts, IsSound, IsLegal, account_rules, after_batches, base, entry_of, expiries_from, history_or, opened_by, submit, time, transfer_rules, history_after-later, items_from-keeps, AllByRecursion-weaker, AllByRecursion_push, after_last, submit_parts, find_all}
 use Rattle.cdc_audit_laws.proofs.OfAudit.{accounts_of, fixed_fields, FixedFields}
 use Rattle.cdc_types.specs.declared.results.AccountResult.{AccountResult}
 use Rattle.cdc_types.specs.declared.batches.Batch.TheVariants as batch
-use Rattle.cdc_audit_laws.specs.Soundness.{AccountsHaveRoom, IsUnlinked, LedgersEventsCanBeMade, NextIsFree, accounts_in}
+use Rattle.cdc_audit_laws.proofs.Premises.{AccountsHaveRoom, IsUnlinked, NextIsFree, accounts_in}
 use Rattle.cdc_audit_laws.proofs.Keeping.{not_large, total, total-chains_of}
 use Rattle.cdc_audit_laws.proofs.Requests.{account_of, account_is}
-use Rattle.cdc_audit_laws.proofs.Whole.{ledgers_events_are_whole}
 use Rattle.cdc_audit_laws.proofs.Ledgers.{all_images}
 
 -- no entry has the timestamp after the account
@@ -22,7 +21,7 @@ IsEndAt t o = o.timestamp ≡ t → is_linked_account o.request ≡ false
 
 -- between batches: the timestamp after each linked account is past, and no entry has it; of as many timestamps as a
 -- batch has room for, one isn't that of a linked account
-record AreLinked (h : History) : Type 0 where
+pub record AreLinked (h : History) : Type 0 where
   past : AllByRecursion (λ e. e.timestamp ≤ h.last) h.entries
   links : AllByRecursion
       (λ o. is_linked_account o.request ≡ true → (o.timestamp < h.last) × IsFreeAfter h.entries o) h.accounts
@@ -261,7 +260,7 @@ linked-batches h (b ∷ bs) linked =
 linked-closed : (h : History) (closed : Bool) → AreLinked h → AreLinked (record h { closed = closed })
 linked-closed h closed linked = record { past = linked.past; links = linked.links; few = linked.few }
 
-linked_by_legal : (h : History) → IsLegal h → AreLinked h
+pub linked_by_legal : (h : History) → IsLegal h → AreLinked h
 linked_by_legal h legal =
     let before : History = after_batches empty_history legal.batches in
     subst AreLinked (sym legal.made)
@@ -298,7 +297,7 @@ shown_have h P R gives all (e ∷ es) known = (
 )
 
 -- no event comes right after a linked account
-next_free : (h : History) → IsSound h → AreLinked h
+pub next_free : (h : History) → IsSound h → AreLinked h
     → AllByRecursion (NextIsFree (events h)) (accounts_in (events h))
 next_free h sound linked =
     shown_have h (λ o. is_linked_account o.request ≡ true → (o.timestamp < h.last) × IsFreeAfter h.entries o)
@@ -306,26 +305,11 @@ next_free h sound linked =
     h.entries sound.known
 
 -- and a batch has room for each chain of accounts
-accounts_room : (h : History) → IsSound h → AreLinked h → AccountsHaveRoom (events h)
+pub accounts_room : (h : History) → IsSound h → AreLinked h → AccountsHaveRoom (events h)
 accounts_room h sound linked t =
     let one = linked.few t in (
       one.0,
       one.1,
       shown_have h (IsEndAt (t + one.0)) (λ a. a.1.timestamp ≡ t + one.0 → IsUnlinked a) (λ o ledger sums is. is) one.2
           h.entries sound.known,
-    )
-
--- so a ledger can make its events
-pub ledgers_events_can_be_made : LedgersEventsCanBeMade
-ledgers_events_can_be_made h legal fit =
-    let sound = IsSound-from_legal h legal in
-    let linked = linked_by_legal h legal in
-    let whole = ledgers_events_are_whole h legal in (
-      record {
-        fit = fit;
-        next_free = next_free h sound linked;
-        accounts_room = accounts_room h sound linked;
-        room = whole.0;
-      },
-      whole.1,
     )

@@ -1,32 +1,25 @@
 -- A history between two batches, within a chain, or within a pulse; and what comes next in a stream.
-use Rattle.std.proofs.Common.{◌≡◌, ◌⊎◌, inl, inr, ℕ, ◌+◌, ◌≤◌, Bool, true, false, not, List, [], ◌∷◌, ◌++◌, Option, Some, None, if◌then◌else◌, refl, sym, ap, ◌∙◌, subst, append_assoc, append-nil, arith, ◌==◌, ◌&&◌, IfSome, IsSomeAnd}
-use Rattle.cdc_audit_laws.proofs.OfStd.{AllByRecursion, and_parts, eq-eqb, eqb-true, false≢true, not-false, not-true}
+use Rattle.std.proofs.Common.{◌≡◌, ◌⊎◌, inl, inr, ℕ, ◌+◌, ◌≤◌, Bool, true, false, not, List, [], ◌∷◌, ◌++◌, Option, Some, None, if◌then◌else◌, refl, sym, ap, ◌∙◌, subst, append_assoc, append-nil, arith, ◌==◌, ◌&&◌, ◌<◌, nat_eq, IfSome, IsSomeAnd}
+use Rattle.cdc_audit_laws.proofs.OfStd.{AllByRecursion, lookup, and_parts, eq-eqb, eqb-true, false≢true, not-false, not-true}
 use Rattle.cdc_audit_laws.proofs.OfTypes.{Entry, Event, Transfer, last_timestamp}
-use Rattle.cdc_audit_laws.proofs.OfLedger.{resolved, due, event_of, events, expires_at as expires_at_one, History, stores, IsSound, IsLegal, AllByRecursion_push, IsOpen, due_open, stored_has}
-use Rattle.cdc_audit_laws.proofs.OfAudit.{expiry_lines, first_due, is_sooner, ends_in_chain, is_linked, last_expiry, last_expiry_from, linked_from, expires_at, first_of-all, passing}
+use Rattle.cdc_audit_laws.proofs.OfLedger.{balances, opened, resolved, due, event_of, events, expires_at as expires_at_one, History, stores, IsSound, IsLegal, AllByRecursion_push, IsOpen, due_open, stored_has}
+use Rattle.cdc_audit_laws.proofs.OfAudit.{FixedFields, balances_after, chain_length, chain_length_from, expiry_lines, first_due, is_sooner, ends_in_chain, is_linked, last_expiry, last_expiry_from, linked_from, expires_at, first_of-all, passing}
 use Rattle.cdc_audit_laws.specs.Soundness.{AreCutOff, AreWhole}
 use Rattle.cdc_audit_laws.proofs.Following.{CanFollow, NoneApplies}
 use Rattle.cdc_audit_laws.proofs.Keeping.{IsUp, due_up}
+use Rattle.cdc_audit_laws.proofs.Openings.{opening_of}
 use Rattle.cdc_audit_laws.proofs.Running.{Pulses, RunsOn}
 use Rattle.cdc_audit_laws.proofs.Soonest.{AllThatExpire, CanExpire, IsNoSooner, no_earlier, none_sooner, open_entries}
 
 -- ---- one more event
 
--- how many linked transfers these events end with, after this number of them
-abbrev pub linked_run_from : ℕ → List Event → ℕ
-linked_run_from n [] = n
-linked_run_from n (e ∷ es) = linked_run_from (if is_linked e then n + 1 else 0) es
-
-abbrev pub linked_run : List Event → ℕ
-linked_run past = linked_run_from 0 past
-
 pub run_from-push : (n : ℕ) (es : List Event) (e : Event)
-    → linked_run_from n (es ++ e ∷ []) ≡ (if is_linked e then linked_run_from n es + 1 else 0)
+    → chain_length_from n (es ++ e ∷ []) ≡ (if is_linked e then chain_length_from n es + 1 else 0)
 run_from-push n [] e = refl
 run_from-push n (x ∷ es) e = run_from-push (if is_linked x then n + 1 else 0) es e
 
-pub run-push : (es : List Event) (e : Event) → is_linked e ≡ true → linked_run (es ++ e ∷ []) ≡ linked_run es + 1
-run-push es e is = run_from-push 0 es e ∙ ap (λ b. if b then linked_run es + 1 else 0) is
+pub run-push : (es : List Event) (e : Event) → is_linked e ≡ true → chain_length (es ++ e ∷ []) ≡ chain_length es + 1
+run-push es e is = run_from-push 0 es e ∙ ap (λ b. if b then chain_length es + 1 else 0) is
 
 chain_from-push : (b : Bool) (es : List Event) (e : Event) → linked_from b (es ++ e ∷ []) ≡ is_linked e
 chain_from-push b [] e = refl
@@ -78,7 +71,7 @@ IsOfPulse t e = (stores e.kind ≡ false) × (expires_at e.transfer ≡ t)
 
 -- within a chain: its last item was an event
 pub record IsInChain (h : History) : Type 0 where
-  pub runs : RunsOn h (h.last + 1) (linked_run (events h))
+  pub runs : RunsOn h (h.last + 1) (chain_length (events h))
   pub chained : ends_in_chain (events h) ≡ true
   pub at_end : last_timestamp (events h) ≡ h.last
   pub start : StartsLegal (events h) IsOfChain
@@ -95,6 +88,7 @@ pub record IsInPulse (h : History) : Type 0 where
   pub last_is : last_expiry (events h) ≡ Some last
   pub time : expires_at last.transfer ≡ now
   pub at_end : last.timestamp ≡ h.last
+  pub ends : last_timestamp (events h) ≡ h.last
   pub start : StartsLegal (events h) (IsOfPulse now)
 
 abbrev pub Mode : History → Type 0
@@ -113,12 +107,12 @@ chain_next h e mode can =
     (parts.0, eqb-true e.timestamp (last_timestamp (events h) + 1) parts.1 ∙ ap (λ n. n + 1) mode.at_end)
 
 -- of the open pending transfers the first one expires at this time
-record IsFirstUp (h : History) (now : ℕ) : Type 0 where
-  one : Event
-  is : first_due (events h) ≡ Some one
-  time : expires_at one.transfer ≡ now
+pub record IsFirstUp (h : History) (now : ℕ) : Type 0 where
+  pub one : Event
+  pub is : first_due (events h) ≡ Some one
+  pub time : expires_at one.transfer ≡ now
 
-first_up : (h : History) → IsSound h → (mode : IsInPulse h) → IsFirstUp h mode.now
+pub first_up : (h : History) → IsSound h → (mode : IsInPulse h) → IsFirstUp h mode.now
 first_up h sound mode = by (first_due (events h)) refl no_later no_sooner
   where
     is_open : IsOpen h mode.next
@@ -197,16 +191,21 @@ goes_on h e sound (inr pulse) can = (pulse_next h e sound pulse can).next
 
 -- ---- the end
 
--- a history has these events: a legal one, or one within a chain or a pulse
-pub record Reaches (es : List Event) : Type 0 where
+-- a history has these events: a legal one, or one within a chain or a pulse. Of these accounts it has opened those that
+-- were created before its last timestamp
+pub record Reaches (all : List (ℕ × FixedFields)) (es : List Event) : Type 0 where
   pub last : History
   pub sound : IsSound last
   pub mode : Mode last
   pub same : events last ≡ es
+  pub shown : (id : ℕ) → balances_after (events last) id ≡ balances last id last.last
+  pub opened_each : (a : ℕ × FixedFields) → lookup (nat_eq a.0) all ≡ Some a.1 → a.1.timestamp < last.last
+      → opened last a.0 ≡ Some (opening_of a)
 
 -- if no chain and no pulse is cut off, it is legal
-pub whole_legal : (es : List Event) → Reaches es → AreWhole es → (g : History) × IsLegal g × (events g ≡ es)
-whole_legal es end whole = by end.mode
+pub whole_legal : (all : List (ℕ × FixedFields)) (es : List Event) → Reaches all es → AreWhole es
+    → (g : History) × IsLegal g × (events g ≡ es)
+whole_legal all es end whole = by end.mode
   where
     by : Mode end.last → (g : History) × IsLegal g × (events g ≡ es)
     by (inl legal) = (end.last, legal, end.same)
@@ -215,9 +214,9 @@ whole_legal es end whole = by end.mode
     by (inr (inr pulse)) = absurd (pulse_left end.last end.sound pulse (subst AreWhole (sym end.same) whole))
 
 -- and if one may be, a legal history has all of the events but that last part
-pub part_legal : (es : List Event) → Reaches es
+pub part_legal : (all : List (ℕ × FixedFields)) (es : List Event) → Reaches all es
     → (g : History) × (part : List Event) × IsLegal g × (events g ++ part ≡ es) × AreCutOff part
-part_legal es end = by end.mode
+part_legal all es end = by end.mode
   where
     by : Mode end.last → (g : History) × (part : List Event) × IsLegal g × (events g ++ part ≡ es) × AreCutOff part
     by (inl legal) = (end.last, [], legal, append-nil (events end.last) ∙ end.same, inl tt)

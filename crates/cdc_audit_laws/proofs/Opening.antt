@@ -3,11 +3,11 @@ use Rattle.std.proofs.Common.{◌≡◌, ◌⊎◌, inl, inr, ℕ, ◌+◌, ◌-
 use Rattle.cdc_audit_laws.proofs.OfStd.{AllByRecursion, lookup, option_or, eq-eqb, eqb-false, eqb-true, false≢true, ltb-false, ltb-true}
 use Rattle.cdc_audit_laws.proofs.OfTypes.{BATCH_ITEMS, Event, is_linked_account, first_line, account_shape_lines, EventFits}
 use Rattle.cdc_audit_laws.proofs.OfLedger.{balances, with_account, events, NewAccountFits, History, Opened, opened, IsSound, IsLegal, account_rules, account_refused, known_account_lines, balances_later, AllByRecursion-weaker, AllByRecursion_push, events-with_account, first_line-append_none, opened-with_account, opened-with_account_same, opened_id, IsSound-with_account, find_all}
-use Rattle.cdc_audit_laws.proofs.OfAudit.{FixedFields, follows_on, balances_after}
-use Rattle.cdc_audit_laws.specs.Soundness.{HaveRoom, accounts_in}
+use Rattle.cdc_audit_laws.proofs.OfAudit.{FixedFields, follows_on, balances_after, chain_length}
+use Rattle.cdc_audit_laws.proofs.Premises.{HaveRoom, accounts_in}
 use Rattle.cdc_audit_laws.proofs.Following.{CanFollow}
 use Rattle.cdc_audit_laws.proofs.Ledgers.{fixed_of}
-use Rattle.cdc_audit_laws.proofs.Modes.{IsInChain, IsInPulse, Mode, goes_on, linked_run}
+use Rattle.cdc_audit_laws.proofs.Modes.{IsInChain, IsInPulse, Mode, goes_on}
 use Rattle.cdc_audit_laws.proofs.Openings.{IsOpenable, opening_of}
 use Rattle.cdc_audit_laws.proofs.Running.{AccountsRunOn, accounts-legal, runs-done, runs-more, runs-taken}
 use Rattle.cdc_audit_laws.proofs.Streams.{first_follows}
@@ -102,7 +102,7 @@ module _ (all : List (ℕ × FixedFields)) where
     pub past : AllByRecursion (IsPast h.last) h.accounts
     pub ready : AllByRecursion (IsReady h rest) (accounts_in (events_in rest))
     pub follow : follows_on (events h) (events_in rest) ≡ true
-    pub room : HaveRoom (linked_run (events h)) (events_in rest)
+    pub room : HaveRoom (chain_length (events h)) (events_in rest)
     pub mode : Mode h ⊎ IsOpening h
 
   -- within a chain of accounts the next one is to come
@@ -259,5 +259,5 @@ module _ (all : List (ℕ × FixedFields)) where
           (goes.can.0.1, omega arith);
       ready = AllByRecursion-weaker _ _ ready_then (accounts_in (events_in rest)) goes.ready;
       follow = subst (λ es. follows_on es (events_in rest) ≡ true) (sym same_events) goes.follow;
-      room = subst (λ es. HaveRoom (linked_run es) (events_in rest)) (sym same_events) goes.room;
+      room = subst (λ es. HaveRoom (chain_length es) (events_in rest)) (sym same_events) goes.room;
     }

@@ -10,17 +10,17 @@ use Rattle.cdc_audit_laws.proofs.Flags.{plain_is}
 use Rattle.cdc_audit_laws.proofs.Following.{NoneApplies, no_first_line}
 
 -- the sums fit, the limits are kept, and the transfer expires in time
-record HasSums (d c : Balances) (debited credited : NewAccount) (r : NewTransfer) (t : ℕ) : Type 0 where
-  debits : d.debits_pending + d.debits_posted + r.amount ≤ max_128
-  credits : c.credits_pending + c.credits_posted + r.amount ≤ max_128
-  timely : (not (r.timeout == 0) && nat_lt max_timestamp (expires_at (as_asked r t))) ≡ false
-  debit_limit : (has_flag debited.flags DEBITS_MUST_NOT_EXCEED_CREDITS
+pub record HasSums (d c : Balances) (debited credited : NewAccount) (r : NewTransfer) (t : ℕ) : Type 0 where
+  pub debits : d.debits_pending + d.debits_posted + r.amount ≤ max_128
+  pub credits : c.credits_pending + c.credits_posted + r.amount ≤ max_128
+  pub timely : (not (r.timeout == 0) && nat_lt max_timestamp (expires_at (as_asked r t))) ≡ false
+  pub debit_limit : (has_flag debited.flags DEBITS_MUST_NOT_EXCEED_CREDITS
       && nat_lt d.credits_posted (d.debits_pending + d.debits_posted + r.amount)) ≡ false
-  credit_limit : (has_flag credited.flags CREDITS_MUST_NOT_EXCEED_DEBITS
+  pub credit_limit : (has_flag credited.flags CREDITS_MUST_NOT_EXCEED_DEBITS
       && nat_lt c.debits_posted (c.credits_pending + c.credits_posted + r.amount)) ≡ false
 
 -- then none of the lines on sums applies
-no_sum_line : (d c : Balances) (debited credited : NewAccount) (r : NewTransfer) (t : ℕ)
+pub no_sum_line : (d c : Balances) (debited credited : NewAccount) (r : NewTransfer) (t : ℕ)
     → HasSums d c debited credited r t → NoneApplies (sum_lines d c debited credited r t)
 no_sum_line d c debited credited r t has = grind arith
 

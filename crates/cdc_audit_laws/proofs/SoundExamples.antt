@@ -1,12 +1,11 @@
 -- The converse law at work in short streams: one that is a ledger's, and some that aren't.
-use Rattle.std.proofs.Common.{◌≡◌, true, false, not, List, [], ◌∷◌, refl, ◌&&◌}
-use Rattle.cdc_audit_laws.proofs.OfStd.{and_parts, not-true}
+use Rattle.std.proofs.Common.{◌≡◌, true, false, List, [], ◌∷◌, refl}
 use Rattle.cdc_audit_laws.proofs.OfTypes.{Event, SinglePhase, TwoPhasePending, TwoPhasePosted, TwoPhaseVoided, TwoPhaseExpired}
-use Rattle.cdc_audit_laws.proofs.OfLedger.{events as events_of, History, IsLegal, stores}
-use Rattle.cdc_audit_laws.proofs.OfAudit.{follows_on, is_accepted, is_linked, refusal}
-use Rattle.cdc_audit_laws.specs.Soundness.{IsAlone, accounts_in}
-use Rattle.cdc_audit_laws.proofs.Soundness.{events_alone_are_a_ledgers}
-use Rattle.cdc_audit_laws.proofs.ExampleEvents.{account, all_passing, all_unlinked, event, event_fits, has_small}
+use Rattle.cdc_audit_laws.proofs.OfLedger.{events as events_of, History, IsLegal}
+use Rattle.cdc_audit_laws.proofs.OfAudit.{follows_on, is_accepted, refusal}
+use Rattle.cdc_audit_laws.specs.Soundness.{AreWhole}
+use Rattle.cdc_audit_laws.proofs.Soundness.{accepted_events_are_a_ledgers}
+use Rattle.cdc_audit_laws.proofs.ExampleEvents.{account, all_fit, event}
 
 -- account 1, created at 1, pays 10 to account 2, created at 2, at 3. It holds 5 at 4 and 7 at 5. Of the 5 it posts 3 at
 -- 7, after account 3 was created at 6, and it voids the 7 at 8. Account 3 pays 1 to account 1 at 9
@@ -35,18 +34,12 @@ accepted : is_accepted stream ≡ true
 unfolding follows_on refusal
 accepted = refl
 
--- each event has small numbers, and stores a transfer that isn't linked
-is_alone : (e : Event) → (has_small e && (stores e.kind && not (is_linked e))) ≡ true → IsAlone e
-is_alone e is =
-    let parts = and_parts _ _ is in
-    let alone = and_parts _ _ parts.1 in
-    record { fits = event_fits e parts.0; stored = alone.0; unlinked = not-true _ alone.1 }
-
 -- so this stream is a ledger's
+is_whole : AreWhole stream
+is_whole = record { chain = refl; pulse = λ x y last first. cc }
+
 is_a_ledgers : (h : History) × IsLegal h × (events_of h ≡ stream)
-is_a_ledgers =
-    events_alone_are_a_ledgers stream (all_passing _ IsAlone is_alone stream refl)
-    (all_unlinked (accounts_in stream) refl) accepted
+is_a_ledgers = accepted_events_are_a_ledgers stream (all_fit stream refl) is_whole accepted
 
 -- ---- no ledger's, and refused
 

@@ -1,21 +1,25 @@
--- Accepted events are the events of a legal history, if a ledger can make them.
-use Rattle.std.proofs.Common.{◌≡◌, ◌≢◌, not, map, inl, inr, ℕ, ◌+◌, ◌<◌, ◌≤◌, ◌^◌, Bool, true, false, List, [], ◌∷◌, ◌++◌, Option, Some, None, if◌then◌else◌, refl, sym, ap, ap₂, ◌∙◌, subst, arith, ◌==◌, ◌&&◌, ◌||◌, nat_eq}
+-- Accepted events are the events of a legal history, or the first ones of one.
+use Rattle.std.proofs.Common.{◌≡◌, ◌≢◌, not, map, inl, inr, ℕ, ◌+◌, ◌<◌, ◌≤◌, ◌^◌, Bool, true, false, List, [], ◌∷◌, ◌++◌, Some, None, if◌then◌else◌, refl, sym, ap, ap₂, ◌∙◌, subst, arith, ◌==◌, ◌&&◌, ◌||◌, nat_eq, nat_le, nat_lt, length, append-nil}
 use Rattle.cdc_audit_laws.proofs.OfStd.{AllByRecursion, list_any, lookup, option_or, and_from, and_parts, eqb-false, eqb-true, false≢true, ltb-false, not-true, not_from_false, or_parts}
-use Rattle.cdc_audit_laws.proofs.OfTypes.{TIMESTAMP, Event, EventAccount, has_flag, account_refusal, AccountFits, EventFits}
-use Rattle.cdc_audit_laws.proofs.OfLedger.{empty_history, AllByRecursion-both, AllByRecursion-weaker}
-use Rattle.cdc_audit_laws.proofs.OfAudit.{FixedFields, follows_on, is_accepted, asked_account, fields_before, fixed_fields, last_expiry_from, linked_from}
+use Rattle.cdc_audit_laws.proofs.OfTypes.{BATCH_ITEMS, RiseFrom, TIMESTAMP, last_timestamp, last_timestamp_from-push, Event, EventAccount, has_flag, account_refusal, AccountFits, EventFits}
+use Rattle.cdc_audit_laws.proofs.OfLedger.{events as events_of, empty_history, AllByRecursion-both, AllByRecursion-weaker}
+use Rattle.cdc_audit_laws.proofs.OfAudit.{FixedFields, chain_length, ends_in_chain, first_due, follows_on, is_accepted, is_linked, last_expiry, asked_account, fields_before, fixed_fields}
 use Rattle.cdc_types.specs.declared.accounts.TheConstants.AccountFlags.{LINKED}
-use Rattle.cdc_audit_laws.specs.Soundness.{AcceptedEventsAreALedgers, AcceptedEventsStartAsALedgers, AccountsHaveRoom, CanBeMade, EventsAloneAreALedgers, HaveRoom, IsAlone, NextIsFree, IsUnlinked, accounts_in}
+use Rattle.cdc_audit_laws.proofs.Premises.{CanBeMade, HaveRoom, accounts_in}
+use Rattle.cdc_audit_laws.specs.Soundness.{AcceptedEventsAreALedgers, AcceptedEventsBeginALedgers, AcceptedEventsStartAsALedgers, PulseFits}
 use Rattle.cdc_audit_laws.proofs.Coming.{has_accounts}
-use Rattle.cdc_audit_laws.proofs.Streams.{accepted_events_rise, first_follows}
+use Rattle.cdc_audit_laws.proofs.Streams.{accepted_events_rise, first_follows, first_room, parts_follow}
 use Rattle.cdc_audit_laws.proofs.Alone.{AreAlone, all_alone, alone-nil}
-use Rattle.cdc_audit_laws.proofs.Known.{IsKnown, all_known, all_parts, lookup_parts}
+use Rattle.cdc_audit_laws.proofs.Known.{IsKnown, accounts_parts, all_known, all_parts, found_has, lookup_parts}
 use Rattle.cdc_audit_laws.proofs.Unseen.{HasIds, each_there, has_ids, none_has, times_after, times_after-all, times_after-has, unseen, unseen-found, unseen-openable}
 use Rattle.cdc_audit_laws.proofs.Plan.{Admits, AllAdmit, Opens, Planned, all-place_all, events_in, events_in-only, events_in-place_all, only, only-all, only-rises, place_all, place_all-opens, rises-place_all}
 use Rattle.cdc_audit_laws.proofs.Openings.{AreCreated, IsOpenable, are_created, opening_of}
-use Rattle.cdc_audit_laws.proofs.Modes.{Reaches, part_legal, whole_legal}
+use Rattle.cdc_audit_laws.proofs.Modes.{IsInChain, Mode, Reaches, chain-push, first_up, part_legal, run-push, whole_legal}
 use Rattle.cdc_audit_laws.proofs.Opening.{AreFew, AreFollowed, CanMake, IsReady, IsThere}
+use Rattle.std.proofs.lemmas.Bool.{leb-false}
 use Rattle.cdc_audit_laws.proofs.Walk.{made_from_empty}
+use Rattle.cdc_audit_laws.proofs.Gaps.{can_be_made}
+use Rattle.cdc_audit_laws.proofs.Completing.{Begins, chain_begins, pulse_begins}
 
 -- ---- the accounts of accepted events can be opened
 
@@ -67,22 +71,6 @@ all_early past (e ∷ rest) follow =
     (omega (arith, debit, within), (omega (arith, credit, within), all_early (past ++ e ∷ []) rest first.1))
 
 -- ---- accounts that are found
-
--- what holds of all accounts holds of one that is found
-found_has : (P : ℕ × FixedFields → Type 0) (those : List (ℕ × FixedFields)) (a : ℕ × FixedFields)
-    → AllByRecursion P those → lookup (nat_eq a.0) those ≡ Some a.1 → P a
-found_has P [] a all found = cc
-found_has P (b ∷ those) a all found =
-    by (nat_eq a.0 b.0) refl found (found_has P those a all.1)
-  where
-    by : (same : Bool) → nat_eq a.0 b.0 ≡ same → (if same then Some b.1 else lookup (nat_eq a.0) those) ≡ Some a.1
-        → (lookup (nat_eq a.0) those ≡ Some a.1 → P a) → P a
-    by true is found more =
-        let id = eqb-true a.0 b.0 is in
-        let fields : b.1 ≡ a.1 = cc in
-        let same : b ≡ a = ap₂ (λ n f. let x : ℕ × FixedFields = (n, f) in x) (sym id) fields in
-        subst P same all.0
-    by false is found more = more found
 
 -- an account with this timestamp is there
 any_there : (all those : List (ℕ × FixedFields)) (t : ℕ)
@@ -192,6 +180,10 @@ module _ (events : List Event) (can : CanBeMade events) (accepted : is_accepted 
       (λ a is. lookup_parts a.0 shown others ∙ ap (λ o. option_or o (lookup (nat_eq a.0) others)) is) shown known)
       (mapped IsFound (unseen ids.from) times found_times)
 
+  -- those that are shown among them
+  found_shown : AllByRecursion IsFound shown
+  found_shown = first_part IsFound shown others found_all
+
   -- and can be opened
   fit_all : AllByRecursion IsFit all
   fit_all =
@@ -280,11 +272,11 @@ module _ (events : List Event) (can : CanBeMade events) (accepted : is_accepted 
             (mapped _ _ _ (AllByRecursion-weaker _ _ (λ u is time. refl) times times_are))) found,
       )
 
-  reaches : Reaches events
+  reaches : Reaches all events
   reaches =
       let after : AllByRecursion (λ a. 0 < (opening_of a).timestamp) all =
       AllByRecursion-weaker _ _ (λ a is. is.some) all fit_all in
-      subst Reaches same_events
+      subst (Reaches all) same_events
       (made_from_empty all plan followed few (λ a found. found_has (λ b. Opens (opening_of b) plan) all a opens found)
       (rises-place_all opening_of 0 all (only events) after (only-rises 0 events
       (accepted_events_rise events accepted)))
@@ -293,59 +285,101 @@ module _ (events : List Event) (can : CanBeMade events) (accepted : is_accepted 
 
 -- so they are the events of a ledger, if none is missing at the end
 pub accepted_events_are_a_ledgers : AcceptedEventsAreALedgers
-accepted_events_are_a_ledgers events can whole accepted = whole_legal events (reaches events can accepted) whole
+accepted_events_are_a_ledgers events fit whole accepted =
+    let can = can_be_made events fit accepted in
+    whole_legal (all events can accepted) events (reaches events can accepted) whole
 
 -- and all of them but a last part are
 pub accepted_events_start_as_a_ledgers : AcceptedEventsStartAsALedgers
-accepted_events_start_as_a_ledgers events can accepted = part_legal events (reaches events can accepted)
+accepted_events_start_as_a_ledgers events fit accepted =
+    let can = can_be_made events fit accepted in
+    part_legal (all events can accepted) events (reaches events can accepted)
 
--- ---- events that store a transfer each, without chains
+-- ---- and a ledger has their events, and then others
 
--- none of these events is linked, so there is room
-alone_room : (events : List Event) → AllByRecursion IsAlone events → HaveRoom 0 events
-alone_room [] alone = tt
-alone_room (e ∷ events) alone = (
-  omega arith,
-  subst (λ b. HaveRoom (if b then 1 else 0) events) (sym alone.0.unlinked) (alone_room events alone.1),
-)
+-- the last one of some events
+split_last : (e : Event) (es : List Event) → (front : List Event) × (l : Event) × (e ∷ es ≡ front ++ l ∷ [])
+split_last e [] = ([], e, refl)
+split_last e (x ∷ es) =
+    let more = split_last x es in (e ∷ more.0, more.1, ap (λ xs. e ∷ xs) more.2)
 
--- and they don't end within a chain
-alone_unlinked : (events : List Event) → AllByRecursion IsAlone events → linked_from false events ≡ false
-alone_unlinked [] alone = refl
-alone_unlinked (e ∷ events) alone =
-    ap (λ b. linked_from b events) alone.0.unlinked ∙ alone_unlinked events alone.1
+split_chain : (es : List Event) → ends_in_chain es ≡ true
+    → (front : List Event) × (l : Event) × (es ≡ front ++ l ∷ [])
+split_chain [] ends = cc
+split_chain (e ∷ es) ends = split_last e es
 
--- none of them is an expiry
-alone_stored : (events : List Event) → AllByRecursion IsAlone events → last_expiry_from None events ≡ None
-alone_stored [] alone = refl
-alone_stored (e ∷ events) alone =
-    ap (λ b. last_expiry_from (if b then None else Some e) events) alone.0.stored ∙ alone_stored events alone.1
+-- what holds of all events holds of the last one
+last_has : (P : Event → Type 0) (front : List Event) (l : Event) → AllByRecursion P (front ++ l ∷ []) → P l
+last_has P [] l all = all.0
+last_has P (e ∷ front) l all = last_has P front l all.1
 
--- accounts that aren't linked are no chains
-pub each_next_free : (events : List Event) → AllByRecursion IsUnlinked (accounts_in events)
-    → AllByRecursion (NextIsFree events) (accounts_in events)
-each_next_free events unlinked =
-    AllByRecursion-weaker _ _ (λ a is linked. absurd (false≢true (sym is ∙ linked))) (accounts_in events) unlinked
+-- a chain is completed
+module _ (events : List Event) (fit : AllByRecursion EventFits events) (accepted : is_accepted events ≡ true) where
+  can : CanBeMade events
+  can = can_be_made events fit accepted
 
-pub with_room : (events : List Event) → AllByRecursion IsUnlinked (accounts_in events) → AccountsHaveRoom events
-with_room events unlinked t = (
-  0,
-  omega arith,
-  AllByRecursion-weaker _ _ (λ a is time. is) (accounts_in events) unlinked,
-)
+  end : Reaches (all events can accepted) events
+  end = reaches events can accepted
 
--- nothing isn't something
-none_some : (x : Event) → ◌≡◌ {A = Option Event} None (Some x) → ⊥
-none_some x is = cc
+  completed : IsInChain end.last → (front : List Event) (l : Event) → events ≡ front ++ l ∷ []
+      → Begins (events_of end.last)
+  completed chain front l split =
+      let follow : follows_on front (l ∷ []) ≡ true =
+      (parts_follow [] front (l ∷ []) (subst (λ es. is_accepted es ≡ true) split accepted)).1 in
+      let can_follow = (first_follows front l [] follow).0 in
+      let room = first_room front l [] follow in
+      let created = are_created front l can_follow in
+      let linked : is_linked l ≡ true =
+      sym (chain-push front l) ∙ ap ends_in_chain (sym split ∙ sym end.same) ∙ chain.chained in
+      let last : l.timestamp ≡ end.last.last =
+      sym (last_timestamp_from-push 0 front l) ∙ ap last_timestamp (sym split ∙ sym end.same) ∙ chain.at_end in
+      let late = leb-false TIMESTAMP l.timestamp
+      (sym (ap (λ b. b && nat_le TIMESTAMP l.timestamp) linked) ∙ room.last) in
+      let long = ltb-false BATCH_ITEMS (chain_length front + 2)
+      (sym (ap (λ b. b && nat_lt BATCH_ITEMS (chain_length front + 2)) linked) ∙ room.long) in
+      let run : chain_length (events_of end.last) ≡ chain_length front + 1 =
+      ap chain_length (end.same ∙ split) ∙ run-push front l linked in
+      let found = accounts_parts (λ (a : ℕ × FixedFields). lookup (nat_eq a.0) (all events can accepted) ≡ Some a.1)
+      front l []
+      (subst (λ es. AllByRecursion
+      (λ (a : ℕ × FixedFields). lookup (nat_eq a.0) (all events can accepted) ≡ Some a.1) (accounts_in es)) split
+      (found_shown events can accepted)) in
+      let d_created = created.debit in
+      let c_created = created.credit in
+      let d_early : l.debit_account.timestamp < end.last.last = omega (arith, d_created, last) in
+      let c_early : l.credit_account.timestamp < end.last.last = omega (arith, c_created, last) in
+      chain_begins end.last front l (record {
+        sound = end.sound;
+        shown = end.shown;
+        split = end.same ∙ split;
+        can = can_follow;
+        fits = last_has EventFits front l (subst (AllByRecursion EventFits) split fit);
+        debit = end.opened_each (l.debit_account.id, fixed_fields l.ledger l.debit_account) found.1 d_early;
+        credit = end.opened_each (l.credit_account.id, fixed_fields l.ledger l.credit_account) found.2 c_early;
+        rises = subst (RiseFrom 0) (sym end.same) (accepted_events_rise events accepted);
+        within = subst (AllByRecursion (λ e. e.timestamp ≤ TIMESTAMP)) (sym end.same) (all_within [] events accepted);
+        few = omega (arith, run, long);
+        in_time = omega (arith, last, late);
+      }) chain
 
-pub events_alone_are_a_ledgers : EventsAloneAreALedgers
-events_alone_are_a_ledgers events alone unlinked accepted =
-    accepted_events_are_a_ledgers events (record {
-      fit = AllByRecursion-weaker _ _ (λ e is. is.fits) events alone;
-      next_free = each_next_free events unlinked;
-      accounts_room = with_room events unlinked;
-      room = alone_room events alone;
-    }) (record {
-      chain = alone_unlinked events alone;
-      pulse = λ x y last first same. none_some x (sym (alone_stored events alone) ∙ last);
-    }) accepted
+  begins : PulseFits events → Begins events
+  begins pulse_fits = by end.mode
+    where
+      on : Begins (events_of end.last) → Begins events
+      on found = (found.0, found.1, found.2, found.3 ∙ ap (λ es. es ++ found.1) end.same)
+
+      by : Mode end.last → Begins events
+      by (inl legal) = on (end.last, [], legal, sym (append-nil (events_of end.last)))
+      by (inr (inl chain)) =
+          let split = split_chain events (ap ends_in_chain (sym end.same) ∙ chain.chained) in
+          on (completed chain split.0 split.1 split.2)
+      by (inr (inr pulse)) =
+          let up = first_up end.last end.sound pulse in
+          let enough = pulse_fits pulse.last up.one (ap last_expiry (sym end.same) ∙ pulse.last_is)
+          (ap first_due (sym end.same) ∙ up.is) (pulse.time ∙ sym up.time) in
+          let same = ap length end.same in
+          let time = ap last_timestamp (sym end.same) ∙ pulse.ends in
+          on (pulse_begins end.last end.sound pulse (omega (arith, enough, same, time)))
+
+pub accepted_events_begin_a_ledgers : AcceptedEventsBeginALedgers
+accepted_events_begin_a_ledgers events fit pulse accepted = begins events fit accepted pulse

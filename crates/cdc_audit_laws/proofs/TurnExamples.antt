@@ -1,12 +1,12 @@
 -- The converse law at work in a stream with a chain and a pulse, and in one whose chain is cut off.
-use Rattle.std.proofs.Common.{◌≡◌, true, List, [], ◌∷◌, ◌++◌, refl, subst, arith}
+use Rattle.std.proofs.Common.{◌≡◌, true, List, [], ◌∷◌, ◌++◌, refl, subst}
 use Rattle.cdc_audit_laws.proofs.OfStd.{true≢false, AllByRecursion}
-use Rattle.cdc_audit_laws.proofs.OfTypes.{Event, SinglePhase, TwoPhasePending, TwoPhaseExpired}
+use Rattle.cdc_audit_laws.proofs.OfTypes.{Event, EventFits, SinglePhase, TwoPhasePending, TwoPhaseExpired}
 use Rattle.cdc_audit_laws.proofs.OfLedger.{events as events_of, History, IsLegal}
 use Rattle.cdc_audit_laws.proofs.OfAudit.{follows_on, is_accepted, refusal}
-use Rattle.cdc_audit_laws.specs.Soundness.{AreCutOff, AreWhole, CanBeMade, IsUnlinked, accounts_in}
-use Rattle.cdc_audit_laws.proofs.Soundness.{accepted_events_are_a_ledgers, accepted_events_start_as_a_ledgers}
-use Rattle.cdc_audit_laws.proofs.ExampleEvents.{account, all_unlinked, event}
+use Rattle.cdc_audit_laws.specs.Soundness.{AreCutOff, AreWhole}
+use Rattle.cdc_audit_laws.proofs.Soundness.{accepted_events_are_a_ledgers, accepted_events_begin_a_ledgers, accepted_events_start_as_a_ledgers}
+use Rattle.cdc_audit_laws.proofs.ExampleEvents.{account, all_fit, event}
 use Rattle.cdc_audit_laws.proofs.Whole.{ledgers_events_are_whole}
 
 -- account 1 holds 5 for account 2 at 4, for 2 seconds. It pays 1 and 2 in a chain, at 6 and 7. It holds 7 at
@@ -44,16 +44,12 @@ long_accepted = refl
 long_whole : AreWhole long_stream
 long_whole = record { chain = refl; pulse = λ x y last first. cc }
 
--- none of its accounts is linked
-long_unlinked : AllByRecursion IsUnlinked (accounts_in long_stream)
-long_unlinked = all_unlinked (accounts_in long_stream) refl
-
-long_can_be_made : CanBeMade long_stream
-long_can_be_made = grind arith
+long_fit : AllByRecursion EventFits long_stream
+long_fit = all_fit long_stream refl
 
 -- so the stream is a ledger's
 long_is_a_ledgers : (h : History) × IsLegal h × (events_of h ≡ long_stream)
-long_is_a_ledgers = accepted_events_are_a_ledgers long_stream long_can_be_made long_whole long_accepted
+long_is_a_ledgers = accepted_events_are_a_ledgers long_stream long_fit long_whole long_accepted
 
 -- ---- accepted, and no ledger's: its chain is cut off
 
@@ -66,17 +62,18 @@ cut_accepted = refl
 
 cut_no_ledgers : (h : History) → IsLegal h → events_of h ≡ cut_stream → ⊥
 cut_no_ledgers h legal same =
-    let whole : AreWhole cut_stream = subst AreWhole same (ledgers_events_are_whole h legal).1 in
+    let whole : AreWhole cut_stream = subst AreWhole same (ledgers_events_are_whole h legal) in
     true≢false whole.chain
 
--- none of its accounts is linked
-cut_unlinked : AllByRecursion IsUnlinked (accounts_in cut_stream)
-cut_unlinked = all_unlinked (accounts_in cut_stream) refl
-
 -- so a ledger has all of it but a last part
-cut_can_be_made : CanBeMade cut_stream
-cut_can_be_made = grind arith
+cut_fit : AllByRecursion EventFits cut_stream
+cut_fit = all_fit cut_stream refl
 
 cut_starts_as_a_ledgers :
     (h : History) × (part : List Event) × IsLegal h × (events_of h ++ part ≡ cut_stream) × AreCutOff part
-cut_starts_as_a_ledgers = accepted_events_start_as_a_ledgers cut_stream cut_can_be_made cut_accepted
+cut_starts_as_a_ledgers = accepted_events_start_as_a_ledgers cut_stream cut_fit cut_accepted
+
+-- and a ledger has all of it, and then others
+cut_begins_a_ledgers :
+    (h : History) × (rest : List Event) × IsLegal h × (events_of h ≡ cut_stream ++ rest)
+cut_begins_a_ledgers = accepted_events_begin_a_ledgers cut_stream cut_fit (λ x y last first. cc) cut_accepted

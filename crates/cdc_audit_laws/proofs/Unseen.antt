@@ -4,7 +4,7 @@ use Rattle.cdc_audit_laws.proofs.OfStd.{AllByRecursion, list_any, lookup, eq-eqb
 use Rattle.cdc_audit_laws.proofs.OfTypes.{TIMESTAMP, Event, RiseFrom, max_128}
 use Rattle.cdc_audit_laws.proofs.OfLedger.{AllByRecursion-weaker}
 use Rattle.cdc_audit_laws.proofs.OfAudit.{FixedFields}
-use Rattle.cdc_audit_laws.specs.Soundness.{accounts_in}
+use Rattle.cdc_audit_laws.proofs.Premises.{accounts_in}
 use Rattle.cdc_audit_laws.proofs.Openings.{IsOpenable, opening_of}
 
 -- ---- ids that no account has
@@ -14,11 +14,11 @@ abbrev is_within : ℕ → ℕ → Bool
 is_within from id = nat_le from id && nat_lt id (from + 9223372036854775808)
 
 -- the n-th of such blocks of ids begins here
-abbrev block : ℕ → ℕ
+abbrev pub block : ℕ → ℕ
 block n = (n + 1) * 9223372036854775808
 
 -- none of these accounts has an id of the block
-abbrev IsFree : List (ℕ × FixedFields) → ℕ → Type 0
+abbrev pub IsFree : List (ℕ × FixedFields) → ℕ → Type 0
 IsFree those from = AllByRecursion (λ a. is_within from a.0 ≡ false) those
 
 -- the accounts without those of a block
@@ -67,7 +67,7 @@ still_free k n (a ∷ those) less free =
     by false is free more = (free.0, more free.1)
 
 -- of more blocks than accounts one is free
-free_block : (n : ℕ) (those : List (ℕ × FixedFields)) → length those < n
+pub free_block : (n : ℕ) (those : List (ℕ × FixedFields)) → length those < n
     → (k : ℕ) × (k < n) × IsFree those (block k)
 free_block zero those less = absurd (let no : ⊥ = omega (arith, less) in no)
 free_block (suc n) those less =
@@ -90,7 +90,7 @@ pub record HasIds (those : List (ℕ × FixedFields)) : Type 0 where
   pub free : AllByRecursion (λ a. is_within from a.0 ≡ false) those
 
 -- events that rise are no more than there are timestamps
-few_events : (t : ℕ) (es : List Event) → RiseFrom t es → AllByRecursion (λ e. e.timestamp ≤ TIMESTAMP) es
+pub few_events : (t : ℕ) (es : List Event) → RiseFrom t es → AllByRecursion (λ e. e.timestamp ≤ TIMESTAMP) es
     → t ≤ TIMESTAMP → t + length es ≤ TIMESTAMP
 few_events t [] rises within most = omega (arith, most)
 few_events t (e ∷ es) rises within most =
@@ -117,7 +117,7 @@ has_ids es rises within =
     }
 
 -- an id of its own isn't that of a shown account
-other_id : (from t id : ℕ) → t ≤ TIMESTAMP → is_within from id ≡ false → id ≢ from + t
+pub other_id : (from t id : ℕ) → t ≤ TIMESTAMP → is_within from id ≡ false → id ≢ from + t
 other_id from t id within free same = grind arith
 
 -- ---- the accounts

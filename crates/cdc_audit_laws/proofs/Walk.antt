@@ -3,15 +3,15 @@ use Rattle.std.proofs.Common.{◌≡◌, ◌⊎◌, inl, inr, ℕ, ◌+◌, ◌-
 use Rattle.cdc_audit_laws.proofs.OfStd.{cases_Bool, AllByRecursion, lookup, false≢true, ltb-false}
 use Rattle.cdc_audit_laws.proofs.OfTypes.{TIMESTAMP, Entry, Event, NewTransfer, Transfer, has_flag, is_linked_transfer, last_timestamp, last_timestamp_from-push}
 use Rattle.cdc_audit_laws.proofs.OfLedger.{pushed, timed, with_account, due, events, expires_at as expires_at_one, NewTransferFits, Follows, History, empty_history, opened, stores, IsLegal, transfer_rules, balances_later, AllByRecursion-weaker, IsLegal-empty, IsSound-empty, IsSound-timed}
-use Rattle.cdc_audit_laws.proofs.OfAudit.{FixedFields, follows_on, asked_transfer, ends_in_chain, is_linked, last_expiry, expires_at}
+use Rattle.cdc_audit_laws.proofs.OfAudit.{FixedFields, follows_on, asked_transfer, chain_length, ends_in_chain, is_linked, last_expiry, expires_at}
 use Rattle.cdc_types.specs.declared.transfers.TheConstants.TransferFlags.{LINKED}
-use Rattle.cdc_audit_laws.specs.Soundness.{HaveRoom, accounts_in}
+use Rattle.cdc_audit_laws.proofs.Premises.{HaveRoom, accounts_in}
 use Rattle.cdc_audit_laws.proofs.Coming.{Comes}
 use Rattle.cdc_audit_laws.proofs.Entering.{entry_is, own, own_follows, shows_own, unrefused}
 use Rattle.cdc_audit_laws.proofs.Expiry.{expired, expiry_follows, expiry_is, is_up, shows_expired}
 use Rattle.cdc_audit_laws.proofs.Following.{CanFollow}
 use Rattle.cdc_audit_laws.proofs.Made.{IsShownBy, entry_with, events_then, shown_then, sound_then}
-use Rattle.cdc_audit_laws.proofs.Modes.{IsOfChain, IsOfPulse, Mode, Reaches, StartsLegal, chain-push, chain_next, expiry-push, linked_run, pulse_next, run-push, run_from-push, starts, starts-push}
+use Rattle.cdc_audit_laws.proofs.Modes.{IsOfChain, IsOfPulse, Mode, Reaches, StartsLegal, chain-push, chain_next, expiry-push, pulse_next, run-push, run_from-push, starts, starts-push}
 use Rattle.cdc_audit_laws.proofs.Openings.{are_created, opening_of, request_fits}
 use Rattle.cdc_audit_laws.proofs.Running.{Pulses, RunsOn, pulses-done, pulses-expired, pulses-legal, runs-done, runs-legal, runs-more, runs-taken, timed_before}
 use Rattle.cdc_audit_laws.proofs.Streams.{first_follows}
@@ -85,7 +85,7 @@ module _ (all : List (ℕ × FixedFields)) where
         ready = goes.ready.1.1;
         follow = subst (λ es. follows_on es (events_in rest) ≡ true) (sym same_then) first.1;
         room =
-            subst (λ n. HaveRoom n (events_in rest)) (sym (ap linked_run same_then ∙ run_from-push 0 (events h) e))
+            subst (λ n. HaveRoom n (events_in rest)) (sym (ap chain_length same_then ∙ run_from-push 0 (events h) e))
             goes.room.1;
         mode = inl mode;
       }
@@ -103,18 +103,18 @@ module _ (all : List (ℕ × FixedFields)) where
           events_then h e comes (own h e comes storing) (shows_own h e comes storing) (own_follows h e comes storing)
 
       -- a chain is on its way, or begins
-      runs : RunsOn h e.timestamp (linked_run (events h)) × StartsLegal (events h) IsOfChain
+      runs : RunsOn h e.timestamp (chain_length (events h)) × StartsLegal (events h) IsOfChain
       runs = by mode_at
         where
-          by : Mode h → RunsOn h e.timestamp (linked_run (events h)) × StartsLegal (events h) IsOfChain
+          by : Mode h → RunsOn h e.timestamp (chain_length (events h)) × StartsLegal (events h) IsOfChain
           by (inl legal) = (
-            runs-more transfer_rules NewTransferFits h e.timestamp (linked_run (events h))
+            runs-more transfer_rules NewTransferFits h e.timestamp (chain_length (events h))
                 (runs-legal h e.timestamp legal goes.is_open goes.rises.0),
             starts IsOfChain h legal,
           )
           by (inr (inl chain)) =
               let next = chain_next h e chain first.0 in
-              (subst (λ t. RunsOn h t (linked_run (events h))) (sym next.1) chain.runs, chain.start)
+              (subst (λ t. RunsOn h t (chain_length (events h))) (sym next.1) chain.runs, chain.start)
           by (inr (inr pulse)) =
               let next = pulse_next h e goes.sound pulse first.0 in
               absurd (false≢true (sym next.storing ∙ storing))
@@ -133,16 +133,16 @@ module _ (all : List (ℕ × FixedFields)) where
           by false is =
               inl (subst (λ (x : Entry). IsLegal (pushed h x)) (entry_is h e comes storing)
               (runs-done transfer_rules NewTransferFits h e.timestamp
-              (linked_run (events h)) request runs.0 goes.room.0 in_time (linked_is ∙ is)
+              (chain_length (events h)) request runs.0 goes.room.0 in_time (linked_is ∙ is)
               (unrefused h e comes storing) fit))
           by true is =
               inr (inl (record {
                 runs =
                     subst (RunsOn with_own (e.timestamp + 1))
-                    (sym (ap linked_run same_own ∙ run-push (events h) e is))
-                    (subst (λ (x : Entry). RunsOn (pushed h x) (e.timestamp + 1) (linked_run (events h) + 1))
+                    (sym (ap chain_length same_own ∙ run-push (events h) e is))
+                    (subst (λ (x : Entry). RunsOn (pushed h x) (e.timestamp + 1) (chain_length (events h) + 1))
                     (entry_is h e comes storing)
-                    (runs-taken transfer_rules NewTransferFits h e.timestamp (linked_run (events h)) request runs.0
+                    (runs-taken transfer_rules NewTransferFits h e.timestamp (chain_length (events h)) request runs.0
                     (linked_is ∙ is)
                     (unrefused h e comes storing) fit));
                 chained = ap ends_in_chain same_own ∙ chain-push (events h) e ∙ is;
@@ -208,6 +208,7 @@ module _ (all : List (ℕ × FixedFields)) where
                 last_is = ap last_expiry same_gone ∙ expiry-push (events h) e storing;
                 time = refl;
                 at_end = refl;
+                ends = ap last_timestamp same_gone ∙ last_timestamp_from-push 0 (events h) e;
                 start =
                     subst (λ es. StartsLegal es (IsOfPulse now)) (sym same_gone)
                     (starts-push (IsOfPulse now) (events h) e start (storing, refl));
@@ -295,32 +296,53 @@ module _ (all : List (ℕ × FixedFields)) where
       }
       by (inr storing) = expires storing (mode_at h e rest goes)
 
+  -- an account that was created before the last timestamp is open
+  opened_early : (h : History) (rest : List Planned) → Goes all h rest → (a : ℕ × FixedFields)
+      → lookup (nat_eq a.0) all ≡ Some a.1 → a.1.timestamp < h.last → opened h a.0 ≡ Some (opening_of a)
+  opened_early h rest goes a known early = by (goes.all_ready a known)
+    where
+      by : IsReady all h rest a → opened h a.0 ≡ Some (opening_of a)
+      by (inl there) = there
+      by (inr later) =
+          let after = opens_later h.last (opening_of a) rest goes.rises later in
+          absurd (let no : ⊥ = omega (arith, early, after) in no)
+
   -- so the plan is done to its end; accounts that no later event shows stay away, if a chain or a pulse is cut off
-  reaches : (rest : List Planned) (h : History) → Goes all h rest → Reaches (events h ++ events_in rest)
+  reaches : (rest : List Planned) (h : History) → Goes all h rest → Reaches all (events h ++ events_in rest)
   reaches [] h goes = by goes.mode
     where
-      by : (Mode h ⊎ IsOpening all h) → Reaches (events h ++ [])
-      by (inl mode) = record { last = h; sound = goes.sound; mode = mode; same = sym (append-nil (events h)) }
+      by : (Mode h ⊎ IsOpening all h) → Reaches all (events h ++ [])
+      by (inl mode) = record {
+        last = h;
+        sound = goes.sound;
+        mode = mode;
+        same = sym (append-nil (events h));
+        shown = goes.shown;
+        opened_each = opened_early h [] goes;
+      }
       by (inr opening) = absurd (to_come all h [] goes opening)
   reaches (inl o ∷ rest) h goes =
       by goes.mode (events_in rest) refl
-      (λ begun. subst Reaches (ap (λ es. es ++ events_in rest) (same_events all h o rest goes))
+      (λ begun. subst (Reaches all) (ap (λ es. es ++ events_in rest) (same_events all h o rest goes))
       (reaches rest (with_account h o) (goes_then all h o rest goes begun)))
     where
       by : (Mode h ⊎ IsOpening all h) → (es : List Event) → events_in rest ≡ es
-          → (IsBegun all h o.timestamp → Reaches (events h ++ events_in rest)) → Reaches (events h ++ events_in rest)
+          → (IsBegun all h o.timestamp → Reaches all (events h ++ events_in rest))
+          → Reaches all (events h ++ events_in rest)
       by (inl (inl legal)) es is more = more (begun_new all h o rest goes legal)
       by (inl (inr on)) [] is more = record {
         last = h;
         sound = goes.sound;
         mode = inr on;
         same = sym (append-nil (events h)) ∙ ap (λ es. events h ++ es) (sym is);
+        shown = goes.shown;
+        opened_each = opened_early h (inl o ∷ rest) goes;
       }
       by (inl (inr on)) (e ∷ es) is more = absurd (too_late all h o rest goes e es is on)
       by (inr opening) es is more = more (begun_before all h o rest goes opening)
   reaches (inr e ∷ rest) h goes =
       let step = steps h e rest goes in
-      subst Reaches
+      subst (Reaches all)
       (ap (λ es. es ++ events_in rest) step.events_are ∙ append_assoc (events h) (e ∷ []) (events_in rest))
       (reaches rest step.after step.goes)
 
@@ -329,7 +351,7 @@ module _ (all : List (ℕ × FixedFields)) where
       → ((a : ℕ × FixedFields) → lookup (nat_eq a.0) all ≡ Some a.1 → Opens (opening_of a) plan) → Rises 0 plan
       → AllByRecursion (CanMake all) plan
       → AllByRecursion (IsReady all empty_history plan) (accounts_in (events_in plan))
-      → follows_on [] (events_in plan) ≡ true → HaveRoom 0 (events_in plan) → Reaches (events_in plan)
+      → follows_on [] (events_in plan) ≡ true → HaveRoom 0 (events_in plan) → Reaches all (events_in plan)
   made_from_empty plan followed few opened_all rises can ready follow room =
       reaches plan empty_history (record {
         followed = followed;

@@ -3,24 +3,24 @@ use Rattle.std.proofs.Common.{◌≡◌, ℕ, ◌+◌, ◌<◌, true, false, not
 use Rattle.cdc_audit_laws.proofs.OfStd.{AllByRecursion, and_parts, not-true}
 use Rattle.cdc_audit_laws.proofs.OfTypes.{BATCH_ITEMS, Entry, Event, NewTransfer, Transfer}
 use Rattle.cdc_audit_laws.proofs.OfLedger.{expiry, pushed, with_account, event_of, events, expires_at as expires_at_one, History, Opened, holds, IsSound, IsLegal, entry_of, opened_by, AllByRecursion-weaker, events-pushed, events-with_account, IsSound-from_legal}
-use Rattle.cdc_audit_laws.proofs.OfAudit.{can_expire, first_due, is_linked, is_settled, last_expiry, expires_at, first_of-all, passing}
-use Rattle.cdc_audit_laws.specs.Soundness.{HaveRoom, LedgersEventsAreWhole}
+use Rattle.cdc_audit_laws.proofs.OfAudit.{can_expire, chain_length_from, first_due, is_linked, is_settled, last_expiry, expires_at, first_of-all, passing}
+use Rattle.cdc_audit_laws.proofs.Premises.{HaveRoom}
+use Rattle.cdc_audit_laws.specs.Soundness.{LedgersEventsAreWhole}
 use Rattle.cdc_audit_laws.proofs.Traces.{unresolved}
 use Rattle.cdc_audit_laws.proofs.Keeping.{ended_by_legal, is_in_chain, kept_by_legal, links, run-none, run_from, run_of}
 use Rattle.cdc_audit_laws.proofs.Ledgers.{all_images, same_chain, same_expiry}
-use Rattle.cdc_audit_laws.proofs.Modes.{linked_run_from}
 use Rattle.cdc_audit_laws.proofs.Pulses.{Clear, ExpiresAfter, IsClear, expiry_from}
 
 -- ---- room
 
 -- one more event, after a chain that a batch has room for
-room-push : (n : ℕ) (es : List Event) (e : Event) → HaveRoom n es → linked_run_from n es < BATCH_ITEMS
+room-push : (n : ℕ) (es : List Event) (e : Event) → HaveRoom n es → chain_length_from n es < BATCH_ITEMS
     → HaveRoom n (es ++ e ∷ [])
 room-push n [] e room one = (one, tt)
 room-push n (x ∷ es) e room one = (room.0, room-push (if is_linked x then n + 1 else 0) es e room.1 one)
 
 -- the run of linked events is that of the entries
-same_run : (h : History) (n : ℕ) (es : List Entry) → linked_run_from n (map (event_of h) es) ≡ run_from n es
+same_run : (h : History) (n : ℕ) (es : List Entry) → chain_length_from n (map (event_of h) es) ≡ run_from n es
 same_run h n [] = refl
 same_run h n (e ∷ es) = same_run h (if links e then n + 1 else 0) es
 
@@ -45,7 +45,7 @@ room-expiry h t p sound later unchained all =
 room-account : (h : History) (o : Opened) → IsSound h → HasRoom h → HasRoom (with_account h o)
 room-account h o sound all = subst (HaveRoom 0) (sym (events-with_account h o sound.known)) all
 
-room_by_legal : (h : History) → IsLegal h → HasRoom h
+pub room_by_legal : (h : History) → IsLegal h → HasRoom h
 room_by_legal h legal =
     kept_by_legal HasRoom tt
     (λ g r t sound later clear room chained none next all. room-request g r t sound later room all)
@@ -92,12 +92,10 @@ expires_later h x y sound clear last first =
 -- so no chain and no pulse is cut off
 pub ledgers_events_are_whole : LedgersEventsAreWhole
 ledgers_events_are_whole h legal =
-    let at_end = ended h legal in (
-      room_by_legal h legal,
-      record {
-        chain = same_chain h false h.entries ∙ at_end.0;
-        pulse = λ x y last first same.
-            let later = expires_later h x y (IsSound-from_legal h legal) at_end.1 last first in
-            omega (arith, later, same);
-      },
-    )
+    let at_end = ended h legal in
+    record {
+      chain = same_chain h false h.entries ∙ at_end.0;
+      pulse = λ x y last first same.
+          let later = expires_later h x y (IsSound-from_legal h legal) at_end.1 last first in
+          omega (arith, later, same);
+    }

@@ -2,30 +2,27 @@
 
 ghost use Rattle.cdc_audit_laws.specs.Laws.{AChangeShows, AcceptedEventsRise, BalancesAreSums, LedgersAreAccepted, NoOtherBalances};
 ghost use Rattle.cdc_audit_laws.specs.Laws.{PrefixesAreAccepted, WhatIsLeftOutMovedNothing};
-ghost use Rattle.cdc_audit_laws.specs.Soundness.{AcceptedEventsAreALedgers, AcceptedEventsStartAsALedgers, EventsAloneAreALedgers};
-ghost use Rattle.cdc_audit_laws.specs.Soundness.{LedgersEventsAreWhole, LedgersEventsCanBeMade};
+ghost use Rattle.cdc_audit_laws.specs.Soundness.{AcceptedEventsAreALedgers, AcceptedEventsBeginALedgers, AcceptedEventsStartAsALedgers};
+ghost use Rattle.cdc_audit_laws.specs.Soundness.{LedgersEventsAreWhole};
 
 /// Does nothing. Every stream that a ledger's events make is accepted, whole and every prefix of it.
 pub fn ledgers_are_accepted()
     ensures { LedgersAreAccepted }
 {}
 
-/// Does nothing. The converse: events that are accepted are those of a legal history, if a ledger can make them. Their
-/// numbers are within their widths, no event comes right after a linked account, and a batch has room for each chain of
-/// accounts or of transfers. If a chain or a pulse is cut off at the end, a legal history has the events before it. If
-/// no account and no event is linked and no event is an expiry, only the premise on numbers is left.
+/// Does nothing. The converse: events that are accepted are a prefix of a ledger's. A legal history has them, and then
+/// perhaps others, which complete a chain or a pulse that is cut off. Their numbers are within their widths, as those
+/// of all events are that were read; and if a pulse is cut off, the timestamps don't run out within it. If no chain and no
+/// pulse is cut off, a legal history has these events alone. And it always has those before the last chain or pulse.
 pub fn accepted_events_are_a_ledgers()
+    ensures begin { AcceptedEventsBeginALedgers }
     ensures all { AcceptedEventsAreALedgers }
     ensures start { AcceptedEventsStartAsALedgers }
-    ensures alone { EventsAloneAreALedgers }
 {}
 
-/// Does nothing. A ledger's events are whole: a batch has room for each chain, and no chain and no pulse is cut off.
-/// All premises of the converse hold of every ledger's events, if their numbers are within their widths. So among
-/// accepted events they hold of a ledger's, and of no others.
+/// Does nothing. A ledger's events are whole: no chain and no pulse is cut off.
 pub fn ledgers_events_are_whole()
-    ensures whole { LedgersEventsAreWhole }
-    ensures made { LedgersEventsCanBeMade }
+    ensures { LedgersEventsAreWhole }
 {}
 
 /// Does nothing. Each prefix of an accepted stream is accepted. So what the other laws promise of the last event of a

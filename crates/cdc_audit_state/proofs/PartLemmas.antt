@@ -34,7 +34,7 @@ not_there k v (e ∷ done) left distinct =
     ∙ not_there k v done left (IsDistinct-tail nat_eq e.0 (keys_of (done ++ (k, v) ∷ left)) distinct)
 
 -- a key that differs from those before it is inserted last
-inserted_last : {V : Type 0} (k : ℕ) (v : V) (done left : List (ℕ × V)) → AreDistinct (done ++ (k, v) ∷ left)
+pub inserted_last : {V : Type 0} (k : ℕ) (v : V) (done left : List (ℕ × V)) → AreDistinct (done ++ (k, v) ∷ left)
     → insert_entry nat_eq done k v ≡ done ++ (k, v) ∷ []
 inserted_last k v [] left distinct = refl
 inserted_last k v (e ∷ done) left distinct =

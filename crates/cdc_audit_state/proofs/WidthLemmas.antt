@@ -2,6 +2,7 @@
 use Rattle.cdc_audit_state.proofs.Words.{AccountFits, AllByRecursion, AreBook, AreDistinct, AuditsCanBeSaved, BookEntry, Bool, EntryFits, Event, EventAccount, EventFits, Fields, FieldsFit, FixedFields, IsByItsId, IsDistinct-head, IsDistinct-tail, IsKnownOf, List, None, Open, Option, Pending, Plain, Row, RowFits, Settled, Some, Stored, StoredFits, Time, Transfer, [], and_parts, ap, append-nil, append_assoc, are_distinct, arith, book_of, book_of-push, cond, entry_of, eqb_same, eqb_swap, eqb_tells, expiry_rows, false, false≢true, find, flat_map, holds, ids_of, inl, inr, is_among, keys_of, lookup, map, nat_eq, neither, not, option_map, put, refl, stored_under, stores, subst, sym, true, ℕ, ◌&&◌, ◌++◌, ◌<◌, ◌==◌, ◌^◌, ◌||◌, ◌∙◌, ◌∷◌, ◌≡◌}
 use Rattle.cdc_subscriber.specs.SubscriberState.{SubscriberState}
 use Rattle.cdc_types.specs.Timestamps.{last_timestamp_from}
+use Rattle.cdc_audit.proofs.KnownLemmas.{chain_length-late}
 use Rattle.cdc_audit.specs.Apart.{times_of}
 use Rattle.cdc_audit.specs.Fields.{accounts_of, fields_before, fixed_fields}
 use Rattle.cdc_audit.specs.Known.{expiry_or, is_settled, is_stored, last_expiry_from, open_event, pending_amount, pending_event}
@@ -285,6 +286,11 @@ can_be_saved auditor state stands fit transfers open_ones fields =
       open_yet = ap (λ (k : SubscriberState). k.closed) stands.kept;
       last = subst (λ (k : SubscriberState). k.last < 2 ^ 64) kept (timestamp_fits 0 past (omega arith) fit);
       applied = subst (λ (k : SubscriberState). k.applied < 2 ^ 64) kept (omega arith);
+      chain =
+          let late = chain_length-late past stands.rising in
+          let last = timestamp_fits 0 past (omega arith) fit in
+          let same = stands.chain in
+          omega (arith, late, last, same);
       book = subst (λ (k : SubscriberState). AreBook k.book) kept (book_fits past fit);
       rows = with_expiry auditor.expired _ (subst MayFit (sym stands.expired) (expiry_fits None past tt fit))
           (mapped (λ (t : ℕ × Stored). Transfer t.0 t.1) auditor.transfers _ stored

@@ -8,7 +8,7 @@ pub use Rattle.cdc_audit_state.specs.Laws.{AuditedEventsFit, AuditsCanBeSaved, A
 pub use Rattle.cdc_audit_state.specs.Parts.{GivesParts, PartsState, no_parts, parts_of, with_account, with_row}
 pub use Rattle.cdc_audit_state.specs.Rows.{GivesRow, IsEventLine, ReadsFields, account_byte, expired_byte, fields_byte, fields_numbers, first_of, open_byte, pending_byte, plain_byte, settled_byte, time_byte}
 pub use Rattle.cdc_audit_state.specs.Saveable.{AreDistinct, CanBeSaved, FieldsFit, IsByItsId, RowFits, StoredFits}
-pub use Rattle.cdc_audit_state.specs.States.{event_line, expiry_rows, fields_line, fields_rows, heading, known_rows, open_rows, row_line, rows_text, state_text, time_line, time_rows, transfer_line, transfer_rows}
+pub use Rattle.cdc_audit_state.specs.States.{chain_text, event_line, expiry_rows, fields_line, fields_rows, heading, known_rows, open_rows, row_line, rows_text, state_text, time_line, time_rows, transfer_line, transfer_rows}
 pub use Rattle.cdc_audit_state.specs.declared.rows.Row.{Row}
 pub use Rattle.cdc_audit_state.specs.declared.rows.Row.TheVariants.{Account, Expired, Fields, Open, Time, Transfer}
 pub use Rattle.cdc_codec.specs.ReadBack.{ReadsLine, ReadsNumber}

@@ -52,6 +52,7 @@ pub record CanBeSaved (auditor : AuditorState) : Type 0 where
   pub open_yet : auditor.kept.closed ≡ false
   pub last : auditor.kept.last < 2 ^ 64
   pub applied : auditor.kept.applied < 2 ^ 64
+  pub chain : auditor.chain < 2 ^ 64
   pub book : AreBook auditor.kept.book
   pub rows : AllByRecursion RowFits (known_rows auditor)
   pub transfers : AreDistinct auditor.transfers

@@ -1,10 +1,10 @@
 -- The text of an audit's state: a heading, the lines that a subscriber of the accepted events prints, and a line for
 -- each further thing that the auditor knows.
-use Rattle.std.specs.Prelude.{ℕ, List, [], ◌∷◌, ◌++◌, Option, Some, None, map, codes}
+use Rattle.std.specs.Prelude.{ℕ, nat_lt, if◌then◌else◌, List, [], ◌∷◌, ◌++◌, Option, Some, None, map, codes}
 use Rattle.std.specs.List.{flat_map}
 use Rattle.cdc_types.specs.declared.events.Event.{Event}
 use Rattle.cdc_message.specs.Bodies.{body}
-use Rattle.cdc_codec.specs.Texts.{flagged, spaced}
+use Rattle.cdc_codec.specs.Texts.{flagged, spaced, yes_or_no}
 use Rattle.cdc_subscriber.specs.Lines.{account_line, subscriber_text}
 use Rattle.cdc_audit.specs.declared.checks.Stored.{Stored}
 use Rattle.cdc_audit.specs.declared.checks.Stored.TheVariants.{Plain, Pending, Settled}
@@ -70,11 +70,16 @@ known_rows auditor =
     ++ (transfer_rows auditor.transfers
     ++ (open_rows auditor.open_ones ++ (fields_rows auditor.fields ++ time_rows auditor.times)))
 
--- the version of the text, and two flags
+-- whether the events end with linked transfers, and how many they are if they are more than one: earlier versions
+-- didn't count them
+abbrev pub chain_text : ℕ → List ℕ
+chain_text chain = yes_or_no (nat_lt 0 chain) ++ (if nat_lt 1 chain then spaced chain else [])
+
+-- the version of the text, a flag, and the chain
 abbrev pub heading : AuditorState → List ℕ
 heading auditor =
     flagged (codes "audit-state 1 foreign") auditor.foreign
-    ++ (flagged (codes " linked") auditor.linked ++ codes "\n")
+    ++ (codes " linked" ++ (chain_text auditor.chain ++ codes "\n"))
 
 -- the whole text
 unfoldable pub state_text : AuditorState → List ℕ

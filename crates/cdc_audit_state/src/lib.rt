@@ -10,5 +10,6 @@ pub mod saved;
 
 pub use laws::{audited_events_fit, audits_can_be_saved, audits_go_on, logs_can_be_cut};
 pub use logs::{base_text, read_log, record_text};
-pub use printing::push_state;
+pub use printing::{push_event, push_state};
+pub use rows::{ReadEvent, read_event};
 pub use saved::{STATE_MARK, read_state};

@@ -2,7 +2,7 @@
 
 ghost use Rattle.std.specs.Prelude.{◌≡◌, ◌++◌, OnOk};
 ghost use Rattle.std.specs.List.{flat_map};
-ghost use Rattle.cdc_audit_state.specs.States.{event_line, expiry_rows, fields_line, fields_rows, heading, known_rows};
+ghost use Rattle.cdc_audit_state.specs.States.{chain_text, event_line, expiry_rows, fields_line, fields_rows, heading, known_rows};
 ghost use Rattle.cdc_audit_state.specs.States.{time_line, time_rows};
 ghost use Rattle.cdc_audit_state.specs.States.{open_rows, rows_text, state_text, transfer_line, transfer_rows};
 
@@ -36,8 +36,21 @@ fn push_heading(text: &mut Vec<u8>, auditor: &Auditor) -> io::Result<()>
     ensures { OnOk result (text.new.items ≡ text.old.items ++ heading auditor.now) }
 {
     write_flagged(text, "audit-state 1 foreign", auditor.foreign())?;
-    write_flagged(text, " linked", auditor.in_chain())?;
+    write_text(text, " linked")?;
+    push_chain(text, auditor.chain())?;
     write_text(text, "\n")
+}
+
+/// Adds how many linked transfers the events end with.
+fn push_chain(text: &mut Vec<u8>, chain: u64) -> io::Result<()>
+    ensures { OnOk result (text.new.items ≡ text.old.items ++ chain_text chain) }
+{
+    write_flagged(text, "", chain > 0)?;
+    if chain > 1 {
+        write_spaced(text, chain)
+    } else {
+        Ok(())
+    }
 }
 
 /// Adds a line for each thing that an auditor knows besides its book.
@@ -51,8 +64,8 @@ fn push_known(alloc: Global, text: &mut Vec<u8>, auditor: &Auditor) -> io::Resul
     push_times(text, auditor.times())
 }
 
-/// Adds the line of an event.
-fn push_event(alloc: Global, text: &mut Vec<u8>, name: &str, event: &Event) -> io::Result<()>
+/// Adds the line of an event, after its name.
+pub fn push_event(alloc: Global, text: &mut Vec<u8>, name: &str, event: &Event) -> io::Result<()>
     ensures { OnOk result (text.new.items ≡ text.old.items ++ event_line name.now event.now) }
 {
     write_text(text, name)?;

@@ -74,9 +74,9 @@ fn read_fields(text: &[u8]) -> (FixedFields, &[u8])
 
 /// An event that was read, and the bytes after its line.
 #[derive(Drop)]
-pub(crate) struct ReadEvent<'a> {
-    event: Event,
-    rest: &'a [u8],
+pub struct ReadEvent<'a> {
+    pub event: Event,
+    pub rest: &'a [u8],
 }
 
 /// Passes by the error of a text that is no body. The error that memory ran out is one here, too.
@@ -89,8 +89,8 @@ fn unless_memory(error: DecodeError) -> Result<(), AllocError>
     }
 }
 
-/// The event whose body is the first line. `None`: the line is no body.
-fn read_event(alloc: Global, text: &[u8]) -> Result<Option<ReadEvent<'_>>, AllocError>
+/// The event whose body is the first line. `None`: the line is no body. The one error is that memory ran out.
+pub fn read_event(alloc: Global, text: &[u8]) -> Result<Option<ReadEvent<'_>>, AllocError>
     ensures reads { IfOk result (λ read. (e : Shown) (left : List ℕ) → IsEventLine text.now e left
         → IsSomeAnd read (λ it. (it.event ≡ e) × (it.rest.now ≡ left))) }
     ensures shorter { IfOk result (λ read. IfSome read (λ it. length it.rest.now ≤ length text.now)) }

@@ -2,7 +2,7 @@
 
 ghost use Rattle.std.specs.Prelude.{◌≡◌, ◌↔◌, Bool, IsTrue, ℕ, List, IfOk, IfSome, IsSomeAnd, false};
 ghost use Rattle.cdc_audit.specs.Standing.{AuditorState};
-ghost use Rattle.cdc_audit_state.specs.Headings.{ReadsFront};
+ghost use Rattle.cdc_audit_state.specs.Headings.{ReadsChain, ReadsFront};
 ghost use Rattle.cdc_audit_state.specs.Saveable.{CanBeSaved};
 ghost use Rattle.cdc_audit_state.specs.States.{state_text};
 
@@ -21,11 +21,25 @@ pub const STATE_MARK: &[u8] = b"audit-state ";
 #[derive(Drop)]
 pub(crate) struct Front<'a> {
     foreign: bool,
-    linked: bool,
+    chain: u64,
     applied: u64,
     last: u64,
     ended: bool,
     lines: &'a [u8],
+}
+
+/// How many linked transfers the events end with, and the bytes after that.
+fn read_chain(text: &[u8]) -> (u64, &[u8])
+    ensures { ReadsChain text.now result.0 result.1.now }
+{
+    let (linked, rest) = flag(text);
+    if !linked {
+        (0, rest)
+    } else if rest.starts_with(b" ") {
+        number_64(rest)
+    } else {
+        (1, rest)
+    }
 }
 
 /// What precedes the lines.
@@ -33,7 +47,7 @@ fn read_front(text: &[u8]) -> Front<'_>
     ensures { ReadsFront text.now result }
 {
     let (foreign, rest) = flag(skip(text, 21));
-    let (linked, rest) = flag(skip(rest, 7));
+    let (chain, rest) = read_chain(skip(rest, 7));
     let (_, rest) = number(skip(rest, 11));
     let (applied, rest) = number_64(skip(rest, 8));
     let (last, rest) = number_64(skip(rest, 5));
@@ -41,7 +55,7 @@ fn read_front(text: &[u8]) -> Front<'_>
     let (_, rest) = flag(skip(rest, 7));
     Front {
         foreign,
-        linked,
+        chain,
         applied,
         last,
         ended,
@@ -73,7 +87,7 @@ fn auditor_of(alloc: Global, front: &Front<'_>, parts: Parts) -> Result<Auditor,
       open_ones = parts.open_ones;
       fields = parts.fixed;
       times = parts.times;
-      linked = front.now.linked;
+      chain = front.now.chain;
       expired = parts.expired;
     }) }
 {
@@ -95,7 +109,7 @@ fn auditor_of(alloc: Global, front: &Front<'_>, parts: Parts) -> Result<Auditor,
             open_ones,
             fields,
             times,
-            linked: front.linked,
+            chain: front.chain,
             expired,
         },
     )

@@ -1,4 +1,4 @@
-use Rattle.cdc_audit.proofs.Words.{balances_lines, chain_lines, expiry_lines, fixed_lines, limits_lines, order_lines, settling_lines, shape_lines, transfer_lines, ◌++◌}
+use Rattle.cdc_audit.proofs.Words.{balances_lines, chain_lines, expiry_lines, fixed_lines, limits_lines, order_lines, room_lines, settling_lines, shape_lines, transfer_lines, ◌++◌}
 use Rattle.cdc_audit.proofs.StandLemmas.{either_is}
 use Rattle.cdc_audit.proofs.checks.refusal_by.Goals as goal
 
@@ -12,7 +12,8 @@ returns c =
     let transfer = transfer_lines facts e in
     let settling = settling_lines facts.open_one e ++ expiry_lines facts.first facts.expired e in
     let limits = chain_lines facts.linked facts.last e ++ limits_lines e in
-    either_is _ _ _ (order ++ shape ++ fixed ++ transfer ++ settling ++ limits) (balances_lines facts e) c.or-8.ensures
+    either_is _ _ _ (order ++ shape ++ fixed ++ transfer ++ settling ++ limits)
+    (balances_lines facts e ++ room_lines facts.room e) c.or-9.ensures
     (either_is _ _ _ (order ++ shape ++ fixed ++ transfer ++ settling) limits c.or-7.ensures
     (either_is _ _ _ (order ++ shape ++ fixed ++ transfer) settling c.or-5.ensures
     (either_is _ _ _ (order ++ shape ++ fixed) transfer c.or-3.ensures
@@ -22,4 +23,6 @@ returns c =
     (either_is _ _ _ (settling_lines facts.open_one e) (expiry_lines facts.first facts.expired e) c.or-4.ensures
     c.settling_refusal.ensures c.expiry_refusal.ensures))
     (either_is _ _ _ (chain_lines facts.linked facts.last e) (limits_lines e) c.or-6.ensures c.chain_refusal.ensures
-    c.limits_refusal.ensures)) c.balances_refusal.ensures
+    c.limits_refusal.ensures))
+    (either_is _ _ _ (balances_lines facts e) (room_lines facts.room e) c.or-8.ensures c.balances_refusal.ensures
+    c.room_refusal.ensures)

@@ -1,6 +1,6 @@
-use Rattle.cdc_audit.proofs.Words.{AuditorState, Facts, IsTimeIndex, None, [], ap, expiry_or, first_line, lines, next_state, released, subst, sym, with_accounts, with_held, with_own, with_settled, without_settled, ◌++◌, ◌∙◌, ◌∷◌}
+use Rattle.cdc_audit.proofs.Words.{AuditorState, Facts, IsLinkIndex, IsTimeIndex, None, [], ap, expiry_or, first_line, lines, next_chain, next_state, released, subst, sym, with_accounts, with_held, with_own, with_settled, without_settled, ◌++◌, ◌∙◌, ◌∷◌}
 use Rattle.cdc_message.specs.declared.items.Item.TheVariants as item
-use Rattle.cdc_audit.proofs.StandLemmas.{accepts, answers, times_ordered, unless_error}
+use Rattle.cdc_audit.proofs.StandLemmas.{accepts, answers, auditor_same, if_error, times_ordered, unless_error}
 use Rattle.cdc_audit.proofs.auditor.Auditor.take_event.Goals as goal
 
 pub returns-in-Some-clause-answer : goal.returns-in-Some-clause-answer
@@ -32,7 +32,7 @@ returns-clause-accepted c = λ state stands _.
       open_ones = c.remove_settled.new.open_ones;
       fields = c.keep_accounts.new.fields.entries;
       times = c.keep_time.new.times.items;
-      linked = c.is_linked-self-inside.result;
+      chain = c.next_chain-self-inside.result;
       expired = c.expiry_or-self-inside.result;
     }) state _ e
     (sym (ap (λ (a : AuditorState). a.kept.ended) c.self.view_is) ∙ (sym c.ended.ensures ∙ c.if-ended.false))
@@ -54,13 +54,26 @@ returns-clause-accepted c = λ state stands _.
     (c.in_ok-reserve-2.ensures.entries ∙ ap (λ (a : AuditorState). a.fields) c.self.view_is))
     (c.keep_time.ensures
     ∙ ap (λ ts. ts ++ e.timestamp ∷ [])
-    (c.in_ok-reserve-4.ensures.items ∙ ap (λ (a : AuditorState). a.times) c.self.view_is))
-    c.is_linked-self-inside.ensures
+    (c.in_ok-reserve-5.ensures.items ∙ ap (λ (a : AuditorState). a.times) c.self.view_is))
+    (c.next_chain-self-inside.ensures ∙ ap (λ (a : AuditorState). next_chain a.chain e) c.self.view_is)
     (c.expiry_or-self-inside.ensures ∙ ap (λ (a : AuditorState). expiry_or a.expired e) c.self.view_is)
     (ap (λ (a : AuditorState). a.foreign) c.self.view_is) stands
 
 pub invariant_of-self-2 : goal.invariant_of-self-2
-invariant_of-self-2 c =
-    c.keep_accounts.ensures.index (subst (λ index. IsTimeIndex index c.reserve-2.new.self.entries)
-    (sym c.in_ok-reserve-3.ensures.entries)
-    (subst (IsTimeIndex c.self.inside.created.entries) (sym c.in_ok-reserve-2.ensures.entries) c.self.invariant))
+invariant_of-self-2 c = (
+  c.keep_accounts.ensures.index (subst (λ index. IsTimeIndex index c.reserve-2.new.self.entries)
+      (sym c.in_ok-reserve-3.ensures.entries)
+      (subst (IsTimeIndex c.self.inside.created.entries) (sym c.in_ok-reserve-2.ensures.entries) c.self.invariant.0)),
+  c.keep_accounts.ensures.linked (subst (λ index. IsLinkIndex index c.reserve-2.new.self.entries)
+      (sym c.in_ok-reserve-4.ensures.entries)
+      (subst (IsLinkIndex c.self.inside.links.entries) (sym c.in_ok-reserve-2.ensures.entries) c.self.invariant.1)),
+)
+
+pub returns-then-is_err-clause-err : goal.returns-then-is_err-clause-err
+returns-then-is_err-clause-err c =
+    auditor_same c.self.inside.foreign _ _ _ _ _ _ _ _ _ _ c.self.inside.chain c.self.inside.expired
+    (if_error c.take_event.result _ (sym c.is_err.ensures.value ∙ c.if-is_err.true) c.take_event.ensures.err)
+    c.in_ok-reserve.ensures.entries
+    (c.take_back.ensures c.self.inside.open_ones c.args.event.now c.in_ok-added.ensures.again)
+    c.in_ok-reserve-2.ensures.entries c.in_ok-reserve-5.ensures.items
+    ∙ c.self.view_is
