@@ -6,8 +6,8 @@
 By hand: each kind of line, each fault, each status, where a line ends, and what standard error reports; how often a file and a
 pipe are saved; books as logs, which are cut at each byte, and which grow to 30,000 accounts; books that something else replaces
 meanwhile; standard descriptors that are closed. Random streams of a queue are lost, repeated, shuffled and merged from two
-publishers; what is printed, and what standard error reports of gaps, has to be that of a small model, which reads JSON by Python's
-own parser. Killed: the program ends at each read, write, sync and rename of a stream with a book, and is started again with the lines
+publishers; what is printed, the counts of lines, the results of --expect, and what standard error reports of gaps have to be those
+of a small model, which reads JSON by Python's own parser. Killed: the program ends at each read, write, sync and rename of a stream with a book, and is started again with the lines
 from an earlier `saved` on; it has to come to the book of a run without a stop. By signal 9 it is killed before each system call, and
 amid each write: what is found has all that was reported as saved, and a run over the whole stream comes to its book. Refused: each
 allocation, read, write, open, sync and rename is refused in turn; the book has to be the old one or a later one, and whole.
@@ -114,49 +114,95 @@ def end(previous=None):
 # The model.
 
 
+BALANCES = ("debits_pending", "debits_posted", "credits_pending", "credits_posted")
+COUNTED = {"applied": "applied", "duplicate": "duplicates", "passed": "passed", "gap": "gaps_skipped", "nothing": "lines_skipped"}
+
+
+def as_json(value):
+    """An object as the program prints it."""
+    return json.dumps(value, separators=(",", ":")) + "\n"
+
+
 class Model:
-    """What a follower keeps and prints, by streams of well-formed lines."""
+    """What a follower keeps and prints, by streams of well-formed lines, or of blank ones."""
 
     def __init__(self, is_chained, ledger=None, after=0):
         self.is_chained, self.ledger, self.seen = is_chained, ledger, after
         self.applied = self.last = self.gaps = 0
         self.ended = False
         self.book = {}
+        self.result, self.changed = "nothing", []  # of the last line: its result, and the accounts that it changed
 
     def take(self, number, line):
         """Takes a line; returns the line that is printed where following stops at it: at a gap, unless gaps are skipped, or at what
         contradicts the end."""
+        self.result, self.changed = "nothing", []
+        if not line.strip():
+            return None
         value = json.loads(line)
         previous = int(value["previous"]) if self.is_chained else self.seen
         body = value.get("body", value)
         timestamp = None if value.get("end") else int(body["timestamp"])
         is_taken = timestamp is None or self.ledger in (None, body["ledger"])
         if timestamp is not None and timestamp <= self.seen:
+            self.result = "duplicate"
             return None
         if self.ended:
             is_other = previous != self.seen if timestamp is None else self.is_chained or is_taken
+            self.result = "after_end" if is_other else "duplicate" if timestamp is None else "passed"
             return f"after_end: line {number}: ended after {self.seen}\n" if is_other else None
         if previous != self.seen:
             self.gaps += 1
+            self.result = "gap"
             return f"gap: line {number}: after {previous}, expected after {self.seen}\n"
         if timestamp is None:
             self.ended = True
+            self.result = "end"
         elif is_taken:
             self.seen = self.last = timestamp
             self.applied += 1
+            self.result = "applied"
             for side in ("debit_account", "credit_account"):
-                self.book[int(body[side]["id"])] = body[side]
-        elif self.is_chained:
-            self.seen = timestamp
+                shown = body[side]
+                self.book[int(shown["id"])] = shown
+                self.changed.append({"id": str(shown["id"]), **{name: str(shown[name]) for name in BALANCES}})
+        else:
+            self.result = "passed"
+            if self.is_chained:
+                self.seen = timestamp
         return None
 
     def text(self):
-        names = ("debits_pending", "debits_posted", "credits_pending", "credits_posted")
         ended = "yes" if self.ended else "no"
         lines = [f"subscriber 1 applied {self.applied} last {self.last} ended {ended} closed no\n"]
         for id, shown in self.book.items():
-            lines.append(f"account {id} {' '.join(str(shown[name]) for name in names)}\n")
+            lines.append(f"account {id} {' '.join(str(shown[name]) for name in BALANCES)}\n")
         return "".join(lines)
+
+    def expected(self, number):
+        """The line that --expect prints of the last line, which has this number."""
+        kept = {"applied": self.applied, "last": str(self.last), "accounts": self.changed}
+        return as_json({"kind": "expect", "line": number, "result": self.result, **kept})
+
+
+def counts_of(results):
+    """How many lines came to what, by their results."""
+    counts = dict.fromkeys(COUNTED.values(), 0)
+    for it in results:
+        if it in COUNTED:
+            counts[COUNTED[it]] += 1
+    return counts
+
+
+def counted(applied=0, duplicates=0, passed=0, gaps_skipped=0, lines_skipped=0):
+    """The last line that --json prints, by these counts."""
+    counts = (applied, duplicates, passed, gaps_skipped, lines_skipped)
+    return as_json({"kind": "followed", **dict(zip(COUNTED.values(), counts))})
+
+
+def saved(timestamp, *counts):
+    """The line of a save that --json prints, by these counts."""
+    return as_json({"kind": "saved", "timestamp": str(timestamp), **dict(zip(COUNTED.values(), counts))})
 
 
 # ---------------------------------------------------------------------------------------------------------------------
@@ -170,9 +216,19 @@ UNREAD = "standard input: lines have previous, which is ignored without --chaine
 FIRST, SECOND = event(10), event(20, balances=((0, 9, 0, 0), (0, 0, 0, 9)))
 
 
-def skipped(gaps):
-    """What standard error reports of so many gaps that were skipped."""
-    return {0: "", 1: "standard input: 1 gap was skipped\n"}.get(gaps, f"standard input: {gaps} gaps were skipped\n")
+REPORTED = re.compile(
+    r"(?m)^standard input: applied (\d+), duplicates (\d+), passed (\d+), gaps skipped (\d+), lines skipped (\d+)\n")
+
+
+def silent(found):
+    """The status of a run and what it has printed, if standard error reports counts and nothing else; else all of it."""
+    return found[:2] if reported(found[2])[0] == "" and reported(found[2])[1] else found
+
+
+def reported(errors):
+    """What standard error reports besides the counts, and the counts, or None if it has none."""
+    found = REPORTED.search(errors)
+    return REPORTED.sub("", errors, count=1), found and tuple(map(int, found.groups()))
 
 
 def without(body, *names):
@@ -202,7 +258,7 @@ def padded(body, length):
 
 def rows():
     """Each row: what it is, the arguments, the stream, what is printed, the status, and a part of standard error: all
-    of it where the status is 0."""
+    of it where the status is 0. Or how many gaps it reports to be skipped, and nothing else than counts."""
     first, second = own(FIRST), own(SECOND)
     lines = lambda *given: "".join(f"{it}\n" for it in given).encode()
     yield "an empty stream", [], b"", NOTHING, 0, ""
@@ -268,20 +324,20 @@ def rows():
     ), 1, "gap"
     yield "an event after a gap that is skipped", [*chain, "--skip-gaps"], lines(
         chained(10, SECOND), chained(0, FIRST), chained(10, SECOND)
-    ), TWO, 0, skipped(1)
+    ), TWO, 0, 1
     yield "three gaps that are skipped", [*chain, "--skip-gaps"], lines(chained(10, SECOND), end(10), chained(5, FIRST)), (
         NOTHING
-    ), 0, skipped(3)
+    ), 0, 3
     yield "a gap that is skipped twice", [*chain, "--skip-gaps"], lines(
         chained(0, FIRST), chained(15, SECOND), chained(15, SECOND)
-    ), ONE, 0, skipped(2)
+    ), ONE, 0, 2
     yield "duplicates are no gaps", [*chain, "--skip-gaps"], lines(chained(0, FIRST), chained(7, FIRST), chained(90, FIRST)), ONE, 0, ""
     yield "an event of another queue", chain, lines(chained(0, FIRST), chained(0, SECOND), chained(10, event(30))), (
         ONE + "gap: line 2: after 0, expected after 10\n"
     ), 1, ":2: gap: the message before this one in its queue has the timestamp 0, and the last one that came has 10: this message is of"
     yield "an event of another queue that is skipped", [*chain, "--skip-gaps"], lines(
         chained(0, FIRST), chained(0, event(15)), chained(10, SECOND)
-    ), TWO, 0, skipped(1)
+    ), TWO, 0, 1
     yield "the end of another queue", chain, lines(chained(0, FIRST), end(0)), (
         ONE + "gap: line 2: after 0, expected after 10\n"
     ), 1, ":2: gap: "
@@ -302,7 +358,7 @@ def rows():
     ), 2, "out_of_range"
     yield "a gap that is skipped before a bad line", [*chain, "--skip-gaps"], lines(chained(10, SECOND), "x"), (
         NOTHING + "fault: line 2: not_json\n"
-    ), 2, skipped(1)
+    ), 2, 1
     yield "predecessors that nobody reads", [], lines(chained(0, FIRST), chained(15, SECOND)), TWO, 0, UNREAD
     yield "an end with a predecessor that nobody reads", [], lines(end(10)), NOTHING.replace("ended no", "ended yes"), 0, UNREAD
     yield "a predecessor of a body, that nobody reads", [], lines(json.dumps({**FIRST, "previous": "9"})), ONE, 0, UNREAD
@@ -345,7 +401,8 @@ JSON_ROWS = [
         '{"kind":"subscriber","subscriber":1,"applied":1,"last":"10","ended":false,"closed":false}\n'
         '{"kind":"account","subscriber":1,"id":"1","debits_pending":"0","debits_posted":"5","credits_pending":"0","credits_posted":"0"}\n'
         '{"kind":"account","subscriber":1,"id":"2","debits_pending":"0","debits_posted":"0","credits_pending":"0","credits_posted":"5"}\n'
-        '{"kind":"gap","line":2,"after":"30","expected_after":"10"}\n',
+        '{"kind":"gap","line":2,"after":"30","expected_after":"10"}\n'
+        + counted(applied=1),
         1,
     ),
     (
@@ -353,7 +410,8 @@ JSON_ROWS = [
         ["--json", "--chained"],
         f"{end(0)}\n{chained(0, FIRST)}\n",
         '{"kind":"subscriber","subscriber":1,"applied":0,"last":"0","ended":true,"closed":false}\n'
-        '{"kind":"after_end","line":2,"ended_after":"0"}\n',
+        '{"kind":"after_end","line":2,"ended_after":"0"}\n'
+        + counted(),
         1,
     ),
     (
@@ -361,7 +419,8 @@ JSON_ROWS = [
         ["--json"],
         "{\n",
         '{"kind":"subscriber","subscriber":1,"applied":0,"last":"0","ended":false,"closed":false}\n'
-        '{"kind":"line_fault","line":1,"name":"not_json"}\n',
+        '{"kind":"line_fault","line":1,"name":"not_json"}\n'
+        + counted(),
         2,
     ),
     (
@@ -369,7 +428,7 @@ JSON_ROWS = [
         ["--json", "--chained", "--skip-gaps"],
         "",
         '{"kind":"subscriber","subscriber":1,"applied":0,"last":"0","ended":false,"closed":false}\n'
-        '{"kind":"followed","gaps_skipped":0}\n',
+        + counted(),
         0,
     ),
     (
@@ -377,7 +436,7 @@ JSON_ROWS = [
         ["--json", "--chained", "--skip-gaps"],
         f"{chained(10, SECOND)}\n{end(10)}\n{chained(5, FIRST)}\n",
         '{"kind":"subscriber","subscriber":1,"applied":0,"last":"0","ended":false,"closed":false}\n'
-        '{"kind":"followed","gaps_skipped":3}\n',
+        + counted(gaps_skipped=3),
         0,
     ),
     (
@@ -386,17 +445,58 @@ JSON_ROWS = [
         f"{chained(10, SECOND)}\nx\n",
         '{"kind":"subscriber","subscriber":1,"applied":0,"last":"0","ended":false,"closed":false}\n'
         '{"kind":"line_fault","line":2,"name":"not_json"}\n'
-        '{"kind":"followed","gaps_skipped":1}\n',
+        + counted(gaps_skipped=1),
         2,
     ),
 ]
+
+# A line of each kind: blank; applied; a duplicate; one that the binding doesn't take; one that comes too early; the end; the end
+# again; and an event after it.
+OTHER_LEDGER, EARLY, LATE = event(20, ledger=701), event(30), event(40)
+EACH_KIND = [
+    "",
+    chained(0, FIRST),
+    chained(0, FIRST),
+    chained(10, OTHER_LEDGER),
+    chained(15, EARLY),
+    end(20),
+    end(20),
+    chained(20, LATE),
+]
+OF_700 = ["--chained", "--binding", "all ledger=700"]
+SHOWN = (
+    '{"id":"1","debits_pending":"0","debits_posted":"5","credits_pending":"0","credits_posted":"0"},'
+    '{"id":"2","debits_pending":"0","debits_posted":"0","credits_pending":"0","credits_posted":"5"}'
+)
+EXPECTED = [
+    '{"kind":"expect","line":1,"result":"nothing","applied":0,"last":"0","accounts":[]}\n',
+    '{"kind":"expect","line":2,"result":"applied","applied":1,"last":"10","accounts":[' + SHOWN + "]}\n",
+    '{"kind":"expect","line":3,"result":"duplicate","applied":1,"last":"10","accounts":[]}\n',
+    '{"kind":"expect","line":4,"result":"passed","applied":1,"last":"10","accounts":[]}\n',
+    '{"kind":"expect","line":5,"result":"gap","applied":1,"last":"10","accounts":[]}\n',
+    '{"kind":"expect","line":6,"result":"end","applied":1,"last":"10","accounts":[]}\n',
+    '{"kind":"expect","line":7,"result":"duplicate","applied":1,"last":"10","accounts":[]}\n',
+    '{"kind":"expect","line":8,"result":"after_end","applied":1,"last":"10","accounts":[]}\n',
+]
+NO_JSON = '{"kind":"expect","line":1,"result":"bad_line","name":"not_json","applied":0,"last":"0","accounts":[]}\n'
+EXPECT_ROWS = [
+    ("each kind of line", [*OF_700, "--skip-gaps"], EACH_KIND, "".join(EXPECTED), 1),
+    ("a gap", OF_700, EACH_KIND, "".join(EXPECTED[:5]), 1),
+    ("up to the end", [*OF_700, "--skip-gaps"], EACH_KIND[:6], "".join(EXPECTED[:6]), 0),
+    ("no lines", [], [], "", 0),
+    ("a bad line", [], ["x", own(FIRST)], NO_JSON, 2),
+]
 USAGE = [["--skip-gaps"], ["--after", "0"], ["--after", "9223372036854775808"], ["--after", "x"], ["--every", "0"], ["--every", "x"], ["--binding", ""], ["--binding", "some"], ["--binding", "all x=1"], ["a", "b"]]
+USAGE += [["--expect", *it] for it in (["--book", "a.book"], ["--every", "2"], ["--json"])]
 
 
 def by_hand(folder):
     for name, arguments, stream, printed, status, said in rows():
         found = run(arguments, stream)
-        is_right = found[:2] == (status, printed) and said in found[2] and (status != 0 or found[2] == said)
+        said, gaps = ("", said) if isinstance(said, int) else (said, None)
+        errors, counts = reported(found[2])
+        is_right = found[:2] == (status, printed) and said in errors and (status != 0 or errors == said) and counts is not None
+        is_right = is_right and gaps in (None, counts[3])
         check(name, is_right, found)
         file = os.path.join(folder, "stream")
         with open(file, "wb") as it:
@@ -405,6 +505,9 @@ def by_hand(folder):
     for name, arguments, stream, printed, status in JSON_ROWS:
         found = run(arguments, stream.encode())
         check(name, found[:2] == (status, printed), found)
+    for name, arguments, lines, printed, status in EXPECT_ROWS:
+        found = run([*arguments, "--expect"], text_of(lines))
+        check(f"--expect: {name}", found[:2] == (status, printed), found)
     for arguments in USAGE:
         found = run(arguments, b"")
         check(f"usage: {arguments}", found[0] == 2 and not found[1] and found[2].startswith("error: "), found)
@@ -412,6 +515,23 @@ def by_hand(folder):
     check("a stream that isn't there", found[:2] == (1, "fault: read_fault\n") and "read_fault" in found[2], found)
     found = run([folder], b"")
     check("a stream that is a folder", found[:2] == (1, "fault: read_fault\n"), found)
+
+
+def counts(folder):
+    """The counts of each kind of line, with each save and at the end, of this run alone."""
+    found = run([*OF_700, "--skip-gaps", "--json"], text_of(EACH_KIND))
+    end_of_all = '{"kind":"after_end","line":8,"ended_after":"20"}\n' + counted(1, 2, 1, 1, 1)
+    check("the counts of each kind of line", found[0] == 1 and found[1].endswith(end_of_all), found)
+    book = os.path.join(folder, "counted.book")
+    arguments = [*OF_700, "--skip-gaps", "--json", "--every", "1", "--book", book]
+    found = run(arguments, text_of(EACH_KIND[:6]))
+    saves = [(0, 0, 0, 0, 0, 1), (10, 1, 0, 0, 0, 1), (10, 1, 1, 0, 0, 1), (20, 1, 1, 1, 0, 1)] + [(20, 1, 1, 1, 1, 1)] * 3
+    printed = "".join(saved(*it) for it in saves)
+    is_right = found[1].startswith(printed) and found[1].endswith(counted(1, 1, 1, 1, 1)) and found[1].count('"saved"') == len(saves)
+    check("the counts of each save", found[0] == 0 and is_right, found)
+    found = run(arguments, text_of(EACH_KIND[1:2]))
+    printed = saved(20, 0, 1, 0, 0, 0)
+    check("the counts of a later run", found[1].startswith(printed) and found[1].endswith(counted(duplicates=1)), found)
 
 
 # ---------------------------------------------------------------------------------------------------------------------
@@ -455,24 +575,32 @@ def random_stream(seed):
     if rng.random() < 0.2:
         other = disturbed(rng, queue_of(rng, rng.randrange(MOST_LINES), 3))
         lines = [it for pair in zip(lines, other) for it in pair] + lines[len(other) :] + other[len(lines) :]
+    lines = [it for line in lines for it in ([rng.choice(["", " "])] if rng.random() < 0.05 else []) + [line]]
     is_chained, skips, ledger = rng.random() < 0.7, rng.random() < 0.5, rng.choice([None, 700])
-    starts = [int(json.loads(it)["previous"]) for it in lines]
+    starts = [int(json.loads(it)["previous"]) for it in lines if it.strip()]
     after = rng.choice([0, 0, rng.choice(starts)]) if starts else 0
-    model, printed, status = Model(is_chained, ledger, after), "", 0
+    model, printed, status, results, results_printed = Model(is_chained, ledger, after), "", 0, [], ""
     for number, line in enumerate(lines, 1):
         stop = model.take(number, line)
+        results_printed += model.expected(number)
         if stop and not (skips and stop.startswith("gap: ")):
             printed, status = stop, 1
             break
+        results.append(model.result)
     arguments = ["--chained"] * is_chained + ["--skip-gaps"] * (is_chained and skips)
     arguments += ["--binding", f"all ledger={ledger}"] if ledger else []
     arguments += ["--after", str(after)] if after else []
-    found = run(arguments, "".join(f"{it}\n" for it in lines).encode())
+    found = run(arguments, text_of(lines))
     expected = (status, model.text() + printed)
-    said = "" if is_chained or not lines else UNREAD
-    said += skipped(model.gaps) if skips else ""
-    is_right = found[:2] == expected and (status != 0 or found[2] == said)
-    return None if is_right else f"seed {seed}: {arguments}: {found!r}, not {expected!r} and {said!r}"
+    said = "" if is_chained or not starts else UNREAD
+    counts = tuple(counts_of(results).values())
+    if found[:2] != expected or reported(found[2])[1] != counts or (status == 0 and reported(found[2])[0] != said):
+        return f"seed {seed}: {arguments}: {found!r}, not {expected!r}, {said!r} and {counts!r}"
+    found = run([*arguments, "--expect"], text_of(lines))
+    if found[:2] != (status, results_printed):
+        return f"seed {seed}: {arguments}, --expect: {found!r}, not {results_printed!r}"
+    found, last = run([*arguments, "--json"], text_of(lines)), counted(*counts_of(results).values())
+    return None if found[0] == status and found[1].endswith(last) else f"seed {seed}: {arguments}, --json: {found!r}, not {last!r}"
 
 
 def random_streams(count):
@@ -566,9 +694,9 @@ def late_starts(folder):
         path = os.path.join(folder, name.removeprefix("sqlite:"))
         options = ["--chained", "--book", book, "--after"]
         found = run([*options, "10"], b"")
-        check(f"{name}: a late start without a line", found == (0, f"saved 10\n{NOTHING}", ""), found)
+        check(f"{name}: a late start without a line", silent(found) == (0, f"saved 10\n{NOTHING}"), found)
         found = run([*options, "10"], text(chained(10, SECOND)))
-        check(f"{name}: it begins there", found == (0, f"saved 20\n{later}", ""), found)
+        check(f"{name}: it begins there", silent(found) == (0, f"saved 20\n{later}"), found)
         before = open(path, "rb").read()
         for timestamp in ("10", "19", "21"):
             found = run([*options, timestamp], text(chained(20, event(30))))
@@ -576,9 +704,9 @@ def late_starts(folder):
             check(f"{name}: what is reported then", "bad_record: the last event that it has seen has the timestamp 20, and --after" in found[2], found)
             check(f"{name}: it stays then", open(path, "rb").read() == before, timestamp)
         found = run([*options, "20"], text(chained(10, SECOND)))
-        check(f"{name}: --after 20 of a book at 20", found == (0, f"saved 20\n{later}", ""), found)
+        check(f"{name}: --after 20 of a book at 20", silent(found) == (0, f"saved 20\n{later}"), found)
         found = run(["--chained", "--book", book], text(end(20)))
-        check(f"{name}: no --after", found == (0, f"saved 20\n{later.replace('ended no', 'ended yes')}", ""), found)
+        check(f"{name}: no --after", silent(found) == (0, f"saved 20\n{later.replace('ended no', 'ended yes')}"), found)
         os.remove(path)
 
 
@@ -607,7 +735,7 @@ def meanings(folder):
                 check(f"{name} of {saved!r}: it stays", open(path, "rb").read() == before, binding)
             for binding in [saved, *same]:
                 found = run(["--chained", "--book", book, "--binding", binding], text(chained(0, FIRST)))
-                check(f"{name} of {saved!r}: {binding!r}", found == (0, f"saved 10\n{ONE}", ""), found)
+                check(f"{name} of {saved!r}: {binding!r}", silent(found) == (0, f"saved 10\n{ONE}"), found)
             os.remove(path)
 
 
@@ -758,7 +886,7 @@ def slow(book, *lines):
         check("a line of a slow pipe is saved before the next one is awaited", found == saved, found)
     piped.close()
     found = piped.ended()
-    check("the end of a slow pipe", found == (0, "saved 20\n" + TWO, ""), found)
+    check("the end of a slow pipe", silent(found) == (0, "saved 20\n" + TWO), found)
 
 
 def ahead(book, *_):
@@ -800,7 +928,7 @@ def cut_lines(book, first, second):
     check("a line without its line feed is awaited", found == "saved 10\n", found)
     piped.close()
     found = piped.ended()
-    check("a pipe that ends without a line feed", found == (0, "saved 20\n" + TWO, ""), found)
+    check("a pipe that ends without a line feed", silent(found) == (0, "saved 20\n" + TWO), found)
 
 
 def bad_lines(book, first, _):
@@ -1081,7 +1209,7 @@ def memory(folder):
 
 
 def main(arguments):
-    parts = [by_hand, books, late_starts, meanings, logs, cuts, grown, saves, pipes, starved, replaced, closed, killed, kept, rivalry, memory]
+    parts = [by_hand, counts, books, late_starts, meanings, logs, cuts, grown, saves, pipes, starved, replaced, closed, killed, kept, rivalry, memory]
     return commands.main(arguments, __doc__, "follow", parts, random_streams, STREAMS)
 
 

@@ -92,6 +92,11 @@ LATE = "the broker accepted only"
 BINDING = "all or any, and up to ten pairs of a header and its value"
 
 
+def counts_of(place, applied=0, gaps=0):
+    """What `follow` reports of the lines of a stream."""
+    return f"{place}: applied {applied}, duplicates 0, passed 0, gaps skipped {gaps}, lines skipped 0\n"
+
+
 def rows():
     """Each row: the arguments, the status, and standard error."""
     yield ["books", b"\xff"], 2, "error: an argument is not UTF-8 text\n"
@@ -112,7 +117,8 @@ def rows():
     # A name can't move the cursor of a terminal, nor begin a line.
     odd, shown = "a\x1b[1m\nb", r"a\u{1b}[1m\u{a}b"
     for arguments in (["books", odd], ["messages", odd], ["follow", odd], ["audit", odd], ["simulate", "one.script", odd]):
-        yield arguments, 1, f"{shown}: read_fault: No such file or directory (os error 2)\n"
+        counts = counts_of(shown) if arguments[0] == "follow" else ""
+        yield arguments, 1, f"{counts}{shown}: read_fault: No such file or directory (os error 2)\n"
     yield ["follow", "gap.stream", "--book", f"none/{odd}"], 1, f"none/{shown}: store: {BOOK}"
     diagram = "this file holds something else than a diagram, which would be lost; name another one"
     yield ["simulate", "one.script", "none.steps", "--diagram=something"], 2, f"error: --diagram=something: {diagram}\n"
@@ -147,7 +153,9 @@ def rows():
         f"chain.script:7: batch 2 transfer 2 (id 2): {posts}\n"
     )
     gap = "the message before this one in its queue has the timestamp 15, and the last one that came has 10"
-    yield ["follow", "--chained", "gap.stream"], 1, f"gap.stream:2: gap: {gap}: messages between them are missing\n"
+    yield ["follow", "--chained", "gap.stream"], 1, (
+        f"{counts_of('gap.stream', applied=1)}gap.stream:2: gap: {gap}: messages between them are missing\n"
+    )
     yield ["audit", "wrong.stream"], 1, (
         "wrong.stream:2: balances: no ledger publishes this event after those before it: one of them was lost, duplicated, "
         "moved or changed, or this one was\n"
@@ -261,7 +269,7 @@ class Sentences(checked.Checks):
             with open(f"{self.room}/{name}", "rb") as held:
                 fcntl.flock(held, fcntl.LOCK_EX)
                 found = self.run(["follow", "--chained", "gap.stream", "--skip-gaps", "--book", "book"])
-            skipped = "gap.stream: 1 gap was skipped\n" if name == "book.new" else ""
+            skipped = counts_of("gap.stream", applied=1, gaps=1) if name == "book.new" else ""
             self.same(f"{name} is locked", (1, "fault: store\n", f"{skipped}book: store: {why}"), found)
 
     def traces(self):
@@ -321,7 +329,9 @@ class Sentences(checked.Checks):
                 arguments = [*command, *form]
                 status, printed, errors = self.run(arguments)
                 self.same(" ".join(arguments), (1, fault), (status, printed[-len(fault) :]))
-                self.same(f"{' '.join(arguments)}: standard error", "folder: read_fault: Is a directory (os error 21)\n", errors)
+                counts = counts_of("folder") if arguments == ["follow", "folder"] else ""
+                wanted = f"{counts}folder: read_fault: Is a directory (os error 21)\n"
+                self.same(f"{' '.join(arguments)}: standard error", wanted, errors)
 
     def bad_script_first(self):
         """The script is validated before the steps are read: whatever the steps are, its fault is the one that is reported."""

@@ -38,9 +38,9 @@ abbrev pub StopsAt : AuditSetup → StreamAudit → List ℕ → AuditStop → S
 StopsAt setup start bytes stop now = start.duplicates ≡ 0
     → AuditsBy setup.skips_duplicates start.auditor bytes stop now.auditor now.duplicates
 
--- the timestamp that is reported of a save: that of the last accepted event
-abbrev pub last_of : StreamAudit → ℕ
-last_of it = it.auditor.kept.last
+-- what is printed of a save, if this is printed of the timestamp of the last accepted event
+abbrev pub prints_save_of : (ℕ → List ℕ) → AuditSetup → StreamAudit → List ℕ
+prints_save_of prints setup it = prints it.auditor.kept.last
 
 -- what is printed at the end, if this is printed of how many duplicates were skipped, of a subscriber of the accepted
 -- events, and of why auditing stopped

@@ -13,6 +13,7 @@ use Rattle.cdc_audit.specs.declared.refusals.Refusal.TheVariants.{CreatedAtEvent
 use Rattle.cdc_audit.specs.declared.refusals.Refusal.TheVariants.{KnownId, NotPending, Settled, OtherFields, Amount}
 use Rattle.cdc_audit.specs.declared.refusals.Refusal.TheVariants.{NoTimeout, TooSoon, TooLate, ExpiresLate}
 use Rattle.cdc_audit.specs.declared.refusals.Refusal.TheVariants.{ExpiresApart, BrokenChain, TooLarge, Limit, Balance}
+use Rattle.cdc_audit.specs.declared.refusals.Refusal.TheVariants.{LongAccountChain, LongChain, NextIsEvent, NoNext}
 use Rattle.cdc_audit.specs.declared.streams.AuditStop.{AuditStop}
 use Rattle.cdc_audit.specs.declared.streams.AuditStop.TheVariants.{AtEnd, Refused, BadLine}
 use Rattle.cdc_output.specs.Lines.{json_line, json_lines, line_of, subscriber_values}
@@ -112,6 +113,12 @@ refusal_members (Balance it) =
     member (codes "added") (wide it.added) (
     member (codes "released") (wide it.released)
     no_members)))))
+refusal_members (NextIsEvent account created) =
+    member (codes "account") (wide account) (member (codes "created") (wide created) no_members)
+refusal_members (LongAccountChain account created) =
+    member (codes "account") (wide account) (member (codes "created") (wide created) no_members)
+refusal_members (LongChain timestamp) = member (codes "timestamp") (wide timestamp) no_members
+refusal_members (NoNext timestamp) = member (codes "timestamp") (wide timestamp) no_members
 
 -- the line of an event that is refused by this rule, on the line of this number
 abbrev pub rule_value : ℕ → List ℕ → Members → Data

@@ -1,7 +1,8 @@
 //! The command `audit`: audits a stream up to its end, saves its state, and prints what it finds.
 
 ghost use Rattle.std.specs.Prelude.{◌≡◌, ◌++◌, ◌∷◌, [], is_some, None, IfSome, IsSomeAnd, IsTrue};
-ghost use Rattle.cdc_audit_command.specs.Auditing.{StandsAfter, audit_of, begun_of, duplicates_by, last_of, prints_end_of};
+ghost use Rattle.cdc_audit_command.specs.Auditing.{StandsAfter, audit_of, begun_of, duplicates_by};
+ghost use Rattle.cdc_audit_command.specs.Auditing.{prints_end_of, prints_save_of};
 ghost use Rattle.cdc_audit_command.specs.Duplicates.{AuditsBy};
 ghost use Rattle.cdc_streams.specs.Saving.{AreSaved, IfStopped, PrintsStream, saves_text};
 
@@ -37,8 +38,8 @@ pub struct StreamAudit {
 pub struct StreamAuditor {
     /// The auditor, with what it keeps.
     auditor: Auditor,
-    /// The lines that it has taken since it was saved, each with its line feed; `None` if they aren't kept, so the whole
-    /// state has to be saved.
+    /// The lines that it has taken since it was saved, each with its line feed; `None` if they aren't kept, so the
+    /// whole state has to be saved.
     lines: Option<Vec<u8>>,
     /// How many duplicates were skipped.
     duplicates: u64,
@@ -47,7 +48,8 @@ pub struct StreamAuditor {
 /// How many bytes of lines are kept, at most.
 const MOST_BYTES: usize = 1 << 24;
 
-/// Adds a line, and its line feed. `false`: it isn't added as a whole, since there are too many bytes, or memory ran out.
+/// Adds a line, and its line feed. `false`: it isn't added as a whole, since there are too many bytes, or memory ran
+/// out.
 fn add_line(lines: &mut Vec<u8>, line: &[u8]) -> bool
     ensures { IsTrue result → lines.new.items ≡ lines.old.items ++ (line.now ++ 10 ∷ []) }
 {
@@ -140,7 +142,7 @@ impl Saved for StreamAuditor {
 }
 
 impl<F: AuditForm> Consumer<F> for StreamAuditor {
-    ghost use Rattle.cdc_audit_command.specs.Auditing.{StandsAfter, StopsAt, last_of, prints_end_of};
+    ghost use Rattle.cdc_audit_command.specs.Auditing.{StandsAfter, StopsAt, prints_end_of, prints_save_of};
     ghost use Rattle.cdc_audit_command.specs.Private.Audited.{HasAudited, audited_none, stands_after};
 
     type Stop = AuditStop;
@@ -151,7 +153,7 @@ impl<F: AuditForm> Consumer<F> for StreamAuditor {
 
     ghost stops = { StopsAt };
 
-    ghost last = { last_of };
+    ghost prints_saved = { prints_save_of F.prints_saved };
 
     ghost prints_end = { prints_end_of F.prints_audit };
 
@@ -184,8 +186,13 @@ impl<F: AuditForm> Consumer<F> for StreamAuditor {
         }
     }
 
-    fn last_timestamp(&self) -> u64 {
-        self.auditor.subscriber().last()
+    fn saved_text(
+        &self,
+        form: &F,
+        _setup: &AuditSetup,
+        alloc: Global,
+    ) -> Result<Vec<u8>, AllocError> {
+        form.saved(alloc, self.auditor.subscriber().last())
     }
 
     fn end_text(
@@ -224,7 +231,8 @@ pub fn audit_command<F: AuditForm, B: LineReader, W: Write, K: Keeps<StreamAudit
     ensures printed { PrintsStream
         (AreSaved (StandsAfter setup.now (begun_of audited.old)) (K.has_kept setup.now) (B.remaining reader.old)
         saver.old.store saver.new.store)
-        (saves_text F.prints_saved last_of (is_some saver.old.store)) (prints_end_of F.prints_audit setup.now)
+        (saves_text (prints_save_of F.prints_saved setup.now) (is_some saver.old.store))
+        (prints_end_of F.prints_audit setup.now)
         F.prints_failure (W.contents writer.old) (W.contents writer.new) (audit_of audited.new) result }
 {
     audited.duplicates = 0;

@@ -98,7 +98,10 @@ fn push_refused(alloc: Global, lines: &mut Lines, line: u64, why: Refusal) -> Re
 {
     let rule = why.name();
     match why {
-        Refusal::AfterEnd(timestamp) | Refusal::TooHigh(timestamp) => {
+        Refusal::AfterEnd(timestamp)
+        | Refusal::TooHigh(timestamp)
+        | Refusal::LongChain(timestamp)
+        | Refusal::NoNext(timestamp) => {
             push_number(alloc, lines, line, rule, "timestamp", timestamp.into())
         }
         Refusal::NotLater(timestamp, last) | Refusal::BrokenChain(timestamp, last) => {
@@ -136,7 +139,9 @@ fn push_refused(alloc: Global, lines: &mut Lines, line: u64, why: Refusal) -> Re
         Refusal::CreatedLater(account, created, timestamp) => {
             push_created(alloc, lines, line, rule, account, created, timestamp)
         }
-        Refusal::CreatedAtEvent(account, created) => {
+        Refusal::CreatedAtEvent(account, created)
+        | Refusal::NextIsEvent(account, created)
+        | Refusal::LongAccountChain(account, created) => {
             push_at_event(alloc, lines, line, rule, account, created)
         }
         Refusal::CreatedTogether(account, created, other) => {

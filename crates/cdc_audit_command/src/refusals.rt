@@ -114,7 +114,8 @@ pub(crate) fn push_created(
     )
 }
 
-/// Adds the line of an event that is refused by this rule, with an account that was created at an event's timestamp.
+/// Adds the line of an event that is refused by this rule, with an account and when it was created: at an event's
+/// timestamp, or as a linked one.
 pub(crate) fn push_at_event(
     alloc: Global,
     lines: &mut Lines,

@@ -18,9 +18,9 @@ use cdc_keys::HashKey;
 use cdc_streams::{Keeps, Log, LogStore};
 use std::alloc::Global;
 
-/// The auditor of a saved state with this text, which hashes ids with this key: of a log, whose torn end is ignored, or of the state alone, as it was
-/// saved before version 1.2. `BadRecord`: the text is neither, or it is of another ledger's stream and `foreign` is
-/// false, or the other way round.
+/// The auditor of a saved state with this text, which hashes ids with this key: of a log, whose torn end is ignored, or
+/// of the state alone, as it was saved before version 1.2. `BadRecord`: the text is neither, or it is of another
+/// ledger's stream and `foreign` is false, or the other way round.
 pub fn resume(
     alloc: Global,
     key: HashKey,
@@ -30,7 +30,8 @@ pub fn resume(
     ensures resumed { IfOk result (IsResumed foreign text.now) }
     ensures all { (base : AuditorState) (records : List (List ℕ)) (torn : List ℕ) (state : AuditState)
         → CanBeSaved base → IsLogText text.now base records torn → StandsFor base state
-        → CanBeReplayed state records torn → state.foreign ≡ foreign → IfOk result (λ auditor. StandsFor auditor (audited_all state records)) }
+        → CanBeReplayed state records torn → state.foreign ≡ foreign
+        → IfOk result (λ auditor. StandsFor auditor (audited_all state records)) }
     ensures refused { IfErr result (IsRefused foreign text.now) }
 {
     match read_log(alloc, key, text)? {
@@ -99,7 +100,8 @@ impl<L: LogStore> StateLog<L> {
 impl<L: LogStore> Keeps<StreamAuditor> for StateLog<L> {
     ghost use Rattle.cdc_streams.proofs.KeepingLemmas.{adds_none};
     ghost use Rattle.cdc_audit_command.specs.States.{HasLogged, IsTextOf};
-    ghost use Rattle.cdc_audit_command.specs.Private.Kept.{FitsLog, fits_none as fits_untracked_one, fits_on as fits_later_one};
+    ghost use Rattle.cdc_audit_command.specs.Private.Kept.{FitsLog, fits_none as fits_untracked_one};
+    ghost use Rattle.cdc_audit_command.specs.Private.Kept.{fits_on as fits_later_one};
 
     ghost has_kept = { HasLogged L.texts };
 

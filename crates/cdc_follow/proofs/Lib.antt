@@ -1,8 +1,8 @@
+pub mod CountLemmas
 pub mod EntryLemmas
 pub mod EntryWidths
 mod Examples
 pub mod FoldLemmas
-pub mod GapLemmas
 pub mod LineLemmas
 pub mod OnceLemmas
 pub mod PlainLemmas
@@ -12,4 +12,5 @@ pub mod SaveableLemmas
 pub mod SavedLemmas
 pub mod StepLemmas
 pub mod StopLemmas
+pub mod TurnLemmas
 pub mod WidthLemmas

@@ -1,6 +1,6 @@
+pub mod Counts
 pub mod Entries
 pub mod Following
-pub mod Gaps
 pub mod Laws
 pub mod LineErrors
 pub mod LineParts
@@ -9,4 +9,5 @@ pub mod Saved
 pub mod SavedParts
 pub mod Stops
 pub mod Streams
+pub mod Turns
 pub mod Widths

@@ -54,7 +54,7 @@ KeepsFirst binding rules old bytes new = (count : ℕ)
 
 -- why following stops at a line, if it does
 abbrev pub stop_of : Turn → Option Stop
-stop_of (GoesOn skipped) = None
+stop_of (GoesOn taken) = None
 stop_of (Stops stop) = Some stop
 
 -- the line of this number leads from one state to the next, whatever lines come after it; or following stops at it

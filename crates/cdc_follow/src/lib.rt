@@ -1,6 +1,7 @@
 //! A consumer of any stream of messages: it reads lines, applies each event once, and keeps a book.
 #![tactic(auto)]
 
+pub mod counts;
 pub mod entries;
 pub mod errors;
 pub mod follower;
@@ -9,9 +10,10 @@ pub mod lines;
 pub mod saved;
 pub mod streams;
 
+pub use counts::Counts;
 pub use entries::{Content, Entry, read_entry};
 pub use errors::LineError;
 pub use follower::{Follower, Following, TakesEntries};
 pub use lines::{ReadError, read_line};
 pub use saved::{BOOK_MARK, SavedBook, read_account, read_book, write_book};
-pub use streams::{FollowError, Rules, Stop, Turn, follow, follow_line};
+pub use streams::{FollowError, Rules, Stop, Taken, Turn, follow, follow_line};

@@ -1,10 +1,10 @@
 //! Following a reader: its lines one after another, up to a gap, a line that is no entry, or the end.
 
 ghost use Rattle.std.specs.Prelude.{◌≡◌, ◌≢◌, IfOk, IfSome, OnErr, OnOk};
-ghost use Rattle.cdc_follow.specs.Following.{is_gap as is_behind_gap, stops_at as stops_following};
-ghost use Rattle.cdc_follow.specs.Gaps.{LineSkips, StepSkips};
+ghost use Rattle.cdc_follow.specs.Following.{stops_at as stops_following};
 ghost use Rattle.cdc_follow.specs.Stops.{KeepsFirst, LineLeadsTo, StepLeadsTo};
 ghost use Rattle.cdc_follow.specs.Stops.{bytes_followed, stop_by as why_it_stops, stop_of};
+ghost use Rattle.cdc_follow.specs.Turns.{LineTurns, StepTurns};
 
 use crate::entries::{Entry, read_entry};
 use crate::errors::LineError;
@@ -39,11 +39,20 @@ pub enum Stop {
     BadLine(u64, LineError),
 }
 
+/// What a line was taken for.
+#[derive(Clone, Copy, Debug, PartialEq, Eq)]
+pub enum Taken {
+    /// It has no entry: it is empty, or has headers alone.
+    Nothing,
+    /// It has this entry, of which this became.
+    Entry(Entry, Following),
+}
+
 /// What comes of a line.
 #[derive(Clone, Copy, Debug, PartialEq, Eq)]
 pub enum Turn {
-    /// The lines after it are to be followed too. `skipped`: before its entry there was a gap, and it was skipped.
-    GoesOn { skipped: bool },
+    /// It was taken so, and the lines after it are to be followed too.
+    GoesOn(Taken),
     /// Following stops at it.
     Stops(Stop),
 }
@@ -67,21 +76,6 @@ impl From<AllocError> for FollowError {
 
     fn from(_error: AllocError) -> FollowError {
         FollowError::OutOfMemory
-    }
-}
-
-// Whether there is a gap before an entry.
-fn is_gap(following: Following) -> bool
-    ensures { result ≡ is_behind_gap following }
-{
-    match following {
-        Following::Gap => true,
-        Following::Applied
-        | Following::PassedBy
-        | Following::Duplicate
-        | Following::Ended
-        | Following::AfterEnd
-        | Following::OutOfRange => false,
     }
 }
 
@@ -129,22 +123,21 @@ fn follow_bytes<T: TakesEntries>(
 ) -> Result<Turn, FollowError>
     ensures leads { IfOk result (λ turn. LineLeadsTo binding.now rules number line.now
         (T.state follower.old) (stop_of turn) (T.state follower.new)) }
-    ensures skips { IfOk result (λ turn. LineSkips binding.now rules number line.now
+    ensures turns { IfOk result (λ turn. LineTurns binding.now rules number line.now
         (T.state follower.old) turn (T.state follower.new)) }
     ensures moves { OnOk result (T.moves follower.old follower.new) }
     ensures err { OnErr result (follower.new ≡ follower.old) }
 {
     let entry = match read_entry(alloc, line, rules.chained) {
         Ok(Some(entry)) => entry,
-        Ok(None) => return Ok(Turn::GoesOn { skipped: false }),
+        Ok(None) => return Ok(Turn::GoesOn(Taken::Nothing)),
         Err(error) => return stop_at_line(number, error),
     };
     let following = follower.take_entry(binding, &entry)?;
     if stops_at(following, rules) {
         return Ok(Turn::Stops(stop_by(following, number, entry)));
     }
-    let skipped = is_gap(following);
-    Ok(Turn::GoesOn { skipped })
+    Ok(Turn::GoesOn(Taken::Entry(entry, following)))
 }
 
 /// Reads the line of this number into the buffer and follows it. After an error the follower is as it was.
@@ -159,7 +152,7 @@ pub fn follow_line<B: BufRead, T: TakesEntries>(
 ) -> Result<Turn, FollowError>
     ensures leads { IfOk result (λ turn. IfSome (B.remaining reader.old) (λ bytes. StepLeadsTo binding.now rules number
         (T.state follower.old) bytes (stop_of turn) (T.state follower.new) (B.remaining reader.new))) }
-    ensures skips { IfOk result (λ turn. IfSome (B.remaining reader.old) (λ bytes. StepSkips binding.now rules number
+    ensures turns { IfOk result (λ turn. IfSome (B.remaining reader.old) (λ bytes. StepTurns binding.now rules number
         (T.state follower.old) bytes turn (T.state follower.new) (B.remaining reader.new))) }
     ensures moves { OnOk result (T.moves follower.old follower.new) }
     ensures err { OnErr result (follower.new ≡ follower.old) }

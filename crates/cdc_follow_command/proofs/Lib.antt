@@ -1,4 +1,2 @@
-pub mod BindingLemmas
-pub mod GapLemmas
 pub mod KeptLemmas
 pub mod LogLemmas

@@ -11,7 +11,7 @@ use Rattle.cdc_book_log.specs.Logs.{CanBeLogged, IsLogText, IsRead, log_text}
 use Rattle.cdc_book_log.specs.Replay.{replay}
 use Rattle.cdc_book_log.specs.declared.logs.SavedLog.{SavedLog}
 use Rattle.cdc_streams.specs.Keeping.{AddsTexts}
-use Rattle.cdc_follow_command.specs.Bindings.{is_of}
+use Rattle.cdc_bindings.specs.Bindings.{is_of}
 use Rattle.cdc_follow_command.specs.declared.followers.Followed.{Followed}
 use Rattle.cdc_follow_command.specs.declared.books.BookLog.{BookLog}
 use Rattle.cdc_follow_command.specs.declared.books.ResumeError.{ResumeError}

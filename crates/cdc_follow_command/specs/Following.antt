@@ -1,10 +1,11 @@
--- What following a stream keeps, saves and prints.
-use Rattle.std.specs.Prelude.{◌≡◌, ℕ, List, take, Option, Some, None, if◌then◌else◌}
+-- What following a stream keeps, saves, counts and prints.
+use Rattle.std.specs.Prelude.{◌≡◌, ℕ, List, take}
 use Rattle.cdc_match.specs.Arguments.{Arguments}
-use Rattle.cdc_follow.specs.Following.{FollowState, follow}
-use Rattle.cdc_follow.specs.Gaps.{bytes_skipped}
-use Rattle.cdc_follow.specs.Stops.{bytes_followed}
-use Rattle.cdc_follow.specs.Streams.{stream_of}
+use Rattle.cdc_follow.specs.Counts.{counts_of, line_counts, no_counts}
+use Rattle.cdc_follow.specs.Following.{FollowState}
+use Rattle.cdc_follow.specs.Lines.{lines_of}
+use Rattle.cdc_follow.specs.Stops.{bytes_followed, lines_followed}
+use Rattle.cdc_follow.specs.declared.counts.Counts.{Counts}
 use Rattle.cdc_follow.specs.declared.streams.Rules.{Rules}
 use Rattle.cdc_follow.specs.declared.streams.Stop.{Stop}
 use Rattle.cdc_follow_command.specs.declared.followers.FollowSetup.{FollowSetup}
@@ -13,37 +14,41 @@ use Rattle.cdc_follow_command.specs.declared.followers.StreamFollower.{StreamFol
 
 -- what following has come to
 abbrev pub followed_of : StreamFollower → Followed
-followed_of it = record { follower = it.tracked.follower; gaps = it.gaps }
+followed_of it = record { follower = it.tracked.follower; counts = it.counts }
 
--- the same where no gap was skipped yet
+-- the same if no line was counted yet
 abbrev pub begun_of : StreamFollower → Followed
-begun_of it = record { follower = it.tracked.follower; gaps = 0 }
+begun_of it = record { follower = it.tracked.follower; counts = no_counts }
 
--- how many gaps were skipped, if they are to be
-abbrev pub skipped_by : Rules → ℕ → Option ℕ
-skipped_by rules gaps = if rules.skips_gaps then Some gaps else None
-
--- what following makes of the first so many entries of the bytes
+-- what following makes of the first so many lines of the bytes
 abbrev pub kept_after : Arguments → Rules → FollowState → List ℕ → ℕ → FollowState
 kept_after binding rules start bytes count =
-    (follow binding rules.skips_gaps start (take count (stream_of rules.chained bytes).entries)).state
+    (lines_followed binding rules start 1 (take count (lines_of bytes))).state
 
--- a follower keeps what following makes of the first so many entries of the bytes
-abbrev pub KeepsAfter : FollowSetup → Followed → List ℕ → ℕ → Followed → Type 0
-KeepsAfter setup start bytes count now = now.follower ≡ kept_after setup.binding setup.rules start.follower bytes count
+-- how many of the first so many lines of the bytes came to what
+abbrev pub counted_after : Arguments → Rules → FollowState → List ℕ → ℕ → Counts
+counted_after binding rules start bytes count = line_counts binding rules start 1 (take count (lines_of bytes))
 
--- following the bytes makes this of a follower and stops for this reason; and if no gap was skipped before, so many
--- were
+-- a follower keeps what following makes of the first so many lines of the bytes; and if no line was counted before,
+-- these are counted
+pub record KeepsAfter (setup : FollowSetup) (start : Followed) (bytes : List ℕ) (count : ℕ) (now : Followed)
+    : Type 0 where
+  pub keeps : now.follower ≡ kept_after setup.binding setup.rules start.follower bytes count
+  pub counts : start.counts ≡ no_counts
+      → now.counts ≡ counted_after setup.binding setup.rules start.follower bytes count
+
+-- following the bytes makes this of a follower and stops for this reason; and if no line was counted before, those of
+-- the bytes are counted
 pub record StopsAt (setup : FollowSetup) (start : Followed) (bytes : List ℕ) (stop : Stop) (now : Followed)
     : Type 0 where
   pub followed : bytes_followed setup.binding setup.rules start.follower bytes
       ≡ record { state = now.follower; stop = stop }
-  pub gaps : start.gaps ≡ 0 → now.gaps ≡ bytes_skipped setup.binding setup.rules start.follower bytes
+  pub counts : start.counts ≡ no_counts → now.counts ≡ counts_of setup.binding setup.rules start.follower bytes
 
--- the timestamp that is reported of a save: that of the last event seen
-abbrev pub last_of : Followed → ℕ
-last_of it = it.follower.seen
+-- what is printed of a save, if this is printed of the counts and of the timestamp of the last event seen
+abbrev pub prints_save_of : (Counts → ℕ → List ℕ) → FollowSetup → Followed → List ℕ
+prints_save_of prints setup it = prints it.counts it.follower.seen
 
--- what is printed at the end, if this is printed of how many gaps were skipped, of the follower and of why it stopped
-abbrev pub prints_end_of : (Option ℕ → FollowState → Stop → List ℕ) → FollowSetup → Followed → Stop → List ℕ
-prints_end_of prints setup it stop = prints (skipped_by setup.rules it.gaps) it.follower stop
+-- what is printed at the end, if this is printed of the counts, of the follower and of why it stopped
+abbrev pub prints_end_of : (Counts → FollowState → Stop → List ℕ) → FollowSetup → Followed → Stop → List ℕ
+prints_end_of prints setup it stop = prints it.counts it.follower stop

@@ -1,8 +1,9 @@
 -- What `follow` prints as JSON.
-use Rattle.std.specs.Prelude.{ℕ, List, [], ◌++◌, Option, Some, None, codes, unwrap_or}
-use Rattle.serde_json.specs.Data.{Data, no_members, member}
+use Rattle.std.specs.Prelude.{ℕ, List, [], ◌++◌, codes, unwrap_or}
+use Rattle.serde_json.specs.Data.{Data, Members, no_members, member}
 use Rattle.cdc_output.specs.Values.{narrow, wide}
 use Rattle.cdc_follow.specs.Following.{FollowState}
+use Rattle.cdc_follow.specs.declared.counts.Counts.{Counts}
 use Rattle.cdc_follow.specs.declared.entries.Entry.{Entry}
 use Rattle.cdc_follow.specs.declared.streams.Stop.{Stop}
 use Rattle.cdc_follow.specs.declared.streams.Stop.TheVariants.{AtEnd, Gap, AfterEnd, BadLine}
@@ -33,16 +34,29 @@ stop_lines seen (Gap line entry) = json_line (gap_value seen line entry)
 stop_lines seen (AfterEnd line entry) = json_line (after_end_value seen line)
 stop_lines seen (BadLine line error) = json_line (bad_line_value line error)
 
--- how many gaps were skipped
-abbrev pub followed_value : ℕ → Data
-followed_value skipped = line_of (codes "followed") (member (codes "gaps_skipped") (narrow skipped) no_members)
+-- the members of the counts of lines
+abbrev pub count_members : Counts → Members
+count_members counts =
+    member (codes "applied") (narrow counts.applied) (
+    member (codes "duplicates") (narrow counts.duplicates) (
+    member (codes "passed") (narrow counts.passed) (
+    member (codes "gaps_skipped") (narrow counts.gaps) (
+    member (codes "lines_skipped") (narrow counts.lines_skipped)
+    no_members))))
 
--- the line of this count; none if gaps aren't to be skipped
-abbrev pub skipped_lines : Option ℕ → List ℕ
-skipped_lines None = []
-skipped_lines (Some skipped) = json_line (followed_value skipped)
+-- a save at which the last event seen has this timestamp, with the counts of the lines so far
+abbrev pub saved_value : Counts → ℕ → Data
+saved_value counts timestamp =
+    line_of (codes "saved") (member (codes "timestamp") (wide timestamp) (count_members counts))
 
--- what is printed at the end: the subscriber with its book, why following stopped, and how many gaps were skipped
-abbrev pub end_lines : Option ℕ → FollowState → Stop → List ℕ
-end_lines skipped state stop =
-    (json_lines (subscriber_values 1 state.kept) ++ stop_lines state.seen stop) ++ skipped_lines skipped
+abbrev pub saved_lines : Counts → ℕ → List ℕ
+saved_lines counts timestamp = json_line (saved_value counts timestamp)
+
+-- the counts of all lines
+abbrev pub followed_value : Counts → Data
+followed_value counts = line_of (codes "followed") (count_members counts)
+
+-- what is printed at the end: the subscriber with its book, why following stopped, and the counts of all lines
+abbrev pub end_lines : Counts → FollowState → Stop → List ℕ
+end_lines counts state stop =
+    (json_lines (subscriber_values 1 state.kept) ++ stop_lines state.seen stop) ++ json_line (followed_value counts)

@@ -1,4 +1,3 @@
-pub mod Bindings
 pub mod Books
 pub mod Endings
 pub mod Following

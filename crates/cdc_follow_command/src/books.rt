@@ -8,12 +8,12 @@ ghost use Rattle.cdc_frames.specs.Frames.{frame};
 ghost use Rattle.cdc_book_log.specs.Logs.{CanBeLogged, IsLogText, log_name};
 ghost use Rattle.cdc_book_log.specs.Replay.{replay};
 ghost use Rattle.cdc_streams.specs.Keeping.{AppendsText, ReplacesText};
-ghost use Rattle.cdc_follow_command.specs.Bindings.{is_of as is_text_of};
+ghost use Rattle.cdc_bindings.specs.Bindings.{is_of as is_text_of};
 ghost use Rattle.cdc_follow_command.specs.Books.{IsAt, IsNoBook, IsRefused, IsRefusedAt, IsResumed, begins_after};
 ghost use Rattle.cdc_follow_command.specs.Books as spec;
 
-use crate::bindings::is_of as is_text_of_binding;
 use crate::followers::{FollowSetup, StreamFollower};
+use cdc_bindings::is_of as is_text_of_binding;
 use cdc_book_log::{read_log, record_text};
 use cdc_files::StoreError;
 use cdc_follow::{Follower, read_book};
@@ -23,7 +23,8 @@ use cdc_streams::{Keeps, Log, LogStore};
 use cdc_subscriber::{Book, Subscriber};
 use std::alloc::{AllocError, Global};
 
-/// A follower's book, kept as a log: a base with the whole book, and a record for each save after it, with what changed.
+/// A follower's book, kept as a log: a base with the whole book, and a record for each save after it, with what
+/// changed.
 #[derive(Drop)]
 pub struct BookLog<L> {
     log: Log<L>,
@@ -123,8 +124,8 @@ impl From<StoreError> for ResumeError {
     }
 }
 
-/// A follower that begins, with an empty book, which hashes ids with this key: at the first event, or after the event of
-/// this timestamp, as if that one and all before it had been seen.
+/// A follower that begins, with an empty book, which hashes ids with this key: at the first event, or after the event
+/// of this timestamp, as if that one and all before it had been seen.
 pub fn begin(alloc: Global, key: HashKey, after: Option<u64>) -> Follower
     ensures begins { result ≡ begins_after after }
     ensures saved { (binding : List ℕ) → CanBeSaved binding begins → CanBeSaved binding result }
@@ -133,8 +134,8 @@ pub fn begin(alloc: Global, key: HashKey, after: Option<u64>) -> Follower
     Follower::new(Subscriber::resume(book, 0, 0, false), after.unwrap_or(0))
 }
 
-/// The follower of a saved book with this text, as `resume` returns it. If following is to begin after the event of some
-/// timestamp, that has to be the last event that it has seen.
+/// The follower of a saved book with this text, as `resume` returns it. If following is to begin after the event of
+/// some timestamp, that has to be the last event that it has seen.
 pub fn resume_at(
     alloc: Global,
     key: HashKey,

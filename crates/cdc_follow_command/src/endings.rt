@@ -11,8 +11,7 @@ use cdc_streams::StreamEnding;
 pub type FollowEnding = StreamEnding<Stop>;
 
 /// The exit status of the program: 0 at the end; 1 at a gap, at what contradicts the end, or after a failure; 2 at a
-/// bad
-/// line.
+/// bad line.
 pub fn follow_status(ending: FollowEnding) -> u8
     ensures { result ≡ status_of ending }
 {

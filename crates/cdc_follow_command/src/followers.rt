@@ -1,16 +1,18 @@
 //! The command `follow`: follows a stream up to its end, and saves and prints its book.
 
-ghost use Rattle.std.specs.Prelude.{◌≡◌, None, is_some, IfSome};
-ghost use Rattle.cdc_follow.specs.Gaps.{bytes_skipped};
+ghost use Rattle.std.specs.Prelude.{◌≡◌, [], None, Some, is_some, IfSome};
+ghost use Rattle.std.specs.Option.{option_map};
+ghost use Rattle.cdc_follow.specs.Counts.{counts_of, no_counts};
 ghost use Rattle.cdc_follow.specs.Stops.{bytes_followed};
-ghost use Rattle.cdc_follow_command.specs.Following.{KeepsAfter, begun_of, followed_of, last_of, prints_end_of};
-ghost use Rattle.cdc_follow_command.specs.Following.{skipped_by as skipped_under};
+ghost use Rattle.cdc_follow_command.specs.Following.{KeepsAfter, begun_of, followed_of, prints_end_of};
+ghost use Rattle.cdc_follow_command.specs.Following.{prints_save_of};
 ghost use Rattle.cdc_streams.specs.Saving.{AreSaved, IfStopped, PrintsStream, saves_text};
 
 use crate::endings::FollowEnding;
 use crate::forms::FollowForm;
-use cdc_book_log::Tracked;
-use cdc_follow::{FollowError, Follower, Rules, Stop, Turn, follow_line};
+use cdc_book_log::{Details, Tracked};
+use cdc_follow::{Counts, FollowError, Follower, Rules, Stop, Turn, follow_line};
+use cdc_keys::{HashKey, KeyedMap};
 use cdc_match::Binding;
 use cdc_streams::{Consumer, Keeps, LineReader, Saved, Saver, stream_command};
 use std::alloc::{AllocError, Global};
@@ -32,8 +34,8 @@ pub struct FollowSetup {
 pub struct Followed {
     /// The follower, with its book.
     pub follower: Follower,
-    /// How many entries came too early and were skipped.
-    pub gaps: u64,
+    /// How many lines came to what.
+    pub counts: Counts,
 }
 
 /// What follows a stream.
@@ -41,20 +43,20 @@ pub struct Followed {
 pub struct StreamFollower {
     /// The follower, with its book, and what changed of it since it was saved.
     tracked: Tracked,
-    /// How many entries came too early and were skipped.
-    gaps: u64,
+    /// How many lines came to what.
+    counts: Counts,
 }
 
 impl StreamFollower {
-    /// A follower that goes on from this one; no entry was skipped yet.
+    /// A follower that goes on from this one; no line was counted yet.
     pub fn new(follower: Follower) -> StreamFollower
         ensures follower { result.tracked.follower ≡ follower }
         ensures changes { result.tracked.changes ≡ None }
-        ensures gaps { result.gaps ≡ 0 }
+        ensures counts { result.counts ≡ no_counts }
     {
         StreamFollower {
             tracked: Tracked::new(follower),
-            gaps: 0,
+            counts: Counts::none(),
         }
     }
 
@@ -65,6 +67,21 @@ impl StreamFollower {
         self.tracked.follower()
     }
 
+    /// Begins to keep what events show of accounts besides their balances, by the accounts' numbers, which are hashed with
+    /// this key.
+    pub fn keep_details(&mut self, alloc: Global, key: HashKey)
+        ensures { self.new ≡ record self.old { tracked = record self.old.tracked { shown = Some [] } } }
+    {
+        self.tracked.keep_details(alloc, key);
+    }
+
+    /// What the events that were applied since the save have shown of their accounts, if that is kept.
+    pub fn shown(&self) -> &Option<KeyedMap<u128, Details>>
+        ensures { option_map (λ known. known.entries) result.now ≡ self.now.tracked.shown }
+    {
+        self.tracked.shown()
+    }
+
     /// What changed of the follower since it was saved, if that is kept.
     pub fn changes(&self) -> &Option<Follower>
         ensures { result.now ≡ self.now.tracked.changes }
@@ -72,19 +89,12 @@ impl StreamFollower {
         self.tracked.changes()
     }
 
-    /// How many entries came too early and were skipped.
-    pub fn gaps(&self) -> u64
-        ensures { result ≡ self.now.gaps }
+    /// How many lines of the stream that is followed came to what.
+    pub fn counts(&self) -> Counts
+        ensures { result ≡ self.now.counts }
     {
-        self.gaps
+        self.counts
     }
-}
-
-/// How many gaps were skipped, if they are to be.
-fn skipped_by(rules: Rules, gaps: u64) -> Option<u64>
-    ensures { result ≡ skipped_under rules gaps }
-{
-    if rules.skips_gaps { Some(gaps) } else { None }
 }
 
 impl Saved for StreamFollower {
@@ -115,7 +125,7 @@ impl Saved for StreamFollower {
 
 impl<F: FollowForm> Consumer<F> for StreamFollower {
     ghost use Rattle.cdc_follow_command.specs.Private.Followed.{HasFollowed, followed_none, keeps_after};
-    ghost use Rattle.cdc_follow_command.specs.Following.{KeepsAfter, StopsAt, last_of, prints_end_of};
+    ghost use Rattle.cdc_follow_command.specs.Following.{KeepsAfter, StopsAt, prints_end_of, prints_save_of};
 
     type Stop = Stop;
 
@@ -125,7 +135,7 @@ impl<F: FollowForm> Consumer<F> for StreamFollower {
 
     ghost stops = { StopsAt };
 
-    ghost last = { last_of };
+    ghost prints_saved = { prints_save_of F.prints_save };
 
     ghost prints_end = { prints_end_of F.prints_end };
 
@@ -147,31 +157,31 @@ impl<F: FollowForm> Consumer<F> for StreamFollower {
             &mut self.tracked,
         )?;
         match turn {
-            Turn::GoesOn { skipped } => {
-                self.gaps = self.gaps.saturating_add(u64::from(skipped));
+            Turn::GoesOn(taken) => {
+                self.counts.count(&taken);
                 Ok(None)
             }
             Turn::Stops(stop) => Ok(Some(stop)),
         }
     }
 
-    fn last_timestamp(&self) -> u64 {
-        self.follower().seen()
+    fn saved_text(
+        &self,
+        form: &F,
+        _setup: &FollowSetup,
+        alloc: Global,
+    ) -> Result<Vec<u8>, AllocError> {
+        form.save(alloc, self.counts, self.follower().seen())
     }
 
     fn end_text(
         &self,
         form: &F,
-        setup: &FollowSetup,
+        _setup: &FollowSetup,
         alloc: Global,
         stop: Stop,
     ) -> Result<Vec<u8>, AllocError> {
-        form.end(
-            alloc,
-            skipped_by(setup.rules, self.gaps),
-            self.follower(),
-            stop,
-        )
+        form.end(alloc, self.counts, self.follower(), stop)
     }
 
     ghost begins = { followed_none };
@@ -180,10 +190,9 @@ impl<F: FollowForm> Consumer<F> for StreamFollower {
 }
 
 /// Follows the lines of a reader, numbered from 1. It saves the book after every so many lines, each time that no whole
-/// line is waiting, and at the end, and prints each save once the store holds its book; and at the end the book and why
-/// following stopped, or the fault of a command that failed. Nothing is written after a write that failed. Gaps that
-/// were
-/// skipped before are not counted.
+/// line is waiting, and at the end. It prints each save once the store holds its book, with the counts of the lines so
+/// far; and at the end the book, why following stopped, and the counts, or the fault of a command that failed. Nothing
+/// is written after a write that failed. Lines that were followed before are not counted.
 pub fn follow_command<F: FollowForm, B: LineReader, W: Write, K: Keeps<StreamFollower>>(
     form: &F,
     alloc: Global,
@@ -196,14 +205,15 @@ pub fn follow_command<F: FollowForm, B: LineReader, W: Write, K: Keeps<StreamFol
     ensures stops { IfStopped result (λ stop. IfSome (B.remaining reader.old) (λ bytes.
         bytes_followed setup.now.binding setup.now.rules followed.old.tracked.follower bytes
         ≡ record { state = followed.new.tracked.follower; stop = stop })) }
-    ensures gaps { IfStopped result (λ _. IfSome (B.remaining reader.old) (λ bytes. followed.new.gaps
-        ≡ bytes_skipped setup.now.binding setup.now.rules followed.old.tracked.follower bytes)) }
+    ensures counts { IfStopped result (λ _. IfSome (B.remaining reader.old) (λ bytes. followed.new.counts
+        ≡ counts_of setup.now.binding setup.now.rules followed.old.tracked.follower bytes)) }
     ensures printed { PrintsStream
         (AreSaved (KeepsAfter setup.now (begun_of followed.old)) (K.has_kept setup.now) (B.remaining reader.old)
         saver.old.store saver.new.store)
-        (saves_text F.prints_saved last_of (is_some saver.old.store)) (prints_end_of F.prints_end setup.now)
-        F.prints_failure (W.contents writer.old) (W.contents writer.new) (followed_of followed.new) result }
+        (saves_text (prints_save_of F.prints_save setup.now) (is_some saver.old.store))
+        (prints_end_of F.prints_end setup.now) F.prints_failure
+        (W.contents writer.old) (W.contents writer.new) (followed_of followed.new) result }
 {
-    followed.gaps = 0;
+    followed.counts = Counts::none();
     stream_command(form, alloc, reader, writer, saver, setup, followed)
 }

@@ -1,45 +1,58 @@
 //! The forms in which `follow` prints what it reports.
 
-ghost use Rattle.std.specs.Prelude.{◌≡◌, ◌++◌, ℕ, List, Option, IfOk, OnOk};
+ghost use Rattle.std.specs.Prelude.{◌≡◌, ◌++◌, ℕ, List, IfOk, OnOk};
+ghost use Rattle.cdc_follow.specs.declared.counts.Counts.{Counts as LineCounts};
 ghost use Rattle.cdc_follow.specs.Following.{FollowState};
 ghost use Rattle.cdc_follow.specs.declared.streams.Stop.{Stop as Stops};
 ghost use Rattle.cdc_follow_command.specs.Texts.{after_end_line, stop_line};
 ghost use Rattle.cdc_subscriber.specs.Lines.{subscriber_text};
 
-use cdc_follow::{Entry, Follower, Stop};
-use cdc_output::{Text, push, push_named};
+use cdc_follow::{Counts, Entry, Follower, Stop};
+use cdc_output::{FaultForm, Text, push, push_named};
 use cdc_streams::{StreamForm, push_bad_line};
 use cdc_subscriber::Subscriber;
 use std::alloc::{AllocError, Global};
 
 /// A form in which `follow` prints what it reports.
-pub trait FollowForm: StreamForm {
-    /// What is printed at the end: of how many gaps were skipped, if they are to be, of a follower, and of why
-    /// following stopped.
-    ghost prints_end: { Option ℕ → FollowState → Stops → List ℕ };
+pub trait FollowForm: FaultForm {
+    /// What is printed of a save: of the counts of the lines so far, and of the timestamp of the last event seen.
+    ghost prints_save: { LineCounts → ℕ → List ℕ };
 
-    /// The lines of a follower at the end, and of why following stopped. `skipped`: how many gaps were skipped; `None`
-    /// if gaps aren't to be skipped.
+    /// What is printed at the end: of the counts of the lines, of a follower, and of why following stopped.
+    ghost prints_end: { LineCounts → FollowState → Stops → List ℕ };
+
+    /// The line of a save. `timestamp`: that of the last event seen, in nanoseconds.
+    fn save(&self, alloc: Global, counts: Counts, timestamp: u64) -> Result<Vec<u8>, AllocError>
+        ensures { IfOk result (λ text. text.items ≡ prints_save counts timestamp) };
+
+    /// The lines of a follower at the end, of why following stopped, and of the counts.
     fn end(
         &self,
         alloc: Global,
-        skipped: Option<u64>,
+        counts: Counts,
         follower: &Follower,
         stop: Stop,
     ) -> Result<Vec<u8>, AllocError>
-        ensures { IfOk result (λ text. text.items ≡ prints_end skipped follower.now stop) };
+        ensures { IfOk result (λ text. text.items ≡ prints_end counts follower.now stop) };
 }
 
 impl FollowForm for Text {
+    ghost use Rattle.cdc_streams.specs.Lines.{saved_text};
     ghost use Rattle.cdc_follow_command.specs.Texts.{end_text};
 
-    // (standard error reports how many gaps were skipped)
+    // (standard error reports the counts)
+    ghost prints_save = { λ _. saved_text };
+
     ghost prints_end = { λ _. end_text };
+
+    fn save(&self, alloc: Global, _counts: Counts, timestamp: u64) -> Result<Vec<u8>, AllocError> {
+        self.saved(alloc, timestamp)
+    }
 
     fn end(
         &self,
         alloc: Global,
-        _skipped: Option<u64>,
+        _counts: Counts,
         follower: &Follower,
         stop: Stop,
     ) -> Result<Vec<u8>, AllocError> {

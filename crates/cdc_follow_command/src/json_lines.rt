@@ -2,31 +2,40 @@
 
 ghost use Rattle.std.specs.Prelude.{◌≡◌, ◌++◌, OnOk};
 ghost use Rattle.cdc_output.specs.Lines.{json_line};
-ghost use Rattle.cdc_follow_command.specs.JsonLines.{after_end_value, gap_value, skipped_lines, stop_lines};
+ghost use Rattle.cdc_follow_command.specs.JsonLines.{after_end_value, followed_value, gap_value, saved_value};
+ghost use Rattle.cdc_follow_command.specs.JsonLines.{stop_lines};
 
 use crate::forms::FollowForm;
-use cdc_follow::{Entry, Follower, Stop};
+use cdc_follow::{Counts, Entry, Follower, Stop};
 use cdc_output::Field::{Number, Wide};
 use cdc_output::{Json, Lines, Member, push_subscriber};
 use cdc_streams::push_bad_line_json;
 use std::alloc::{AllocError, Global};
 
 impl FollowForm for Json {
-    ghost use Rattle.cdc_follow_command.specs.JsonLines.{end_lines};
+    ghost use Rattle.cdc_follow_command.specs.JsonLines.{end_lines, saved_lines};
+
+    ghost prints_save = { saved_lines };
 
     ghost prints_end = { end_lines };
+
+    fn save(&self, alloc: Global, counts: Counts, timestamp: u64) -> Result<Vec<u8>, AllocError> {
+        let mut lines = Lines::new(alloc);
+        push_saved(alloc, &mut lines, counts, timestamp)?;
+        Ok(lines.into_text())
+    }
 
     fn end(
         &self,
         alloc: Global,
-        skipped: Option<u64>,
+        counts: Counts,
         follower: &Follower,
         stop: Stop,
     ) -> Result<Vec<u8>, AllocError> {
         let mut lines = Lines::new(alloc);
         push_subscriber(alloc, &mut lines, 1, follower.subscriber())?;
         push_stop(alloc, &mut lines, follower.seen(), stop)?;
-        push_skipped(alloc, &mut lines, skipped)?;
+        push_followed(alloc, &mut lines, counts)?;
         Ok(lines.into_text())
     }
 }
@@ -44,18 +53,46 @@ fn push_stop(alloc: Global, lines: &mut Lines, seen: u64, stop: Stop) -> Result<
     }
 }
 
-/// Adds the line of how many gaps were skipped; none if gaps aren't to be skipped.
-fn push_skipped(alloc: Global, lines: &mut Lines, skipped: Option<u64>) -> Result<(), AllocError>
-    ensures { OnOk result (lines.new.text.items ≡ lines.old.text.items ++ skipped_lines skipped) }
+/// Adds the line of a save, with the counts of the lines so far. `timestamp`: that of the last event seen.
+fn push_saved(
+    alloc: Global,
+    lines: &mut Lines,
+    counts: Counts,
+    timestamp: u64,
+) -> Result<(), AllocError>
+    ensures { OnOk result (lines.new.text.items
+        ≡ lines.old.text.items ++ json_line (saved_value counts timestamp)) }
 {
-    match skipped {
-        None => Ok(()),
-        Some(skipped) => lines.push(
-            alloc,
-            "followed",
-            &[Member("gaps_skipped", Number(skipped))],
-        ),
-    }
+    lines.push(
+        alloc,
+        "saved",
+        &[
+            Member("timestamp", Wide(timestamp.into())),
+            Member("applied", Number(counts.applied)),
+            Member("duplicates", Number(counts.duplicates)),
+            Member("passed", Number(counts.passed)),
+            Member("gaps_skipped", Number(counts.gaps)),
+            Member("lines_skipped", Number(counts.lines_skipped)),
+        ],
+    )
+}
+
+/// Adds the line of the counts of all lines.
+fn push_followed(alloc: Global, lines: &mut Lines, counts: Counts) -> Result<(), AllocError>
+    ensures { OnOk result (lines.new.text.items
+        ≡ lines.old.text.items ++ json_line (followed_value counts)) }
+{
+    lines.push(
+        alloc,
+        "followed",
+        &[
+            Member("applied", Number(counts.applied)),
+            Member("duplicates", Number(counts.duplicates)),
+            Member("passed", Number(counts.passed)),
+            Member("gaps_skipped", Number(counts.gaps)),
+            Member("lines_skipped", Number(counts.lines_skipped)),
+        ],
+    )
 }
 
 /// Adds the line of a gap before the entry of the line of this number.

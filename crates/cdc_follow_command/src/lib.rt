@@ -1,16 +1,13 @@
 //! The command `follow`: follows a stream of messages, keeps its book, and saves it.
 #![tactic(auto)]
 
-mod bindings;
 mod books;
 mod endings;
 mod followers;
 mod forms;
 mod json_lines;
-mod laws;
 
 pub use books::{BookLog, ResumeError, begin, resume, resume_at};
 pub use endings::{FollowEnding, follow_status};
 pub use followers::{FollowSetup, Followed, StreamFollower, follow_command};
 pub use forms::FollowForm;
-pub use laws::same_bindings_take_same;

@@ -30,16 +30,16 @@ Steps Taken Stops Stands old number mid stop new left =
     → LeadsOn (Taken start bytes) (Stops start bytes) (Stands start bytes) count number stop new left)
 
 -- it was taken up to this line, and what was saved was kept, and its lines printed
-pub record HasRun {K S : Type 0} (prints : ℕ → List ℕ) (last : S → ℕ) (Taken : List ℕ → ℕ → S → ℕ → List ℕ → Type 0)
+pub record HasRun {K S : Type 0} (prints : S → List ℕ) (Taken : List ℕ → ℕ → S → ℕ → List ℕ → Type 0)
     (Stands : List ℕ → ℕ → S → Type 0) (Kept : K → K → List S → Type 0) (first : Option K)
     (known old : Option (List ℕ)) (state : S) (number : ℕ) (store : Option K) (left now : Option (List ℕ)) : Type 0
   where
     pub states : List S
     pub has : Has Taken Stands known state number left states
     pub kept : HasKept Kept first store states
-    pub printed : Appends old now (saves_text prints last (is_some first) states)
+    pub printed : Appends old now (saves_text prints (is_some first) states)
 
-module _ {K S T : Type 0} (prints : ℕ → List ℕ) (last : S → ℕ) (Taken : S → List ℕ → ℕ → S → ℕ → List ℕ → Type 0)
+module _ {K S T : Type 0} (prints : S → List ℕ) (Taken : S → List ℕ → ℕ → S → ℕ → List ℕ → Type 0)
     (Stops : S → List ℕ → T → S → Type 0) (Stands : S → List ℕ → ℕ → S → Type 0)
     (begins : (start : S) (bytes : List ℕ) → Taken start bytes 0 start 1 bytes)
     (stands_so : (start : S) (bytes : List ℕ) (count : ℕ) (state : S) (number : ℕ) (left : List ℕ)
@@ -47,11 +47,11 @@ module _ {K S T : Type 0} (prints : ℕ → List ℕ) (last : S → ℕ) (Taken 
     (Kept : K → K → List S → Type 0) (start : S) (first : Option K) (known old : Option (List ℕ)) where
   -- up to this line
   abbrev pub Run : S → ℕ → Option K → Option (List ℕ) → Option (List ℕ) → Type 0
-  Run = HasRun prints last (Taken start) (Stands start) Kept first known old
+  Run = HasRun prints (Taken start) (Stands start) Kept first known old
 
   -- the lines of saves
   abbrev all_lines : List S → List ℕ
-  all_lines = saves_text prints last (is_some first)
+  all_lines = saves_text prints (is_some first)
 
   -- what was saved, and what is printed of it in the end
   abbrev pub Prints : Option K → Option (List ℕ) → S → Result T ProgramFault → Type 0
@@ -68,7 +68,7 @@ module _ {K S T : Type 0} (prints : ℕ → List ℕ) (last : S → ℕ) (Taken 
     states = [];
     has = has_begun known;
     kept = kept_none Kept none first;
-    printed = subst (Appends old old) (sym (saves_none prints last (is_some first))) (appends_nothing old);
+    printed = subst (Appends old old) (sym (saves_none prints (is_some first))) (appends_nothing old);
   })
 
   has_saved : (all : Option (List ℕ)) (state : S) (number : ℕ) (left : Option (List ℕ)) (states : List S)
@@ -85,7 +85,7 @@ module _ {K S T : Type 0} (prints : ℕ → List ℕ) (last : S → ℕ) (Taken 
 
   -- the line of one more save
   abbrev Line : Option K → S → List ℕ
-  Line store state = save_text prints (is_some store) (last state)
+  Line store state = save_text prints (is_some store) state
 
   -- a save, if it is done
   pub run_saves : (state : S) (number : ℕ) (store later : Option K) (left mid new : Option (List ℕ))
@@ -95,9 +95,9 @@ module _ {K S T : Type 0} (prints : ℕ → List ℕ) (last : S → ℕ) (Taken 
     states = run.states ++ state ∷ [];
     has = has_saved known state number left run.states run.has;
     kept = keeps first run.states run.kept;
-    printed = subst (Appends old new) (sym (saves_more prints last (is_some first) run.states state))
-        (Appends-trans old mid new (all_lines run.states) (save_text prints (is_some first) (last state)) run.printed
-        (subst (λ kept. Appends mid new (save_text prints kept (last state)))
+    printed = subst (Appends old new) (sym (saves_more prints (is_some first) run.states state))
+        (Appends-trans old mid new (all_lines run.states) (save_text prints (is_some first) state) run.printed
+        (subst (λ kept. Appends mid new (save_text prints kept state))
         (kept_same Kept first store run.states run.kept) adds));
   }
 
@@ -222,9 +222,9 @@ module _ {K S T : Type 0} (prints : ℕ → List ℕ) (last : S → ℕ) (Taken 
 
   -- the line of the save, by the first store
   line_of_first : (state : S) (store : Option K) (now : Option (List ℕ)) → (can : CanSave state store now)
-      → Line store state ≡ save_text prints (is_some first) (last state)
+      → Line store state ≡ save_text prints (is_some first) state
   line_of_first state store now can =
-      ap (λ kept. save_text prints kept (last state)) (kept_same Kept first store can.states can.kept)
+      ap (λ kept. save_text prints kept state) (kept_same Kept first store can.states can.kept)
 
   -- it was saved, and taking ends so
   pub save_ends : (state final : S) (store later : Option K) (now new : Option (List ℕ)) (result : Result T
@@ -235,8 +235,8 @@ module _ {K S T : Type 0} (prints : ℕ → List ℕ) (last : S → ℕ) (Taken 
     can.states ++ state ∷ [],
     record { stand = add_last known state can.states can.stand; kept = keeps first can.states can.kept },
     prints_all (all_lines (can.states ++ state ∷ [])) old new result
-        (subst (Appends old new) (sym (saves_more prints last (is_some first) can.states state))
-        (Appends-trans old now new (all_lines can.states) (save_text prints (is_some first) (last state)) can.printed
+        (subst (Appends old new) (sym (saves_more prints (is_some first) can.states state))
+        (Appends-trans old now new (all_lines can.states) (save_text prints (is_some first) state) can.printed
         (subst (Appends now new) (line_of_first state store now can) adds))),
     is_last result,
   )
@@ -272,8 +272,8 @@ module _ {K S T : Type 0} (prints : ℕ → List ℕ) (last : S → ℕ) (Taken 
         can.states ++ state ∷ [],
         record { stand = add_last known state can.states can.stand; kept = one.0 first can.states can.kept },
         subst (λ f. PrintsBy f old new (all_lines (can.states ++ state ∷ []))) (sym is)
-            (subst (PrintsPart old new) (sym (saves_more prints last (is_some first) can.states state))
-            (part_more (all_lines can.states) (save_text prints (is_some first) (last state)) old now new can.printed
+            (subst (PrintsPart old new) (sym (saves_more prints (is_some first) can.states state))
+            (part_more (all_lines can.states) (save_text prints (is_some first) state) old now new can.printed
             (subst (PrintsPart now new) (line_of_first state store now can) one.1))),
         tt,
       )

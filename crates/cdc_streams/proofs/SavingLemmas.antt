@@ -54,17 +54,17 @@ pub prints_all : {T : Type 0} (text : List ℕ) (old new : Option (List ℕ)) (r
 prints_all text old new (Ok done) adds = adds
 prints_all text old new (Err why) adds = prints_by (is_write_fault why) text old new adds
 
-module _ {S : Type 0} (prints : ℕ → List ℕ) (last : S → ℕ) where
-  pub saves_none : (kept : Bool) → saves_text prints last kept [] ≡ []
+module _ {S : Type 0} (prints : S → List ℕ) where
+  pub saves_none : (kept : Bool) → saves_text prints kept [] ≡ []
   saves_none true = refl
   saves_none false = refl
 
   pub saves_more : (kept : Bool) (states : List S) (state : S)
-      → saves_text prints last kept (states ++ state ∷ [])
-      ≡ saves_text prints last kept states ++ save_text prints kept (last state)
+      → saves_text prints kept (states ++ state ∷ [])
+      ≡ saves_text prints kept states ++ save_text prints kept state
   saves_more true states state =
-      flat_map-append (λ (s : S). prints (last s)) states (state ∷ [])
-      ∙ ap (λ text. flat_map (λ (s : S). prints (last s)) states ++ text) (append-nil (prints (last state)))
+      flat_map-append prints states (state ∷ [])
+      ∙ ap (λ text. flat_map prints states ++ text) (append-nil (prints state))
   saves_more false states state = refl
 
 -- ---- what a write leaves
@@ -136,25 +136,28 @@ module _ {T : Type 0} (text : List ℕ) (old mid new : Option (List ℕ)) (endin
       ]
 
   -- a fault of a write, after which nothing was printed, or another one
+  pub fault_prints : (fails : ProgramFault → List ℕ → Type 0) (fault : ProgramFault)
+      → PrintsBy (is_write_fault fault) old mid text → PrintsFault fails [] mid new fault ending
+      → (is_write_fault fault ≡ true → (ending ≡ Failed fault) × Appends mid new [])
+      → PrintsFault fails text old new fault ending
+  fault_prints fails fault first last quiet = go (is_write_fault fault) refl first
+    where
+      go : (failed : Bool) → is_write_fault fault ≡ failed → PrintsBy failed old mid text
+          → PrintsFault fails text old new fault ending
+      go true is part =
+          let none = quiet is in
+          inr (
+            ap ends_by_write none.0 ∙ is,
+            (part.0, prints_same (take part.0 text) old mid new part.1 none.1),
+          )
+      go false is adds = fault_after fails fault adds last
+
   pub fault_ends : {S : Type 0} (prints : S → T → List ℕ) (fails : ProgramFault → List ℕ → Type 0) (state : S)
       (fault : ProgramFault) → PrintsBy (is_write_fault fault) old mid text
       → PrintsFault fails [] mid new fault ending
       → (is_write_fault fault ≡ true → (ending ≡ Failed fault) × Appends mid new [])
       → PrintsEnd prints fails text old new state ending
-  fault_ends prints fails state fault first last quiet = go (is_write_fault fault) refl first
-    where
-      go : (failed : Bool) → is_write_fault fault ≡ failed → PrintsBy failed old mid text
-          → PrintsEnd prints fails text old new state ending
-      go true is part =
-          let none = quiet is in
-          inr (
-            fault,
-            inr (
-              ap ends_by_write none.0 ∙ is,
-              (part.0, prints_same (take part.0 text) old mid new part.1 none.1),
-            ),
-          )
-      go false is adds = inr (fault, fault_after fails fault adds last)
+  fault_ends prints fails state fault first last quiet = inr (fault, fault_prints fails fault first last quiet)
 
 pub any_stop : {T X : Type 0} → X → (it : StreamEnding T) → IfStopped it (λ stop. X)
 any_stop holds (Stopped stop) = holds

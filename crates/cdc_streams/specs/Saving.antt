@@ -32,9 +32,9 @@ PrintsAll old new text (Err why) = PrintsBy (is_write_fault why) old new text
 abbrev pub is_due : ℕ → ℕ → Bool → Bool
 is_due every unsaved waits = nat_le every unsaved || (waits && nat_lt 0 unsaved)
 
--- the line of a save at which the last event has this timestamp, if there is a store
-abbrev pub save_text : (ℕ → List ℕ) → Bool → ℕ → List ℕ
-save_text prints kept timestamp = if kept then prints timestamp else []
+-- what is printed of a save of this, if there is a store
+abbrev pub save_text : {S : Type 0} → (S → List ℕ) → Bool → S → List ℕ
+save_text prints kept state = if kept then prints state else []
 
 -- a save that fails because a write does, or for another reason
 abbrev pub SaveFails : {S : Type 0} → Bool → (List S → Type 0) → Option (List ℕ) → Option (List ℕ) → S → List ℕ → Type 0
@@ -59,10 +59,10 @@ StandInOrder Stands from (state ∷ later) =
 abbrev pub EndWith : {S : Type 0} → List S → S → Type 0
 EndWith states final = (before : List _) × (states ≡ before ++ (final ∷ []))
 
--- the lines of the saves of these, one after another, if there is a store
-abbrev pub saves_text : {S : Type 0} → (ℕ → List ℕ) → (S → ℕ) → Bool → List S → List ℕ
-saves_text prints last false states = []
-saves_text prints last true states = flat_map (λ state. prints (last state)) states
+-- what is printed of the saves of these, one after another, if there is a store
+abbrev pub saves_text : {S : Type 0} → (S → List ℕ) → Bool → List S → List ℕ
+saves_text prints false states = []
+saves_text prints true states = flat_map prints states
 
 -- These were saved while a stream was taken: they are what its first entries make, one after another, and the store was
 -- given them and held each of them.

@@ -7,7 +7,6 @@ ghost use Rattle.cdc_streams.specs.Saving.{PrintsStream, is_write_fault, saves_t
 
 use crate::consumers::Consumer;
 use crate::endings::{StreamEnding, fault_of};
-use crate::forms::StreamForm;
 use crate::readers::LineReader;
 use crate::savers::Saver;
 use crate::stores::Keeps;
@@ -18,10 +17,9 @@ use std::io;
 use std::io::{ErrorKind, Write};
 
 /// Takes the lines of a reader, numbered from 1, and saves after every so many lines, each time that no whole line is
-/// waiting, and at the end. Each save is reported once the store holds it, by the timestamp of the last event. The
-/// first
-/// save is of the whole.
-pub fn take_stream<F: StreamForm, C: Consumer<F>, B: LineReader, W: Write, K: Keeps<C>>(
+/// waiting, and at the end. Once the store holds a save, `Consumer::saved_text` is printed of it. The first save is of
+/// the whole.
+pub fn take_stream<F, C: Consumer<F>, B: LineReader, W: Write, K: Keeps<C>>(
     form: &F,
     alloc: Global,
     reader: &mut B,
@@ -34,7 +32,7 @@ pub fn take_stream<F: StreamForm, C: Consumer<F>, B: LineReader, W: Write, K: Ke
         C.stops setup.now (C.state consumer.old) bytes stop (C.state consumer.new))) }
     ensures saved { PrintsSaves (AreSaved (C.stands setup.now (C.state consumer.old)) (K.has_kept setup.now)
         (B.remaining reader.old) saver.old.store saver.new.store)
-        (saves_text F.prints_saved C.last (is_some saver.old.store))
+        (saves_text (C.prints_saved setup.now) (is_some saver.old.store))
         (W.contents writer.old) (W.contents writer.new) (C.state consumer.new) result }
 {
     consumer.forget_changes();
@@ -62,7 +60,7 @@ pub fn take_stream<F: StreamForm, C: Consumer<F>, B: LineReader, W: Write, K: Ke
 
 /// Takes a stream, and prints each save, and at the end what `Consumer::end_text` gives; or the fault of a command that
 /// failed. Nothing is written after a write that failed.
-pub fn stream_command<F: StreamForm, C: Consumer<F>, B: LineReader, W: Write, K: Keeps<C>>(
+pub fn stream_command<F: FaultForm, C: Consumer<F>, B: LineReader, W: Write, K: Keeps<C>>(
     form: &F,
     alloc: Global,
     reader: &mut B,
@@ -75,7 +73,7 @@ pub fn stream_command<F: StreamForm, C: Consumer<F>, B: LineReader, W: Write, K:
         C.stops setup.now (C.state consumer.old) bytes stop (C.state consumer.new))) }
     ensures printed { PrintsStream (AreSaved (C.stands setup.now (C.state consumer.old)) (K.has_kept setup.now)
         (B.remaining reader.old) saver.old.store saver.new.store)
-        (saves_text F.prints_saved C.last (is_some saver.old.store)) (C.prints_end setup.now) F.prints_failure
+        (saves_text (C.prints_saved setup.now) (is_some saver.old.store)) (C.prints_end setup.now) F.prints_failure
         (W.contents writer.old) (W.contents writer.new) (C.state consumer.new) result }
 {
     match take_stream(form, alloc, reader, writer, saver, setup, consumer) {
@@ -85,7 +83,7 @@ pub fn stream_command<F: StreamForm, C: Consumer<F>, B: LineReader, W: Write, K:
 }
 
 /// Prints the end.
-fn print_end<F: StreamForm, C: Consumer<F>, W: Write>(
+fn print_end<F: FaultForm, C: Consumer<F>, W: Write>(
     form: &F,
     alloc: Global,
     writer: &mut W,
@@ -104,7 +102,7 @@ fn print_end<F: StreamForm, C: Consumer<F>, W: Write>(
 }
 
 /// Prints the fault of a command that failed, unless it is one of a write.
-fn fail<F: FaultForm, S: Copy, W: Write>(
+pub fn fail<F: FaultForm, S: Copy, W: Write>(
     form: &F,
     writer: &mut W,
     fault: ProgramFault,

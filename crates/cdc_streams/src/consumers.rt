@@ -8,8 +8,8 @@ use cdc_follow::FollowError;
 use std::alloc::{AllocError, Global};
 use std::io::BufRead;
 
-/// What takes the lines of a stream, one after another, up to the one at which it stops; and what is printed at the end
-/// in forms of type `F`.
+/// What takes the lines of a stream, one after another, up to the one at which it stops; and what is printed of each
+/// save and at the end, in forms of type `F`.
 pub trait Consumer<F>: Saved {
     /// Why it stops.
     type Stop: Copy;
@@ -24,8 +24,8 @@ pub trait Consumer<F>: Saved {
     /// From a start on, these bytes make this of it, and it stops for this reason.
     ghost stops: { Self.Setup → Self.State → List ℕ → Self.Stop → Self.State → Type 0 };
 
-    /// The timestamp that is reported of a save.
-    ghost last: { Self.State → ℕ };
+    /// What is printed of a save.
+    ghost prints_saved: { Self.Setup → Self.State → List ℕ };
 
     /// What is printed at the end.
     ghost prints_end: { Self.Setup → Self.State → Self.Stop → List ℕ };
@@ -47,9 +47,14 @@ pub trait Consumer<F>: Saved {
         ensures moves { OnOk result (Self.moves self.old self.new) }
         ensures err { OnErr result (self.new ≡ self.old) };
 
-    /// The timestamp that is reported of a save, in nanoseconds.
-    fn last_timestamp(&self) -> u64
-        ensures { result ≡ last (Self.state self.now) };
+    /// What is printed of a save.
+    fn saved_text(
+        &self,
+        form: &F,
+        setup: &Self::Setup,
+        alloc: Global,
+    ) -> Result<Vec<u8>, AllocError>
+        ensures { IfOk result (λ it. it.items ≡ prints_saved setup.now (Self.state self.now)) };
 
     /// What is printed at the end.
     fn end_text(

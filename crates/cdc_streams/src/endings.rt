@@ -18,7 +18,7 @@ pub enum StreamEnding<S> {
 }
 
 /// The program's fault for a failure of reading.
-pub(crate) fn fault_of(error: FollowError) -> ProgramFault
+pub fn fault_of(error: FollowError) -> ProgramFault
     ensures memory { error ≡ FollowError.OutOfMemory → result ≡ ProgramFault.OutOfMemory }
     ensures reader_memory { (why : _) → error ≡ FollowError.Read why → error_kind why ≡ ErrorKind.OutOfMemory
         → result ≡ ProgramFault.OutOfMemory }

@@ -13,12 +13,13 @@ mod savers;
 mod stores;
 mod writing;
 
-pub use commands::{stream_command, take_stream};
+pub use commands::{fail, stream_command, take_stream};
 pub use consumers::Consumer;
-pub use endings::StreamEnding;
+pub use endings::{StreamEnding, fault_of};
 pub use forms::{StreamForm, push_bad_line, push_bad_line_json};
 pub use log_files::LogFile;
 pub use logs::Log;
 pub use readers::LineReader;
 pub use savers::Saver;
 pub use stores::{Keeps, LogStore, Saved};
+pub use writing::write_part;

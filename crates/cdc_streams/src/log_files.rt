@@ -19,8 +19,8 @@ use std::os::unix::fs::MetadataExt;
 /// owner, group and mode are kept; `replace` is refused if that isn't permitted.
 ///
 /// The file is locked from its opening or its first writing on, and another process that uses it is refused. Writing is
-/// refused if PATH no longer names this file, if something else has written into the file, by its length and the time of
-/// its last change, or if nobody may write it; and `replace` is if `PATH.new` exists and can't be the leftover of an
+/// refused if PATH no longer names this file, if something else has written into the file, by its length and the time
+/// of its last change, or if nobody may write it; and `replace` is if `PATH.new` exists and can't be the leftover of an
 /// interrupted one, by the text's mark.
 ///
 /// No contract can state what a file holds.

@@ -5,7 +5,6 @@ ghost use Rattle.cdc_streams.specs.Keeping.{KeepsMore};
 ghost use Rattle.cdc_streams.specs.Saving.{SavesOne, is_due as due, save_text};
 
 use crate::consumers::Consumer;
-use crate::forms::StreamForm;
 use crate::stores::Keeps;
 use crate::writing::write_part;
 use cdc_output::ProgramFault;
@@ -45,7 +44,7 @@ impl<K> Saver<K> {
     }
 
     /// Saves if that is due before the next line is read. `waits`: no whole line has come yet.
-    pub(crate) fn save_if_due<F: StreamForm, C: Consumer<F>, W: Write>(
+    pub(crate) fn save_if_due<F, C: Consumer<F>, W: Write>(
         &mut self,
         form: &F,
         alloc: Global,
@@ -61,7 +60,7 @@ impl<K> Saver<K> {
             → IfSome self.old.store (λ store. K.fits setup.now store consumer.old)
             → SavesOne (KeepsMore (K.has_kept setup.now) self.old.store self.new.store)
             (W.contents writer.old) (W.contents writer.new) (C.state consumer.old)
-            (save_text F.prints_saved (is_some self.old.store) (C.last (C.state consumer.old))) result }
+            (save_text (C.prints_saved setup.now) (is_some self.old.store) (C.state consumer.old)) result }
         ensures same { IsTrue (not (due self.old.every self.old.unsaved waits))
             → (self.new ≡ self.old) × (consumer.new ≡ consumer.old) × (writer.new ≡ writer.old) }
         ensures fine { IsTrue (not (due self.old.every self.old.unsaved waits)) → IfErr result (λ _. ⊥) }
@@ -75,10 +74,9 @@ impl<K> Saver<K> {
         }
     }
 
-    /// Saves, if there is a store, and then reports the save, by the timestamp of the last event. After an error, the
-    /// store holds what it held before, and nothing is reported; or it holds what was given to it, and a part of the
-    /// report is written.
-    pub(crate) fn save<F: StreamForm, C: Consumer<F>, W: Write>(
+    /// Saves, if there is a store, and then reports the save. After an error, the store holds what it held before, and
+    /// nothing is reported; or it holds what was given to it, and a part of the report is written.
+    pub(crate) fn save<F, C: Consumer<F>, W: Write>(
         &mut self,
         form: &F,
         alloc: Global,
@@ -92,14 +90,14 @@ impl<K> Saver<K> {
         ensures saved { IfSome self.old.store (λ store. K.fits setup.now store consumer.old)
             → SavesOne (KeepsMore (K.has_kept setup.now) self.old.store self.new.store)
             (W.contents writer.old) (W.contents writer.new) (C.state consumer.old)
-            (save_text F.prints_saved (is_some self.old.store) (C.last (C.state consumer.old))) result }
+            (save_text (C.prints_saved setup.now) (is_some self.old.store) (C.state consumer.old)) result }
         ensures fits { IfSome self.old.store (λ store. K.fits setup.now store consumer.old)
             → OnOk result (IfSome self.new.store (λ store. K.fits setup.now store consumer.new)) }
     {
         let Some(store) = &mut self.store else {
             return Ok(());
         };
-        let line = form.saved(alloc, consumer.last_timestamp())?;
+        let line = consumer.saved_text(form, setup, alloc)?;
         store.keep(setup, alloc, consumer)?;
         consumer.begin_changes(alloc);
         self.unsaved = 0;

@@ -8,7 +8,7 @@ use std::io;
 use std::io::{ErrorKind, Write};
 
 /// Writes a text and flushes it. The one error is that a write failed, and then a part of it may be written.
-pub(crate) fn write_part<W: Write>(writer: &mut W, text: &[u8]) -> Result<(), ProgramFault>
+pub fn write_part<W: Write>(writer: &mut W, text: &[u8]) -> Result<(), ProgramFault>
     ensures printed { PrintsAll (W.contents writer.old) (W.contents writer.new) text.now result }
     ensures fails { IfErr result (λ why. IsTrue (is_write_fault why)) }
 {

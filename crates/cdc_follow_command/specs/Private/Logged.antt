@@ -49,4 +49,4 @@ pub goes_on : {L : Type 0} (texts : L → Option (List (List ℕ))) (setup : Fol
     → FitsLog texts setup log new
 goes_on texts setup log old new moves fits =
     fits_later setup (texts log.log.store) log.log.records old.tracked.changes new.tracked.changes old.tracked.follower
-    new.tracked.follower moves fits
+    new.tracked.follower moves.changes fits

@@ -1,5 +1,5 @@
 use Rattle.std.proofs.Common.{◌≡◌, ℕ, List, true, inr, refl, subst}
-use Rattle.cdc_follow_command.specs.Bindings.{is_of}
+use Rattle.cdc_bindings.specs.Bindings.{is_of}
 use Rattle.cdc_follow_command.proofs.books.resume.Goals as goal
 
 pub returns-then-branch-clause-resumed : goal.returns-then-branch-clause-resumed

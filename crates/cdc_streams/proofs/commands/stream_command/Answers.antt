@@ -9,7 +9,7 @@ returns-in-Ok-clause-printed g c =
       saved.0,
       saved.1,
       any_stop saved.3 c.print_end.result,
-      end_after (saves_text g.F.StreamForm.prints_saved g.C.Consumer.last (is_some c.args.saver.now.store) saved.0)
+      end_after (saves_text (g.C.Consumer.prints_saved c.args.setup.now) (is_some c.args.saver.now.store) saved.0)
           (g.W.Write.contents c.args.writer.now) (g.W.Write.contents c.take_stream.new.writer)
           (g.W.Write.contents c.print_end.new.writer) c.print_end.result
           (g.C.Consumer.prints_end c.args.setup.now) g.F.FaultForm.prints_failure
@@ -22,7 +22,7 @@ returns-in-Err-clause-printed g c =
       saved.0,
       saved.1,
       no_stop (λ stop. EndWith saved.0 (g.C.Saved.state c.take_stream.new.consumer)) c.fail.result c.fail.ensures.fails,
-      fault_ends (saves_text g.F.StreamForm.prints_saved g.C.Consumer.last (is_some c.args.saver.now.store) saved.0)
+      fault_ends (saves_text (g.C.Consumer.prints_saved c.args.setup.now) (is_some c.args.saver.now.store) saved.0)
           (g.W.Write.contents c.args.writer.now) (g.W.Write.contents c.take_stream.new.writer)
           (g.W.Write.contents c.fail.new.writer) c.fail.result
           (g.C.Consumer.prints_end c.args.setup.now) g.F.FaultForm.prints_failure

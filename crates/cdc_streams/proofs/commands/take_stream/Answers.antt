@@ -9,7 +9,7 @@ use Rattle.cdc_streams.proofs.commands.take_stream.Goals.{in-Ok-Some, in-Err-tak
 
 pub loop-number-init : goal.loop-number-init
 loop-number-init g c = record {
-  run = run_begins g.F.StreamForm.prints_saved g.C.Consumer.last (g.C.Consumer.has_taken c.args.setup.now)
+  run = run_begins (g.C.Consumer.prints_saved c.args.setup.now) (g.C.Consumer.has_taken c.args.setup.now)
       (g.C.Consumer.stops c.args.setup.now) (g.C.Consumer.stands c.args.setup.now)
       (g.met.C.Consumer.begins c.args.setup.now) (g.met.C.Consumer.stands_for_it c.args.setup.now)
       (g.K.Keeps.has_kept c.args.setup.now) (g.C.Saved.state c.args.consumer.now) c.args.saver.now.store
@@ -23,7 +23,7 @@ loop-number-init g c = record {
 
 pub returns-in-Err-clause-saved : goal.returns-in-Err-clause-saved
 returns-in-Err-clause-saved g c =
-    due_fails g.F.StreamForm.prints_saved g.C.Consumer.last (g.C.Consumer.has_taken c.args.setup.now)
+    due_fails (g.C.Consumer.prints_saved c.args.setup.now) (g.C.Consumer.has_taken c.args.setup.now)
     (g.C.Consumer.stops c.args.setup.now) (g.C.Consumer.stands c.args.setup.now)
     (g.met.C.Consumer.begins c.args.setup.now) (g.met.C.Consumer.stands_for_it c.args.setup.now)
     (g.K.Keeps.has_kept c.args.setup.now) (g.C.Saved.state c.args.consumer.now) c.args.saver.now.store
@@ -31,7 +31,7 @@ returns-in-Err-clause-saved g c =
     (Unit {0}) _ (g.C.Saved.state c.loop-number.consumer) (g.C.Saved.state c.save_if_due.new.consumer)
     c.loop-number.saver.store c.save_if_due.new.self.store (g.W.Write.contents c.loop-number.writer)
     (g.W.Write.contents c.save_if_due.new.writer) c.in-Err.fault
-    (can_save g.F.StreamForm.prints_saved g.C.Consumer.last (g.C.Consumer.has_taken c.args.setup.now)
+    (can_save (g.C.Consumer.prints_saved c.args.setup.now) (g.C.Consumer.has_taken c.args.setup.now)
     (g.C.Consumer.stops c.args.setup.now) (g.C.Consumer.stands c.args.setup.now)
     (g.met.C.Consumer.begins c.args.setup.now) (g.met.C.Consumer.stands_for_it c.args.setup.now)
     (g.K.Keeps.has_kept c.args.setup.now) (g.C.Saved.state c.args.consumer.now) c.args.saver.now.store
@@ -42,7 +42,7 @@ returns-in-Err-clause-saved g c =
 
 pub loop-number-preserved : goal.loop-number-preserved
 loop-number-preserved g c =
-    let so_far = run_due g.F.StreamForm.prints_saved g.C.Consumer.last (g.C.Consumer.has_taken c.args.setup.now)
+    let so_far = run_due (g.C.Consumer.prints_saved c.args.setup.now) (g.C.Consumer.has_taken c.args.setup.now)
     (g.C.Consumer.stops c.args.setup.now) (g.C.Consumer.stands c.args.setup.now)
     (g.met.C.Consumer.begins c.args.setup.now) (g.met.C.Consumer.stands_for_it c.args.setup.now)
     (g.K.Keeps.has_kept c.args.setup.now) (g.C.Saved.state c.args.consumer.now) c.args.saver.now.store
@@ -55,7 +55,7 @@ loop-number-preserved g c =
     (λ due. c.in_default.ensures.saved due c.loop-number.invariant.fits)
     (λ no. let same = c.in_default.ensures.same no in
     (ap (λ s. s.store) same.0, ap g.W.Write.contents same.2)) in record {
-      run = rw c.count_line.ensures (run_on g.F.StreamForm.prints_saved g.C.Consumer.last (g.C.Consumer.has_taken
+      run = rw c.count_line.ensures (run_on (g.C.Consumer.prints_saved c.args.setup.now) (g.C.Consumer.has_taken
           c.args.setup.now)
           (g.C.Consumer.stops c.args.setup.now) (g.C.Consumer.stands c.args.setup.now)
           (g.met.C.Consumer.begins c.args.setup.now) (g.met.C.Consumer.stands_for_it c.args.setup.now)
@@ -75,7 +75,7 @@ loop-number-preserved g c =
 
 pub returns-in-Err-save-clause-saved : goal.returns-in-Err-save-clause-saved
 returns-in-Err-save-clause-saved g c =
-    let so_far = run_due g.F.StreamForm.prints_saved g.C.Consumer.last (g.C.Consumer.has_taken c.args.setup.now)
+    let so_far = run_due (g.C.Consumer.prints_saved c.args.setup.now) (g.C.Consumer.has_taken c.args.setup.now)
     (g.C.Consumer.stops c.args.setup.now) (g.C.Consumer.stands c.args.setup.now)
     (g.met.C.Consumer.begins c.args.setup.now) (g.met.C.Consumer.stands_for_it c.args.setup.now)
     (g.K.Keeps.has_kept c.args.setup.now) (g.C.Saved.state c.args.consumer.now) c.args.saver.now.store
@@ -89,7 +89,7 @@ returns-in-Err-save-clause-saved g c =
     (λ no. let same = c.in_default.ensures.same no in
     (ap (λ s. s.store) same.0, ap g.W.Write.contents same.2)) in
     elim c.match-take_line.branch [
-      | in-Ok-Some w ↦ (save_fails g.F.StreamForm.prints_saved g.C.Consumer.last (g.C.Consumer.has_taken
+      | in-Ok-Some w ↦ (save_fails (g.C.Consumer.prints_saved c.args.setup.now) (g.C.Consumer.has_taken
           c.args.setup.now)
           (g.C.Consumer.stops c.args.setup.now) (g.C.Consumer.stands c.args.setup.now)
           (g.met.C.Consumer.begins c.args.setup.now) (g.met.C.Consumer.stands_for_it c.args.setup.now)
@@ -98,7 +98,7 @@ returns-in-Err-save-clause-saved g c =
           (Unit {0}) (g.C.Saved.state c.take_line.new.self) (g.C.Saved.state c.save.new.consumer)
           c.save_if_due.new.self.store
           c.save.new.self.store (g.W.Write.contents c.save_if_due.new.writer) (g.W.Write.contents c.save.new.writer)
-          c.in-Err-save.fault (can_save_last g.F.StreamForm.prints_saved g.C.Consumer.last (g.C.Consumer.has_taken
+          c.in-Err-save.fault (can_save_last (g.C.Consumer.prints_saved c.args.setup.now) (g.C.Consumer.has_taken
           c.args.setup.now)
           (g.C.Consumer.stops c.args.setup.now) (g.C.Consumer.stands c.args.setup.now)
           (g.met.C.Consumer.begins c.args.setup.now) (g.met.C.Consumer.stands_for_it c.args.setup.now)
@@ -113,7 +113,7 @@ returns-in-Err-save-clause-saved g c =
           (λ store. g.met.K.Keeps.fits_on c.args.setup.now store c.save_if_due.new.consumer c.take_line.new.self
           w.in-Ok-Some.ensures.moves)
           c.save_if_due.new.self.store (c.in_default.ensures.fits c.loop-number.invariant.fits))))
-      | in-Err-take_line w ↦ (save_fails g.F.StreamForm.prints_saved g.C.Consumer.last (g.C.Consumer.has_taken
+      | in-Err-take_line w ↦ (save_fails (g.C.Consumer.prints_saved c.args.setup.now) (g.C.Consumer.has_taken
           c.args.setup.now)
           (g.C.Consumer.stops c.args.setup.now) (g.C.Consumer.stands c.args.setup.now)
           (g.met.C.Consumer.begins c.args.setup.now) (g.met.C.Consumer.stands_for_it c.args.setup.now)
@@ -122,7 +122,7 @@ returns-in-Err-save-clause-saved g c =
           (Unit {0}) (g.C.Saved.state c.take_line.new.self) (g.C.Saved.state c.save.new.consumer)
           c.save_if_due.new.self.store
           c.save.new.self.store (g.W.Write.contents c.save_if_due.new.writer) (g.W.Write.contents c.save.new.writer)
-          c.in-Err-save.fault (subst (λ s. CanSave g.F.StreamForm.prints_saved g.C.Consumer.last
+          c.in-Err-save.fault (subst (λ s. CanSave (g.C.Consumer.prints_saved c.args.setup.now)
           (g.C.Consumer.has_taken c.args.setup.now)
           (g.C.Consumer.stops c.args.setup.now) (g.C.Consumer.stands c.args.setup.now)
           (g.met.C.Consumer.begins c.args.setup.now) (g.met.C.Consumer.stands_for_it c.args.setup.now)
@@ -130,7 +130,7 @@ returns-in-Err-save-clause-saved g c =
           (g.B.Read.remaining c.args.reader.now) (g.W.Write.contents c.args.writer.now) s
           c.save_if_due.new.self.store (g.W.Write.contents c.save_if_due.new.writer))
           (ap g.C.Saved.state (sym w.in-Err-take_line.ensures.err))
-          (can_save g.F.StreamForm.prints_saved g.C.Consumer.last (g.C.Consumer.has_taken c.args.setup.now)
+          (can_save (g.C.Consumer.prints_saved c.args.setup.now) (g.C.Consumer.has_taken c.args.setup.now)
           (g.C.Consumer.stops c.args.setup.now) (g.C.Consumer.stands c.args.setup.now)
           (g.met.C.Consumer.begins c.args.setup.now) (g.met.C.Consumer.stands_for_it c.args.setup.now)
           (g.K.Keeps.has_kept c.args.setup.now) (g.C.Saved.state c.args.consumer.now) c.args.saver.now.store
@@ -144,7 +144,7 @@ returns-in-Err-save-clause-saved g c =
 
 pub returns-in-loop-number-clause-saved : goal.returns-in-loop-number-clause-saved
 returns-in-loop-number-clause-saved g c =
-    let so_far = run_due g.F.StreamForm.prints_saved g.C.Consumer.last (g.C.Consumer.has_taken c.args.setup.now)
+    let so_far = run_due (g.C.Consumer.prints_saved c.args.setup.now) (g.C.Consumer.has_taken c.args.setup.now)
     (g.C.Consumer.stops c.args.setup.now) (g.C.Consumer.stands c.args.setup.now)
     (g.met.C.Consumer.begins c.args.setup.now) (g.met.C.Consumer.stands_for_it c.args.setup.now)
     (g.K.Keeps.has_kept c.args.setup.now) (g.C.Saved.state c.args.consumer.now) c.args.saver.now.store
@@ -158,7 +158,7 @@ returns-in-loop-number-clause-saved g c =
     (λ no. let same = c.in_default.ensures.same no in
     (ap (λ s. s.store) same.0, ap g.W.Write.contents same.2)) in
     elim c.match-take_line.branch [
-      | in-Ok-Some w ↦ rw w.ended-is (save_ends g.F.StreamForm.prints_saved g.C.Consumer.last
+      | in-Ok-Some w ↦ rw w.ended-is (save_ends (g.C.Consumer.prints_saved c.args.setup.now)
           (g.C.Consumer.has_taken c.args.setup.now)
           (g.C.Consumer.stops c.args.setup.now) (g.C.Consumer.stands c.args.setup.now)
           (g.met.C.Consumer.begins c.args.setup.now) (g.met.C.Consumer.stands_for_it c.args.setup.now)
@@ -166,7 +166,7 @@ returns-in-loop-number-clause-saved g c =
           (g.B.Read.remaining c.args.reader.now) (g.W.Write.contents c.args.writer.now)
           (g.C.Saved.state c.take_line.new.self) (g.C.Saved.state c.save.new.consumer) c.save_if_due.new.self.store
           c.save.new.self.store (g.W.Write.contents c.save_if_due.new.writer) (g.W.Write.contents c.save.new.writer)
-          (Ok w.in-Ok-Some.stop) (can_save_last g.F.StreamForm.prints_saved g.C.Consumer.last
+          (Ok w.in-Ok-Some.stop) (can_save_last (g.C.Consumer.prints_saved c.args.setup.now)
           (g.C.Consumer.has_taken c.args.setup.now)
           (g.C.Consumer.stops c.args.setup.now) (g.C.Consumer.stands c.args.setup.now)
           (g.met.C.Consumer.begins c.args.setup.now) (g.met.C.Consumer.stands_for_it c.args.setup.now)
@@ -188,7 +188,7 @@ returns-in-loop-number-clause-saved g c =
           (λ store. g.met.K.Keeps.fits_on c.args.setup.now store c.save_if_due.new.consumer c.take_line.new.self
           w.in-Ok-Some.ensures.moves)
           c.save_if_due.new.self.store (c.in_default.ensures.fits c.loop-number.invariant.fits))).1)
-      | in-Err-take_line w ↦ rw w.ended-is (save_ends g.F.StreamForm.prints_saved g.C.Consumer.last
+      | in-Err-take_line w ↦ rw w.ended-is (save_ends (g.C.Consumer.prints_saved c.args.setup.now)
           (g.C.Consumer.has_taken c.args.setup.now)
           (g.C.Consumer.stops c.args.setup.now) (g.C.Consumer.stands c.args.setup.now)
           (g.met.C.Consumer.begins c.args.setup.now) (g.met.C.Consumer.stands_for_it c.args.setup.now)
@@ -196,7 +196,7 @@ returns-in-loop-number-clause-saved g c =
           (g.B.Read.remaining c.args.reader.now) (g.W.Write.contents c.args.writer.now)
           (g.C.Saved.state c.take_line.new.self) (g.C.Saved.state c.save.new.consumer) c.save_if_due.new.self.store
           c.save.new.self.store (g.W.Write.contents c.save_if_due.new.writer) (g.W.Write.contents c.save.new.writer)
-          (Err _) (subst (λ s. CanSave g.F.StreamForm.prints_saved g.C.Consumer.last (g.C.Consumer.has_taken
+          (Err _) (subst (λ s. CanSave (g.C.Consumer.prints_saved c.args.setup.now) (g.C.Consumer.has_taken
           c.args.setup.now)
           (g.C.Consumer.stops c.args.setup.now) (g.C.Consumer.stands c.args.setup.now)
           (g.met.C.Consumer.begins c.args.setup.now) (g.met.C.Consumer.stands_for_it c.args.setup.now)
@@ -204,7 +204,7 @@ returns-in-loop-number-clause-saved g c =
           (g.B.Read.remaining c.args.reader.now) (g.W.Write.contents c.args.writer.now) s
           c.save_if_due.new.self.store (g.W.Write.contents c.save_if_due.new.writer))
           (ap g.C.Saved.state (sym w.in-Err-take_line.ensures.err))
-          (can_save g.F.StreamForm.prints_saved g.C.Consumer.last (g.C.Consumer.has_taken c.args.setup.now)
+          (can_save (g.C.Consumer.prints_saved c.args.setup.now) (g.C.Consumer.has_taken c.args.setup.now)
           (g.C.Consumer.stops c.args.setup.now) (g.C.Consumer.stands c.args.setup.now)
           (g.met.C.Consumer.begins c.args.setup.now) (g.met.C.Consumer.stands_for_it c.args.setup.now)
           (g.K.Keeps.has_kept c.args.setup.now) (g.C.Saved.state c.args.consumer.now) c.args.saver.now.store
@@ -222,7 +222,7 @@ returns-in-loop-number-clause-saved g c =
 
 pub returns-clause-saved : goal.returns-clause-saved
 returns-clause-saved g c =
-    run_fails g.F.StreamForm.prints_saved g.C.Consumer.last (g.C.Consumer.has_taken c.args.setup.now)
+    run_fails (g.C.Consumer.prints_saved c.args.setup.now) (g.C.Consumer.has_taken c.args.setup.now)
     (g.C.Consumer.stops c.args.setup.now) (g.C.Consumer.stands c.args.setup.now)
     (g.met.C.Consumer.begins c.args.setup.now) (g.met.C.Consumer.stands_for_it c.args.setup.now)
     (g.K.Keeps.has_kept c.args.setup.now) (g.C.Saved.state c.args.consumer.now) c.args.saver.now.store
@@ -233,7 +233,7 @@ returns-clause-saved g c =
 
 pub returns-in-loop-number-clause-stops : goal.returns-in-loop-number-clause-stops
 returns-in-loop-number-clause-stops g c =
-    let so_far = run_due g.F.StreamForm.prints_saved g.C.Consumer.last (g.C.Consumer.has_taken c.args.setup.now)
+    let so_far = run_due (g.C.Consumer.prints_saved c.args.setup.now) (g.C.Consumer.has_taken c.args.setup.now)
     (g.C.Consumer.stops c.args.setup.now) (g.C.Consumer.stands c.args.setup.now)
     (g.met.C.Consumer.begins c.args.setup.now) (g.met.C.Consumer.stands_for_it c.args.setup.now)
     (g.K.Keeps.has_kept c.args.setup.now) (g.C.Saved.state c.args.consumer.now) c.args.saver.now.store
@@ -247,8 +247,8 @@ returns-in-loop-number-clause-stops g c =
     (λ no. let same = c.in_default.ensures.same no in
     (ap (λ s. s.store) same.0, ap g.W.Write.contents same.2)) in
     elim c.match-take_line.branch [
-      | in-Ok-Some w ↦ rw (w.ended-is, c.in_default-save.ensures.state) (run_stops g.F.StreamForm.prints_saved
-          g.C.Consumer.last (g.C.Consumer.has_taken c.args.setup.now)
+      | in-Ok-Some w ↦ rw (w.ended-is, c.in_default-save.ensures.state) (run_stops
+          (g.C.Consumer.prints_saved c.args.setup.now) (g.C.Consumer.has_taken c.args.setup.now)
           (g.C.Consumer.stops c.args.setup.now) (g.C.Consumer.stands c.args.setup.now)
           (g.met.C.Consumer.begins c.args.setup.now) (g.met.C.Consumer.stands_for_it c.args.setup.now)
           (g.K.Keeps.has_kept c.args.setup.now) (g.C.Saved.state c.args.consumer.now) c.args.saver.now.store

@@ -6,7 +6,7 @@ use Rattle.cdc_streams.proofs.commands.take_stream.Given as goal
 -- store
 abbrev pub invariant-loop-number : goal.invariant-loop-number
 invariant-loop-number g l = record {
-  run : HasRun g.F.StreamForm.prints_saved g.C.Consumer.last
+  run : HasRun (g.C.Consumer.prints_saved l.setup)
       (g.C.Consumer.has_taken l.setup (g.C.Saved.state l.fn.consumer))
       (g.C.Consumer.stands l.setup (g.C.Saved.state l.fn.consumer)) (g.K.Keeps.has_kept l.setup) l.fn.saver.store
       (g.B.Read.remaining l.fn.reader) (g.W.Write.contents l.fn.writer) (g.C.Saved.state l.consumer) l.number

@@ -25,7 +25,7 @@ returns-in-Some-Some-clause-fits g c = λ fits.
     ok_map_two c.save_record.result (λ saved records next since.
     fits_record c.args.setup.now old new c.args.self.now.log.records c.save_record.new.self.log.records
     c.in-Some-Some.number c.in-Some-Some.change c.args.consumer.now.tracked.follower next.tracked.changes
-    next.tracked.follower known c.in-Some-Some.ensures records saved since)
+    next.tracked.follower known c.in-Some-Some.ensures records saved since.changes)
     c.save_record.ensures.saved c.save_record.ensures.records
 
 pub returns-in_default-clause-kept : goal.returns-in_default-clause-kept
@@ -40,5 +40,5 @@ returns-in_default-clause-fits g c = λ fits.
     ok_map_two c.save_base.result (λ saved records next since.
     fits_base c.args.setup.now (g.L.LogStore.texts c.args.self.now.log.store)
     (g.L.LogStore.texts c.save_base.new.self.log.store) c.save_base.new.self.log.records
-    c.args.consumer.now.tracked.follower next.tracked.changes next.tracked.follower saved records since)
+    c.args.consumer.now.tracked.follower next.tracked.changes next.tracked.follower saved records since.changes)
     (rw c.follower.ensures at c.save_base.ensures.saved) c.save_base.ensures.records

@@ -5,12 +5,12 @@ use Rattle.cdc_follow_command.proofs.followers.StreamFollowerConsumer.take_line.
 pub returns-in-GoesOn-clause-leads : goal.returns-in-GoesOn-clause-leads
 returns-in-GoesOn-clause-leads g c =
     line_on c.args.setup.now (followed_of c.args.self.now) c.args.number c.follow_line.new.follower.follower
-    c.saturating_add-self.result c.from.result c.in-GoesOn.skipped (g.B.Read.remaining c.args.reader.now)
-    (g.B.Read.remaining c.follow_line.new.reader) c.ranges.number.fits c.saturating_add-self.ensures c.from.ensures
-    (rw c.in-GoesOn.is at c.in_ok-turn.ensures.leads) (rw c.in-GoesOn.is at c.in_ok-turn.ensures.skips)
+    c.count.new.self c.in-GoesOn.taken (g.B.Read.remaining c.args.reader.now)
+    (g.B.Read.remaining c.follow_line.new.reader) c.ranges.number.fits c.count.ensures
+    (rw c.in-GoesOn.is at c.in_ok-turn.ensures.leads) (rw c.in-GoesOn.is at c.in_ok-turn.ensures.turns)
 
 pub returns-in-Stops-clause-leads : goal.returns-in-Stops-clause-leads
 returns-in-Stops-clause-leads g c =
     line_stops c.args.setup.now (followed_of c.args.self.now) c.args.number c.follow_line.new.follower.follower
     c.in-Stops.stop (g.B.Read.remaining c.args.reader.now) (g.B.Read.remaining c.follow_line.new.reader)
-    (rw c.in-Stops.is at c.in_ok-turn.ensures.leads) (rw c.in-Stops.is at c.in_ok-turn.ensures.skips)
+    (rw c.in-Stops.is at c.in_ok-turn.ensures.leads) (rw c.in-Stops.is at c.in_ok-turn.ensures.turns)

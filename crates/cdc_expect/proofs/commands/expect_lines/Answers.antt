@@ -1,0 +1,55 @@
+use Rattle.std.proofs.Common.{ap}
+use Rattle.cdc_follow.specs.Stops.{stop_of}
+use Rattle.cdc_follow.proofs.StopLemmas.{follows_begins, follows_on, follows_stop}
+use Rattle.cdc_output.specs.declared.faults.ProgramFault.TheVariants.{ReadFault}
+use Rattle.cdc_expect.proofs.PrintLemmas.{printed_begins, printed_fails, printed_so_far, printed_stops, so_far_line}
+use Rattle.cdc_expect.proofs.commands.expect_lines.Goals as goal
+
+pub loop-number-init : goal.loop-number-init
+loop-number-init g c = record {
+  follows = follows_begins c.args.binding.now c.args.rules c.args.follower.now (g.B.Read.remaining c.args.reader.now);
+  printed = printed_begins c.args.binding.now c.args.rules c.args.follower.now (g.B.Read.remaining c.args.reader.now)
+      (g.W.Write.contents c.args.writer.now);
+}
+
+pub loop-number-preserved : goal.loop-number-preserved
+loop-number-preserved g c =
+    so_far_line c.args.binding.now c.args.rules c.args.follower.now c.loop-number.follower c.expect_line.new.follower
+    c.loop-number.number c.in-Ok-GoesOn.field-0 _ (g.B.Read.remaining c.args.reader.now)
+    (g.B.Read.remaining c.loop-number.reader) (g.B.Read.remaining c.expect_line.new.reader)
+    (g.W.Write.contents c.args.writer.now) (g.W.Write.contents c.loop-number.writer)
+    (g.W.Write.contents c.expect_line.new.writer)
+    (follows_on c.args.binding.now c.args.rules c.args.follower.now c.loop-number.follower c.expect_line.new.follower
+    c.loop-number.number (stop_of c.in-Ok-GoesOn.field-0) (g.B.Read.remaining c.args.reader.now)
+    (g.B.Read.remaining c.loop-number.reader) (g.B.Read.remaining c.expect_line.new.reader)
+    c.loop-number.invariant.follows (ap stop_of c.in-Ok-GoesOn.field-0-is) c.in-Ok-GoesOn.ensures.leads)
+    c.in-Ok-GoesOn.field-0-is c.loop-number.invariant c.in-Ok-GoesOn.ensures.turns c.in-Ok-GoesOn.ensures.printed
+
+pub returns-in-Ok-Stops-clause-printed : goal.returns-in-Ok-Stops-clause-printed
+returns-in-Ok-Stops-clause-printed g c =
+    printed_stops c.args.binding.now c.args.rules c.args.follower.now c.loop-number.follower c.expect_line.new.follower
+    c.loop-number.number c.in-Ok-Stops.field-0 c.in-Ok-Stops.stop (g.B.Read.remaining c.args.reader.now)
+    (g.B.Read.remaining c.loop-number.reader) (g.B.Read.remaining c.expect_line.new.reader)
+    (g.W.Write.contents c.args.writer.now) (g.W.Write.contents c.loop-number.writer)
+    (g.W.Write.contents c.expect_line.new.writer) c.in-Ok-Stops.field-0-is c.loop-number.invariant
+    c.in-Ok-Stops.ensures.turns c.in-Ok-Stops.ensures.printed
+
+pub returns-in-Ok-Stops-clause-stops : goal.returns-in-Ok-Stops-clause-stops
+returns-in-Ok-Stops-clause-stops g c =
+    follows_stop c.args.binding.now c.args.rules c.args.follower.now c.loop-number.follower c.expect_line.new.follower
+    c.loop-number.number c.in-Ok-Stops.stop (g.B.Read.remaining c.args.reader.now)
+    (g.B.Read.remaining c.loop-number.reader) (g.B.Read.remaining c.expect_line.new.reader)
+    c.loop-number.invariant.follows (rw c.in-Ok-Stops.field-0-is at c.in-Ok-Stops.ensures.leads)
+
+pub returns-in-Err-clause-printed : goal.returns-in-Err-clause-printed
+returns-in-Err-clause-printed g c =
+    printed_fails c.args.binding.now c.args.rules c.args.follower.now c.loop-number.follower c.loop-number.number
+    c.in-Err.fault (g.B.Read.remaining c.args.reader.now) (g.B.Read.remaining c.loop-number.reader)
+    (g.W.Write.contents c.args.writer.now) (g.W.Write.contents c.loop-number.writer)
+    (g.W.Write.contents c.expect_line.new.writer) c.loop-number.invariant c.in-Err.ensures.fails
+
+pub returns-clause-printed : goal.returns-clause-printed
+returns-clause-printed g c =
+    printed_so_far c.args.binding.now c.args.rules c.args.follower.now c.loop-number.follower c.loop-number.number
+    (ReadFault c.from.result) (g.B.Read.remaining c.args.reader.now) (g.B.Read.remaining c.loop-number.reader)
+    (g.W.Write.contents c.args.writer.now) (g.W.Write.contents c.loop-number.writer) c.loop-number.invariant

@@ -1,5 +1,0 @@
-use Rattle.cdc_follow_command.proofs.BindingLemmas.{same_take}
-use Rattle.cdc_follow_command.proofs.laws.same_bindings_take_same.Goals as goal
-
-pub returns : goal.returns
-returns c = same_take
