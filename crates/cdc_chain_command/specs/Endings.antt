@@ -1,0 +1,13 @@
+-- How chaining ends: the exit status.
+use Rattle.std.specs.Prelude.{ℕ}
+use Rattle.cdc_chain.specs.declared.streams.ChainStop.{ChainStop}
+use Rattle.cdc_chain.specs.declared.streams.ChainStop.TheVariants.{AtEnd, AfterEnd, BadLine}
+use Rattle.cdc_streams.specs.declared.endings.StreamEnding.{StreamEnding}
+use Rattle.cdc_streams.specs.declared.endings.StreamEnding.TheVariants.{Stopped, Failed}
+
+-- the exit status: 0 at the end; 1 at what contradicts the end, or after a failure; 2 at a bad line
+abbrev pub status_of : StreamEnding ChainStop → ℕ
+status_of (Stopped AtEnd) = 0
+status_of (Stopped (AfterEnd line)) = 1
+status_of (Stopped (BadLine line error)) = 2
+status_of (Failed why) = 1

@@ -1,0 +1,4 @@
+pub mod Endings
+pub mod Printing
+pub mod Private
+pub mod States

@@ -1,0 +1,3 @@
+-- What private contracts cite: a reader has to believe none of it.
+pub mod Reads
+pub mod Steps

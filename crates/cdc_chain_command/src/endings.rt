@@ -1,0 +1,21 @@
+//! How chaining ends.
+
+ghost use Rattle.std.specs.Prelude.{◌≡◌};
+ghost use Rattle.cdc_chain_command.specs.Endings.{status_of};
+
+use cdc_chain::ChainStop;
+use cdc_streams::StreamEnding;
+
+/// How a command that chains a stream ended.
+pub type ChainEnding = StreamEnding<ChainStop>;
+
+/// The exit status: 0 at the end; 1 at what contradicts the end, or after a failure; 2 at a bad line.
+pub fn chain_status(ending: ChainEnding) -> u8
+    ensures { result ≡ status_of ending }
+{
+    match ending {
+        StreamEnding::Stopped(ChainStop::AtEnd) => 0,
+        StreamEnding::Stopped(ChainStop::AfterEnd(..)) | StreamEnding::Failed(_) => 1,
+        StreamEnding::Stopped(ChainStop::BadLine(..)) => 2,
+    }
+}

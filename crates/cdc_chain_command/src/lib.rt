@@ -1,0 +1,16 @@
+//! The command `chain`: prints the lines of several queues of one stream, and saves the place of each queue.
+#![tactic(auto)]
+
+mod commands;
+mod endings;
+mod printing;
+mod reading;
+mod starts;
+mod states;
+mod stores;
+
+pub use commands::chain_command;
+pub use endings::{ChainEnding, chain_status};
+pub use starts::start;
+pub use states::{CHAIN_MARK, ChainSetup};
+pub use stores::NoState;
