@@ -3,8 +3,8 @@
 
   tests/checks/sqlite_books.py [PROGRAM] [--soak]    PROGRAM: crates/cdc_app/out/cdc_app
 
-What a book has to hold comes from the model of follow.py, and is read by Python's own sqlite3. Other files are refused, and stay as
-they are. A program that has the file open, and reads nothing at that time, keeps no save waiting; one amid its rows does. Killed and
+What a book has to hold comes from the model of follow.py, and is read by Python's own sqlite3. What the rows have of accounts besides
+balances is also compared with rows by hand, of events at real sizes. Other files are refused, and stay as they are. A program that has the file open, and reads nothing at that time, keeps no save waiting; one amid its rows does. Killed and
 refused: the program ends at each open, read, write and sync of a stream with a book, or one of these is refused; sqlite3 has to find
 a whole book, of what was reported as saved or of later events, and following goes on to the book of a run without a stop. The same of
 runs that are killed by signal 9 before each system call that changes something, and amid each write. Rivalry: 50 pairs of followers
@@ -34,6 +34,8 @@ import rooms
 from commands import check, run
 
 BALANCES = "debits_pending, debits_posted, credits_pending, credits_posted"
+DETAILS = "last_timestamp, ledger, code, flags, user_data_128, user_data_64, user_data_32"
+UNKNOWN = (None,) * 7
 EVERY = 40  # of the allocations, one in so many is refused
 REFUSED = (1, "fault: store\n")
 WAITS = b"another program is reading the book"
@@ -43,18 +45,45 @@ def text_of(lines):
     return "".join(f"{it}\n" for it in lines).encode()
 
 
-def model_of(lines):
-    model = follow.Model(True)
+class Detailed(follow.Model):
+    """A follower of a chained stream, and what the last event that has an account shows of it besides its balances."""
+
+    def __init__(self):
+        super().__init__(True)
+        self.details = {}
+
+    def take(self, number, line):
+        applied = self.applied
+        found = super().take(number, line)
+        if self.applied > applied:
+            body = json.loads(line)["body"]
+            for side in ("debit_account", "credit_account"):
+                self.details[int(body[side]["id"])] = details_of(body, body[side])
+        return found
+
+
+def details_of(body, shown):
+    """What an event shows of this account, as a row has it."""
+    small = [int(it) for it in (body["ledger"], shown["code"], shown["flags"])]
+    great = [str(shown[name]) for name in ("user_data_128", "user_data_64")]
+    return (str(body["timestamp"]), *small, *great, int(shown["user_data_32"]))
+
+
+def model_of(lines, unknown=0):
+    """The model after these lines, where what the first ones show besides balances isn't known."""
+    model = Detailed()
     for number, line in enumerate(lines, 1):
         model.take(number, line)
+        if number == unknown:
+            model.details.clear()
     return model
 
 
 def expected(model):
     """The rows that the tables have to hold."""
     names = BALANCES.split(", ")
-    accounts = [(str(id), *(str(shown[name]) for name in names)) for id, shown in model.book.items()]
-    return (str(model.last), str(model.applied)), accounts
+    row_of = lambda id, shown: (str(id), *(str(shown[name]) for name in names), *model.details.get(id, UNKNOWN))
+    return (str(model.last), str(model.applied)), [row_of(id, shown) for id, shown in model.book.items()]
 
 
 def heading_of(model):
@@ -65,7 +94,7 @@ def heading_of(model):
 def rows_in(connection):
     """The row of the book without its text, the accounts, and the text."""
     ((last, applied, text),) = connection.execute("SELECT last, applied, text FROM book").fetchall()
-    accounts = connection.execute(f"SELECT id, {BALANCES} FROM accounts ORDER BY place").fetchall()
+    accounts = connection.execute(f"SELECT id, {BALANCES}, {DETAILS} FROM accounts ORDER BY place").fetchall()
     return ((last, applied), accounts), text.decode()
 
 
@@ -170,21 +199,99 @@ def others(folder):
     check("a book in no folder", found[:2] == REFUSED, found)
 
 
+def without_details(path):
+    """Makes the table of the accounts one of earlier versions."""
+    columns = f"id TEXT NOT NULL, {BALANCES.replace(',', ' TEXT NOT NULL,')} TEXT NOT NULL"
+    made(
+        path,
+        "ALTER TABLE accounts RENAME TO later",
+        f"CREATE TABLE accounts (place INTEGER PRIMARY KEY, {columns}) STRICT",
+        f"INSERT INTO accounts SELECT place, id, {BALANCES} FROM later",
+        "DROP TABLE later",
+    )
+
+
 def earlier(folder):
-    """A book as version 1.1 saved it, whose text has the accounts, is read, and the first save makes it one of today's."""
+    """A book as an earlier version saved it is read, and the first save makes it one of today's: one whose accounts lack the columns
+    for details, and one whose text has the accounts, too, as version 1.1 saved it."""
     lines = follow.stream_of(30)
     path, text_path = os.path.join(folder, "a.db"), os.path.join(folder, "a.book")
-    run(["--chained", "--book", f"sqlite:{path}"], text_of(lines[:12]))
     run(["--chained", "--book", text_path], text_of(lines[:12]))
     with open(text_path, "rb") as it:
         text = frames.framed(it.read())[0]
-    made(path, f"UPDATE book SET text = x'{text.hex()}'")
-    found = run(["--chained", "--book", f"sqlite:{path}"], b"")
-    rows, text = rows_of(path)
-    check("a book of version 1.1", found[0] == 0 and rows == expected(model_of(lines[:12])), (found, rows))
-    check("its text is one without accounts then", text.startswith("rows book 1 ") and "account " not in text, text)
-    found = run(["--chained", "--book", f"sqlite:{path}", "--every", "5"], text_of(lines))
-    check("it goes on", found[0] == 0 and rows_of(path)[0] == expected(model_of(lines)), found)
+    for name, statements in [("without details", []), ("of version 1.1", [f"UPDATE book SET text = x'{text.hex()}'"])]:
+        run(["--chained", "--book", f"sqlite:{path}"], text_of(lines[:12]))
+        without_details(path)
+        made(path, *statements)
+        found = run(["--chained", "--book", f"sqlite:{path}"], b"")
+        rows, text = rows_of(path)
+        check(f"a book {name}", found[0] == 0 and rows == expected(model_of(lines[:12], unknown=12)), (found, rows))
+        check(f"its text is one without accounts then: {name}", text.startswith("rows book 1 ") and "account " not in text, text)
+        found = run(["--chained", "--book", f"sqlite:{path}", "--every", "5"], text_of(lines))
+        check(f"it goes on: {name}", found[0] == 0 and rows_of(path)[0] == expected(model_of(lines, unknown=12)), found)
+        os.remove(path)
+    run(["--chained", "--book", f"sqlite:{path}"], text_of(lines[:12]))
+    for name, statement in [
+        ("a part of the details", "UPDATE accounts SET code = NULL WHERE place = 1"),
+        ("a timestamp with a leading zero", "UPDATE accounts SET last_timestamp = '0' || last_timestamp WHERE place = 1"),
+        ("a code that is too large", "UPDATE accounts SET code = 65536 WHERE place = 1"),
+    ]:
+        other = os.path.join(folder, "other.db")
+        shutil.copy(path, other)
+        made(other, statement)
+        found = run(["--chained", "--book", f"sqlite:{other}"], b"")
+        check(f"a book that is none: {name}", found[:2] == REFUSED, found)
+
+
+# Accounts with numbers of 37 digits.
+A, B, C = 10**36 + 1, 10**36 + 2, 9 * 10**36 + 3
+START = 1780000000000000000  # a timestamp of 19 digits
+
+
+def shown(id, balances, code, flags, great, middle, small):
+    names = BALANCES.split(", ")
+    data = {"user_data_128": str(great), "user_data_64": str(middle), "user_data_32": small, "code": code, "flags": flags}
+    return {"id": str(id), **dict(zip(names, map(str, balances))), **data, "timestamp": str(START)}
+
+
+def details(folder):
+    """What the rows have of accounts besides balances, by hand: of each account what the last event that was applied shows of it, and
+    of one event with the same account on both sides what the credited side shows."""
+    path = os.path.join(folder, "a.db")
+    largest = (2**16 - 1, 2**16 - 1, 2**128 - 1, 2**64 - 1, 2**32 - 1)
+
+    def event(after, debited, credited, ledger):
+        body = follow.event(START + after, ledger=ledger)
+        return {**body, "debit_account": debited, "credit_account": credited}
+
+    first = event(1, shown(A, (0, 5, 0, 0), 1, 2, 3, 4, 5), shown(B, (0, 0, 0, 5), *largest), 2**32 - 1)
+    second = event(2, shown(B, (0, 6, 0, 5), 6, 7, 8, 9, 10), shown(C, (0, 0, 0, 6), 11, 12, 13, 14, 15), 16)
+    same = event(3, shown(C, (1, 0, 0, 6), 17, 18, 19, 20, 21), shown(C, (1, 0, 1, 6), 22, 23, 24, 25, 26), 27)
+    late = event(1, shown(A, (9, 9, 9, 9), 28, 29, 30, 31, 32), shown(C, (9, 9, 9, 9), 33, 34, 35, 36, 37), 38)
+    skipped = event(5, shown(A, (9, 9, 9, 9), 39, 40, 41, 42, 43), shown(B, (9, 9, 9, 9), 44, 45, 46, 47, 48), 49)
+    row_a = (str(A), "0", "5", "0", "0", str(START + 1), 2**32 - 1, 1, 2, "3", "4", 5)
+    row_b = (str(B), "0", "0", "0", "5", str(START + 1), 2**32 - 1, 2**16 - 1, 2**16 - 1, str(2**128 - 1), str(2**64 - 1), 2**32 - 1)
+    later_b = (str(B), "0", "6", "0", "5", str(START + 2), 16, 6, 7, "8", "9", 10)
+    row_c = (str(C), "0", "0", "0", "6", str(START + 2), 16, 11, 12, "13", "14", 15)
+    later_c = (str(C), "1", "0", "1", "6", str(START + 3), 27, 22, 23, "24", "25", 26)
+    one, two = follow.chained(0, first), follow.chained(START + 1, second)
+    three, four = follow.chained(START + 2, same), follow.chained(0, late)
+    gap = follow.chained(START + 4, skipped)
+    of_two, of_all = [row_a, later_b, row_c], [row_a, later_b, later_c]
+    for name, runs in [
+        ("of one event", [([one], [row_a, row_b])]),
+        ("in one run, saved once", [([one, two, three, four], of_all)]),
+        ("in runs of one event", [([one], [row_a, row_b]), ([two], of_two), ([three], of_all), ([four], of_all), ([], of_all)]),
+        ("after a gap that is skipped", [([one, two], of_two), ([gap, three], of_all)]),
+    ]:
+        for every in ("1", "1000"):
+            for lines, rows in runs:
+                found = run(["--chained", "--skip-gaps", "--book", f"sqlite:{path}", "--every", every], text_of(lines))
+                check(f"details {name}, every {every}", found[0] == 0 and rows_of(path)[0][1] == rows, (found, rows_of(path)))
+            os.remove(path)
+    others = follow.chained(START + 1, event(2, second["debit_account"], second["credit_account"], 16))
+    run(["--chained", "--binding", "all ledger=4294967295", "--book", f"sqlite:{path}"], text_of([one, others]))
+    check("details of an event that the binding doesn't take", rows_of(path)[0][1] == [row_a, row_b], rows_of(path))
 
 
 def written(folder):
@@ -409,7 +516,7 @@ def kept_in(path):
         return 0, follow.NOTHING
     (_, accounts), text = rows_of(path)
     head, _, *rest = text.splitlines(True)
-    rest += [f"account {' '.join(it)}\n" for it in accounts]
+    rest += [f"account {' '.join(it[:5])}\n" for it in accounts]
     return (int(head.split()[-1]), "".join(rest)) if head.startswith("rows book ") else text
 
 
@@ -430,7 +537,7 @@ def main(arguments):
     options = rooms.options_of(commands.parser_of(__doc__), arguments)
     commands.begin(options.program, "follow", options.soak)
     with rooms.room("sqlite-books-") as folder:
-        for part in (tables, others, earlier, written, leftovers, moved, readers, killed, rivalry):
+        for part in (tables, details, others, earlier, written, leftovers, moved, readers, killed, rivalry):
             room = os.path.join(folder, part.__name__)
             os.mkdir(room)
             part(room)

@@ -2,5 +2,5 @@ pub mod AppendLemmas
 mod AccountLemmas
 mod CrashLemmas
 mod LogLemmas
-mod ReplayLemmas
+pub mod ReplayLemmas
 mod TrackingLemmas

@@ -111,7 +111,7 @@ put_apart id entry (other ∷ rest) differs apart =
     ]
 
 -- no account occurs twice then
-put_distinct : (entry : BookEntry) (book : List BookEntry) → are_distinct (ids_of book) ≡ true
+pub put_distinct : (entry : BookEntry) (book : List BookEntry) → are_distinct (ids_of book) ≡ true
     → are_distinct (ids_of (put entry book)) ≡ true
 put_distinct entry [] distinct = refl
 put_distinct entry (other ∷ rest) distinct =

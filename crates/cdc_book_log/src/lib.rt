@@ -2,6 +2,7 @@
 #![tactic(auto)]
 
 mod accounts;
+pub mod details;
 pub mod laws;
 pub mod logs;
 mod places;
@@ -9,6 +10,7 @@ pub mod records;
 mod replaying;
 mod tracking;
 
+pub use details::Details;
 pub use logs::{SavedLog, read_log};
 pub use records::{record_text, without_accounts};
 pub use tracking::Tracked;

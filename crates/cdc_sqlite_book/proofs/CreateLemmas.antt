@@ -75,7 +75,7 @@ makes_book old new (Ok count) has h =
 -- the statement of the second table
 abbrev pub accounts_text : List ℕ
 accounts_text =
-    codes "CREATE TABLE accounts (place INTEGER PRIMARY KEY, id TEXT NOT NULL, debits_pending TEXT NOT NULL, debits_posted TEXT NOT NULL, credits_pending TEXT NOT NULL, credits_posted TEXT NOT NULL) STRICT"
+    codes "CREATE TABLE accounts (place INTEGER PRIMARY KEY, id TEXT NOT NULL, debits_pending TEXT NOT NULL, debits_posted TEXT NOT NULL, credits_pending TEXT NOT NULL, credits_posted TEXT NOT NULL, last_timestamp TEXT, ledger INTEGER, code INTEGER, flags INTEGER, user_data_128 TEXT, user_data_64 TEXT, user_data_32 INTEGER) STRICT"
 
 -- (a table gets its tree where it is made)
 accounts_is : (command_of (understood book_only accounts_text) ≡ CreateTable)

@@ -1,4 +1,5 @@
 pub mod CreateLemmas
+pub mod DetailLemmas
 pub mod DropLemmas
 pub mod InsertLemmas
 pub mod KeptLemmas

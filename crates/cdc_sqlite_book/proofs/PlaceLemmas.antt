@@ -13,6 +13,7 @@ use Rattle.cdc_subscriber.specs.Book.{are_distinct, entries_of, id_and_balances,
 use Rattle.cdc_subscriber.proofs.BookLemmas.{entries_of-insert_entry, eqb_same, eqb_swap, neither}
 use Rattle.cdc_subscriber.proofs.PushLemmas.{is_among-put, lookup-is_among, put-absent}
 use Rattle.cdc_book_log.specs.Replay.{put_all}
+use Rattle.cdc_book_log.proofs.ReplayLemmas.{put_distinct}
 use Rattle.cdc_sqlite_book.specs.Tables.{place_in}
 use Rattle.cdc_sqlite_book.proofs.StepLemmas.{took}
 
@@ -130,6 +131,20 @@ both_left false b is = absurd cc
 both_right : (a b : Bool) → (a && b) ≡ true → b ≡ true
 both_right true b is = is
 both_right false b is = absurd cc
+
+-- of distinct numbers the first isn't among the others
+pub first_apart : (id : ℕ) (ids : List ℕ) → are_distinct (id ∷ ids) ≡ true → is_among id ids ≡ false
+first_apart id ids distinct = not_true (is_among id ids) (both_left (not (is_among id ids)) (are_distinct ids) distinct)
+
+-- and these are distinct
+pub others_distinct : (id : ℕ) (ids : List ℕ) → are_distinct (id ∷ ids) ≡ true → are_distinct ids ≡ true
+others_distinct id ids distinct = both_right (not (is_among id ids)) (are_distinct ids) distinct
+
+-- accounts stay distinct, if others are put
+pub distinct_all : (changed book : List BookEntry) → are_distinct (ids_of book) ≡ true
+    → are_distinct (ids_of (put_all changed book)) ≡ true
+distinct_all [] book distinct = distinct
+distinct_all (entry ∷ more) book distinct = distinct_all more (put entry book) (put_distinct entry book distinct)
 
 -- a number that isn't among others isn't among the first of them, and differs from each
 among_first : (id at : ℕ) (book : List BookEntry) → is_among id (ids_of book) ≡ false

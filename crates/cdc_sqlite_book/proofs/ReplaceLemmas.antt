@@ -1,5 +1,5 @@
 -- What INSERT OR REPLACE makes of the rows.
-use Rattle.std.proofs.Common.{◌≡◌, None, ℕ, suc, ◌+◌, ◌<◌, ℤ, pos, List, [], ◌∷◌, Bool, true, false, ◌&&◌, ◌||◌, refl, sym, ap, ◌∙◌, inl, inr, Less, Equal, Greater, arith}
+use Rattle.std.proofs.Common.{◌≡◌, None, Option, ℕ, suc, ◌+◌, ◌<◌, ℤ, pos, List, [], ◌∷◌, Bool, true, false, ◌==◌, ◌&&◌, ◌||◌, refl, sym, ap, ◌∙◌, inl, inr, Less, Equal, Greater, arith}
 use Rattle.std.proofs.lemmas.Int.{ints}
 use Rattle.std.proofs.lemmas.Bool.{cases_Bool, cases_order as order}
 use Rattle.std.proofs.lemmas.Bool.Decides.{eqb_tells, nat_tests}
@@ -17,8 +17,11 @@ use Rattle.sqlite_rules.specs.Lists.{Has}
 use Rattle.sqlite_rules.specs.Calls.{ids_of as rowids_of}
 use Rattle.sqlite_value.proofs.OrderLemmas.{value_cmp-Int}
 use Rattle.cdc_subscriber.specs.declared.book.BookEntry.{BookEntry}
-use Rattle.cdc_subscriber.specs.Book.{put}
-use Rattle.cdc_sqlite_book.specs.Tables.{entry_row, rows_from, place_in}
+use Rattle.cdc_subscriber.specs.Book.{are_distinct, ids_of, is_among, put}
+use Rattle.cdc_subscriber.proofs.BookLemmas.{eqb_same, eqb_swap, neither}
+use Rattle.cdc_book_log.specs.declared.details.Details.{Details}
+use Rattle.cdc_sqlite_book.specs.Tables.{entry_row, rows_from, place_in, with_details}
+use Rattle.cdc_sqlite_book.proofs.PlaceLemmas.{first_apart, others_distinct}
 
 -- ---- row numbers
 
@@ -33,60 +36,83 @@ higher m n h = value_cmp-Int (pos m) (pos n) ∙ grind (arith, ints, nat_tests)
 
 -- ---- a row that is put at its place
 
+-- the rows of accounts stay, if something is known of another one
+rows_apart : (known : ℕ → Option Details) (id : ℕ) (details : Option Details) (n : ℕ) (book : List BookEntry)
+    → is_among id (ids_of book) ≡ false → rows_from known n book ≡ rows_from (with_details id details known) n book
+rows_apart known id details n [] absent = refl
+rows_apart known id details n (entry ∷ rest) absent =
+    let both = neither (entry.id == id) (is_among id (ids_of rest)) absent in
+    rw (eqb_swap entry.id id both.0)
+    (ap (λ rows. entry_row (known entry.id) n entry ∷ rows) (rows_apart known id details (suc n) rest both.1))
+
 -- the row of an account takes the place of the one with its number, or comes last
-pub put_at : (n : ℕ) (entry : BookEntry) (book : List BookEntry) (new : Row)
-    → new ≡ entry_row (n + place_in book entry.id) entry
-    → put_row new (rows_from n book) ≡ rows_from n (put entry book)
-put_at n entry [] new is = ap (λ (r : Row). r ∷ []) (is ∙ ap (λ at. entry_row at entry) (omega arith))
-put_at n entry (other ∷ rest) new is =
+pub put_at : (known : ℕ → Option Details) (n : ℕ) (entry : BookEntry) (details : Option Details)
+    (book : List BookEntry) (new : Row) → are_distinct (ids_of book) ≡ true
+    → new ≡ entry_row details (n + place_in book entry.id) entry
+    → put_row new (rows_from known n book) ≡ rows_from (with_details entry.id details known) n (put entry book)
+put_at known n entry details [] new distinct is =
+    rw (eqb_same entry.id)
+    (ap (λ (r : Row). r ∷ []) (is ∙ ap (λ at. entry_row details at entry) (omega arith)))
+put_at known n entry details (other ∷ rest) new distinct is =
     elim (eqb_tells other.id entry.id) [
       | inl same ↦
-          let here : new ≡ entry_row n entry = is ∙ ap (λ at. entry_row at entry) (rw same.0 (omega arith)) in
-          rw (here, same.0, equal_to n) refl
+          let here : new ≡ entry_row details n entry =
+          is ∙ ap (λ at. entry_row details at entry) (rw same.0 (omega arith)) in
+          let absent : is_among entry.id (ids_of rest) ≡ false =
+          ap (λ id. is_among id (ids_of rest)) (sym same.1) ∙ first_apart other.id (ids_of rest) distinct in
+          rw (here, same.0, equal_to n, eqb_same entry.id)
+          (ap (λ rows. entry_row details n entry ∷ rows) (rows_apart known entry.id details (suc n) rest absent))
       | inr apart ↦
           let at = place_in rest entry.id in
-          let later : new ≡ entry_row (n + suc at) entry = is ∙ rw apart.0 refl in
-          let next : new ≡ entry_row (suc n + at) entry = later ∙ ap (λ m. entry_row m entry) (omega arith) in
+          let later : new ≡ entry_row details (n + suc at) entry = is ∙ rw apart.0 refl in
+          let next : new ≡ entry_row details (suc n + at) entry =
+          later ∙ ap (λ m. entry_row details m entry) (omega arith) in
           let below : value_cmp (Int (pos n)) (rowid new) ≡ Less =
           ap (λ (r : Row). value_cmp (Int (pos n)) (rowid r)) later ∙ lower n (n + suc at) (omega arith) in
-          rw (below, apart.0)
-          (ap (λ rows. entry_row n other ∷ rows) (put_at (suc n) entry rest new next))
+          let swapped : (entry.id == other.id) ≡ false = eqb_swap other.id entry.id apart.0 in
+          rw (below, apart.0, swapped)
+          (ap (λ rows. entry_row (known other.id) n other ∷ rows) (put_at known (suc n) entry details rest new
+          (others_distinct other.id (ids_of rest) distinct) next))
     ]
 
--- ---- a row that was taken out before
+module _ (known : ℕ → Option Details) where
+  -- ---- a row that was taken out before
 
--- later rows stay
-later_stay : (p n : ℕ) (book : List BookEntry) → p < n → without_rowid (pos p) (rows_from n book) ≡ rows_from n book
-later_stay p n [] h = refl
-later_stay p n (entry ∷ rest) h =
-    rw (higher n p h) (ap (λ rows. entry_row n entry ∷ rows) (later_stay p (suc n) rest (omega arith)))
+  -- later rows stay
+  later_stay : (p n : ℕ) (book : List BookEntry) → p < n
+      → without_rowid (pos p) (rows_from known n book) ≡ rows_from known n book
+  later_stay p n [] h = refl
+  later_stay p n (entry ∷ rest) h =
+      rw (higher n p h)
+      (ap (λ rows. entry_row (known entry.id) n entry ∷ rows) (later_stay p (suc n) rest (omega arith)))
 
--- a row comes before later ones
-first_put : (p n : ℕ) (new : Row) (book : List BookEntry) → rowid new ≡ Int (pos p) → p < n
-    → put_row new (rows_from n book) ≡ new ∷ rows_from n book
-first_put p n new [] is h = refl
-first_put p n new (entry ∷ rest) is h =
-    let above : value_cmp (Int (pos n)) (rowid new) ≡ Greater = ap (value_cmp (Int (pos n))) is ∙ higher n p h in
-    rw above refl
+  -- a row comes before later ones
+  first_put : (p n : ℕ) (new : Row) (book : List BookEntry) → rowid new ≡ Int (pos p) → p < n
+      → put_row new (rows_from known n book) ≡ new ∷ rows_from known n book
+  first_put p n new [] is h = refl
+  first_put p n new (entry ∷ rest) is h =
+      let above : value_cmp (Int (pos n)) (rowid new) ≡ Greater = ap (value_cmp (Int (pos n))) is ∙ higher n p h in
+      rw above refl
 
--- where the row was taken out before, it comes to the same place
-pub put_without : (p n : ℕ) (new : Row) (book : List BookEntry) → rowid new ≡ Int (pos p)
-    → put_row new (without_rowid (pos p) (rows_from n book)) ≡ put_row new (rows_from n book)
-put_without p n new [] is = refl
-put_without p n new (entry ∷ rest) is = elim (order n p) [
-  | inr (inl below) ↦
-      let less : value_cmp (Int (pos n)) (rowid new) ≡ Less = ap (value_cmp (Int (pos n))) is ∙ lower n p below in
-      rw (lower n p below, less) (ap (λ rows. entry_row n entry ∷ rows) (put_without p (suc n) new rest is))
-  | inl same ↦
-      let equal : value_cmp (Int (pos n)) (Int (pos p)) ≡ Equal = rw same (equal_to p) in
-      let here : value_cmp (Int (pos n)) (rowid new) ≡ Equal = ap (value_cmp (Int (pos n))) is ∙ equal in
-      rw (equal, here, later_stay p (suc n) rest (omega (arith, same)))
-      (first_put p (suc n) new rest is (omega (arith, same)))
-  | inr (inr above) ↦
-      let greater : value_cmp (Int (pos n)) (rowid new) ≡ Greater =
-      ap (value_cmp (Int (pos n))) is ∙ higher n p above in
-      rw (higher n p above, greater, later_stay p (suc n) rest (omega arith)) refl
-]
+  -- where the row was taken out before, it comes to the same place
+  pub put_without : (p n : ℕ) (new : Row) (book : List BookEntry) → rowid new ≡ Int (pos p)
+      → put_row new (without_rowid (pos p) (rows_from known n book)) ≡ put_row new (rows_from known n book)
+  put_without p n new [] is = refl
+  put_without p n new (entry ∷ rest) is = elim (order n p) [
+    | inr (inl below) ↦
+        let less : value_cmp (Int (pos n)) (rowid new) ≡ Less = ap (value_cmp (Int (pos n))) is ∙ lower n p below in
+        rw (lower n p below, less)
+        (ap (λ rows. entry_row (known entry.id) n entry ∷ rows) (put_without p (suc n) new rest is))
+    | inl same ↦
+        let equal : value_cmp (Int (pos n)) (Int (pos p)) ≡ Equal = rw same (equal_to p) in
+        let here : value_cmp (Int (pos n)) (rowid new) ≡ Equal = ap (value_cmp (Int (pos n))) is ∙ equal in
+        rw (equal, here, later_stay p (suc n) rest (omega (arith, same)))
+        (first_put p (suc n) new rest is (omega (arith, same)))
+    | inr (inr above) ↦
+        let greater : value_cmp (Int (pos n)) (rowid new) ≡ Greater =
+        ap (value_cmp (Int (pos n))) is ∙ higher n p above in
+        rw (higher n p above, greater, later_stay p (suc n) rest (omega arith)) refl
+  ]
 
 -- ---- the rows that conflict
 
@@ -150,7 +176,7 @@ conflicts_are p table rows new found numbered is conflicts x has =
     simple false = refl
 
 -- the rows of accounts have whole numbers
-pub entries_numbered : (n : ℕ) (book : List BookEntry) → Numbered (rows_from n book)
-entries_numbered n [] r has = absurd has
-entries_numbered n (entry ∷ rest) r (inl is) = (n, ap rowid is)
-entries_numbered n (entry ∷ rest) r (inr has) = entries_numbered (suc n) rest r has
+pub entries_numbered : (known : ℕ → Option Details) (n : ℕ) (book : List BookEntry) → Numbered (rows_from known n book)
+entries_numbered known n [] r has = absurd has
+entries_numbered known n (entry ∷ rest) r (inl is) = (n, ap rowid is)
+entries_numbered known n (entry ∷ rest) r (inr has) = entries_numbered known (suc n) rest r has

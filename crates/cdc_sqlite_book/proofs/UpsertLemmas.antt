@@ -1,17 +1,15 @@
 -- What the statements that replace a row leave in the tables.
-use Rattle.std.proofs.Common.{◌≡◌, ◌≢◌, ℕ, suc, ◌+◌, ℤ, pos, List, [], ◌∷◌, drop, codes, Option, None, Some, Ok, Err, Result, OnOk, refl, sym, ap, subst, ◌∙◌, inl, inr, arith}
+use Rattle.std.proofs.Common.{◌≡◌, ◌≢◌, ℕ, suc, ◌+◌, ℤ, pos, List, [], ◌∷◌, drop, codes, true, Option, None, Some, Ok, Err, Result, OnOk, refl, sym, ap, subst, ◌∙◌, inl, inr, arith}
 use Rattle.sqlite.specs.declared.types.Value.TheVariants.{Null, Int}
 use Rattle.sqlite.specs.Order.{Row}
 use Rattle.sqlite.specs.Term.{Term, lit, col}
-use Rattle.sqlite.specs.Ops.{unary}
-use Rattle.sqlite.specs.Kind.TheVariants.{Integer}
 use Rattle.sqlite.specs.Source.TheVariants.{Values}
 use Rattle.sqlite.specs.Command.TheVariants.{InsertOr}
 use Rattle.sqlite_schema.specs.declared.command.Conflict.TheVariants.{Replace}
 use Rattle.sqlite_schema.specs.declared.schema.Keys.{Keys}
 use Rattle.sqlite.specs.Table.{Table}
 use Rattle.sqlite.specs.Edit.{edit_of, taken_by, with_rowid}
-use Rattle.sqlite.specs.Cast.{cast, cast_row}
+use Rattle.sqlite.specs.Cast.{cast_row}
 use Rattle.sqlite.specs.Rowids.TheVariants.{Chosen, Given}
 use Rattle.sqlite_rules.specs.declared.error.Refusal.{Refusal}
 use Rattle.sqlite_rules.specs.Action.{works}
@@ -28,16 +26,12 @@ use Rattle.sqlite.specs.State.{State, mode_of, Executes}
 use Rattle.sqlite.proofs.Callers.{IsPlain, command_of, statement_of, runs_as, one_step}
 use Rattle.cdc_subscriber.specs.SubscriberState.{SubscriberState}
 use Rattle.cdc_subscriber.specs.declared.book.BookEntry.{BookEntry}
-use Rattle.cdc_subscriber.specs.Book.{put}
-use Rattle.cdc_sqlite_book.specs.Tables.{book_schema, book_table, account_table, book_row, entry_row, rows_from, HoldsBook, place_in}
+use Rattle.cdc_subscriber.specs.Book.{are_distinct, ids_of, put}
+use Rattle.cdc_book_log.specs.declared.details.Details.{Details}
+use Rattle.cdc_sqlite_book.specs.Tables.{book_schema, book_table, account_table, book_row, entry_row, rows_from, HoldsBook, place_in, with_details}
 use Rattle.cdc_sqlite_book.proofs.CreateLemmas.{went, same_value}
-use Rattle.cdc_sqlite_book.proofs.InsertLemmas.{cast_null, either, progress_of, values_of}
+use Rattle.cdc_sqlite_book.proofs.InsertLemmas.{balance_values, cast_int, cast_null, progress_of, values_of}
 use Rattle.cdc_sqlite_book.proofs.ReplaceLemmas.{Numbered, conflicts_are, entries_numbered, equal_to, put_at, put_without, without_found}
-
--- a row's number stays
-cast_int : (n : ℤ) → cast Integer (Int n) ≡ Int n
-unfolding unary
-cast_int n = either _ (Int n)
 
 -- ---- one row, in either table
 
@@ -115,12 +109,12 @@ book_numbered held last applied r (inl is) = (1, ap rowid is)
 book_numbered held last applied r (inr none) = absurd none
 
 -- the row of the book's text is replaced
-pub replaces_text : (old new : State) (held text : List ℕ) (kept : SubscriberState) (last applied : ℕ)
-    (r : Result ℕ Error) → HoldsBook held kept old.now
+pub replaces_text : (old new : State) (held text : List ℕ) (kept : SubscriberState) (known : ℕ → Option Details)
+    (last applied : ℕ) (r : Result ℕ Error) → HoldsBook held kept known old.now
     → Executes retext_text (progress_of text last applied) old new r
-    → OnOk r (HoldsBook text (record kept { last = last; applied = applied }) new.now)
-replaces_text old new held text kept last applied (Err e) holds h = tt
-replaces_text old new held text kept last applied (Ok count) holds h =
+    → OnOk r (HoldsBook text (record kept { last = last; applied = applied }) known new.now)
+replaces_text old new held text kept known last applied (Err e) holds h = tt
+replaces_text old new held text kept known last applied (Ok count) holds h =
     let params = progress_of text last applied in
     let db = old.now.trees in
     let command = InsertOr 0 Replace (Values retext_terms 5) [] in
@@ -162,38 +156,45 @@ replaces_text old new held text kept last applied (Ok count) holds h =
 
 -- ---- an account
 
--- the statement that puts the row of an account
-abbrev pub reput_text : List ℕ
-reput_text =
+-- the values of an account's balances, after its place
+abbrev pub placed_balances : ℕ → BookEntry → Row
+placed_balances place entry = Int (pos place) ∷ balance_values entry
+
+-- the values of an account of which this is known, after its place
+abbrev pub placed : ℕ → Option Details → BookEntry → Row
+placed place details entry = Int (pos place) ∷ values_of details entry
+
+-- the statement that puts the row of an account of which only the balances are known
+abbrev pub rebare_text : List ℕ
+rebare_text =
     codes "INSERT OR REPLACE INTO accounts (place, id, debits_pending, debits_posted, credits_pending, credits_posted) VALUES (?1, ?2, ?3, ?4, ?5, ?6)"
 
-abbrev reput_terms : List Term
-reput_terms = col 0 0 ∷ lit Null ∷ col 0 1 ∷ col 0 2 ∷ col 0 3 ∷ col 0 4 ∷ col 0 5 ∷ []
+abbrev rebare_terms : List Term
+rebare_terms = col 0 0 ∷ lit Null ∷ col 0 1 ∷ col 0 2 ∷ col 0 3 ∷ col 0 4 ∷ col 0 5 ∷ lit Null ∷ lit Null ∷ lit Null ∷ lit Null
+    ∷ lit Null ∷ lit Null ∷ lit Null ∷ []
 
-reput_is : command_of (understood book_schema reput_text) ≡ InsertOr 1 Replace (Values reput_terms 7) []
+rebare_is : command_of (understood book_schema rebare_text) ≡ InsertOr 1 Replace (Values rebare_terms 14) []
 unfolding understood everything
-reput_is = refl
+rebare_is = refl
 
-reput_plain : IsPlain (understood book_schema reput_text)
+rebare_plain : IsPlain (understood book_schema rebare_text)
 unfolding understood everything
-reput_plain = (refl, refl)
+rebare_plain = (refl, refl)
 
--- the values of an account, after its place
-abbrev pub placed : ℕ → BookEntry → Row
-placed place entry = Int (pos place) ∷ values_of entry
-
--- the row of an account is put at its place
-pub replaces_account : (old new : State) (held : List ℕ) (kept : SubscriberState) (place : ℕ) (entry : BookEntry)
-    (r : Result ℕ Error) → HoldsBook held kept old.now → place ≡ suc (place_in kept.book entry.id)
-    → Executes reput_text (placed place entry) old new r
-    → OnOk r (HoldsBook held (record kept { book = put entry kept.book }) new.now)
-replaces_account old new held kept place entry (Err e) holds is h = tt
-replaces_account old new held kept place entry (Ok count) holds is h =
-    let params = placed place entry in
+-- its row is put at its place
+pub replaces_bare : (old new : State) (held : List ℕ) (kept : SubscriberState) (known : ℕ → Option Details)
+    (place : ℕ) (entry : BookEntry) (r : Result ℕ Error) → HoldsBook held kept known old.now
+    → are_distinct (ids_of kept.book) ≡ true → place ≡ suc (place_in kept.book entry.id)
+    → Executes rebare_text (placed_balances place entry) old new r
+    → OnOk r (HoldsBook held (record kept { book = put entry kept.book })
+    (with_details entry.id (None) known) new.now)
+replaces_bare old new held kept known place entry (Err e) holds distinct is h = tt
+replaces_bare old new held kept known place entry (Ok count) holds distinct is h =
+    let params = placed_balances place entry in
     let db = old.now.trees in
-    let command = InsertOr 1 Replace (Values reput_terms 7) [] in
-    let w = runs_as reput_text params old new book_schema holds.schema command reput_is reput_plain count h in
-    let sql = statement_of reput_text (understood book_schema reput_text) in
+    let command = InsertOr 1 Replace (Values rebare_terms 14) [] in
+    let w = runs_as rebare_text params old new book_schema holds.schema command rebare_is rebare_plain count h in
+    let sql = statement_of rebare_text (understood book_schema rebare_text) in
     let done = went
     (subst (λ s. Does old.step_limit (mode_of old) params (record old.now { schema = s }) sql None command
     (Ok (w.tally, new.now))) holds.schema w.changed) in
@@ -204,7 +205,7 @@ replaces_account old new held kept place entry (Ok count) holds is h =
     let counted = went each.2 in
     let trees : done.0.trees ≡ each.0.0.trees = ap (λ (it : Written). it.trees) (same_value counted.2)
     ∙ same_value counted.1 in
-    let row = entry_row place entry in
+    let row = entry_row (None) place entry in
     let it = task old.step_limit (mode_of old).keys params account_table (λ gone news. refl) in
     let tries = went (subst (λ rows. TriesEach it Replace [] rows (count_of counter.0) (nothing db) (Ok each.0))
     given.1.1 each.1) in
@@ -215,17 +216,88 @@ replaces_account old new held kept place entry (Ok count) holds is h =
     let found = tried old.step_limit (mode_of old).keys params account_table (λ gone news. refl) row db one
     (subst (λ n. Tries it Replace [] n db (Ok one)) new_is tries.1) in
     let again : cast_row account_table (drop 0 row) ≡ row = rw (cast_int (pos place), cast_null) refl in
-    let numbered = subst Numbered (sym holds.accounts) (entries_numbered 1 kept.book) in
+    let numbered = subst Numbered (sym holds.accounts) (entries_numbered known 1 kept.book) in
     let same : put_row (cast_row account_table (drop 0 row)) (without_rowid (pos place) (db 1))
     ≡ put_row (cast_row account_table (drop 0 row)) (db 1) =
-    rw (again, holds.accounts) (put_without place 1 row kept.book refl) in
+    rw (again, holds.accounts) (put_without known place 1 row kept.book refl) in
     let put_row_is = clears old.step_limit (mode_of old).keys params account_table (λ gone news. refl) place row db
     found.0 one numbered refl found.1 same found.2 in
     let all : new.now.trees ≡ one.trees = ap (λ (d : Database). d.trees) now ∙ trees ∙ last_trees in
-    let at : row ≡ entry_row (1 + place_in kept.book entry.id) entry =
-    ap (λ n. entry_row n entry) (is ∙ omega arith) in
-    let rows : put_row (cast_row account_table (drop 0 row)) (db 1) ≡ rows_from 1 (put entry kept.book) =
-    rw (again, holds.accounts) (put_at 1 entry kept.book row at) in
+    let at : row ≡ entry_row (None) (1 + place_in kept.book entry.id) entry =
+    ap (λ n. entry_row (None) n entry) (is ∙ omega arith) in
+    let rows : put_row (cast_row account_table (drop 0 row)) (db 1)
+    ≡ rows_from (with_details entry.id (None) known) 1 (put entry kept.book) =
+    rw (again, holds.accounts) (put_at known 1 entry (None) kept.book row distinct at) in
+    record {
+      schema = ap (λ (d : Database). d.schema) now;
+      book = ap (λ (t : Trees). t 0) all ∙ put_row_is.1 0 (λ e. omega (arith, e)) ∙ holds.book;
+      accounts = ap (λ (t : Trees). t 1) all ∙ put_row_is.0 ∙ rows;
+    }
+
+-- the statement that puts the row of an account with its details
+abbrev pub reknown_text : List ℕ
+reknown_text =
+    codes "INSERT OR REPLACE INTO accounts (place, id, debits_pending, debits_posted, credits_pending, credits_posted, last_timestamp, ledger, code, flags, user_data_128, user_data_64, user_data_32) VALUES (?1, ?2, ?3, ?4, ?5, ?6, ?7, ?8, ?9, ?10, ?11, ?12, ?13)"
+
+abbrev reknown_terms : List Term
+reknown_terms = col 0 0 ∷ lit Null ∷ col 0 1 ∷ col 0 2 ∷ col 0 3 ∷ col 0 4 ∷ col 0 5 ∷ col 0 6 ∷ col 0 7 ∷ col 0 8
+    ∷ col 0 9 ∷ col 0 10 ∷ col 0 11 ∷ col 0 12 ∷ []
+
+reknown_is : command_of (understood book_schema reknown_text) ≡ InsertOr 1 Replace (Values reknown_terms 14) []
+unfolding understood everything
+reknown_is = refl
+
+reknown_plain : IsPlain (understood book_schema reknown_text)
+unfolding understood everything
+reknown_plain = (refl, refl)
+
+-- its row is put at its place
+pub replaces_known : (old new : State) (held : List ℕ) (kept : SubscriberState) (known : ℕ → Option Details)
+    (place : ℕ) (entry : BookEntry) (details : Details) (r : Result ℕ Error) → HoldsBook held kept known old.now
+    → are_distinct (ids_of kept.book) ≡ true → place ≡ suc (place_in kept.book entry.id)
+    → Executes reknown_text (placed place (Some details) entry) old new r
+    → OnOk r (HoldsBook held (record kept { book = put entry kept.book })
+    (with_details entry.id (Some details) known) new.now)
+replaces_known old new held kept known place entry details (Err e) holds distinct is h = tt
+replaces_known old new held kept known place entry details (Ok count) holds distinct is h =
+    let params = placed place (Some details) entry in
+    let db = old.now.trees in
+    let command = InsertOr 1 Replace (Values reknown_terms 14) [] in
+    let w = runs_as reknown_text params old new book_schema holds.schema command reknown_is reknown_plain count h in
+    let sql = statement_of reknown_text (understood book_schema reknown_text) in
+    let done = went
+    (subst (λ s. Does old.step_limit (mode_of old) params (record old.now { schema = s }) sql None command
+    (Ok (w.tally, new.now))) holds.schema w.changed) in
+    let now = ap (λ (p : Tally × Database). p.1) (same_value (went (went done.2).2).2) in
+    let given = went done.1 in
+    let counter = went given.2 in
+    let each = went counter.2 in
+    let counted = went each.2 in
+    let trees : done.0.trees ≡ each.0.0.trees = ap (λ (it : Written). it.trees) (same_value counted.2)
+    ∙ same_value counted.1 in
+    let row = entry_row (Some details) place entry in
+    let it = task old.step_limit (mode_of old).keys params account_table (λ gone news. refl) in
+    let tries = went (subst (λ rows. TriesEach it Replace [] rows (count_of counter.0) (nothing db) (Ok each.0))
+    given.1.1 each.1) in
+    let one = tries.0 in
+    let last_trees : each.0.0.trees ≡ one.trees = ap (λ (p : Written × ℤ). p.0.trees) (same_value tries.2) in
+    let new_is : with_rowid Chosen (db 1) (cast_row account_table (mended Replace account_table row)) ≡ row =
+    rw (cast_int (pos place), cast_null, cast_int (pos details.ledger), cast_int (pos details.code), cast_int (pos details.flags), cast_int (pos details.user_data_32)) refl in
+    let found = tried old.step_limit (mode_of old).keys params account_table (λ gone news. refl) row db one
+    (subst (λ n. Tries it Replace [] n db (Ok one)) new_is tries.1) in
+    let again : cast_row account_table (drop 0 row) ≡ row = rw (cast_int (pos place), cast_null, cast_int (pos details.ledger), cast_int (pos details.code), cast_int (pos details.flags), cast_int (pos details.user_data_32)) refl in
+    let numbered = subst Numbered (sym holds.accounts) (entries_numbered known 1 kept.book) in
+    let same : put_row (cast_row account_table (drop 0 row)) (without_rowid (pos place) (db 1))
+    ≡ put_row (cast_row account_table (drop 0 row)) (db 1) =
+    rw (again, holds.accounts) (put_without known place 1 row kept.book refl) in
+    let put_row_is = clears old.step_limit (mode_of old).keys params account_table (λ gone news. refl) place row db
+    found.0 one numbered refl found.1 same found.2 in
+    let all : new.now.trees ≡ one.trees = ap (λ (d : Database). d.trees) now ∙ trees ∙ last_trees in
+    let at : row ≡ entry_row (Some details) (1 + place_in kept.book entry.id) entry =
+    ap (λ n. entry_row (Some details) n entry) (is ∙ omega arith) in
+    let rows : put_row (cast_row account_table (drop 0 row)) (db 1)
+    ≡ rows_from (with_details entry.id (Some details) known) 1 (put entry kept.book) =
+    rw (again, holds.accounts) (put_at known 1 entry (Some details) kept.book row distinct at) in
     record {
       schema = ap (λ (d : Database). d.schema) now;
       book = ap (λ (t : Trees). t 0) all ∙ put_row_is.1 0 (λ e. omega (arith, e)) ∙ holds.book;

@@ -1,17 +1,21 @@
 //! A follower's book in an SQLite file.
 
-ghost use Rattle.std.specs.Prelude.{◌≡◌, ◌++◌, false, codes, IfOk, OnOk, OnErr, Some, string_bytes};
+ghost use Rattle.std.specs.Prelude.{◌≡◌, ◌++◌, ℕ, false, true, codes, IfOk, OnOk, OnErr, Some, string_bytes};
 ghost use Rattle.std.specs.Option.{option_map};
-ghost use Rattle.cdc_subscriber.specs.Book.{entries_of};
+ghost use Rattle.cdc_subscriber.specs.Book.{entries_of, ids_of, is_among};
+ghost use Rattle.cdc_book_log.specs.Details.{details_in};
 ghost use Rattle.cdc_book_log.specs.Replay.{put_all};
+ghost use Rattle.cdc_sqlite_book.specs.Tables.{newest_if, renewed};
 
 use crate::accounts::{accounts_of, put_accounts};
 use crate::books::{NO_BOOK, read_text, replace, text_in, update};
-use crate::loading::{read_accounts, whole_text};
+use crate::details::{details_of, put_details};
+use crate::loading::{Accounts, read_accounts, whole_text};
 use crate::new_file::{MAGIC, put_new};
+use cdc_book_log::Details;
 use cdc_files::{StoreError, names, open_locked, target_of};
 use cdc_keys::{HashKey, KeyedMap};
-use cdc_subscriber::{Book, Subscriber};
+use cdc_subscriber::Subscriber;
 use cdc_types::Balances;
 use indexmap::IndexMap;
 use sqlite::{
@@ -280,13 +284,14 @@ fn header_of(file: &File) -> [u8; HEADER_BYTES] {
 }
 
 /// A follower's book in an SQLite file: the table `book` has the text of the book without its accounts, the timestamp of
-/// the last event applied and the count of these events; the table `accounts` has a row for each account. All numbers
-/// are decimal text. A save opens the file, writes in one transaction, and closes the file, so an interrupted save leaves
+/// the last event applied and the count of these events; the table `accounts` has a row for each account, with its
+/// balances and what the last event that has it shows besides (`Details`), or nulls if that isn't known. Numbers that can
+/// exceed 2^32 are decimal text. A save opens the file, writes in one transaction, and closes the file, so an interrupted save leaves
 /// the old book or the new one. Between two saves the file has no log and no lock of SQLite's, so others may read it. A
 /// save waits for a program that is in the middle of reading.
 ///
-/// A save of the whole book replaces both tables. It can follow any other one, and a book of version 1.1, whose text has
-/// the accounts, too. A save by changes writes the rows of the accounts that changed, each found by its number, and the
+/// A save of the whole book replaces both tables. It can follow any other one, a book of version 1.1, whose text has the
+/// accounts, and one whose accounts lack the columns for details. A save by changes writes the rows of the accounts that changed, each found by its number, and the
 /// row of the text.
 ///
 /// The file is locked against another `follow` from its opening on. A file that isn't SQLite's, or that has other
@@ -294,8 +299,8 @@ fn header_of(file: &File) -> [u8; HEADER_BYTES] {
 /// which SQLite ignores. A save is refused if the path no longer names the locked file, or if the file no longer has
 /// the text that this store has last loaded or saved. It never makes a file.
 ///
-/// No contract can state what a file holds. `known` is the text that this store has last loaded or saved, and `accounts`
-/// are those that it has last saved; that the file returns them is an assumption of the store's user. If another program
+/// No contract can state what a file holds. `known` is the text that this store has last loaded or saved, `details` what
+/// it has loaded or saved of accounts besides their balances, and `accounts` are those that it has last saved; that the file returns them is an assumption of the store's user. If another program
 /// has written to the file, its header differs (`is_as_left`); rows that it wrote into `accounts` stay until the next
 /// save of the whole book. Nor does a contract cover the two bytes of the header that are written after a close. What a
 /// save does to the tables of a connection, and what a crash leaves of them, is proved (`replace`, `update`).
@@ -312,6 +317,19 @@ pub struct SqliteBook<'a> {
     known: Option<Vec<u8>>,
     /// The accounts of the last save, in the order of their rows.
     accounts: KeyedMap<u128, Balances>,
+    /// What the rows have of accounts besides their balances.
+    details: KeyedMap<u128, Details>,
+}
+
+/// What was loaded of a book.
+#[derive(Drop)]
+struct Loaded {
+    /// The text of its row, if there is one.
+    text: Vec<u8>,
+    /// The text of the whole book.
+    whole: Vec<u8>,
+    /// What the rows have of accounts besides their balances.
+    details: KeyedMap<u128, Details>,
 }
 
 impl<'a> SqliteBook<'a> {
@@ -332,8 +350,9 @@ impl<'a> SqliteBook<'a> {
         let path = target_of(rt, named.as_str()).map_err(read_error)?;
         let log_path = path_of_log(rt.alloc(), path.as_str())?;
         let loaded = load_at(rt, path.as_str(), log_path.as_str(), key, waiting);
-        let (known, whole) = loaded.map_err(load_error)?;
+        let loaded = loaded.map_err(load_error)?;
         let header = header_of(&lock);
+        let (known, whole, details) = parts_of(rt.alloc(), key, loaded);
         Ok((
             SqliteBook {
                 rt,
@@ -344,6 +363,7 @@ impl<'a> SqliteBook<'a> {
                 header,
                 known,
                 accounts: IndexMap::with_hasher(rt.alloc(), key),
+                details,
             },
             whole,
         ))
@@ -354,39 +374,64 @@ impl<'a> SqliteBook<'a> {
         header_of(&self.lock).as_slice() == self.header.as_slice()
     }
 
-    /// Saves a whole book: its text without accounts, and what its subscriber keeps. After an error the file holds the
-    /// old book or this one.
-    pub fn save(&mut self, text: Vec<u8>, subscriber: &Subscriber) -> Result<(), StoreError>
+    /// Saves a whole book: its text without accounts, what its subscriber keeps, and what is known of its accounts. That
+    /// is what events have shown since the last load or save, or else what the rows had. If it isn't known what they have
+    /// shown, the rows have nulls for it. After an error the file holds the old book or this one.
+    pub fn save(
+        &mut self,
+        text: Vec<u8>,
+        subscriber: &Subscriber,
+        shown: &Option<KeyedMap<u128, Details>>,
+    ) -> Result<(), StoreError>
         ensures saved { OnOk result (option_map (λ it. it.items) self.new.known ≡ Some text.items) }
         ensures accounts { OnOk result (entries_of self.new.accounts.entries ≡ subscriber.now.book) }
+        ensures details { OnOk result ((id : ℕ) → is_among id (ids_of subscriber.now.book) ≡ true
+            → details_in self.new.details.entries id
+            ≡ newest_if (option_map (λ known. known.entries) shown.now) self.old.details.entries id) }
         ensures refused { OnErr result (self.new.known ≡ self.old.known) }
         ensures stay { OnErr result (self.new.accounts.entries ≡ self.old.accounts.entries) }
+        ensures unlearned { OnErr result (self.new.details.entries ≡ self.old.details.entries) }
     {
-        let accounts = accounts_of(self.rt.alloc(), *self.accounts.hasher(), subscriber.book())?;
-        self.put(text.as_slice(), subscriber).map_err(save_error)?;
+        let alloc = self.rt.alloc();
+        let (key, book) = (*self.accounts.hasher(), subscriber.book());
+        let accounts = accounts_of(alloc, key, book)?;
+        let details = details_of(alloc, key, book, shown, &self.details)?;
+        self.put(text.as_slice(), subscriber, &details)
+            .map_err(save_error)?;
         self.header = header_of(&self.lock);
         self.known = Some(text);
         self.accounts = accounts;
+        self.details = details;
         Ok(())
     }
 
-    /// Saves what changed of the book that was saved last: its text without accounts, and the accounts that changed.
-    /// After an error the file holds the old book or the new one.
-    pub fn save_changes(&mut self, text: Vec<u8>, change: &Subscriber) -> Result<(), StoreError>
+    /// Saves what changed of the book that was saved last: its text without accounts, the accounts that changed, and what
+    /// events have shown of these since. After an error the file holds the old book or the new one.
+    pub fn save_changes(
+        &mut self,
+        text: Vec<u8>,
+        change: &Subscriber,
+        shown: &KeyedMap<u128, Details>,
+    ) -> Result<(), StoreError>
         ensures saved { OnOk result (option_map (λ it. it.items) self.new.known ≡ Some text.items) }
         ensures accounts { OnOk result (entries_of self.new.accounts.entries
             ≡ put_all change.now.book (entries_of self.old.accounts.entries)) }
+        ensures details { OnOk result ((id : ℕ) → details_in self.new.details.entries id
+            ≡ renewed change.now.book shown.now.entries self.old.details.entries id) }
         ensures refused { OnErr result (self.new.known ≡ self.old.known) }
         ensures stay { OnErr result (self.new.accounts.entries ≡ self.old.accounts.entries) }
+        ensures unlearned { OnErr result (self.new.details.entries ≡ self.old.details.entries) }
     {
         let changed = change.book();
         self.accounts.reserve(changed.len())?;
-        self.put_changes(text.as_slice(), change)
+        self.details.reserve(changed.len())?;
+        self.put_changes(text.as_slice(), change, shown)
             .map_err(save_error)?;
         self.header = header_of(&self.lock);
         let known = Some(text);
         self.known = known;
         put_accounts(&mut self.accounts, changed);
+        put_details(&mut self.details, changed, shown);
         Ok(())
     }
 
@@ -427,23 +472,54 @@ impl<'a> SqliteBook<'a> {
     }
 
     /// Replaces the book in the file.
-    fn put(&self, text: &[u8], subscriber: &Subscriber) -> Result<(), Error> {
+    fn put(
+        &self,
+        text: &[u8],
+        subscriber: &Subscriber,
+        details: &KeyedMap<u128, Details>,
+    ) -> Result<(), Error> {
         let mut conn = self.reopen()?;
-        let saved = replace(&mut conn, text_in(&self.known), text, subscriber);
+        let known = text_in(&self.known);
+        let saved = replace(&mut conn, known, text, subscriber, details);
         self.end(conn, saved)
     }
 
     /// Puts what changed into the book in the file.
-    fn put_changes(&self, text: &[u8], change: &Subscriber) -> Result<(), Error> {
+    fn put_changes(
+        &self,
+        text: &[u8],
+        change: &Subscriber,
+        shown: &KeyedMap<u128, Details>,
+    ) -> Result<(), Error> {
         let mut conn = self.reopen()?;
         let saved = update(
             &mut conn,
             text_in(&self.known),
             &self.accounts,
+            &self.details,
+            shown,
             text,
             change,
         );
         self.end(conn, saved)
+    }
+}
+
+/// The text of a book's row, that of the whole book, and what is known of its accounts; nothing of a file without a table.
+fn parts_of(
+    alloc: Global,
+    key: HashKey,
+    loaded: Option<Loaded>,
+) -> (Option<Vec<u8>>, Option<Vec<u8>>, KeyedMap<u128, Details>) {
+    match loaded {
+        Some(
+            Loaded {
+                text,
+                whole,
+                details,
+            },
+        ) => (Some(text), Some(whole), details),
+        None => (None, None, IndexMap::with_hasher(alloc, key)),
     }
 }
 
@@ -452,7 +528,7 @@ fn read_all(
     alloc: Global,
     key: HashKey,
     conn: &mut Opened,
-) -> Result<Option<(Vec<u8>, Book)>, Error> {
+) -> Result<Option<(Vec<u8>, Accounts)>, Error> {
     let Some(text) = read_text(conn)? else {
         return Ok(None);
     };
@@ -460,15 +536,14 @@ fn read_all(
     Ok(Some((text, accounts)))
 }
 
-/// Reads the book in the file at a path: the text of its row, and that of the whole book; neither if the file has no
-/// table yet.
+/// Reads the book in the file at a path; `None` if the file has no table yet.
 fn load_at(
     rt: &HostRuntime,
     path: &str,
     log_path: &str,
     key: HashKey,
     waiting: Waiting<'_>,
-) -> Result<(Option<Vec<u8>>, Option<Vec<u8>>), Error> {
+) -> Result<Option<Loaded>, Error> {
     let mut conn = open_waiting(rt, path, log_path, waiting)?;
     let read = match read_all(rt.alloc(), key, &mut conn) {
         Ok(read) => read,
@@ -479,8 +554,13 @@ fn load_at(
     };
     close(rt, conn, log_path)?;
     let Some((text, accounts)) = read else {
-        return Ok((None, None));
+        return Ok(None);
     };
-    let whole = whole_text(rt.alloc(), key, text.as_slice(), accounts)?;
-    Ok((Some(text), Some(whole)))
+    let Accounts { book, details } = accounts;
+    let whole = whole_text(rt.alloc(), key, text.as_slice(), book)?;
+    Ok(Some(Loaded {
+        text,
+        whole,
+        details,
+    }))
 }

@@ -3,6 +3,7 @@
 
 pub mod accounts;
 pub mod books;
+pub mod details;
 pub mod files;
 pub mod loading;
 pub mod new_file;

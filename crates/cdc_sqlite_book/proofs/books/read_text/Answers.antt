@@ -1,17 +1,34 @@
-use Rattle.std.proofs.Common.{◌≡◌, [], inl, inr, IsTrue, sym, ap, ◌∙◌}
+use Rattle.std.proofs.Common.{◌≡◌, [], ◌∷◌, inl, inr, IsTrue, sym, ap, ◌∙◌}
+use Rattle.sqlite.specs.declared.types.Value.TheVariants.{Blob}
+use Rattle.sqlite.specs.Order.{column}
 use Rattle.sqlite.specs.Schema.{Schema}
 use Rattle.sqlite.specs.Held.{state}
-use Rattle.cdc_sqlite_book.specs.Tables.{book_schema}
+use Rattle.cdc_sqlite_book.specs.Tables.{book_schema, earlier_schema}
 use Rattle.cdc_sqlite_book.proofs.KeptLemmas.{reads_safely}
 use Rattle.cdc_sqlite_book.proofs.books.read_text.Goals as goal
 
 pub returns-then-is_new-clause-found : goal.returns-then-is_new-clause-found
-returns-then-is_new-clause-found g c clean text kept holds =
+returns-then-is_new-clause-found g c clean text holds =
     let yes : IsTrue c.is_new.result = cc c.if-is_new.true in
     let none = (c.is_new.ensures.0 yes).0 in
-    let e : book_schema.tables ≡ [] = ap (λ (s : Schema). s.tables) (sym (c.schema.ensures.value ∙ holds.schema))
-    ∙ none in
-    absurd cc
+    elim holds.schema [
+      | inl is ↦ absurd (
+          let e : book_schema.tables ≡ [] = ap (λ (s : Schema). s.tables) (sym (c.schema.ensures.value ∙ is)) ∙ none in
+          cc
+          )
+      | inr is ↦ absurd (
+          let e : earlier_schema.tables ≡ [] = ap (λ (s : Schema). s.tables) (sym (c.schema.ensures.value ∙ is)) ∙ none
+          in
+          cc
+          )
+    ]
+
+pub returns-clause-found : goal.returns-clause-found
+returns-clause-found g c clean text holds =
+    let row : c.in_ok-row.row ≡ Blob text ∷ [] = c.in_ok-row.ensures.found clean text holds in
+    let read : column c.in_ok-row.row 0 ≡ Blob c.in_ok-text.text.items = c.in_ok-text.ensures.ok.1 in
+    let both : Blob text ≡ Blob c.in_ok-text.text.items = ap (λ r. column r 0) (sym row) ∙ read in
+    cc
 
 pub returns-in_err-row-clause-survives : goal.returns-in_err-row-clause-survives
 returns-in_err-row-clause-survives g c =

@@ -4,8 +4,8 @@ use Rattle.cdc_sqlite_book.proofs.SelectLemmas.{finds, changes_nothing, commits_
 use Rattle.cdc_sqlite_book.proofs.tables.find_text.Goals as goal
 
 pub returns-clause-found : goal.returns-clause-found
-returns-clause-found g c clean text kept holds =
-    finds (state g.S.Store c.args.conn.now) (state g.S.Store c.query_row.new.self) text kept.last kept.applied
+returns-clause-found g c clean text holds =
+    finds (state g.S.Store c.args.conn.now) (state g.S.Store c.query_row.new.self) text holds.last holds.applied
     c.query_row.result holds.schema holds.book
     (c.query_row.ensures.row clean)
 

@@ -1,6 +1,7 @@
 use Rattle.std.proofs.Common.{◌≡◌, ◌+◌, suc, take, ap, sym, ◌∙◌, arith}
 use Rattle.sqlite.specs.Held.{state}
 use Rattle.sqlite.proofs.StateLemmas.{survives_then}
+use Rattle.cdc_book_log.specs.Details.{details_in}
 use Rattle.cdc_sqlite_book.specs.Tables.{rows_from}
 use Rattle.cdc_sqlite_book.proofs.StepLemmas.{keeps_then, took}
 use Rattle.cdc_sqlite_book.proofs.tables.put_accounts.Goals as goal
@@ -19,12 +20,14 @@ accounts-preserved g c =
       λ clean has none.
           let was = c.accounts.invariant.3 (omega (arith, made.survives.clean)) has none in
           let ok = c.in_ok-put_account.ensures in
+          let known = details_in c.args.details.now.entries in
           let before = take place c.args.book.now in
           let one : take (suc place) c.args.book.now ≡ _ =
           took c.args.book.now place c.in-Some.id c.in-Some.balances (sym c.at_place.ensures ∙ c.in-Some.is) in
           let next : suc place ≡ place + 1 = omega arith in (
-            ok.schema clean before was.0 was.2,
-            ok.book clean before was.0 was.2 ∙ was.1,
-            ok.accounts clean before was.0 was.2 ∙ ap (rows_from 1) (sym one ∙ ap (λ n. take n c.args.book.now) next),
+            ok.schema clean before known was.0 was.2,
+            ok.book clean before known was.0 was.2 ∙ was.1,
+            ok.accounts clean before known was.0 was.2 (sym c.details_for.ensures)
+                ∙ ap (rows_from known 1) (sym one ∙ ap (λ n. take n c.args.book.now) next),
           ),
     )

@@ -1,11 +1,13 @@
-use Rattle.std.proofs.Common.{◌≡◌, ◌+◌, suc, take, ap, sym, subst, ◌∙◌, arith}
+use Rattle.std.proofs.Common.{◌≡◌, ◌+◌, ℕ, true, suc, take, ap, sym, subst, ◌∙◌, arith}
 use Rattle.sqlite.specs.Held.{state}
 use Rattle.sqlite.proofs.StateLemmas.{survives_then}
 use Rattle.cdc_subscriber.specs.declared.book.BookEntry.{BookEntry}
-use Rattle.cdc_subscriber.specs.Book.{entries_of, put}
+use Rattle.cdc_subscriber.specs.Book.{are_distinct, entries_of, ids_of, put}
+use Rattle.cdc_subscriber.proofs.PushLemmas.{are_distinct-keys}
 use Rattle.cdc_book_log.specs.Replay.{put_all}
-use Rattle.cdc_sqlite_book.specs.Tables.{HoldsBook, place_in}
-use Rattle.cdc_sqlite_book.proofs.PlaceLemmas.{put_next, step_next, step_place}
+use Rattle.cdc_sqlite_book.specs.Tables.{HoldsBook, place_in, renewed, with_details}
+use Rattle.cdc_sqlite_book.proofs.DetailLemmas.{holds_same, renew_at}
+use Rattle.cdc_sqlite_book.proofs.PlaceLemmas.{distinct_all, put_next, step_next, step_place}
 use Rattle.cdc_sqlite_book.proofs.StepLemmas.{keeps_then}
 use Rattle.cdc_sqlite_book.proofs.tables.replace_accounts.Goals as goal
 
@@ -42,9 +44,22 @@ accounts-preserved g c =
           let was = c.accounts.invariant.4 (omega (arith, made.survives.clean)) held kept holds same in
           let where_it_is : c.in_ok-number.number ≡ suc (place_in (put_all before kept.book) id) =
           number ∙ ap suc (place ∙ ap (λ es. place_in (put_all before es) id) (sym same)) in
+          let distinct : are_distinct (ids_of kept.book) ≡ true =
+          ap (λ es. are_distinct (ids_of es)) same
+          ∙ are_distinct-keys c.args.accounts.now.entries c.len-next.ensures.unique in
+          let shown = c.args.shown.now.entries in
+          let details = c.args.details.now.entries in
           let put_it = c.in_ok-replace_account.ensures.holds clean held
-          (record kept { book = put_all before kept.book }) was where_it_is in
+          (record kept { book = put_all before kept.book }) (renewed before shown details) was
+          (distinct_all before kept.book distinct) where_it_is in
+          let known : (other : ℕ) → with_details id c.newest_for-known.result (renewed before shown details) other
+          ≡ renewed (take (at + 1) book) shown details other =
+          λ other. ap (λ d. with_details id d (renewed before shown details) other) c.newest_for-known.ensures
+          ∙ renew_at book at id balances shown details other there
+          ∙ ap (λ n. renewed (take n book) shown details other) after in
           let books : put one (put_all before kept.book) ≡ put_all (take (at + 1) book) kept.book =
           sym (put_next book kept.book at id balances there) ∙ ap (λ n. put_all (take n book) kept.book) after in
-          subst (λ es. HoldsBook held (record kept { book = es }) new.now) books put_it,
+          holds_same held (record kept { book = put_all (take (at + 1) book) kept.book }) _ _ new.now known
+          (subst (λ es. HoldsBook held (record kept { book = es })
+          (with_details id c.newest_for-known.result (renewed before shown details)) new.now) books put_it),
     )

@@ -3,8 +3,9 @@ use Rattle.sqlite.specs.State.{HasCleanDisk, KeepsCommit, Survives}
 use Rattle.sqlite.specs.Held.{state}
 use Rattle.cdc_subscriber.specs.SubscriberState.{SubscriberState}
 use Rattle.cdc_subscriber.specs.Book.{entries_of}
+use Rattle.cdc_book_log.specs.Details.{details_in}
 use Rattle.cdc_book_log.specs.Replay.{put_all}
-use Rattle.cdc_sqlite_book.specs.Tables.{HoldsBook}
+use Rattle.cdc_sqlite_book.specs.Tables.{HoldsBook, renewed}
 use Rattle.cdc_sqlite_book.proofs.tables.replace_accounts.Given as goal
 
 abbrev pub invariant-accounts : goal.invariant-accounts
@@ -14,6 +15,7 @@ invariant-accounts g l =
     (l.tx.conn.ghost_name ≡ l.initial.tx.conn.ghost_name) × Survives old now (λ _. ⊥)
     × (HasCleanDisk now → KeepsCommit old now)
     × (l.next ≡ length (put_all (take l.at l.changed) (entries_of l.accounts.entries)))
-    × (HasCleanDisk now → (held : List ℕ) (kept : SubscriberState) → HoldsBook held kept old.now
+    × (HasCleanDisk now → (held : List ℕ) (kept : SubscriberState) → HoldsBook held kept (details_in l.details.entries) old.now
     → kept.book ≡ entries_of l.accounts.entries
-    → HoldsBook held (record kept { book = put_all (take l.at l.changed) kept.book }) now.now)
+    → HoldsBook held (record kept { book = put_all (take l.at l.changed) kept.book })
+    (renewed (take l.at l.changed) l.shown.entries l.details.entries) now.now)

@@ -7,7 +7,7 @@ use Rattle.cdc_sqlite_book.proofs.UpsertLemmas.{replaces_text, retext_text}
 use Rattle.cdc_sqlite_book.proofs.tables.replace_text.Goals as goal
 
 pub returns-clause-holds : goal.returns-clause-holds
-returns-clause-holds g c clean held kept holds =
+returns-clause-holds g c clean held kept known holds =
     let old = state g.S.Store c.args.tx.now.conn.now in
     let new = state g.S.Store c.execute.new.self.conn.now in
     let values = progress_of c.args.text.now c.args.last c.args.applied in
@@ -21,4 +21,4 @@ returns-clause-holds g c clean held kept holds =
     )
     at (c.execute.ensures.runs clean) in
     ran retext_text values old new c.execute.result _ _ _ c.execute.ensures.ended runs
-    (λ h. replaces_text old new held c.args.text.now kept c.args.last c.args.applied c.execute.result holds h)
+    (λ h. replaces_text old new held c.args.text.now kept known c.args.last c.args.applied c.execute.result holds h)

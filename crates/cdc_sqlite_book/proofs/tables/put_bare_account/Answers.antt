@@ -2,16 +2,16 @@ use Rattle.std.proofs.Common.{ap, IsTrue}
 use Rattle.sqlite.specs.State.{ExecutesInside}
 use Rattle.sqlite.specs.Held.{state}
 use Rattle.cdc_sqlite_book.proofs.CreateLemmas.{ran}
-use Rattle.cdc_sqlite_book.proofs.InsertLemmas.{puts_account, account_text, values_of}
+use Rattle.cdc_sqlite_book.proofs.InsertLemmas.{puts_bare, bare_text, balance_values}
 use Rattle.cdc_sqlite_book.proofs.StepLemmas.{keeps}
-use Rattle.cdc_sqlite_book.proofs.tables.put_account.Goals as goal
+use Rattle.cdc_sqlite_book.proofs.tables.put_bare_account.Goals as goal
 
 pub returns-clause-schema : goal.returns-clause-schema
-returns-clause-schema g c clean entries has rows =
+returns-clause-schema g c clean entries known has rows =
     let old = state g.S.Store c.args.tx.now.conn.now in
     let new = state g.S.Store c.execute.new.self.conn.now in
-    let values = values_of c.args.entry.now in
-    let runs : IsTrue old.in_transaction → ExecutesInside 0 account_text values old new c.execute.result =
+    let values = balance_values c.args.entry.now in
+    let runs : IsTrue old.in_transaction → ExecutesInside 0 bare_text values old new c.execute.result =
     rw (
       c.params-to_sql.ensures,
       c.params-to_sql-2.ensures,
@@ -25,15 +25,15 @@ returns-clause-schema g c clean entries has rows =
       c.format-5.ensures.text,
     )
     at (c.execute.ensures.runs clean) in
-    ran account_text values old new c.execute.result _ _ _ c.execute.ensures.ended runs
-    (λ h. (puts_account old new entries c.args.entry.now c.execute.result has rows h).0)
+    ran bare_text values old new c.execute.result _ _ _ c.execute.ensures.ended runs
+    (λ h. (puts_bare old new known entries c.args.entry.now c.execute.result has rows h).0)
 
 pub returns-clause-book : goal.returns-clause-book
-returns-clause-book g c clean entries has rows =
+returns-clause-book g c clean entries known has rows =
     let old = state g.S.Store c.args.tx.now.conn.now in
     let new = state g.S.Store c.execute.new.self.conn.now in
-    let values = values_of c.args.entry.now in
-    let runs : IsTrue old.in_transaction → ExecutesInside 0 account_text values old new c.execute.result =
+    let values = balance_values c.args.entry.now in
+    let runs : IsTrue old.in_transaction → ExecutesInside 0 bare_text values old new c.execute.result =
     rw (
       c.params-to_sql.ensures,
       c.params-to_sql-2.ensures,
@@ -47,15 +47,15 @@ returns-clause-book g c clean entries has rows =
       c.format-5.ensures.text,
     )
     at (c.execute.ensures.runs clean) in
-    ran account_text values old new c.execute.result _ _ _ c.execute.ensures.ended runs
-    (λ h. (puts_account old new entries c.args.entry.now c.execute.result has rows h).1)
+    ran bare_text values old new c.execute.result _ _ _ c.execute.ensures.ended runs
+    (λ h. (puts_bare old new known entries c.args.entry.now c.execute.result has rows h).1)
 
 pub returns-clause-accounts : goal.returns-clause-accounts
-returns-clause-accounts g c clean entries has rows =
+returns-clause-accounts g c clean entries known has rows is =
     let old = state g.S.Store c.args.tx.now.conn.now in
     let new = state g.S.Store c.execute.new.self.conn.now in
-    let values = values_of c.args.entry.now in
-    let runs : IsTrue old.in_transaction → ExecutesInside 0 account_text values old new c.execute.result =
+    let values = balance_values c.args.entry.now in
+    let runs : IsTrue old.in_transaction → ExecutesInside 0 bare_text values old new c.execute.result =
     rw (
       c.params-to_sql.ensures,
       c.params-to_sql-2.ensures,
@@ -69,8 +69,8 @@ returns-clause-accounts g c clean entries has rows =
       c.format-5.ensures.text,
     )
     at (c.execute.ensures.runs clean) in
-    ran account_text values old new c.execute.result _ _ _ c.execute.ensures.ended runs
-    (λ h. (puts_account old new entries c.args.entry.now c.execute.result has rows h).2)
+    ran bare_text values old new c.execute.result _ _ _ c.execute.ensures.ended runs
+    (λ h. (puts_bare old new known entries c.args.entry.now c.execute.result has rows h).2 is)
 
 pub returns-clause-kept : goal.returns-clause-kept
 returns-clause-kept g c clean =
