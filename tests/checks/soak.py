@@ -5,7 +5,8 @@
     tests/checks/soak.py --seed S --case K
 
 A case is a script, a step file and the arguments of a run, made of the seed and the case's number alone. The program runs
-on it under `books`, `messages`, `simulate` and `run`; output and exit status have to be the model's, and under `run`
+on it under `books`, `messages`, `simulate`, with `--skip-refused` too, and `run`; output and exit status have to be the
+model's, and under `run`
 the progress that is saved. Batches of several clients may come to the ledger in any order that keeps each client's:
 which it was is taken from what `run` printed (orders.py), and that has to be what the model does in this order; its trace
 has each rewind of the plan that had to happen (traces.py). Where they differ, lines are left out while the difference
@@ -853,7 +854,8 @@ def script_of(lines):
     return model.read_script('\n'.join(lines).encode('ascii'))
 
 
-COMMANDS = ('books', 'messages', 'simulate', 'run')
+SKIPPING = 'simulate --skip-refused'
+COMMANDS = ('books', 'messages', 'simulate', SKIPPING, 'run')
 
 
 def report_of(command, case, found):
@@ -862,16 +864,16 @@ def report_of(command, case, found):
         return model.books(case.script)
     if command == 'messages':
         return model.messages(case.script)
-    if command == 'simulate':
-        return model.simulate(case.script, case.steps, number_of(case.arguments_of_window))
+    if command in ('simulate', SKIPPING):
+        return model.simulate(case.script, case.steps, number_of(case.arguments_of_window), command == SKIPPING)
     printed = found.text.decode('ascii', 'replace')
     return orders.report_of_run(case.script, model.plan_of(case.plan), case.progress, printed, found.record if case.saves else None)
 
 
 def arguments_of(command, case):
     """The arguments of the program for a command over the files in the folder where it runs."""
-    if command == 'simulate':
-        return ['simulate', 'soak.script', 'soak.steps', *case.arguments_of_window]
+    if command in ('simulate', SKIPPING):
+        return [*command.split(), 'soak.script', 'soak.steps', *case.arguments_of_window]
     if command == 'run':
         return ['run', 'soak.script', '--trace', *case.plan, *(['--progress', 'soak.progress'] if case.saves else [])]
     return [command, 'soak.script']
@@ -964,7 +966,7 @@ def shrunk(runner, command, case):
         case = plain
     size = None
     while size != (size := len(case.script) + len(case.steps)):
-        if command == 'simulate':
+        if command in ('simulate', SKIPPING):
             case = without_lines(case, 'steps', differs)
         if command == 'run':
             case = without_faults(case, differs)
@@ -1021,7 +1023,7 @@ def report_on(seed, number, command, case, report, found):
     text += f'    tests/checks/soak.py --seed {seed} --case {number}\n'
     text += 'and, shrunk, with\n'
     text += file_in_shell('soak.script', case.script)
-    if command == 'simulate':
+    if command in ('simulate', SKIPPING):
         text += file_in_shell('soak.steps', case.steps)
     if command == 'run' and case.progress is not None:
         text += file_in_shell('soak.progress', record_of(case.progress, case.version))

@@ -6,6 +6,7 @@
 - Each wrong consumer of examples/consumers/wrong fails at the seed and the delivery that it states, among the first 30
   seeds, if the system permits to stop a process at a write; otherwise in one of 30 seeds. None has more than 40 lines.
 - The right consumers pass: the one in Python N seeds (default: 30), the others FEW (default: 3).
+- With --lossy the one that compares `previous` passes, and one that doesn't fails.
 - Each seed has each fault that it was asked for. The stream is given, and what wasn't acknowledged is redelivered.
 - What is compared, and what is reported; the files of a case and its replay; the smallest case; statuses; progress.
 - Stopped at any time, the runner ends at once, with its consumers.
@@ -197,6 +198,29 @@ def right_ones(checks, seeds, few):
             count = seeds if name.endswith(".py") else few
             found = checks.over("--seeds", count, command=[*command, "book"], jobs=2)
             checks.same(f"{name}: it passes", (0, f"try-consumer: {count} passed, 0 failed\n", ""), found)
+
+
+def lossy_ones(checks, seeds):
+    """With --lossy a consumer that compares `previous` passes, and one that doesn't fails at the first seed. Each seed has
+    an event that overtakes another one, one of another queue, and a loss, which the last delivery shows."""
+    chained, remembering = (checks.command_of(it) for it in ("chained.py", "remembering.py"))
+    lines = len((EXAMPLES / "chained.py").read_text(encoding="utf-8").splitlines())
+    checks.same(f"chained.py: at most {MOST_LINES} lines", True, lines <= MOST_LINES)
+    for kills in (3, 0):
+        found = checks.over("--lossy", "--kills", kills, "--seeds", seeds, command=[*chained, "book"], jobs=2)
+        checks.same(f"chained.py: it passes, {kills} kills", (0, f"try-consumer: {seeds} passed, 0 failed\n", ""), found)
+    status, printed, _ = checks.over("--lossy", "--shrink", 0, command=[*remembering, "book"])
+    checks.same("remembering.py: it fails", (1, True), (status, "expected gap, your consumer applied it" in printed))
+    status, printed, _ = checks.over("--lossy", "--shrink", 10, "--files", "lossy", command=[*remembering, "book"])
+    checks.same("remembering.py: its smallest case", (1, True), (status, "expected gap" in printed))
+    found = checks.over("--replay", "lossy", command=[*remembering, "book"])
+    checks.same("remembering.py: its smallest case again", (1, True), (found[0], "expected gap" in found[1]))
+    for seed in range(1, seeds + 1):
+        case = cases.drawn_case(checks.source, SCRIPT, seed, 200, 10, 3, lossy=True)
+        results = [it["result"] for it in case.stream.expected]
+        checks.same(f"seed {seed}: gaps, the last delivery's too", (True, "gap"), (results.count("gap") > 2, results[-1]))
+        foreign = [it for it, line in enumerate(case.stream.lines) if b'"previous":"0"' in line and results[it] == "gap"]
+        checks.same(f"seed {seed}: a delivery of another queue", True, bool(foreign))
 
 
 def wrong_ones(checks, is_soak):
@@ -597,7 +621,9 @@ def usage(checks):
         ("--batches without a book", ["--batches", "2", "--", "cat"], f"--batches {no_answer}"),
         ("two ways", ["--acks", "--answers", "--", "cat"], "argument --answers: not allowed with argument --acks"),
         ("--junit", ["--junit", "none/x", "--", "cat"], "--junit none/x: no such folder"),
-        ("an unknown flag", ["--lossy", "--", "cat"], "unrecognized arguments: --lossy"),
+        ("an unknown flag", ["--slow", "--", "cat"], "unrecognized arguments: --slow"),
+        ("lossy batches", ["--lossy", "--batches", "2", "--book", "cat", "--", "cat"],
+         "--lossy can't stand beside --batches: after a kill it would be open which of them came too early"),
     ]:
         status, printed, errors = checks.call(*arguments)
         found = (status, printed, errors.splitlines()[-1])
@@ -744,6 +770,7 @@ def main(arguments):
             part(checks)
         wrong_ones(checks, options.soak)
         right_ones(checks, seeds, few)
+        lossy_ones(checks, few)
     if checks.left_out:
         left_out = [f"{', '.join(sorted(what))}: {why}" for why, what in checks.left_out.items()]
         print(f"try_consumer: not tried: {'; '.join(left_out)}")

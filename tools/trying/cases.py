@@ -2,7 +2,7 @@
 import random
 from dataclasses import dataclass
 
-from .streams import Recipe
+from .streams import Recipe, below
 
 # When a consumer is killed: before its answer, after it, or after it so that the answer is lost.
 BEFORE, AFTER, LOST = "before", "after", "lost"
@@ -32,17 +32,12 @@ class Case:
 
     def size(self):
         """Returns a number that is smaller for a case that is easier to understand."""
-        script = len(self.recipe.script.splitlines())
-        return 3 * len(self.kills) + 2 * len(self.stream.lines) + script + self.recipe.faults
+        script, step_file = self.recipe.script.splitlines(), (self.recipe.step_file or "").splitlines()
+        return 3 * len(self.kills) + 2 * len(self.stream.lines) + len(script) + len(step_file) + self.recipe.faults
 
     def room_for_lines(self, other):
         """Returns how many more deliveries another case may have and still be smaller than this one."""
         return (self.size() - 1 - other.size()) // 2
-
-
-def below(rng, count):
-    """Returns a random number below a count. Each version of Python draws the same one."""
-    return int(rng.random() * count)
 
 
 def drawn_kills(stream, count, name):
@@ -59,9 +54,9 @@ def drawn_kills(stream, count, name):
     return tuple(sorted(kills, key=lambda it: it.place))
 
 
-def drawn_case(source, script, seed, steps, faults, kills):
+def drawn_case(source, script, seed, steps, faults, kills, lossy=False):
     """Returns the case of a seed."""
-    recipe, stream = source.with_faults(Recipe(script, seed, steps, faults))
+    recipe, stream = source.with_faults(Recipe(script, seed, steps, faults, lossy=lossy))
     return Case(seed, recipe, stream, drawn_kills(stream, kills, f"kills of seed {seed}"))
 
 

@@ -96,6 +96,9 @@ def parser_of(text):
         help="number of faults, as with `simulate` [0-20000; default: 10]")
     add(group, "--steps", (0, 20000), default=200, metavar="N",
         help="number of steps, as with `simulate` [0-20000; default: 200]")
+    add(group, "--lossy", action="store_true",
+        help="also lose an event, let one overtake another, and deliver one of another queue: your consumer has to "
+             "answer gap, by the member previous")
     add(group, "--window", (1, 64), default=1, metavar="N",
         help="window of the connector, as with `simulate` [1-64; default: 1]")
     add(group, "--program", metavar="PROGRAM",
@@ -120,6 +123,8 @@ def arguments_of(text, given):
         parser.error(f"--junit {options.junit}: no such folder")
     if (options.acks or options.batches) and not options.book and not options.replay:
         parser.error(f"{'--acks' if options.acks else '--batches'} needs --book, since no answer is compared")
+    if options.lossy and options.batches:
+        parser.error("--lossy can't stand beside --batches: after a kill it would be open which of them came too early")
     for name in ("script", "junit", "files"):
         path = getattr(options, name)
         if path:
@@ -228,7 +233,10 @@ def replay(options, command):
     """Replays a case that was kept, and prints the verdict."""
     case, measure, options = kept_case(options)
     with temporary_folder() as room:
-        settings = Settings(None, way_of(options, command), "", 0, 0, 0, room)
+        source = None
+        if case.recipe.lossy:
+            source = Source(program_of(options.program), options.subscriber, options.window)
+        settings = Settings(source, way_of(options, command), "", 0, 0, 0, case.recipe.lossy, room)
         with Trials(settings, 1) as trials:
             outcome = trials.replayed(case, measure)
     if outcome.verdict:
@@ -261,7 +269,7 @@ def run(text, given):
     source, script = Source(program_of(options.program), options.subscriber, options.window), script_of(options)
     with temporary_folder() as room:
         way = way_of(options, command)
-        settings = Settings(source, way, script, options.steps, options.faults, options.kills, room)
+        settings = Settings(source, way, script, options.steps, options.faults, options.kills, options.lossy, room)
         with Trials(settings, options.jobs or len(os.sched_getaffinity(0))) as trials:
             seeds = [options.seed] if options.seed else range(1, options.seeds + 1)
             outcomes, measure = try_seeds(trials, options, seeds, command)

@@ -16,6 +16,7 @@ from .streams import SUMS, numbered
 from .verdicts import Verdict
 
 ANSWERS, ACKS, BATCHES = "answers", "acks", "batches"
+MAY_BE_DONE = ("applied", "end")  # what may have come of a delivery before a kill, so that it is a duplicate later
 SLOWER = 1.2  # a kill before an answer comes after up to so many times the measured time, if writes can't be counted
 MEASURED = 6  # deliveries whose writes are counted
 DEFAULT = 0.001  # seconds that a delivery is assumed to take if none could be measured
@@ -41,6 +42,15 @@ class Measure:
 
 
 NOTHING = Measure(None, 0.0)  # for a case without kills
+
+
+@dataclass(frozen=True)
+class Due:
+    """A delivery that is due: its place in the stream, what is expected of it, and whether it was given before."""
+
+    place: int
+    wanted: object
+    is_redelivered: bool = False
 
 
 @dataclass
@@ -74,13 +84,14 @@ class Failed(Exception):
 class Play:
     """A case as it is played in a folder of its own, which is the consumer's."""
 
-    def __init__(self, case, way, measure, folder):
-        self.case, self.way, self.measure, self.folder = case, way, measure, folder
+    def __init__(self, case, way, measure, folder, source=None):
+        self.case, self.way, self.measure, self.folder, self.source = case, way, measure, folder, source
         self.log, self.book = Log(), {}
-        self.pending = collections.deque((place, None) for place in range(len(case.stream.lines)))
+        self.pending = collections.deque(Due(at, verdicts.wanted_of(it)) for at, it in enumerate(case.stream.expected))
         self.given = collections.deque()  # the deliveries that aren't acknowledged yet
         self.kills = collections.deque(case.kills)
-        self.reached = -1  # the last place whose delivery was acknowledged
+        self.taken = []  # the places of the deliveries that were acknowledged, in their order
+        self.reached = -1  # the last one of them
 
     def verdict(self):
         """Plays the case, and returns the verdict, or None if the consumer passes."""
@@ -114,7 +125,7 @@ class Play:
         """Gives deliveries until as many as are allowed wait for an answer. Returns the kill that is due at the next
         one, if any. After the last delivery, ends the input of a consumer that may wait for more of them."""
         while self.pending and len(self.given) < self.way.window:
-            if self.kills and self.kills[0].place <= self.pending[0][0]:
+            if self.kills and self.kills[0].place <= self.pending[0].place:
                 return self.kills.popleft()
             self.give()
         if not self.pending and self.way.asked == BATCHES:
@@ -123,13 +134,11 @@ class Play:
 
     def give(self):
         """Gives the next delivery."""
-        place, wanted = self.pending.popleft()
-        number, is_redelivered = len(self.log.given) + 1, wanted is not None
-        wanted = wanted or verdicts.wanted_of(self.case.stream.expected[place])
-        line = numbered(self.case.stream.lines[place], number, is_redelivered)
-        self.given.append(Given(number, place, wanted))
+        due, number = self.pending.popleft(), len(self.log.given) + 1
+        line = numbered(self.case.stream.lines[due.place], number, due.is_redelivered)
+        self.given.append(Given(number, due.place, due.wanted))
         self.log.given.append(line)
-        self.log.wanted.append(wanted)
+        self.log.wanted.append(due.wanted)
         self.consumer.give(line)
 
     # --------------------------------------------------------------------------------------------------------------
@@ -170,7 +179,7 @@ class Play:
                 verdict = verdicts.verdict_of_answer(line, given.number, given.wanted, self.book)
                 if verdict:
                     raise Failed(Verdict(verdict.kind, verdict.delivery, verdict.text, given.place))
-            self.reach(given.place)
+            self.reach(given)
 
     def acknowledged(self, line):
         """Returns how many deliveries a line acknowledges: all up to a number, which is the line or its member
@@ -183,12 +192,12 @@ class Play:
             raise Failed(Verdict("text", self.given[0].number, text, self.given[0].place))
         return number - self.given[0].number + 1
 
-    def reach(self, place):
-        """Takes over the balances that are expected up to a place, whose delivery is acknowledged."""
-        if place > self.reached:
-            self.reached = place
-            for it in self.case.stream.expected[place]["accounts"]:
-                self.book[it["id"]] = {name: it[name] for name in SUMS}
+    def reach(self, given):
+        """Takes over the balances that are expected after a delivery, which is acknowledged."""
+        self.taken.append(given.place)
+        self.reached = max(self.reached, given.place)
+        for it in given.wanted.accounts:
+            self.book[it["id"]] = {name: it[name] for name in SUMS}
 
     def no_more(self):
         """Waits until the consumer ends. It may not print any more."""
@@ -204,7 +213,7 @@ class Play:
     def compare_book(self):
         """Compares what --book prints with the book that is expected."""
         text = printed_by(self.way.book, self.folder, self.way.seconds)
-        verdict = verdicts.verdict_of_book(text, self.case.stream.book())
+        verdict = verdicts.verdict_of_book(text, self.book)
         if verdict:
             raise Failed(verdict)
 
@@ -275,13 +284,32 @@ class Play:
         self.log.kills.append(text_of_kill(number, how, is_answered, is_lost))
         for line in self.consumer.lines:
             self.take_answer(line)
-        again = [(it.place, verdicts.wanted_of(self.case.stream.expected[it.place], True)) for it in self.given]
+        open_ones = [it.place for it in self.given]
         self.given.clear()
+        first = self.reached + 1
         if is_lost:
-            wanted = verdicts.duplicate_after(self.case.stream.expected[self.reached])
             first = max(0, self.reached + 1 - (kill.lost if kill.kind == LOST else 1))
-            again[:0] = [(place, wanted) for place in range(first, self.reached + 1)]
-        self.pending.extendleft(reversed(again))
+        lost = list(range(first, self.reached + 1))
+        if self.case.recipe.lossy:
+            self.give_again_by_the_program(lost, open_ones)
+        else:
+            again = [Due(it, verdicts.wanted_of(self.case.stream.expected[it], True), True) for it in open_ones]
+            if lost:
+                wanted = verdicts.duplicate_after(self.case.stream.expected[self.reached])
+                again[:0] = [Due(it, wanted, True) for it in lost]
+            self.pending.extendleft(reversed(again))
+
+    def give_again_by_the_program(self, lost, open_ones):
+        """The same for lossy deliveries, where one that is redelivered may change what comes of the next ones: the
+        program has what comes of each."""
+        again = [*lost, *open_ones]
+        places = [*self.taken, *again, *(it.place for it in self.pending)]
+        expected = self.source.followed([self.case.stream.lines[it] for it in places])
+        start, open_from = len(self.taken), len(self.taken) + len(lost)
+        self.pending = collections.deque(
+            Due(place, verdicts.wanted_of(it, open_from <= at < start + len(again) and it["result"] in MAY_BE_DONE),
+                at < start + len(again))
+            for at, (place, it) in enumerate(zip(places, expected)) if at >= start)
 
 
 def text_of_kill(number, how, is_answered, is_lost):

@@ -4,7 +4,7 @@ from dataclasses import replace
 
 from . import Stop
 from .cases import Case, drawn_kills
-from .streams import Recipe, Stream
+from .streams import Stream
 
 DRAWS = 4  # how many draws of kills, and of numbers, are tried for each change of a recipe
 PARTS = ("accounts ", "account ", "transfers ", "transfer ", "pulse ")  # the lines of a script that may be left out
@@ -22,7 +22,7 @@ class Shrinker:
         """Returns the smallest case that was found, and the verdict on it."""
         self.verdict, self.best = verdict, cut(case, verdict)
         changes = (self.fewer_kills, self.without_faults, self.fewer_deliveries, self.shorter_script, self.fewer_faults,
-                   self.fewer_duplicates)
+                   self.fewer_duplicates, self.fewer_steps)
         size = None
         while size != self.best.size() and not self.is_over():
             size = self.best.size()
@@ -80,13 +80,14 @@ class Shrinker:
     def without_faults(self):
         recipe = self.best.recipe
         if recipe.faults:
-            self.take_recipe(Recipe(recipe.script, recipe.number, 0, 0))
+            self.take_recipe(replace(self.whole(), steps=0, faults=0))
 
     def fewer_faults(self):
         recipe = self.best.recipe
         for faults in (1, recipe.faults // 4, recipe.faults // 2, recipe.faults - 1):
             for steps in (recipe.steps // 2, recipe.steps):
-                if 0 < faults < recipe.faults and self.take_recipe(Recipe(recipe.script, recipe.number, steps, faults)):
+                tried = replace(self.whole(), steps=steps, faults=faults)
+                if 0 < faults < recipe.faults and self.take_recipe(tried):
                     return
 
     def fewer_deliveries(self):
@@ -116,12 +117,38 @@ class Shrinker:
                     first += size
             size //= 2
 
+    def fewer_steps(self):
+        """Leaves out steps of the step file, which has those of the simulation at first: many at a time, then fewer."""
+        size = len(self.steps()) // 2
+        while size and not self.is_over():
+            first = 0
+            while first < len(self.steps()):
+                steps = self.steps()
+                if not self.take_steps(steps[:first] + steps[first + size :]):
+                    first += size
+            size //= 2
+
+    def steps(self):
+        text = self.best.recipe.step_file
+        lines = (self.best.stream.steps if text is None else text).splitlines(keepends=True)
+        return [it for it in lines if not it.startswith("#")]
+
+    def take_steps(self, steps):
+        """Takes the case of a step file with these steps, if it fails. A step that the simulation refuses is skipped."""
+        recipe = self.best.recipe
+        recipe = replace(recipe, steps=0, faults=0, length=None, dropped=frozenset(), step_file="".join(steps))
+        case = self.case_of(recipe, self.best.kills)
+        return case is not None and self.take(case)
+
     def lines(self):
         return self.best.recipe.script.splitlines(keepends=True)
 
     def take_script(self, lines):
-        recipe = self.best.recipe
-        return self.take_recipe(Recipe("".join(lines), recipe.number, recipe.steps, recipe.faults))
+        return self.take_recipe(replace(self.whole(), script="".join(lines)))
+
+    def whole(self):
+        """Returns the recipe of the best case, of whose deliveries all are kept."""
+        return replace(self.best.recipe, length=None, dropped=frozenset())
 
 
 def kept_places(case):

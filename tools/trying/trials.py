@@ -22,6 +22,7 @@ class Settings:
     steps: int
     faults: int
     kills: int
+    lossy: bool
     room: str
 
 
@@ -73,7 +74,7 @@ def try_case(settings, case, measure):
     """Plays a case and returns its outcome."""
     folder = os.path.join(settings.room, f"{os.getpid()}-{case.seed}")
     began = time.monotonic()
-    play = Play(case, settings.way, measure, folder)
+    play = Play(case, settings.way, measure, folder, settings.source)
     try:
         verdict = play.verdict()
     finally:
@@ -94,8 +95,8 @@ def try_plain(settings):
 
 
 def try_seed(settings, seed, measure):
-    case = drawn_case(settings.source, settings.script, seed, settings.steps, settings.faults, settings.kills)
-    return try_case(settings, case, measure)
+    it = settings
+    return try_case(it, drawn_case(it.source, it.script, seed, it.steps, it.faults, it.kills, it.lossy), measure)
 
 
 def shrink(settings, outcome, measure, seconds):

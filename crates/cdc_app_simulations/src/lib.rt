@@ -2,6 +2,7 @@
 #![tactic(auto)]
 
 mod diagnostics;
+mod enabled;
 mod random;
 mod simulation;
 

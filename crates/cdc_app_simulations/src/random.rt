@@ -4,15 +4,12 @@
 ghost use Rattle.cdc_types.specs.Windows.{IsWindow};
 
 use crate::diagnostics::{asked, can_draw, draw, is_reported};
-use crate::simulation::{Wanted, report_counts};
+use crate::simulation::{Wanted, report_counts, simulated};
 use cdc_app_inputs::{
     Kept, Seen, Source, advise_on_script, escaped_text, report_no_subscriber, shown_name,
 };
 use cdc_arguments::{Diagnostics, Form, STANDARD_ERROR};
-use cdc_commands::simulate::simulation_of_steps;
-use cdc_commands::{
-    Ended, Ending, Form as PrintForm, Output, Report, Tally, print_fault, print_output,
-};
+use cdc_commands::{Ended, Ending, Tally, print_fault, print_output};
 use cdc_deliveries::{Both, Recorder};
 use cdc_diagnostics::{Observation, Observed, RefusedStep, notes_text};
 use cdc_output::{Json, ProgramFault, Text};
@@ -119,25 +116,6 @@ fn simulate(
             let output = simulated(rt, &Json, script, steps, wanted, observers);
             print_output(&Json, &mut writer, output)
         }
-    }
-}
-
-/// What is printed of a simulation in this form.
-fn simulated<F: PrintForm>(
-    rt: &HostRuntime,
-    form: &F,
-    script: &[u8],
-    steps: &StepFile,
-    wanted: Wanted,
-    observers: &mut Both<Recorder, Observation<'_>>,
-) -> Result<Output, ProgramFault>
-    requires { IsWindow wanted.window }
-{
-    let alloc = rt.alloc();
-    let window = wanted.window;
-    match wanted.deliveries {
-        None => simulation_of_steps(form, &Report, alloc, script, steps, window, observers),
-        Some(asked) => simulation_of_steps(form, &asked, alloc, script, steps, window, observers),
     }
 }
 

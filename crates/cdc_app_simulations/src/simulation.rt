@@ -3,22 +3,26 @@
 ghost use Rattle.cdc_types.specs.Windows.{IsWindow};
 
 use crate::diagnostics::{asked, can_draw, is_reported, report_simulation};
+use crate::enabled::print_enabled;
 use cdc_app_inputs::{
     EXPLAIN, Kept, Source, abort, advise_on_steps, escaped_text, hint, note, report_count,
     report_no_subscriber, shown_name,
 };
 use cdc_arguments::{Diagnostics, Form};
-use cdc_commands::simulate::simulate_command;
-use cdc_commands::{Ended, Ending, Form as PrintForm, Report};
+use cdc_commands::simulate::{simulate_command, simulation_of_steps};
+use cdc_commands::{Ended, Ending, Form as PrintForm, Output, Report};
 use cdc_deliveries::{Asked, Both, Recorder, count_of};
 use cdc_diagnostics::Observation;
 use cdc_output::{Json, ProgramFault, Text};
+use cdc_script::StepFile;
 use cdc_types::Limits;
 use std::io;
 
 /// What is simulated, and what is printed of it.
 #[derive(Clone, Copy)]
 pub struct Wanted {
+    /// Whether steps of a step file that are refused are skipped.
+    pub skips_refused: bool,
     /// The number of events that a session waits for at a time.
     pub window: usize,
     /// The subscriber whose deliveries are printed in the place of the report, if one is named.
@@ -49,11 +53,14 @@ pub fn run_simulation(
         first: Recorder::new(rt.alloc()),
         second: Observation::new(rt.alloc(), name.as_str(), asked(diagnostics)),
     };
-    let Ended {
-        ending,
-        tally,
-        notes,
-    } = print_simulation(rt, &mut script, &mut step_file, wanted, &mut observers);
+    let (
+        Ended {
+            ending,
+            tally,
+            notes,
+        },
+        skipped,
+    ) = print_simulation(rt, &mut script, &mut step_file, wanted, &mut observers);
     let Both {
         first: recorder,
         second: observation,
@@ -70,6 +77,7 @@ pub fn run_simulation(
     }
     match ending {
         Ending::Done | Ending::Refused(_) => {
+            report_skipped(rt, skipped);
             report_counts(rt, &recorder, "");
             if !diagnostics.explain {
                 hint(rt, tally, EXPLAIN);
@@ -82,19 +90,21 @@ pub fn run_simulation(
     ending
 }
 
-/// Runs `simulate` over a script and a step file, with observers.
+/// Runs `simulate` over a script and a step file, with observers. Returns how it ended, and how many steps were skipped.
 fn print_simulation(
     rt: &HostRuntime,
     script: &mut Kept<Source>,
     steps: &mut Kept<Source>,
     wanted: Wanted,
     observers: &mut Both<Recorder, Observation<'_>>,
-) -> Ended
+) -> (Ended, usize)
     requires { IsWindow wanted.window }
 {
-    match wanted.form {
-        Form::Text => print_in(rt, &Text, script, steps, wanted, observers),
-        Form::Json => print_in(rt, &Json, script, steps, wanted, observers),
+    match (wanted.form, wanted.skips_refused) {
+        (Form::Text, true) => print_enabled(rt, &Text, script, steps, wanted, observers),
+        (Form::Json, true) => print_enabled(rt, &Json, script, steps, wanted, observers),
+        (Form::Text, false) => (print_in(rt, &Text, script, steps, wanted, observers), 0),
+        (Form::Json, false) => (print_in(rt, &Json, script, steps, wanted, observers), 0),
     }
 }
 
@@ -141,6 +151,32 @@ fn print_in<F: PrintForm>(
                 observers,
             )
         }
+    }
+}
+
+/// What is printed in this form of a simulation of a script by these steps, with observers.
+pub fn simulated<F: PrintForm>(
+    rt: &HostRuntime,
+    form: &F,
+    script: &[u8],
+    steps: &StepFile,
+    wanted: Wanted,
+    observers: &mut Both<Recorder, Observation<'_>>,
+) -> Result<Output, ProgramFault>
+    requires { IsWindow wanted.window }
+{
+    let alloc = rt.alloc();
+    let window = wanted.window;
+    match wanted.deliveries {
+        None => simulation_of_steps(form, &Report, alloc, script, steps, window, observers),
+        Some(asked) => simulation_of_steps(form, &asked, alloc, script, steps, window, observers),
+    }
+}
+
+/// Reports how many steps of a step file were refused and skipped, if any was.
+fn report_skipped(rt: &HostRuntime, skipped: usize) {
+    if skipped != 0 {
+        let _ = eprintln!(rt; "relayplum: steps refused and skipped: {skipped}");
     }
 }
 
