@@ -1,0 +1,5 @@
+pub mod Fitting
+pub mod Runs
+pub mod Sound
+pub mod Turns
+pub mod WritingLemmas

@@ -1,0 +1,13 @@
+//! AMQP 0-9-1: fields and frames, how they are written and how they are read.
+#![tactic(auto)]
+
+mod errors;
+mod fields;
+mod frames;
+pub mod laws;
+mod reading;
+
+pub use errors::{FrameFault, ReadFrameError};
+pub use fields::{bytes_at, long_at, short_at, u8_at, u16_at, u32_at, u64_at};
+pub use frames::{FRAME_END, FRAME_OVERHEAD, Frame, FrameKind, FrameRef, first_frame, push_frame};
+pub use reading::read_frame;

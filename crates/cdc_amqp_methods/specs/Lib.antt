@@ -1,0 +1,5 @@
+pub mod Closes
+pub mod Contents
+pub mod Requests
+pub mod Responses
+pub mod Tables
