@@ -14,24 +14,26 @@ _relayplum() {
         compopt -o filenames 2>/dev/null
         mapfile -t COMPREPLY < <(compgen -d -- "$word")
     elif [ "$COMP_CWORD" = "$first" ]; then
-        words="books messages simulate run follow audit help -h --help -V --version $launcher"
+        words="books messages simulate run follow audit chain help -h --help -V --version $launcher"
     elif [ "${COMP_WORDS[first]}" = help ]; then
-        words='books messages simulate run follow audit help'
+        words='books messages simulate run follow audit chain help'
     elif [ "${COMP_WORDS[COMP_CWORD - 1]}" = --window ]; then
         words='1 2 8 64'
-    elif [ "${COMP_WORDS[COMP_CWORD - 1]}" = --queue ] || [ "${COMP_WORDS[COMP_CWORD - 1]}" = --deliveries ]; then
+    elif [ "${COMP_WORDS[first]} ${COMP_WORDS[COMP_CWORD - 1]}" = 'messages --queue' ] ||
+        [ "${COMP_WORDS[COMP_CWORD - 1]}" = --deliveries ]; then
         words='1 2 3 4 5 6 7 8'
     elif [[ $word == -* ]]; then
         case ${COMP_WORDS[first]} in
             books) words='--explain --json --check -h --help' ;;
             messages) words='--queue --json --check -h --help' ;;
-            simulate) words='--random --to-end --steps --faults --deliveries --expect --window --explain --trace --diagram --json --check -h --help' ;;
+            simulate) words='--random --to-end --steps --faults --skip-refused --deliveries --expect --window --explain --trace --diagram --json --check -h --help' ;;
             run)
                 words='--window --prefetch --lose-confirm --lose-publish --restart-after --repeat --close --start-after --progress'
                 words+=' --deliveries --expect --explain --trace --json -h --help'
                 ;;
-            follow) words='--chained --skip-gaps --binding --after --book --every --busy --json -h --help' ;;
+            follow) words='--chained --skip-gaps --binding --after --book --every --busy --expect --json -h --help' ;;
             audit) words='--book --foreign --duplicates --state --every --json -h --help' ;;
+            chain) words='--queue --state --every -h --help' ;;
         esac
     fi
     # Where there is no such word, files are offered.

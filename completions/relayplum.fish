@@ -5,10 +5,11 @@ complete -c relayplum -n __fish_use_subcommand -f -a simulate -d 'Take a script 
 complete -c relayplum -n __fish_use_subcommand -f -a run -d 'Run a script on threads, and print the results and the books'
 complete -c relayplum -n __fish_use_subcommand -f -a follow -d 'Follow a stream of messages, apply each event once, and print the book'
 complete -c relayplum -n __fish_use_subcommand -f -a audit -d 'Check whether a stream of messages can be what a ledger published'
+complete -c relayplum -n __fish_use_subcommand -f -a chain -d 'Put each event of a stream into queues, with the timestamp of the event before it'
 complete -c relayplum -n __fish_use_subcommand -f -a help -d 'Print what the program or a command does'
 complete -c relayplum -n __fish_use_subcommand -s V -l version -d 'Print the version'
 complete -c relayplum -n 'not __fish_seen_subcommand_from help' -s h -l help -d 'Print help'
-complete -c relayplum -n '__fish_seen_subcommand_from help' -f -a 'books messages simulate run follow audit help'
+complete -c relayplum -n '__fish_seen_subcommand_from help' -f -a 'books messages simulate run follow audit chain help'
 complete -c relayplum -n '__fish_seen_subcommand_from books simulate run' -l explain -d 'Print on standard error why each request or batch was not accepted'
 complete -c relayplum -n '__fish_seen_subcommand_from books messages simulate run follow audit' -l json -d 'Print a JSON object on each line instead of text'
 complete -c relayplum -n '__fish_seen_subcommand_from books messages simulate' -l check -d 'Validate the files only'
@@ -21,6 +22,7 @@ complete -c relayplum -n '__fish_seen_subcommand_from simulate' -l diagram -d 'D
 complete -c relayplum -n '__fish_seen_subcommand_from simulate' -l random -x -d 'Take random steps from this seed, and print them on standard error'
 complete -c relayplum -n '__fish_seen_subcommand_from simulate' -l steps -x -d 'Take at most N random steps'
 complete -c relayplum -n '__fish_seen_subcommand_from simulate' -l faults -x -d 'Inject N faults among the steps'
+complete -c relayplum -n '__fish_seen_subcommand_from simulate' -l skip-refused -d 'Skip the steps that are refused'
 complete -c relayplum -n '__fish_seen_subcommand_from simulate' -l to-end -d 'Go on until every subscriber has received the end mark'
 complete -c relayplum -n '__fish_seen_subcommand_from simulate run' -l window -x -a '1 2 8 64' -d 'Set the number of events that a session waits for at a time'
 complete -c relayplum -n '__fish_seen_subcommand_from run' -l prefetch -x -d 'Set the number of deliveries that a queue may have unacknowledged'
@@ -38,11 +40,15 @@ complete -c relayplum -n '__fish_seen_subcommand_from follow' -l after -x -d 'Be
 complete -c relayplum -n '__fish_seen_subcommand_from follow' -l book -r -d 'Save the book in this file, or sqlite:FILE, and resume from it'
 complete -c relayplum -n '__fish_seen_subcommand_from follow' -l every -x -d 'Save the book after N lines at the latest'
 complete -c relayplum -n '__fish_seen_subcommand_from follow' -l busy -x -d 'Wait so long for a program that reads the SQLite book'
+complete -c relayplum -n '__fish_seen_subcommand_from follow' -l expect -d 'Print the expected result of each line instead of the book'
 complete -c relayplum -n '__fish_seen_subcommand_from audit' -l book -d 'Print the last balances of each account'
 complete -c relayplum -n '__fish_seen_subcommand_from audit' -l foreign -d "Accept flags that this ledger doesn't have"
 complete -c relayplum -n '__fish_seen_subcommand_from audit' -l duplicates -d "Skip and count events that aren't later than the last accepted one"
 complete -c relayplum -n '__fish_seen_subcommand_from audit' -l state -r -d 'Save the state in this file, and resume from it'
 complete -c relayplum -n '__fish_seen_subcommand_from audit' -l every -x -d 'Save the state after N lines at the latest'
+complete -c relayplum -n '__fish_seen_subcommand_from chain' -l queue -x -d 'Print the lines of the queue of this binding'
+complete -c relayplum -n '__fish_seen_subcommand_from chain' -l state -r -d 'Save the state in this file, and resume from it'
+complete -c relayplum -n '__fish_seen_subcommand_from chain' -l every -x -d 'Save the state after N lines at the latest'
 # Called by a path, it may be the launcher in the repository, which takes options before the command.
 function __relayplum_may_be_launcher
     string match -q '*/*' -- (commandline -opc)[1]

@@ -767,6 +767,30 @@ class Subscriber:
         return book
 
 
+class Chain:
+    """What `chain` keeps of a stream: the timestamps of the last event taken and of the last one of each queue, and whether the end came."""
+
+    def __init__(self, places, last=0, ended=False):
+        self.places, self.last, self.ended, self.duplicates = list(places), last, ended, 0
+
+    def take(self, timestamp, queues):
+        """Takes an event that these queues take, by their numbers from 1, or the end if `timestamp` is None. Returns a line for each
+        queue that gets one: its number, and the timestamp of the event before. None: the event contradicts the end."""
+        if self.last >= timestamp if timestamp is not None else self.ended:
+            self.duplicates += 1
+            return []
+        if timestamp is None:
+            self.ended = True
+            return list(enumerate(self.places, 1))
+        if self.ended:
+            return None
+        lines = [(queue, self.places[queue - 1]) for queue in queues]
+        for queue in queues:
+            self.places[queue - 1] = timestamp
+        self.last = timestamp
+        return lines
+
+
 # ---------------------------------------------------------------- The world
 
 # The steps and how many numbers follow each one's words.
@@ -1381,7 +1405,8 @@ def messages(script_data):
     return Report(text, 0, batches=batches)
 
 
-def simulate(script_data, steps_data, window=1):
+def simulate(script_data, steps_data, window=1, skips=False):
+    """What `simulate` prints; with `--skip-refused`, it is a play of the steps that aren't refused."""
     try:
         script = read_script(script_data)
     except Fault as fault:
@@ -1392,7 +1417,9 @@ def simulate(script_data, steps_data, window=1):
         return report_of_fault('steps', fault)
     world = World(script.bindings, script.batches, window)
     report = Report('', 0, world=world)
-    play(world, steps, report)
+    play(world, steps, report, skips)
+    if skips:
+        steps = report.steps
     report.batches = [answer for step, answer in report.steps if step.word == 'batch']
     report.text = batch_lines(report.batches) + f'steps {len(report.steps)} of {len(steps)}\n'
     if report.refused is not None:
@@ -1481,14 +1508,15 @@ def only_deliveries(report, number, expects):
     return replace(report, text=text)
 
 
-def play(world, steps, report):
-    """Takes the steps in order up to the first that is refused."""
+def play(world, steps, report, skips=False):
+    """Takes the steps in order up to the first that is refused, or without those that are refused."""
     for step in steps:
         try:
             report.steps.append((step, world.take(step)))
         except StepRefused as refusal:
-            report.refused = (step, refusal.name)
-            return
+            if not skips:
+                report.refused = (step, refusal.name)
+                return
 
 
 def run(script_data, plan=Plan(), progress=None, order=None):

@@ -19,7 +19,7 @@ def handed_on(arguments):
     is handed on as a copy, and one that is written by its whole path."""
     data, handed, before = [], [], ""
     for place, argument in enumerate(arguments):
-        if before == "--progress" or (arguments[0], before) == ("follow", "--book"):
+        if before == "--progress" or (arguments[0], before) in (("follow", "--book"), ("audit", "--state"), ("chain", "--state")):
             handed.append(os.path.realpath(argument))
         elif argument.startswith("--diagram=") and argument != "--diagram=-":
             handed.append(f"--diagram={os.path.realpath(argument.partition('=')[2])}")

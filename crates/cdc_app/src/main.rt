@@ -7,10 +7,11 @@ use cdc_app_inputs::{
 };
 use cdc_app_runs::{WantedRun, run_on_threads};
 use cdc_app_simulations::{Wanted, run_random, run_simulation};
-use cdc_app_streams::{run_audit, run_follow};
+use cdc_app_streams::{run_audit, run_chain, run_follow};
 pub use cdc_arguments::options;
 use cdc_arguments::{Form, Options, OptionsFault};
 use cdc_audit_command::audit_status;
+use cdc_chain_command::chain_status;
 use cdc_commands::books::BooksEnded;
 pub use cdc_commands::books::books;
 use cdc_commands::check::{check, check_files};
@@ -102,6 +103,7 @@ fn run_arguments<T: Threads + Wait + Sync + AllocGlobal + Copy + Send + 'static>
             Options::Simulate {
                 file,
                 steps,
+                skips_refused,
                 window,
                 deliveries,
                 diagnostics,
@@ -109,6 +111,7 @@ fn run_arguments<T: Threads + Wait + Sync + AllocGlobal + Copy + Send + 'static>
             },
         ) => {
             let wanted = Wanted {
+                skips_refused,
                 window,
                 deliveries,
                 form,
@@ -145,6 +148,7 @@ fn run_arguments<T: Threads + Wait + Sync + AllocGlobal + Copy + Send + 'static>
             },
         ) => {
             let wanted = Wanted {
+                skips_refused: false,
                 window,
                 deliveries,
                 form,
@@ -164,6 +168,9 @@ fn run_arguments<T: Threads + Wait + Sync + AllocGlobal + Copy + Send + 'static>
         }
         Ok(Options::Audit { file, plan, form }) => {
             return audit_status(run_audit(rt, threads, file, plan, form));
+        }
+        Ok(Options::Chain { file, plan }) => {
+            return chain_status(run_chain(rt, threads, file, plan));
         }
         Ok(Options::Explain { text }) => explain(rt, text.as_str()),
         Err(OptionsFault::BadWords { message }) => refuse_arguments(rt, message.as_str()),

@@ -48,7 +48,7 @@ same_books setup old new states same holds =
 -- what changed since a follower was saved may be given next
 pub fits_next : (setup : FollowSetup) (rows : RowBook) (past : FollowState) (next : StreamFollower)
     → HoldsFollower setup rows past → IsSince past next.tracked → FitsRows setup rows next
-fits_next setup rows past next holds since = go next.tracked.changes since
+fits_next setup rows past next holds since = go next.tracked.changes since.changes
   where
     go : (changes : Option FollowState) → IfSome changes (λ change. Leads past change next.tracked.follower)
         → Fits setup rows changes next.tracked.follower

@@ -58,8 +58,8 @@ none_kept InLog InRows in_log in_rows (Log log) = in_log log
 none_kept InLog InRows in_log in_rows (Rows rows) = in_rows rows
 
 -- what fits each log and all rows fits
-pub fits_all : {L Q : Type 0} (InLog : BookLog L → Type 0) (InRows : Q → Type 0) → ((log : BookLog L) → InLog log)
-    → ((rows : Q) → InRows rows) → (it : KeptBook L Q) → FitsIn InLog InRows it
+pub fits_all : {L Q : Type 0} (InLog : BookLog L → Type 0) (InRows : Q → Type 0)
+    → ((log : BookLog L) → InLog log) → ((rows : Q) → InRows rows) → (it : KeptBook L Q) → FitsIn InLog InRows it
 fits_all InLog InRows in_log in_rows (Log log) = in_log log
 fits_all InLog InRows in_log in_rows (Rows rows) = in_rows rows
 

@@ -1,8 +1,9 @@
 //! The command `follow`: a stream in, and its book out.
 
+use crate::expect::run_expect;
 use crate::failures::print_failure;
-use crate::follow_advice::{advise_on_book, advise_on_gaps, advise_on_place, advise_on_stream};
-use crate::kept_book::{BookFile, open_book_file};
+use crate::follow_advice::{advise_on_book, advise_on_counts, advise_on_place, advise_on_stream};
+use crate::kept_book::{BookFile, is_in_sqlite, open_book_file};
 use crate::keys::{random_key, refuse_key};
 use crate::lines::{Lines, lines_of, refuse_reading};
 use crate::watched::Watched;
@@ -37,7 +38,11 @@ pub fn run_follow<T: Threads + Wait + Copy + Send + 'static>(
         book,
         every,
         busy,
+        expects,
     } = plan;
+    if expects {
+        return run_expect(rt, threads, file, rules, &binding, after);
+    }
     let setup = FollowSetup {
         binding,
         rules,
@@ -53,6 +58,9 @@ pub fn run_follow<T: Threads + Wait + Copy + Send + 'static>(
         Err(ResumeError::Elsewhere(seen)) => return refuse_place(rt, book, seen, form),
     };
     let mut followed = StreamFollower::new(follower);
+    if book.is_some_and(is_in_sqlite) {
+        followed.keep_details(rt.alloc(), key);
+    }
     let saver = Saver::new(store, every);
     let stream = Stream::of(rt, file);
     let may_wait = stream.may_wait();
@@ -68,7 +76,7 @@ pub fn run_follow<T: Threads + Wait + Copy + Send + 'static>(
         }
         Err(fault) => return StreamEnding::Failed(refuse_reading(rt, fault, form)),
     };
-    advise_on_gaps(rt, file, followed.gaps());
+    advise_on_counts(rt, file, followed.counts(), form);
     advise_on_stream(rt, file, book, followed.follower(), ending);
     ending
 }
@@ -105,9 +113,9 @@ fn follow_lines<B: LineReader, K: Keeps<StreamFollower> + Drop>(
     }
 }
 
-/// Opens the book of this name, if there is one, and returns it with the follower that it holds, which is to begin after
-/// the event of this timestamp, if one is named. A book that isn't there yet is made at once, so that the file is locked
-/// from the start.
+/// Opens the book of this name, if there is one, and returns it with the follower that it holds, which is to begin
+/// after the event of this timestamp, if one is named. A book that isn't there yet is made at once, so that the file is
+/// locked from the start.
 fn open_book<'a>(
     rt: &'a HostRuntime,
     key: HashKey,
@@ -145,8 +153,8 @@ fn refuse_book(
     StreamEnding::Failed(fault)
 }
 
-/// Prints the fault of a book whose last event seen has this timestamp, and not the one that `--after` names, and reports
-/// it on standard error.
+/// Prints the fault of a book whose last event seen has this timestamp, and not the one that `--after` names, and
+/// reports it on standard error.
 fn refuse_place(rt: &HostRuntime, book: Option<&str>, seen: u64, form: Form) -> FollowEnding {
     let error = StoreError::BadRecord;
     let fault = ProgramFault::from(error);

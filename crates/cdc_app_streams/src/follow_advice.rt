@@ -2,7 +2,8 @@
 
 use crate::kept_book::{is_in_sqlite, path_of_book};
 use cdc_app_inputs::{Escaped, advise_on_failure, shown_name};
-use cdc_follow::{Content, Entry, Follower, LineError, Stop};
+use cdc_arguments::Form;
+use cdc_follow::{Content, Counts, Entry, Follower, LineError, Stop};
 use cdc_follow_command::FollowEnding;
 use cdc_message::{DecodeError, Field, Part};
 use cdc_output::ProgramFault;
@@ -35,14 +36,23 @@ pub fn advise_on_stream(
     };
 }
 
-/// Reports how many gaps were skipped in the stream in the file of this name; nothing if none was.
-pub fn advise_on_gaps(rt: &HostRuntime, file: &str, gaps: u64) {
+/// Reports what came of the lines of the stream in the file of this name; nothing in JSON, whose last line has it.
+pub fn advise_on_counts(rt: &HostRuntime, file: &str, counts: Counts, form: Form) {
+    if let Form::Json = form {
+        return;
+    }
     let place = Escaped(shown_name(file));
-    let _ = match gaps {
-        0 => Ok(()),
-        1 => eprintln!(rt; "{place}: 1 gap was skipped"),
-        _ => eprintln!(rt; "{place}: {gaps} gaps were skipped"),
-    };
+    let Counts {
+        applied,
+        duplicates,
+        passed,
+        gaps,
+        lines_skipped,
+    } = counts;
+    let _ = eprintln!(rt;
+        "{place}: applied {applied}, duplicates {duplicates}, passed {passed}, gaps skipped {gaps}, lines skipped \
+         {lines_skipped}"
+    );
 }
 
 /// Reports why the command failed.
@@ -63,8 +73,8 @@ pub fn advise_on_place(rt: &HostRuntime, book: Option<&str>, error: StoreError, 
         let name = error.name();
         let book = Escaped(book);
         let _ = eprintln!(rt;
-            "{book}: store: {name}: the last event that it has seen has the timestamp {seen}, and --after names another \
-             one: leave out --after to resume it, or name another file"
+            "{book}: store: {name}: the last event that it has seen has the timestamp {seen}, and --after names \
+             another one: leave out --after to resume it, or name another file"
         );
     }
 }
@@ -169,8 +179,8 @@ fn trouble(rt: &HostRuntime, book: &str, error: StoreError) -> &'static str {
         StoreError::ReadFault => unread(rt, path_of_book(book)),
         StoreError::WriteFault if is_in_sqlite(book) => {
             "the book can't be written: the file and its folder have to be writable and to have room, nobody else may \
-             change the file, a program that reads it has to end within the seconds of --busy, and a file at its name with .new \
-             appended has to be what an interrupted start left"
+             change the file, a program that reads it has to end within the seconds of --busy, and a file at its name \
+             with .new appended has to be what an interrupted start left"
         }
         StoreError::WriteFault => {
             "the book can't be written: the file and its folder have to be writable and to have room, nobody else may \

@@ -7,10 +7,10 @@ ghost use Rattle.cdc_book_log.specs.Replay.{with_changes};
 ghost use Rattle.cdc_sqlite_book.specs.Tables.{rows_mark};
 ghost use Rattle.cdc_app_streams.specs.KeptBooks.{HoldSame, HoldsFollower};
 
-use cdc_book_log::without_accounts;
+use cdc_book_log::{Details, without_accounts};
 use cdc_follow::{BOOK_MARK, Follower, write_book};
 use cdc_follow_command::{BookLog, FollowSetup, StreamFollower};
-use cdc_keys::HashKey;
+use cdc_keys::{HashKey, KeyedMap};
 use cdc_progress::StoreError;
 use cdc_sqlite_book::{SqliteBook, Waiting, begin_text};
 use cdc_streams::{Keeps, LogFile, LogStore};
@@ -39,8 +39,9 @@ pub struct RowBook<'a> {
 /// A book in a file.
 pub type BookFile<'a> = KeptBook<LogFile<'a, HostRuntime>, RowBook<'a>>;
 
-/// Opens the book of this name: the path of a text file, or `sqlite:` and the path of an SQLite file. Returns it with its
-/// text, if there is one. `busy`: for how many seconds, at most, a save in SQLite waits for a program that reads the file.
+/// Opens the book of this name: the path of a text file, or `sqlite:` and the path of an SQLite file. Returns it with
+/// its text, if there is one. `busy`: for how many seconds, at most, a save in SQLite waits for a program that reads
+/// the file.
 pub fn open_book_file<'a>(
     rt: &'a HostRuntime,
     name: &str,
@@ -112,27 +113,29 @@ impl<'a> RowBook<'a> {
         }
     }
 
-    /// Saves the whole book of a follower.
+    /// Saves the whole book of a follower, with what events have shown of accounts since the last save.
     fn save_whole(
         &mut self,
         setup: &FollowSetup,
         alloc: Global,
         follower: &Follower,
+        shown: &Option<KeyedMap<u128, Details>>,
     ) -> Result<(), StoreError>
         ensures saved { OnOk result (HoldsFollower setup.now self.new follower.now) }
         ensures refused { OnErr result (HoldSame self.old self.new) }
     {
         let place = without_accounts(alloc, follower);
         let text = text_of(alloc, setup, &place)?;
-        self.book.save(text, follower.subscriber())
+        self.book.save(text, follower.subscriber(), shown)
     }
 
-    /// Saves what changed of a follower, whose book was saved before.
+    /// Saves what changed of a follower, whose book was saved before, with what events have shown of accounts since then.
     fn save_changes(
         &mut self,
         setup: &FollowSetup,
         alloc: Global,
         change: &Follower,
+        shown: &KeyedMap<u128, Details>,
     ) -> Result<(), StoreError>
         ensures saved { OnOk result ((past : FollowState) → HoldsFollower setup.now self.old past
             → HoldsFollower setup.now self.new (with_changes past change.now)) }
@@ -140,7 +143,7 @@ impl<'a> RowBook<'a> {
     {
         let place = without_accounts(alloc, change);
         let text = text_of(alloc, setup, &place)?;
-        self.book.save_changes(text, change.subscriber())
+        self.book.save_changes(text, change.subscriber(), shown)
     }
 }
 
@@ -159,8 +162,11 @@ impl<'a> Keeps<StreamFollower> for RowBook<'a> {
         consumer: &StreamFollower,
     ) -> Result<(), StoreError> {
         match self.change_of(consumer) {
-            Some(change) => self.save_changes(setup, alloc, change),
-            None => self.save_whole(setup, alloc, consumer.follower()),
+            Some(change) => match consumer.shown() {
+                Some(shown) => self.save_changes(setup, alloc, change, shown),
+                None => self.save_whole(setup, alloc, consumer.follower(), consumer.shown()),
+            },
+            None => self.save_whole(setup, alloc, consumer.follower(), consumer.shown()),
         }
     }
 

@@ -38,10 +38,15 @@ pub fn lines_of<S: Read + Drop + Send + 'static, T: Threads + Wait + Copy + Send
 /// Prints the fault of a command that can't begin to read, and reports why on standard error.
 pub fn refuse_reading(rt: &HostRuntime, fault: StartFault, form: Form) -> ProgramFault {
     print_failure(rt, form, ProgramFault::OutOfMemory);
+    refuse_start(rt, fault);
+    ProgramFault::OutOfMemory
+}
+
+/// Reports on standard error why a command can't begin to read.
+pub fn refuse_start(rt: &HostRuntime, fault: StartFault) {
     let why = match fault {
         StartFault::OutOfMemory => "no memory was left",
         StartFault::ThreadRefused => "no thread could be started",
     };
     let _ = eprintln!(rt; "relayplum: out_of_memory: {why}");
-    ProgramFault::OutOfMemory
 }

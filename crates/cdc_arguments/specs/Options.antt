@@ -5,7 +5,7 @@ use Rattle.cdc_types.specs.Windows.{IsWindow}
 use Rattle.cdc_plans.specs.Plans.{IsPlan}
 use Rattle.cdc_plans.specs.declared.run_plans.RunPlan.{RunPlan}
 use Rattle.cdc_arguments.specs.declared.command_line.Options.{Options}
-use Rattle.cdc_arguments.specs.declared.command_line.Options.TheVariants.{Books, Messages, Simulate, Random, Run, Check, Follow, Audit, Explain}
+use Rattle.cdc_arguments.specs.declared.command_line.Options.TheVariants.{Books, Messages, Simulate, Random, Run, Check, Follow, Audit, Chain, Explain}
 use Rattle.cdc_arguments.specs.declared.command_line.Form.TheVariants.{Text}
 use Rattle.cdc_arguments.specs.declared.command_line.OptionsFault.{OptionsFault}
 use Rattle.cdc_arguments.specs.declared.command_line.OptionsFault.TheVariants.{BadWords, OutOfMemory}
@@ -22,7 +22,7 @@ pub record IsDefaultPlan (plan : RunPlan) : Type 0 where
 abbrev pub IsRun : List ℕ → Options → Type 0
 IsRun name (Books file explain form) = ⊥
 IsRun name (Messages file queue form) = ⊥
-IsRun name (Simulate file steps window deliveries diagnostics form) = ⊥
+IsRun name (Simulate file steps skips_refused window deliveries diagnostics form) = ⊥
 IsRun name (Random file window deliveries chances diagnostics form) = ⊥
 IsRun name (Run file plan progress deliveries diagnostics form) =
     (file.now ≡ name) × (IsDefaultPlan plan × ((progress ≡ None) × ((deliveries ≡ None)
@@ -30,18 +30,20 @@ IsRun name (Run file plan progress deliveries diagnostics form) =
 IsRun name (Check file steps has_diagram form) = ⊥
 IsRun name (Follow file plan form) = ⊥
 IsRun name (Audit file plan form) = ⊥
+IsRun name (Chain file plan) = ⊥
 IsRun name (Explain text) = ⊥
 
 -- the numbers that are asked for are within their limits
 abbrev pub IsWithinLimits : Options → Type 0
 IsWithinLimits (Books file explain form) = Unit {0}
 IsWithinLimits (Messages file queue form) = Unit {0}
-IsWithinLimits (Simulate file steps window deliveries diagnostics form) = IsWindow window
+IsWithinLimits (Simulate file steps skips_refused window deliveries diagnostics form) = IsWindow window
 IsWithinLimits (Random file window deliveries chances diagnostics form) = IsWindow window
 IsWithinLimits (Run file plan progress deliveries diagnostics form) = IsPlan plan
 IsWithinLimits (Check file steps has_diagram form) = Unit {0}
 IsWithinLimits (Follow file plan form) = Unit {0}
 IsWithinLimits (Audit file plan form) = Unit {0}
+IsWithinLimits (Chain file plan) = Unit {0}
 IsWithinLimits (Explain text) = Unit {0}
 
 -- the place of a fault in the list of them

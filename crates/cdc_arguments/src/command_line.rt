@@ -4,6 +4,7 @@ ghost use Rattle.std.specs.Prelude.{◌≡◌};
 ghost use Rattle.cdc_arguments.specs.Options.{options_fault_number, options_fault_name};
 
 use crate::audit_options::AuditPlan;
+use crate::chain_options::ChainPlan;
 use crate::follow_options::FollowPlan;
 use cdc_deliveries::Asked;
 use cdc_plans::{Chances, RunPlan};
@@ -32,6 +33,8 @@ pub enum Options<'a> {
     Simulate {
         file: &'a str,
         steps: &'a str,
+        /// Whether steps that are refused are skipped; otherwise the first one ends the simulation.
+        skips_refused: bool,
         window: usize,
         /// The subscriber whose deliveries are printed instead, if one is named.
         deliveries: Option<Asked>,
@@ -79,6 +82,11 @@ pub enum Options<'a> {
         file: &'a str,
         plan: AuditPlan<'a>,
         form: Form,
+    },
+    /// The queues of the stream of messages in this file, with what came before each message; `-` is standard input.
+    Chain {
+        file: &'a str,
+        plan: ChainPlan<'a>,
     },
     /// A text on the program itself: help, or its version.
     Explain {

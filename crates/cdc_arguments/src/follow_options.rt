@@ -36,6 +36,8 @@ pub struct FollowPlan<'a> {
     pub every: u64,
     /// For how many seconds, at most, a save waits for a program that reads the book.
     pub busy: u64,
+    /// Whether what comes of each line is printed, instead of the book.
+    pub expects: bool,
 }
 
 pub fn follow_arguments<'a>(alloc: Global) -> Result<Command<'a>, AllocError> {
@@ -81,6 +83,11 @@ pub fn follow_arguments<'a>(alloc: Global) -> Result<Command<'a>, AllocError> {
                 "SECONDS",
                 "Wait so long for a program that reads the SQLite book [0-86400; default: 30]",
             ),
+            Argument::flag(
+                "expect",
+                "Print the expected result of each line instead of the book, as JSON lines",
+            )
+            .without(&["book", "every", "busy", "json"]),
             json_flag(),
         ],
     )
@@ -118,6 +125,7 @@ pub fn follow_plan<'a>(
         rules,
         binding: asked_binding(
             alloc,
+            "binding",
             arguments.get_str("binding").unwrap_or("all"),
             parts.as_slice(),
         )?,
@@ -126,17 +134,23 @@ pub fn follow_plan<'a>(
         book: arguments.get_str("book"),
         every: asked_every(alloc, arguments)?,
         busy: asked_busy(alloc, arguments)?,
+        expects: arguments.get_flag("expect"),
     })
 }
 
-/// The binding that these parts of a word represent.
-fn asked_binding(alloc: Global, word: &str, parts: &[&str]) -> Result<Binding, OptionsFault> {
+/// The binding that these parts of a word represent, the value of the option of this name.
+pub fn asked_binding(
+    alloc: Global,
+    name: &str,
+    word: &str,
+    parts: &[&str],
+) -> Result<Binding, OptionsFault> {
     match Binding::parse(alloc, parts) {
         Ok(binding) => Ok(binding),
         Err(BindError::OutOfMemory) => Err(OptionsFault::OutOfMemory),
         Err(_) => Err(bad_value(
             alloc,
-            "binding",
+            name,
             word,
             "all or any, and up to ten pairs of a header and its value, such as 'all ledger=700'",
         )?),
@@ -144,7 +158,7 @@ fn asked_binding(alloc: Global, word: &str, parts: &[&str]) -> Result<Binding, O
 }
 
 /// The parts with a space between them.
-fn joined(alloc: Global, parts: &[&str]) -> Result<Vec<u8>, AllocError> {
+pub fn joined(alloc: Global, parts: &[&str]) -> Result<Vec<u8>, AllocError> {
     let mut text = Vec::new(alloc);
     for part in parts {
         if !text.is_empty() {

@@ -48,7 +48,8 @@ close_ledger, start, start at N, crash, poll, publish, arrive K, answer K, save,
 ack I K or close I. I is a subscriber and its queue, K counts the packets, the confirms or a subscriber's
 acknowledgements ever sent, from 1, and N is a timestamp in nanoseconds. /dev/stdin reads the steps from standard input.
 
-The steps are taken in order, up to the first that is refused. Random steps are printed as a step file. The output is
+The steps are taken in order, up to the first that is refused. With --skip-refused each refused step is skipped, so any
+part of a step file is one. Random steps are printed as a step file. The output is
 the results of the batches that were taken, how many steps were done, what the session has saved, and for each
 subscriber how far it is and its book.
 
@@ -99,6 +100,10 @@ book was saved, and what was applied before is a duplicate.
 With --after, a new book begins after the event with that timestamp: with --chained at the line that has it as its
 previous, else at the first later event. A saved book is resumed only if that event is the last one that it has seen.
 
+With --expect, the output is the expected result of each line instead: an object with its number, its result (applied,
+duplicate, gap, passed, end or nothing), how many events are applied, the last one's timestamp, and the accounts that it
+changed. So a consumer of your own can be tried with any stream, also with one that lacks messages.
+
 With --book sqlite:FILE, the book is kept in an SQLite file, which other programs may read between saves: the table
 accounts has the balances, and the table book the timestamp of the last event applied and the count of these events.
 A program that is in the middle of reading is waited for, for as many seconds as --busy names; standard error reports
@@ -131,8 +136,9 @@ docs/AUDIT.md lists what can't be.
 Another ledger of this kind may have more flags. With --foreign they are ignored, and a transfer that is stored with
 such a flag may have any timestamp.
 
-With --duplicates an event that isn't later than the last accepted one is skipped and counted, so redeliveries don't stop
-the audit. It isn't compared with what came before: of such an event no change is found, nor that it is out of order.
+With --duplicates an event that isn't later than the last accepted one is skipped and counted, so redeliveries don't
+stop the audit. It isn't compared with what came before: of such an event no change is found, nor that it is out of
+order.
 
 With --state, what was audited is saved after every N lines, each time that no whole line of a pipe or a terminal is
 waiting, and at the end. After each save a line with saved and the timestamp of the last accepted event is printed. If
@@ -153,4 +159,29 @@ Exit status:
   0  all events are accepted
   1  an event is refused; or a read, a write, memory or the store of the state failed: the last line of standard output
      names the fault, unless a write failed
+  2  the arguments or a line of the stream are bad: standard error reports what was expected, and where";
+
+pub const CHAIN: &str = "\
+FILE is a stream of messages in their order, and - is standard input. Its lines are those that the command follow reads
+without --chained, such as a ledger's own messages, which name no message before them.
+
+For each event, and each queue whose binding takes it, the output has the line that messages --queue prints, with the
+number of the queue: its member previous is the timestamp of the event before it in this queue, or 0 if it is the first.
+At the end of the stream each queue ends by such a line. So where one reader still has the order, the command writes it
+into each message, and follow --chained notices whatever is lost or overtaken behind it. It notices no loss before it.
+
+An event that is not later than the last one is a duplicate, and is skipped. Standard error reports how many were. An
+event that is later than the end of the stream contradicts it, and the command stops there.
+
+With --state, the place of each queue is saved after every N lines, each time that no whole line of a pipe or a terminal
+is waiting, and at the end, always after the lines before it were written. If the command is stopped at any time and
+started again with that file, it may print lines again, and leaves none out. The stream may begin anywhere before.
+
+Examples:
+  relayplum messages examples/two-phase.script | relayplum chain --queue all
+  consume-from-the-ledger | relayplum chain --queue 'all ledger=700' --queue any --state chain.state | publish
+
+Exit status:
+  0  the stream ended
+  1  a line contradicts the end; or a read, a write, memory or the store of the state failed: standard error reports it
   2  the arguments or a line of the stream are bad: standard error reports what was expected, and where";

@@ -3,6 +3,7 @@
 
 mod arguments;
 mod audit_options;
+mod chain_options;
 mod command_line;
 mod delivery_options;
 mod follow_options;
@@ -13,6 +14,7 @@ mod run_options;
 mod slips;
 
 pub use audit_options::AuditPlan;
+pub use chain_options::ChainPlan;
 pub use command_line::{Diagnostics, Form, Options, OptionsFault, RunDiagnostics};
 pub use follow_options::FollowPlan;
 pub use parsing::{STANDARD_ERROR, STANDARD_INPUT, options};

@@ -6,6 +6,7 @@ ghost use Rattle.cdc_arguments.specs.Options.{IsRun, IsWithinLimits};
 
 use crate::arguments::{Argument, with_arguments};
 use crate::audit_options::{audit_arguments, audit_plan};
+use crate::chain_options::{chain_arguments, chain_plan};
 pub use crate::command_line::{Diagnostics, Form, Options, OptionsFault, RunDiagnostics};
 use crate::delivery_options::{asked_deliveries, deliveries_option, expect_flag};
 use crate::follow_options::{follow_arguments, follow_plan};
@@ -39,16 +40,18 @@ enum CommandName {
     Run,
     Follow,
     Audit,
+    Chain,
 }
 
 /// The commands, in the order in which help lists them.
-const COMMANDS: [CommandName; 6] = [
+const COMMANDS: [CommandName; 7] = [
     CommandName::Books,
     CommandName::Messages,
     CommandName::Simulate,
     CommandName::Run,
     CommandName::Follow,
     CommandName::Audit,
+    CommandName::Chain,
 ];
 
 const ABOUT: &str =
@@ -157,6 +160,7 @@ fn command_of<'a>(alloc: Global, name: CommandName) -> Result<Command<'a>, Alloc
         CommandName::Run => run_arguments(alloc),
         CommandName::Follow => follow_arguments(alloc),
         CommandName::Audit => audit_arguments(alloc),
+        CommandName::Chain => chain_arguments(alloc),
     }
 }
 
@@ -199,6 +203,7 @@ fn simulate_arguments<'a>(alloc: Global) -> Result<Command<'a>, AllocError> {
             to_end_flag(),
             steps_option(),
             faults_option(),
+            skip_refused_flag(),
             deliveries_option().without(&["check"]),
             expect_flag(),
             window_option(),
@@ -245,6 +250,14 @@ fn steps_argument<'a>(alloc: Global) -> Result<Arg<'a>, AllocError> {
         .action(ArgAction::Set)
         .help("The file of the steps; /dev/stdin is standard input")
         .required_unless_present("random")
+}
+
+fn skip_refused_flag() -> Argument {
+    Argument::flag(
+        "skip-refused",
+        "Skip the steps of STEPS that are refused, and report on standard error how many they were",
+    )
+    .without(&["random", "check"])
 }
 
 pub fn window_option() -> Argument {
@@ -337,6 +350,10 @@ fn asked_of<'a>(
             plan: audit_plan(alloc, arguments)?,
             form,
         }),
+        ("chain", _) => Ok(Options::Chain {
+            file,
+            plan: chain_plan(alloc, arguments)?,
+        }),
         _ => Err(usage_error(alloc, "error: no command has such arguments\n")?),
     }
 }
@@ -363,6 +380,7 @@ fn simulation<'a>(
     Ok(Options::Simulate {
         file,
         steps,
+        skips_refused: arguments.get_flag("skip-refused"),
         window,
         deliveries: asked_deliveries(alloc, arguments)?,
         diagnostics: asked_diagnostics(arguments),

@@ -34,4 +34,5 @@ later setup rows (Some change) (Some after) old new moves fits = (fits.0, fits.1
 pub fits_later : (setup : FollowSetup) (rows : RowBook) (old new : StreamFollower)
     → GoesOn old.tracked new.tracked → FitsRows setup rows old → FitsRows setup rows new
 fits_later setup rows old new moves fits =
-    later setup rows old.tracked.changes new.tracked.changes old.tracked.follower new.tracked.follower moves fits
+    later setup rows old.tracked.changes new.tracked.changes old.tracked.follower new.tracked.follower moves.changes
+    fits
