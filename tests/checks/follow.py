@@ -960,7 +960,9 @@ def starved(folder):
         piped.write(f"{own(FIRST)}\n".encode())
         piped.close()
         found = piped.ended()
-        check(f"a pipe, refused {plan}", found == (1, "fault: out_of_memory\n", f"relayplum: out_of_memory: {why}\n"), found)
+        errors = reported(found[2])[0]
+        is_right = found[:2] == (1, "fault: out_of_memory\n") and errors == f"relayplum: out_of_memory: {why}\n"
+        check(f"a pipe, refused {plan}", is_right, found)
 
 
 def started(folder, library, call, arguments, stream):
@@ -1198,7 +1200,7 @@ def memory(folder):
         with open(file, "w", encoding="ascii") as it:
             for number in range(1, count + 1):
                 it.write(own(event(number)) + "\n")
-        child = subprocess.Popen([commands.program, "follow", file], stdout=subprocess.PIPE)
+        child = subprocess.Popen([commands.program, "follow", file], stdout=subprocess.PIPE, stderr=subprocess.DEVNULL)
         out = child.stdout.read()
         _, status, used = os.wait4(child.pid, 0)
         child.returncode = status
