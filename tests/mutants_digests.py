@@ -4,8 +4,9 @@ mutation baseline", has the rules; tests/mutants_baseline.py uses them.
 A crate above sees contracts, types, constants and definitions. It sees neither bodies of functions, nor functions that aren't
 public, nor lemmas: a body that breaks its contract has no proof, whatever lemmas there are. Of a public function that is no trait's
 it sees nothing unless the function's name is a word of its sources or of its edits, or of what it sees besides, since otherwise
-nothing calls it; nor of a constant that isn't public, unless a clause, a specification or another constant names it too. Of the
-fields of a struct it sees nothing if none is public and contracts see a value of another type. Of specifications it sees those that
+nothing calls it; nor of a constant that isn't public, unless a clause, a specification or another constant names it too; nor of a
+type and its impls, unless anything besides these names it, since nobody has a value of it. Of the fields of a struct it sees
+nothing if none is public and contracts see a value of another type. Of specifications it sees those that
 what it sees leads to, and nothing of a crate that what it sees doesn't name. Comments count nowhere. A text that these functions
 can't read counts whole. Needs no toolchain, and Python 3.8 or later.
 """
@@ -24,9 +25,11 @@ WORD, MARK, LITERAL, CLAUSE = "word", "mark", "literal", "clause"
 # What counts of a file: its text with a gap for each path that it imports, those paths, and the modules that it passes on, as
 # pairs of a name and a path.
 Content = namedtuple("Content", "text imports passed_on")
-# Parts of a source file as a crate above sees it, which count if that names the function or the constant, or some of the items.
+# Parts of a source file as a crate above sees it, which count if that names the function, the constant or the type, or some of the
+# items. Those of a type hold functions of its impls.
 Function = namedtuple("Function", "name parts")
 Constant = namedtuple("Constant", "name parts")
+Type = namedtuple("Type", "name parts")
 Passing = namedtuple("Passing", "tokens")
 GAP = "\0"
 
@@ -210,18 +213,25 @@ def target_of(head):
 
 
 def name_in(head):
-    """Returns the name of the function, module, struct or constant that begins with these tokens, as they stand outside of brackets."""
+    """Returns the name of the function, module, type or constant that begins with these tokens, as they stand outside of brackets."""
     words = words_after_attributes(head)
-    return next((name for word, name in zip(words, words[1:]) if word in ("fn", "mod", "struct", "const") and name != "fn"), "")
+    return next((name for word, name in zip(words, words[1:]) if word in ("fn", "mod", *TYPES, "const") and name != "fn"), "")
+
+
+def all_types(tokens):
+    """Returns the names of the types that these tokens declare."""
+    found = zip(tokens, tokens[1:])
+    return {name.text for it, name in found if it.kind == WORD and it.text in TYPES and name.kind == WORD}
 
 
 def hidden_parts(tokens):
     """Returns what no crate above sees: the places of the braces of bodies, and the first and last places of items, each by the
     first. Of a type that isn't public, those are its attributes and its impls, but for what contracts see of it. Then those of
     imports that count only if what is seen names them: none where a body is seen. Then what counts only if it is named: the last
-    places of public functions, of modules without a body, and of constants that aren't public, each with what takes its parts, and
-    the last places of what is passed on."""
+    places of public functions, of modules without a body, of constants that aren't public, and of types and their impls, each with
+    what takes its parts, and the last places of what is passed on."""
     ends, own, models, scope, place, start = ends_of(tokens), own_types(tokens), modelled(tokens), [], 0, 0
+    declared = all_types(tokens)
     bodies, items, uses, has_seen_body = {}, {}, {}, False
     named, passing = {}, {}
     # (the tokens of an item so far, and those of them outside of brackets)
@@ -243,6 +253,8 @@ def hidden_parts(tokens):
                 if name in own and trait != SEEN_AS:
                     items[start] = place = ends[place]
                 else:
+                    if kind == "impl" and (not trait or name in declared):
+                        named[start] = ends[place], Type(name, [])
                     scope.append("trait impl" if trait else kind)
             else:
                 end = ends[place]
@@ -255,7 +267,9 @@ def hidden_parts(tokens):
                     named[start] = end, Function(name_in(outer), [])
                 elif kind == "fn":
                     items[start] = end
-                elif kind in TYPES and not is_public(outer):
+                if kind in TYPES:
+                    named[start] = end, Type(name_in(outer), [])
+                if kind in TYPES and not is_public(outer):
                     items.update(attributes(tokens, ends, start))
                 elif kind == "struct" and name_in(outer) in models and is_all_private(tokens[place + 1 : end]):
                     bodies[place] = end
@@ -265,8 +279,9 @@ def hidden_parts(tokens):
         else:
             if it.text == "}":
                 scope.pop()
-            elif kind_of(outer)[0] in TYPES and not is_public(outer):
-                items.update(attributes(tokens, ends, start))
+            elif kind_of(outer)[0] in TYPES:
+                named[start] = place, Type(name_in(outer), [])
+                items.update({} if is_public(outer) else attributes(tokens, ends, start))
             elif kind_of(outer)[0] == "use" and it.text == ";":
                 (passing if is_public(outer) else uses)[start] = place
             elif kind_of(outer)[0] == "mod" and it.text == ";":
@@ -330,12 +345,17 @@ def source_parts(text, is_seen_from_above):
     """Returns the parts of a source file, as a crate above sees it, or all: texts, imports, and what counts if it is named."""
     tokens = tokens_of(text)
     bodies, items, uses, named, passing = hidden_parts(tokens) if is_seen_from_above else ({}, {}, {}, {}, {})
-    whole, found_of, last, place = [], None, -1, 0
+    whole, place = [], 0
+    # (where the parts end that are being read, and these; the innermost last)
+    opened = [(len(tokens), whole)]
     while place < len(tokens):
+        while opened[-1][0] < place:
+            opened.pop()
         if place in named:
-            last, found_of = named[place]
-            whole.append(found_of)
-        found = found_of.parts if place <= last else whole
+            end, part = named[place]
+            opened[-1][1].append(part)
+            opened.append((end, part.parts))
+        found = opened[-1][1]
         it, end = tokens[place], place
         imported = IMPORT.fullmatch(it.text) if it.kind == CLAUSE else None
         if place in items:
@@ -359,15 +379,21 @@ def source_parts(text, is_seen_from_above):
     return whole
 
 
-def source_content(parts, is_seen_from_above, named=None):
-    """Returns the content of a source file of these parts. named: the words by which a crate above names what counts only then;
-    None if it may name all."""
+def counted_of(parts, named, types):
+    """Returns what counts of these parts, without the functions, constants and types that aren't named."""
     found = []
     for it in parts:
-        if not isinstance(it, (Function, Constant)):
+        if not isinstance(it, (Function, Constant, Type)):
             found.append(it)
-        elif named is None or it.name in named:
-            found += it.parts
+        elif named is None or it.name in (types if isinstance(it, Type) else named):
+            found += counted_of(it.parts, named, types)
+    return found
+
+
+def source_content(parts, is_seen_from_above, named=None, types=frozenset()):
+    """Returns the content of a source file of these parts. named: the words by which a crate above names what counts only then;
+    None if it may name all. types: the names of the types that count then."""
+    found = counted_of(parts, named, types)
     texts = [it for it in found if isinstance(it, str)]
     used, words, parts, imports = "\1".join(texts), {*texts}, [], []
     for it in found:
@@ -389,7 +415,8 @@ def words_in(parts):
     """Returns the words that stand in parts of a source file outside of clauses, of imports and of functions; and those of what is
     passed on under another name, since nobody above has the first one."""
     renamed = [one.text for it in parts if isinstance(it, Passing) for one in it.tokens if any(other.text == "as" for other in it.tokens)]
-    return {it for it in [*parts, *renamed] if isinstance(it, str) and it.isidentifier()}
+    of_types = set().union(*(words_in(it.parts) - {it.name} for it in parts if isinstance(it, Type)))
+    return {it for it in [*parts, *renamed] if isinstance(it, str) and it.isidentifier()} | of_types
 
 
 def constants_in(parts):
@@ -400,7 +427,7 @@ def constants_in(parts):
         it, own = left.pop()
         if isinstance(it, Constant):
             names.add(it.name)
-        if isinstance(it, (Function, Constant)):
+        if isinstance(it, (Function, Constant, Type)):
             left += [(one, it.name if isinstance(it, Constant) else "") for one in it.parts]
         elif isinstance(it, Passing):
             words.update(one.text for one in it.tokens)
@@ -410,6 +437,45 @@ def constants_in(parts):
             words.update({*re.findall(r"\w+", it)} - {own})
         else:
             words.update(re.findall(r"\w+", it.group()))
+    return names, words
+
+
+def words_of_import(tokens):
+    """Returns the words of an import of Rust's that name more than what it imports: those on the way, and all if one is renamed."""
+    if any(it.text == "as" for it in tokens):
+        return {it.text for it in tokens}
+    return {it.text for it, after in zip(tokens, tokens[1:]) if after.text == "::"}
+
+
+def declared_in(path, rest):
+    """Returns the words of an import of antt's if it is one of what a source file declares."""
+    return {*re.findall(r"\w+", path + rest)} if ".declared." in path + "." else set()
+
+
+@functools.lru_cache(maxsize=None)
+def declared_words(name, data):
+    """Returns the words of the imports in an antt file of what source files declare; all its words, if it can't be read."""
+    if read_of(name, data, False) is None:
+        return {*re.findall(r"\w+", data.decode(errors="replace"))}
+    imported = [IMPORT.fullmatch(it.rstrip()) for it in data.decode().split("\n")]
+    return set().union(*(declared_in(it["path"], it["rest"]) for it in imported if it))
+
+
+def types_in(parts, own=""):
+    """Returns the names of the types among parts of a source file, and all words by which one of them may be named there, outside of
+    its own parts."""
+    names, words = set(), set()
+    for it in parts:
+        if isinstance(it, (Function, Constant, Type)):
+            its_names, its_words = types_in(it.parts, it.name if isinstance(it, Type) else own)
+            names |= its_names | ({it.name} if isinstance(it, Type) else set())
+            words |= its_words
+        elif isinstance(it, list):
+            words |= words_of_import(it)
+        elif isinstance(it, str):
+            words |= {*re.findall(r"\w+", it)} - {own}
+        elif not isinstance(it, Passing):
+            words |= declared_in(it["path"], it["rest"])
     return names, words
 
 
@@ -491,14 +557,14 @@ def read_of(name, data, is_seen_from_above, named=frozenset()):
     return None
 
 
-def content_of(name, data, is_seen_from_above, named=frozenset(), words=None):
+def content_of(name, data, is_seen_from_above, named=frozenset(), words=None, types=frozenset()):
     """Returns what counts of a file with this name and these bytes, for its own crate or for one above: all of it, if it can't be
     read. named: of a proof file that is seen from above the names of the lemmas that count, or None if all do. words: of a source
-    file the words of the crate above, or None if it may name all."""
+    file the words of the crate above, or None if it may name all. types: the names of types that count for it then."""
     read = read_of(name, data, is_seen_from_above, named)
     if read is None:
         return Content(data, (), ())
-    return source_content(read, is_seen_from_above, words) if isinstance(read, list) else read
+    return source_content(read, is_seen_from_above, words, types) if isinstance(read, list) else read
 
 
 # ---------------------------------------------------------------------------------------------------------------------
@@ -543,9 +609,12 @@ class Tree:
         # (what is only in a crate that doesn't count names nothing)
         while counted != {*self.files}:
             self.files = {it: files for it, files in self.files.items() if counted is None or it in counted}
-            self.words = self.all_words()
-            # (what specifications and sources name, and the antt files that they lead to)
-            self.named, self.reached = self.reached_files()
+            self.words, self.types, types = self.all_words(), None, self.types_in_sources()
+            while self.types != types:
+                self.types = types
+                # (what specifications and sources name, and the antt files that they lead to)
+                self.named, self.reached = self.reached_files()
+                types |= self.types_in_antt()
             self.words |= self.constants()
             counted = self.counted_crates()
 
@@ -557,6 +626,35 @@ class Tree:
                 read = read_of(name, data, crate_name != self.crate) if name.startswith("src/") else []
                 found |= {*re.findall(r"\w+", data.decode(errors="replace"))} if read is None else words_in(read)
         return frozenset(found)
+
+    def sources_below(self):
+        """Returns the parts of the sources of the crates below, as the crate sees them."""
+        for crate_name, files in self.files.items():
+            for name, data in files.items():
+                read = read_of(name, data, True) if name.startswith("src/") and crate_name != self.crate else None
+                if isinstance(read, list):
+                    yield read
+
+    def types_in_sources(self):
+        """Returns the names of the types below that the crate names in its sources and edits, or sources below."""
+        names, words = set(), {word for data in self.edits.values() for word in re.findall(r"\w+", data.decode(errors="replace"))}
+        for name, data in self.files[self.crate].items():
+            words |= {*re.findall(r"\w+", data.decode(errors="replace"))} if name.startswith("src/") else set()
+        for read in self.sources_below():
+            its_names, its_words = types_in(read)
+            names |= its_names
+            words |= its_words
+        self.all_types = frozenset(names)
+        return frozenset(names & words)
+
+    def types_in_antt(self):
+        """Returns the names of the types below that antt files import which are the crate's own or count for it."""
+        words = set()
+        for crate_name, files in self.files.items():
+            for name, data in files.items():
+                if name.endswith(".antt") and (crate_name == self.crate or module_of(crate_name, name) in self.reached):
+                    words |= declared_words(name, data)
+        return self.all_types & words
 
     def constants(self):
         """Returns the names of the constants below that count only if they are named, and are."""
@@ -589,7 +687,7 @@ class Tree:
         """Returns what counts of a file, as the crate sees it. named: the statements of lemmas that count."""
         is_below = crate_name != self.crate
         is_seen_from_above = is_below or name.startswith("proofs/")
-        return content_of(name, self.files[crate_name][name], is_seen_from_above, named, self.words if is_below else None)
+        return content_of(name, self.files[crate_name][name], is_seen_from_above, named, self.words if is_below else None, self.types)
 
     def reached_files(self):
         """Returns the words of the specifications and sources that count for the crate, and the antt files to which these lead by their

@@ -260,6 +260,7 @@ FILES = {
     "crates/low/specs/Lib.antt": "pub mod Grid\n",
     "crates/low/specs/Grid.antt": GRID,
     "crates/low/src/cells.rt": CELLS,
+    "crates/low/src/named.rt": "pub fn named(_: Cells, _: Place, _: Shelf<u8>, _: Shown) {}\n",
     "crates/low/proofs/Lib.antt": "pub mod Lemmas\npub mod Below\npub mod Aside\n",
     "crates/low/proofs/Below.antt": BELOW,
     "crates/low/proofs/Aside.antt": ASIDE,
@@ -562,6 +563,68 @@ def test_constants(tree):
     assert tree.changed_by({"crates/low/src/more.rt": "pub const BOUND: usize = 5;\n"}) == {"low own", "mid below", "high below"}
 
 
+BOXED = """#[derive(Clone)]
+pub struct Boxed {
+    pub wide: u8,
+}
+
+impl Boxed {
+    pub fn cells(&self, other: &Boxed) -> u8
+        ensures { result ≡ 1 }
+    {
+        1
+    }
+}
+
+impl Rows for Boxed {
+    fn rows(&self) -> u8 {
+        1
+    }
+}
+"""
+
+
+def test_types(tree):
+    """A type and its impls count for a crate above if that, or what it may see besides them, names the type."""
+    name, other = "crates/low/src/boxed.rt", "crates/low/src/other.rt"
+    changes = [("u8,", "u16,"), ("Clone", "Copy"), ("≡ 1", "≡ 2"), ("&self, other", "self, other"), ("for Boxed {\n    fn rows", "for Boxed {\n    fn cells")]
+    rows = [
+        ({}, set()),
+        ({other: "// Boxed\n"}, set()),
+        ({other: "pub use crate::boxed::Boxed;\n"}, set()),
+        ({other: "use crate::boxed::Boxed;\n\nimpl Boxed {\n    pub fn more(&self) {}\n}\n"}, set()),
+        ({other: "pub fn less() {\n    Boxed { wide: 1 }\n}\n"}, set()),
+        ({"crates/low/specs/More.antt": "use Rattle.low.specs.declared.boxed.Boxed.{Boxed}\n"}, set()),
+        ({"crates/low/proofs/More.antt": "use Rattle.low.specs.declared.boxed.Boxed.{Boxed}\n"}, set()),
+        ({"crates/mid/specs/More.antt": "use Rattle.mid.specs.Own.{Boxed}\n"}, set()),
+        ({other: "pub fn made() -> Boxed {\n    Boxed { wide: 1 }\n}\n"}, {"mid", "high"}),
+        ({other: "pub struct Full {\n    inside: Boxed,\n}\n"}, {"mid", "high"}),
+        ({other: "pub type Full = Boxed;\n"}, {"mid", "high"}),
+        ({other: "use crate::boxed::Boxed as Full;\n"}, {"mid", "high"}),
+        ({other: "use crate::boxed::Boxed::One;\n"}, {"mid", "high"}),
+        ({other: "ghost use Rattle.low.specs.declared.boxed.Boxed.{Boxed};\n"}, {"mid", "high"}),
+        ({"crates/mid/src/more.rt": "fn more(it: &Boxed) {}\n"}, {"mid"}),
+        ({"crates/mid/src/more.rt": "pub fn more(it: &Boxed) {}\n"}, {"mid", "high"}),
+        ({"crates/mid/must-fail/edit-0.edit": "file: src/lib.rt\nold: Mid;\nnew: Boxed;\n"}, {"mid"}),
+        ({"crates/mid/specs/More.antt": "use Rattle.low.specs.declared.boxed.Boxed.{Boxed}\n"}, {"mid"}),
+        ({"crates/high/proofs/More.antt": "use Rattle.low.specs.declared.boxed.Boxed.TheVariants.{One}\n"}, {"high"}),
+        ({
+            "crates/low/specs/Boxes.antt": "use Rattle.low.specs.declared.boxed.Boxed\n",
+            "crates/mid/specs/More.antt": "use Rattle.low.specs.Boxes.{boxes}\n",
+        }, {"mid"}),
+    ]
+    for files, wanted in rows:
+        for it, text in {name: BOXED, **files}.items():
+            tree.put(it, text)
+        for old, new in changes:
+            assert BOXED.count(old) == 1, old
+            found = tree.changed_by({name: BOXED.replace(old, new)})
+            # (a function of an impl counts if it is named too, as `cells` is)
+            assert found == {"low own", *(f"{it} below" for it in wanted)}, (files, new, found)
+        for it in {name, *files}:
+            os.remove(f"{tree.folder}/{it}")
+
+
 def test_named_crates(tree):
     """A crate below counts if something names it, also by way of another one."""
     of_low = replaced("crates/low/src/lib.rt", "rows: u8,", "rows: u16,")
@@ -573,6 +636,9 @@ def test_named_crates(tree):
     found = tree.changed_by(of_low)
     assert found == {"low own"}, found
     tree.put("crates/mid/src/more.rt", "pub struct Held(low::Grid);\n")
+    found = tree.changed_by(of_low)
+    assert found == {"low own", "mid below"}, found
+    tree.put("crates/high/src/lib.rt", "pub fn top(it: Held) {}\n")
     found = tree.changed_by(of_low)
     assert found == {"low own", "mid below", "high below"}, found
     tree.put("crates/mid/src/more.rt", "pub struct Held {\n    grids: Vec<low::Grid>,\n}\n\nimpl Model for Held {\n    ghost view = { held };\n}\n")
