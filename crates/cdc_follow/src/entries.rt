@@ -1,6 +1,6 @@
 //! The content of a line of a stream.
 
-ghost use Rattle.std.specs.Prelude.{◌≡◌, codes};
+ghost use Rattle.std.specs.Prelude.{◌≡◌, IfSome, None, Ok, Some, codes, if◌then◌else◌};
 ghost use Rattle.std.specs.List.{list_all};
 ghost use Rattle.serde_json.specs.Find.{get};
 ghost use Rattle.serde_json.specs.View.{view};
@@ -9,6 +9,7 @@ ghost use Rattle.cdc_follow.specs.Entries as spec;
 ghost use Rattle.cdc_follow.specs.LineErrors.{GivesUnlessMemory};
 
 use crate::errors::LineError;
+use cdc_envelopes::fast_envelope;
 use cdc_message::{DecodeError, decimal_up_to, event_of, fast_event, is_decimal};
 use cdc_types::{Event, Limits};
 use serde_json::Value;
@@ -134,6 +135,50 @@ fn value_entry(alloc: Global, line: &[u8], chained: bool) -> Result<Option<Entry
     }
 }
 
+// The event of a line that is a body alone, which a chained stream doesn't have.
+fn body_entry(line: &[u8], chained: bool) -> Option<Entry>
+    ensures { IfSome result (λ entry. spec.value_entry chained (value_of line.now) ≡ Ok (Some entry)) }
+{
+    if !chained {
+        if let Some(event) = fast_event(line) {
+            return Some(Entry {
+                content: Content::Event(event),
+                previous: None,
+            });
+        }
+    }
+    None
+}
+
+// What is named as the event before, in a chained stream.
+fn previous_if(chained: bool, previous: u64) -> Option<u64>
+    ensures { result ≡ (if chained then Some previous else None) }
+{
+    if chained { Some(previous) } else { None }
+}
+
+// The event of a line that is an envelope.
+fn envelope_entry(line: &[u8], chained: bool) -> Option<Entry>
+    ensures { IfSome result (λ entry. spec.value_entry chained (value_of line.now) ≡ Ok (Some entry)) }
+{
+    let read = fast_envelope(line)?;
+    let previous = previous_if(chained, read.previous);
+    Some(Entry {
+        content: Content::Event(read.event),
+        previous,
+    })
+}
+
+// The event of a line in a layout that is read without a JSON value.
+fn fast_entry(line: &[u8], chained: bool) -> Option<Entry>
+    ensures { IfSome result (λ entry. spec.value_entry chained (value_of line.now) ≡ Ok (Some entry)) }
+{
+    match envelope_entry(line, chained) {
+        Some(entry) => Some(entry),
+        None => body_entry(line, chained),
+    }
+}
+
 /// The entry of a line, if it has one: an event, by its body or by an envelope round that, or the end. In a chained
 /// stream each entry has to name what came before it in its queue.
 pub fn read_entry(alloc: Global, line: &[u8], chained: bool) -> Result<Option<Entry>, LineError>
@@ -145,13 +190,8 @@ pub fn read_entry(alloc: Global, line: &[u8], chained: bool) -> Result<Option<En
     if is_ignored(line) {
         return Ok(None);
     }
-    if !chained {
-        if let Some(event) = fast_event(line) {
-            return Ok(Some(Entry {
-                content: Content::Event(event),
-                previous: None,
-            }));
-        }
+    if let Some(entry) = fast_entry(line, chained) {
+        return Ok(Some(entry));
     }
     value_entry(alloc, line, chained)
 }

@@ -106,7 +106,7 @@ back_by_parts event credit debit transfer ledger is_credit is_debit is_transfer 
     rw (is_credit, is_debit, number_of-decimal event.ledger ledger, is_transfer)
 
 -- so the value of every event whose numbers fit comes back
-event_back : (event : Event) → EventFits event → of_json (outline (event_value event)) ≡ Some (event_value event)
+pub event_back : (event : Event) → EventFits event → of_json (outline (event_value event)) ≡ Some (event_value event)
 event_back event fits =
     back_by_parts event (account_value event.credit_account) (account_value event.debit_account)
     (transfer_value event.transfer) (omega (arith, fits.ledger))

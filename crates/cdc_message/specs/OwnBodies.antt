@@ -1,4 +1,4 @@
--- What readers of bodies as `encode` writes them answer. Public contracts cite `IsOwnBody` alone.
+-- What readers of bodies as `encode` writes them answer. Public contracts cite `IsOwnBody` and `begins_with_digit` alone.
 use Rattle.std.specs.Prelude.{◌≡◌, ℕ, ◌<◌, ◌^◌, List, [], ◌∷◌, ◌++◌, length, decimal, Bool, false}
 use Rattle.std.specs.Char.{is_ascii_digit}
 use Rattle.cdc_types.specs.declared.events.Event.{Event}

@@ -1,4 +1,4 @@
--- What the fast reader of documented bodies has read, in the tokens of JSON. Only private contracts cite it.
+-- What the fast reader of documented bodies has read, in the tokens of JSON. Only contracts of its steps cite it.
 use Rattle.std.specs.Prelude.{◌≡◌, ◌≤◌, ℕ, List, ◌∷◌, ◌++◌, Bool, true, false, get_or, Option, Some, None, Ok}
 use Rattle.std.specs.Option.{option_and_then}
 use Rattle.json.specs.Token.{Token, end_object, string}

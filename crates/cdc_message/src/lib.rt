@@ -28,6 +28,6 @@ pub use items::{Delivery, Item};
 pub use kinds::{kind_named, kind_text};
 pub use laws::replay_laws;
 pub use message::Message;
-pub use own_bodies::own_event;
+pub use own_bodies::{Cursor, own_event};
 pub use packets::{Answer, Confirm, Packet};
 pub use unordered_bodies::documented_event;

@@ -15,17 +15,18 @@ use crate::words::same;
 use cdc_types::{Event, EventAccount, EventKind, EventTransfer};
 use itoa::Buffer;
 
-// The rest of a body that is still to be read.
+/// The rest of a text that is still to be read.
 #[derive(Drop)]
-pub(crate) struct Cursor<'a> {
-    pub(crate) rest: &'a [u8],
+pub struct Cursor<'a> {
+    /// What hasn't been read yet.
+    pub rest: &'a [u8],
 }
 
 // Steps of readers. A step that doesn't find what it looks for is `None`.
 impl Cursor<'_> {
-    // Skips this text. Inlined, so that a constant text is compared by a few words.
+    /// Skips this text. `None` if another one comes next. Inlined, so that a constant text is compared by a few words.
     #[inline(always)]
-    pub(crate) fn literal(&mut self, text: &[u8]) -> Option<()>
+    pub fn literal(&mut self, text: &[u8]) -> Option<()>
         ensures text { OnSome result (self.old.rest.now ≡ text.now ++ self.new.rest.now) }
         ensures complete { (rest : List ℕ) → self.old.rest.now ≡ text.now ++ rest
             → (result ≡ Some tt) × (self.new.rest.now ≡ rest) }
@@ -38,8 +39,8 @@ impl Cursor<'_> {
         Some(())
     }
 
-    // Skips this byte.
-    pub(crate) fn byte(&mut self, byte: u8) -> Option<()>
+    /// Skips this byte. `None` if another one comes next.
+    pub fn byte(&mut self, byte: u8) -> Option<()>
         ensures { OnSome result (self.old.rest.now ≡ byte ∷ self.new.rest.now) }
     {
         let (first, rest) = self.rest.split_first()?;
@@ -50,8 +51,9 @@ impl Cursor<'_> {
         Some(())
     }
 
-    // Reads a number without leading zeros. Most have at most 19 digits.
-    pub(crate) fn number(&mut self) -> Option<u128>
+    /// Reads a number without leading zeros. `None` if there is none, or if it has more than 128 bits. Most have at
+    /// most 19 digits.
+    pub fn number(&mut self) -> Option<u128>
         ensures text { IfSome result (λ n. self.old.rest.now ≡ decimal n ++ self.new.rest.now) }
         ensures complete { (n : ℕ) (rest : List ℕ) → self.old.rest.now ≡ decimal n ++ rest → n < 2 ^ 128
             → begins_with_digit rest ≡ false → (result ≡ Some n) × (self.new.rest.now ≡ rest) }
@@ -292,6 +294,7 @@ impl Cursor<'_> {
 /// The event for which `encode` writes exactly these bytes. `None` if there is none.
 pub fn own_event(bytes: &[u8]) -> Option<Event>
     ensures event { IfSome result (λ event. read bytes.now ≡ Ok event) }
+    ensures own { IfSome result (λ event. IsOwnBody bytes.now event) }
     ensures complete { (event : Event) → IsOwnBody bytes.now event → result ≡ Some event }
 {
     let mut cursor = Cursor { rest: bytes };

@@ -263,8 +263,9 @@ impl Cursor<'_> {
         Some(kind)
     }
 
-    // Reads an event with its members in the documented order.
-    fn documented_event(&mut self) -> Option<Event>
+    /// Reads an event with its members in the documented order, as the function of this name does. `None` if there is
+    /// none.
+    pub fn documented_event(&mut self) -> Option<Event>
         ensures { IfSome result (λ event. GivesEvent self.old.rest.now event self.new.rest.now) }
     {
         self.sign(b'{')?;

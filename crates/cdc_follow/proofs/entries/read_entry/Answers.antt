@@ -1,10 +1,10 @@
-use Rattle.std.proofs.Common.{◌∙◌, arith, inl, subst, sym, Option, Result, ap}
+use Rattle.std.proofs.Common.{◌∙◌, arith, inl, subst, sym, Option, Result}
 use Rattle.cdc_follow.specs.declared.entries.Entry.{Entry}
 use Rattle.cdc_follow.specs.declared.errors.LineError.{LineError}
 use Rattle.cdc_follow.specs.Entries.{value_entry}
 use Rattle.cdc_follow.specs.LineErrors.{GivesUnlessMemory}
 use Rattle.cdc_message.specs.Reading.{value_of}
-use Rattle.cdc_follow.proofs.EntryLemmas.{line-event, line-nothing, line-value}
+use Rattle.cdc_follow.proofs.EntryLemmas.{line-nothing, line-value}
 use Rattle.cdc_follow.proofs.StopLemmas.{long_entry}
 use Rattle.cdc_follow.proofs.entries.read_entry.Goals as goal
 
@@ -18,8 +18,7 @@ returns-then-is_ignored c =
 pub returns-in-Some : goal.returns-in-Some
 returns-in-Some c =
     inl (sym (line-value c.args.chained c.args.line.now (omega arith) (sym c.if-is_ignored.ensures)
-    ∙ ap (λ chained. value_entry chained (value_of c.args.line.now)) c.if-not-chained.true
-    ∙ line-event c.args.line.now c.in-Some.event c.in-Some.ensures.event))
+    ∙ c.in-Some.ensures))
 
 pub returns : goal.returns
 returns c =
