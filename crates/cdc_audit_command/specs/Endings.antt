@@ -5,9 +5,9 @@ use Rattle.cdc_audit.specs.declared.streams.AuditStop.TheVariants.{AtEnd, Refuse
 use Rattle.cdc_streams.specs.declared.endings.StreamEnding.{StreamEnding}
 use Rattle.cdc_streams.specs.declared.endings.StreamEnding.TheVariants.{Stopped, Failed}
 
--- the exit status: 0 at the end, 1 at an event that is refused or after a failure, 2 at a bad line
+-- the exit status: 0 at the end, 1 after a failure, 2 at a bad line, 3 at an event that is refused
 abbrev pub status_of : StreamEnding AuditStop → ℕ
 status_of (Stopped AtEnd) = 0
-status_of (Stopped (Refused line why)) = 1
+status_of (Stopped (Refused line why)) = 3
 status_of (Stopped (BadLine line error)) = 2
 status_of (Failed why) = 1

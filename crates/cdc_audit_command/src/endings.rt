@@ -10,13 +10,15 @@ use cdc_streams::StreamEnding;
 /// failed.
 pub type AuditEnding = StreamEnding<AuditStop>;
 
-/// The exit status of the program: 0 at the end, 1 at an event that is refused or after a failure, 2 at a bad line.
+/// The exit status of the program: 0 at the end; 1 after a failure, which may pass; 2 at a bad line; 3 at an event that is
+/// refused.
 pub fn audit_status(ending: AuditEnding) -> u8
     ensures { result ≡ status_of ending }
 {
     match ending {
         StreamEnding::Stopped(AuditStop::AtEnd) => 0,
-        StreamEnding::Stopped(AuditStop::Refused(..)) | StreamEnding::Failed(_) => 1,
+        StreamEnding::Failed(_) => 1,
         StreamEnding::Stopped(AuditStop::BadLine(..)) => 2,
+        StreamEnding::Stopped(AuditStop::Refused(..)) => 3,
     }
 }

@@ -5,9 +5,9 @@ use Rattle.cdc_chain.specs.declared.streams.ChainStop.TheVariants.{AtEnd, AfterE
 use Rattle.cdc_streams.specs.declared.endings.StreamEnding.{StreamEnding}
 use Rattle.cdc_streams.specs.declared.endings.StreamEnding.TheVariants.{Stopped, Failed}
 
--- the exit status: 0 at the end; 1 at what contradicts the end, or after a failure; 2 at a bad line
+-- the exit status: 0 at the end, 1 after a failure, 2 at a bad line, 3 at what contradicts the end
 abbrev pub status_of : StreamEnding ChainStop → ℕ
 status_of (Stopped AtEnd) = 0
-status_of (Stopped (AfterEnd line)) = 1
+status_of (Stopped (AfterEnd line)) = 3
 status_of (Stopped (BadLine line error)) = 2
 status_of (Failed why) = 1

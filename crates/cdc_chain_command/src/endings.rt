@@ -9,13 +9,14 @@ use cdc_streams::StreamEnding;
 /// How a command that chains a stream ended.
 pub type ChainEnding = StreamEnding<ChainStop>;
 
-/// The exit status: 0 at the end; 1 at what contradicts the end, or after a failure; 2 at a bad line.
+/// The exit status: 0 at the end; 1 after a failure, which may pass; 2 at a bad line; 3 at what contradicts the end.
 pub fn chain_status(ending: ChainEnding) -> u8
     ensures { result ≡ status_of ending }
 {
     match ending {
         StreamEnding::Stopped(ChainStop::AtEnd) => 0,
-        StreamEnding::Stopped(ChainStop::AfterEnd(..)) | StreamEnding::Failed(_) => 1,
+        StreamEnding::Failed(_) => 1,
         StreamEnding::Stopped(ChainStop::BadLine(..)) => 2,
+        StreamEnding::Stopped(ChainStop::AfterEnd(..)) => 3,
     }
 }

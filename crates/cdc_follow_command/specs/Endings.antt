@@ -5,10 +5,10 @@ use Rattle.cdc_follow.specs.declared.streams.Stop.TheVariants.{AtEnd, Gap, After
 use Rattle.cdc_streams.specs.declared.endings.StreamEnding.{StreamEnding}
 use Rattle.cdc_streams.specs.declared.endings.StreamEnding.TheVariants.{Stopped, Failed}
 
--- the exit status: 0 at the end; 1 at a gap, at what contradicts the end, or after a failure; 2 at a bad line
+-- the exit status: 0 at the end; 1 after a failure; 2 at a bad line; 3 at a gap, or at what contradicts the end
 abbrev pub status_of : StreamEnding Stop → ℕ
 status_of (Stopped AtEnd) = 0
-status_of (Stopped (Gap line entry)) = 1
-status_of (Stopped (AfterEnd line entry)) = 1
+status_of (Stopped (Gap line entry)) = 3
+status_of (Stopped (AfterEnd line entry)) = 3
 status_of (Stopped (BadLine line error)) = 2
 status_of (Failed why) = 1

@@ -1,13 +1,16 @@
 -- What following a stream keeps, saves, counts and prints.
-use Rattle.std.specs.Prelude.{◌≡◌, ℕ, List, take}
+use Rattle.std.specs.Prelude.{◌≡◌, ℕ, List, take, if◌then◌else◌}
 use Rattle.cdc_match.specs.Arguments.{Arguments}
-use Rattle.cdc_follow.specs.Counts.{counts_of, line_counts, no_counts}
-use Rattle.cdc_follow.specs.Following.{FollowState}
+use Rattle.cdc_follow.specs.Counts.{counts_of, counts_with, line_counts, no_counts, saturated}
+use Rattle.cdc_follow.specs.Following.{FollowState, stops_at}
 use Rattle.cdc_follow.specs.Lines.{lines_of}
 use Rattle.cdc_follow.specs.Stops.{bytes_followed, lines_followed}
 use Rattle.cdc_follow.specs.declared.counts.Counts.{Counts}
+use Rattle.cdc_follow.specs.declared.entries.Entry.{Entry}
+use Rattle.cdc_follow.specs.declared.follower.Following.{Following}
 use Rattle.cdc_follow.specs.declared.streams.Rules.{Rules}
 use Rattle.cdc_follow.specs.declared.streams.Stop.{Stop}
+use Rattle.cdc_follow.specs.declared.streams.Taken.TheVariants as taken
 use Rattle.cdc_follow_command.specs.declared.followers.FollowSetup.{FollowSetup}
 use Rattle.cdc_follow_command.specs.declared.followers.Followed.{Followed}
 use Rattle.cdc_follow_command.specs.declared.followers.StreamFollower.{StreamFollower}
@@ -28,6 +31,11 @@ kept_after binding rules start bytes count =
 -- how many of the first so many lines of the bytes came to what
 abbrev pub counted_after : Arguments → Rules → FollowState → List ℕ → ℕ → Counts
 counted_after binding rules start bytes count = line_counts binding rules start 1 (take count (lines_of bytes))
+
+-- the counts with one more entry, of which this became: one at which following stops isn't counted
+abbrev pub counts_after : Rules → Following → Entry → Counts → Counts
+counts_after rules outcome entry counts =
+    if stops_at rules.skips_gaps outcome then counts else counts_with saturated (taken.Entry entry outcome) counts
 
 -- a follower keeps what following makes of the first so many lines of the bytes; and if no line was counted before,
 -- these are counted

@@ -10,15 +10,15 @@ use cdc_streams::StreamEnding;
 /// command failed.
 pub type FollowEnding = StreamEnding<Stop>;
 
-/// The exit status of the program: 0 at the end; 1 at a gap, at what contradicts the end, or after a failure; 2 at a
-/// bad line.
+/// The exit status of the program: 0 at the end; 1 after a failure, which may pass; 2 at a bad line; 3 at a gap, or at
+/// what contradicts the end.
 pub fn follow_status(ending: FollowEnding) -> u8
     ensures { result ≡ status_of ending }
 {
     match ending {
         StreamEnding::Stopped(Stop::AtEnd) => 0,
-        StreamEnding::Stopped(Stop::Gap(..)) | StreamEnding::Failed(_) => 1,
-        StreamEnding::Stopped(Stop::AfterEnd(..)) => 1,
+        StreamEnding::Failed(_) => 1,
         StreamEnding::Stopped(Stop::BadLine(..)) => 2,
+        StreamEnding::Stopped(Stop::Gap(..)) | StreamEnding::Stopped(Stop::AfterEnd(..)) => 3,
     }
 }

@@ -1,17 +1,22 @@
 //! The command `follow`: follows a stream up to its end, and saves and prints its book.
 
-ghost use Rattle.std.specs.Prelude.{◌≡◌, [], None, Some, is_some, IfSome};
+ghost use Rattle.std.specs.Prelude.{◌≡◌, [], None, Some, is_some, IfOk, IfSome, OnErr, OnOk};
 ghost use Rattle.std.specs.Option.{option_map};
+ghost use Rattle.cdc_book_log.specs.Tracking.{GoesOn};
 ghost use Rattle.cdc_follow.specs.Counts.{counts_of, no_counts};
+ghost use Rattle.cdc_follow.specs.Following.{next_follow, outcome_of};
 ghost use Rattle.cdc_follow.specs.Stops.{bytes_followed};
-ghost use Rattle.cdc_follow_command.specs.Following.{KeepsAfter, begun_of, followed_of, prints_end_of};
-ghost use Rattle.cdc_follow_command.specs.Following.{prints_save_of};
+ghost use Rattle.cdc_follow_command.specs.Following.{KeepsAfter, begun_of, counts_after, followed_of};
+ghost use Rattle.cdc_follow_command.specs.Following.{prints_end_of, prints_save_of};
 ghost use Rattle.cdc_streams.specs.Saving.{AreSaved, IfStopped, PrintsStream, saves_text};
 
 use crate::endings::FollowEnding;
 use crate::forms::FollowForm;
 use cdc_book_log::{Details, Tracked};
-use cdc_follow::{Counts, FollowError, Follower, Rules, Stop, Turn, follow_line};
+use cdc_follow::{
+    Counts, Entry, FollowError, Follower, Following, Rules, Stop, Taken, TakesEntries, Turn,
+    follow_line,
+};
 use cdc_keys::{HashKey, KeyedMap};
 use cdc_match::Binding;
 use cdc_streams::{Consumer, Keeps, LineReader, Saved, Saver, stream_command};
@@ -94,6 +99,30 @@ impl StreamFollower {
         ensures { result ≡ self.now.counts }
     {
         self.counts
+    }
+
+    /// Takes an entry that comes from elsewhere than a line, and counts it as its line, unless it is a gap at which
+    /// following stops. The one error is that memory ran out, and then nothing changes.
+    pub fn take_entry(
+        &mut self,
+        setup: &FollowSetup,
+        entry: &Entry,
+    ) -> Result<Following, AllocError>
+        ensures answer { IfOk result (λ answer. answer
+            ≡ outcome_of setup.now.binding self.old.tracked.follower entry.now) }
+        ensures state { OnOk result (self.new.tracked.follower
+            ≡ next_follow setup.now.binding self.old.tracked.follower entry.now) }
+        ensures counts { IfOk result (λ answer. self.new.counts
+            ≡ counts_after setup.now.rules answer entry.now self.old.counts) }
+        ensures moves { OnOk result (GoesOn self.old.tracked self.new.tracked) }
+        ensures err { OnErr result (self.new ≡ self.old) }
+    {
+        let following = self.tracked.take_entry(&setup.binding, entry)?;
+        match following {
+            Following::Gap if !setup.rules.skips_gaps => {}
+            _ => self.counts.count(&Taken::Entry(*entry, following)),
+        }
+        Ok(following)
     }
 }
 

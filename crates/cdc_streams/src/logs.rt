@@ -10,7 +10,7 @@ use cdc_files::StoreError;
 const RECORD_BYTES: usize = 1 << 20;
 
 /// How many times as many bytes as its base the records of a log may have.
-const RECORDS_PER_BASE: usize = 2;
+const RECORDS_PER_BASE: usize = 4;
 
 /// A log in a store: a base, and records after it. Once the records outgrow the base, a new base has to replace all.
 #[derive(Drop)]
