@@ -1,0 +1,3 @@
+pub mod KeptLemmas
+mod LineLemmas
+mod StoredLemmas

@@ -1,0 +1,15 @@
+//! The command that follows a stream by checking it: what takes the stream, what is saved, and what is printed.
+#![tactic(auto)]
+
+pub mod books;
+pub mod checkers;
+pub mod endings;
+pub mod forms;
+mod json_lines;
+pub mod resuming;
+
+pub use books::CheckedLog;
+pub use checkers::{BoundFollower, CheckSetup, StreamChecker, check_command};
+pub use endings::{CheckEnding, check_status};
+pub use forms::CheckForm;
+pub use resuming::resume;

@@ -1,0 +1,4 @@
+pub mod CountLemmas
+pub mod StandLemmas
+pub mod StreamLemmas
+pub mod TurnLemmas

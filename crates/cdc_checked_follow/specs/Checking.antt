@@ -1,0 +1,101 @@
+-- Checked following of a stream: what becomes of each entry, up to the one at which it stops.
+use Rattle.std.specs.Prelude.{ℕ, ◌+◌, Bool, true, false, nat_lt, List, [], ◌∷◌, Option, Some, None, if◌then◌else◌}
+use Rattle.cdc_types.specs.declared.bounds.TheConstants.Limits.{TIMESTAMP}
+use Rattle.cdc_types.specs.declared.events.Event.{Event}
+use Rattle.cdc_follow.specs.declared.entries.Content.{Content}
+use Rattle.cdc_follow.specs.declared.entries.Content.TheVariants as content
+use Rattle.cdc_follow.specs.declared.errors.LineError.TheVariants.{TimestampOutOfRange}
+use Rattle.cdc_follow.specs.Lines.{lines_of}
+use Rattle.cdc_follow.specs.Streams as streams
+use Rattle.cdc_follow.specs.Streams.{NumberedEntry, stream_of_lines}
+use Rattle.cdc_checked.specs.declared.checker.Outcome.{Outcome}
+use Rattle.cdc_checked.specs.declared.checker.Outcome.TheVariants as outcome
+use Rattle.cdc_checked.specs.Checked.{next_checked}
+use Rattle.cdc_checked.specs.Standing.{outcome_of}
+use Rattle.cdc_checked_follow.specs.declared.follower.Checking.{Checking}
+use Rattle.cdc_checked_follow.specs.declared.follower.Checking.TheVariants.{Applied, Late, Refused, Ended, OutOfRange}
+use Rattle.cdc_checked_follow.specs.declared.streams.CheckStop.{CheckStop}
+use Rattle.cdc_checked_follow.specs.declared.streams.CheckStop.TheVariants.{AtEnd, Gap, BadLine}
+
+-- what was followed so far: the events that were applied, how many refused ones were skipped, and whether the end of
+-- the stream was received
+pub record CheckedState : Type 0 where
+  pub applied : List Event
+  pub skipped : ℕ
+  pub ended : Bool
+
+-- nothing was followed yet
+abbrev pub begins : CheckedState
+begins = record { applied = []; skipped = 0; ended = false }
+
+-- what becomes of an event of which the checker makes this
+abbrev pub checking_of : Outcome → Checking
+checking_of outcome.Applied = Applied
+checking_of outcome.Late = Late
+checking_of (outcome.Refused why) = Refused why
+
+-- an event's timestamp is above the greatest one of a ledger
+abbrev pub is_out_of_range : Event → Bool
+is_out_of_range e = nat_lt TIMESTAMP e.timestamp
+
+-- what becomes of an entry
+abbrev pub content_outcome : CheckedState → Content → Checking
+content_outcome state (content.Event e) =
+    if is_out_of_range e then OutOfRange else checking_of (outcome_of state.applied e)
+content_outcome state content.End = Ended
+
+-- what was followed after an entry; the end changes nothing of what is applied after it
+abbrev pub next_content : CheckedState → Content → CheckedState
+next_content state (content.Event e) =
+    if is_out_of_range e then state else record state { applied = next_checked state.applied e }
+next_content state content.End = record state { ended = true }
+
+-- a refused event that is skipped is counted
+abbrev pub with_skipped : Checking → CheckedState → CheckedState
+with_skipped (Refused why) state = record state { skipped = state.skipped + 1 }
+with_skipped _ state = state
+
+-- what was followed after an entry at which following doesn't stop
+abbrev pub next_state : CheckedState → Content → CheckedState
+next_state state content = with_skipped (content_outcome state content) (next_content state content)
+
+-- why following stops at the line with an entry of which this becomes, if it does: at a refused event, unless these are
+-- to be skipped, and at an event out of range
+abbrev pub stop_for : Bool → Checking → ℕ → Option CheckStop
+stop_for skips (Refused why) line = if skips then None else Some (Gap line why)
+stop_for skips OutOfRange line = Some (BadLine line TimestampOutOfRange)
+stop_for skips Applied line = None
+stop_for skips Late line = None
+stop_for skips Ended line = None
+
+-- what was followed in the end, and why following stops
+pub record Checked : Type 0 where
+  pub state : CheckedState
+  pub stop : CheckStop
+
+-- following goes on, or stops
+abbrev pub checked_on : Option CheckStop → CheckedState → Checked → Checked
+checked_on None state later = later
+checked_on (Some why) state later = record { state = state; stop = why }
+
+-- following stops at the line that is no entry, or at the end
+abbrev pub stop_at : Option streams.BadLine → CheckStop
+stop_at None = AtEnd
+stop_at (Some bad) = BadLine bad.line bad.error
+
+-- following entries, after which the stream stops so
+unfoldable pub check_entries : Bool → CheckedState → CheckStop → List NumberedEntry → Checked
+check_entries skips state end [] = record { state = state; stop = end }
+check_entries skips state end (numbered ∷ rest) =
+    checked_on (stop_for skips (content_outcome state numbered.entry.content) numbered.line) state
+    (check_entries skips (next_state state numbered.entry.content) end rest)
+
+-- following lines, numbered from this one on; predecessors aren't looked at
+abbrev pub lines_checked : Bool → CheckedState → ℕ → List (List ℕ) → Checked
+lines_checked skips state number lines =
+    let stream = stream_of_lines false number lines in
+    check_entries skips state (stop_at stream.bad) stream.entries
+
+-- following bytes
+abbrev pub bytes_checked : Bool → CheckedState → List ℕ → Checked
+bytes_checked skips state bytes = lines_checked skips state 1 (lines_of bytes)

@@ -1,0 +1,14 @@
+//! The state of checked following as text: how it is saved, and how it is read back.
+#![tactic(auto)]
+
+pub mod laws;
+pub mod logs;
+pub mod parts;
+pub mod printing;
+pub mod rows;
+pub mod saved;
+
+pub use laws::{followed_events_fit, followers_can_be_saved, logs_can_be_cut};
+pub use logs::{base_text, read_log, record_text};
+pub use printing::{push_book, push_state};
+pub use saved::{CHECKED_MARK, SavedState, read_state};
