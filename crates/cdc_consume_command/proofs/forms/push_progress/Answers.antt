@@ -1,0 +1,4 @@
+use Rattle.cdc_consume_command.proofs.forms.push_progress.Goals as goal
+
+pub returns : goal.returns
+returns c = rw c.into.ensures at c.push.ensures

@@ -1,0 +1,5 @@
+pub mod Consuming
+pub mod Endings
+pub mod JsonLines
+pub mod Kept
+pub mod Texts
