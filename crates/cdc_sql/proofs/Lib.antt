@@ -1,0 +1,9 @@
+mod BodyLemmas
+mod CutLemmas
+mod PositionLemmas
+mod PutLemmas
+mod QuoteLemmas
+mod RowLemmas
+mod RowsLemmas
+mod SaveLemmas
+mod TextLemmas

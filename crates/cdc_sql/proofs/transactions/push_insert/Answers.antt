@@ -1,0 +1,12 @@
+use Rattle.std.specs.Prelude.{codes}
+use Rattle.cdc_sql.specs.Texts.{accounts_table}
+use Rattle.cdc_sql.proofs.TextLemmas.{on_ok_then, pieces}
+use Rattle.cdc_sql.proofs.transactions.push_insert.Goals as goal
+
+pub returns : goal.returns
+returns c =
+    on_ok_then c.push-2.result c.push-2.ensures (λ last.
+    pieces _ c.push.new.text.items _ (codes "INSERT INTO ") _ c.in_ok-push.ensures
+    (pieces _ c.push_accounts_table.new.text.items _ (accounts_table c.args.name.now.text.items) _
+    c.in_ok-push_accounts_table.ensures
+    last))

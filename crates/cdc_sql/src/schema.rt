@@ -1,0 +1,131 @@
+//! The text that makes the tables, and the one that precedes the saves.
+
+ghost use Rattle.std.specs.Prelude.{◌≡◌, ◌++◌, codes, IfOk, OnOk};
+ghost use Rattle.cdc_sql.specs.Schema.{accounts_schema, book_schema, create_schema, first_row, preamble};
+ghost use Rattle.cdc_sql.specs.Schema.{schema_text as text_of, tables_schema};
+
+use crate::names::SchemaName;
+use crate::pieces::{push, push_bytes, push_named};
+use crate::places::Place;
+use crate::positions::push_position;
+use crate::transactions::{push_accounts_table, push_book_table};
+use std::alloc::{AllocError, Global};
+
+/// What precedes the saves, so that `psql -X` needs no options: psql stops at the first error and prints only the
+/// reports, each statement outside a transaction is one of its own, and a server that can lose a commit is refused.
+pub fn preamble_text() -> &'static str
+    ensures { result.now ≡ preamble }
+{
+    "\\set QUIET on\n\\set ON_ERROR_STOP on\n\\set AUTOCOMMIT on\n\\set ON_ERROR_ROLLBACK off\n\
+        \\pset tuples_only on\n\\pset format unaligned\nSET idle_in_transaction_session_timeout = '60s';\n\
+        DO $$BEGIN IF current_setting('synchronous_commit') = 'off' THEN \
+        RAISE 'synchronous_commit is off, so a commit can be lost'; END IF; END$$;\n"
+}
+
+/// Adds what makes the table `book`.
+fn push_book_schema(text: &mut Vec<u8>, name: &SchemaName) -> Result<(), AllocError>
+    ensures { OnOk result (text.new.items ≡ text.old.items ++ book_schema name.now.text.items) }
+{
+    push(text, "CREATE TABLE ")?;
+    push_book_table(text, name)?;
+    push(
+        text,
+        " (id smallint PRIMARY KEY CHECK (id = 1), position text NOT NULL, seen numeric(20) NOT NULL, \
+        last numeric(20) NOT NULL, applied numeric(20) NOT NULL);\nCOMMENT ON TABLE ",
+    )?;
+    push_book_table(text, name)?;
+    push(
+        text,
+        " IS 'Where the follower is in its stream. Its saves alone may change the row.';\n",
+    )
+}
+
+/// Adds what makes the table `accounts`.
+fn push_accounts_schema(text: &mut Vec<u8>, name: &SchemaName) -> Result<(), AllocError>
+    ensures { OnOk result (text.new.items ≡ text.old.items ++ accounts_schema name.now.text.items) }
+{
+    push(text, "CREATE TABLE ")?;
+    push_accounts_table(text, name)?;
+    push(
+        text,
+        " (id numeric(39) PRIMARY KEY, debits_pending numeric(39) NOT NULL, debits_posted numeric(39) NOT NULL, \
+        credits_pending numeric(39) NOT NULL, credits_posted numeric(39) NOT NULL);\nCOMMENT ON TABLE ",
+    )?;
+    push_accounts_table(text, name)?;
+    push(
+        text,
+        " IS 'The balances of each account after the last event that has it.';\n",
+    )
+}
+
+/// Adds what makes the row of the book.
+fn push_first_row(
+    text: &mut Vec<u8>,
+    name: &SchemaName,
+    chained: bool,
+    binding: &[u8],
+    place: Place,
+) -> Result<(), AllocError>
+    ensures { OnOk result (text.new.items
+        ≡ text.old.items ++ first_row name.now.text.items chained binding.now place) }
+{
+    push(text, "INSERT INTO ")?;
+    push_book_table(text, name)?;
+    push(text, " (id, position, seen, last, applied) VALUES (1, '")?;
+    push_position(text, chained, binding, place)?;
+    push_named(text, "', ", place.seen)?;
+    push_named(text, ", ", place.last)?;
+    push_named(text, ", ", place.applied)?;
+    push(text, ");\n")
+}
+
+/// Adds what makes the schema.
+fn push_create(text: &mut Vec<u8>, name: &SchemaName) -> Result<(), AllocError>
+    ensures { OnOk result (text.new.items ≡ text.old.items ++ create_schema name.now.text.items) }
+{
+    push(text, "BEGIN;\nCREATE SCHEMA \"")?;
+    push_bytes(text, name.text())?;
+    push(text, "\";\n")
+}
+
+/// Adds what makes the schema with both tables.
+fn push_tables(text: &mut Vec<u8>, name: &SchemaName) -> Result<(), AllocError>
+    ensures { OnOk result (text.new.items ≡ text.old.items ++ tables_schema name.now.text.items) }
+{
+    push_create(text, name)?;
+    push_book_schema(text, name)?;
+    push_accounts_schema(text, name)
+}
+
+/// Adds what makes the row of the book, and the commit.
+fn push_start(
+    text: &mut Vec<u8>,
+    name: &SchemaName,
+    chained: bool,
+    binding: &[u8],
+    place: Place,
+) -> Result<(), AllocError>
+    ensures { OnOk result (text.new.items
+        ≡ text.old.items ++ (first_row name.now.text.items chained binding.now place ++ codes "COMMIT;\n")) }
+{
+    push_first_row(text, name, chained, binding, place)?;
+    push(text, "COMMIT;\n")
+}
+
+/// The text that makes the schema of this name, with both tables, and the book's row at the place where the follower
+/// begins. It is executed once: where the schema exists, it fails, and nothing changes. `binding` is the text of the
+/// follower's binding, which has to be plain. The one error is that memory ran out.
+pub fn schema_text(
+    alloc: Global,
+    name: &SchemaName,
+    chained: bool,
+    binding: &[u8],
+    place: Place,
+) -> Result<Vec<u8>, AllocError>
+    ensures { IfOk result (λ text. text.items ≡ text_of name.now.text.items chained binding.now place) }
+{
+    let mut text = Vec::new(alloc);
+    push_tables(&mut text, name)?;
+    push_start(&mut text, name, chained, binding, place)?;
+    Ok(text)
+}

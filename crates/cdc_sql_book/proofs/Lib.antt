@@ -1,0 +1,2 @@
+mod PrintingLemmas
+mod WholeLemmas

@@ -1,0 +1,3 @@
+-- What the ghost members of private impls alone cite: a reader has to believe none of it.
+pub mod Printing
+pub mod Writers
