@@ -14,9 +14,9 @@ _relayplum() {
         compopt -o filenames 2>/dev/null
         mapfile -t COMPREPLY < <(compgen -d -- "$word")
     elif [ "$COMP_CWORD" = "$first" ]; then
-        words="books messages simulate run follow audit chain help -h --help -V --version $launcher"
+        words="books messages simulate run follow audit chain consume help -h --help -V --version $launcher"
     elif [ "${COMP_WORDS[first]}" = help ]; then
-        words='books messages simulate run follow audit chain help'
+        words='books messages simulate run follow audit chain consume help'
     elif [ "${COMP_WORDS[COMP_CWORD - 1]}" = --window ]; then
         words='1 2 8 64'
     elif [ "${COMP_WORDS[first]} ${COMP_WORDS[COMP_CWORD - 1]}" = 'messages --queue' ] ||
@@ -31,9 +31,16 @@ _relayplum() {
                 words='--window --prefetch --lose-confirm --lose-publish --restart-after --repeat --close --start-after --progress'
                 words+=' --deliveries --expect --explain --trace --json -h --help'
                 ;;
-            follow) words='--chained --skip-gaps --binding --after --book --every --busy --expect --json -h --help' ;;
+            follow)
+                words='--chained --checked --skip-gaps --binding --after --book --every --busy --expect --sql --resume --sql-schema'
+                words+=' --json -h --help'
+                ;;
             audit) words='--book --foreign --duplicates --state --every --json -h --help' ;;
             chain) words='--queue --state --every -h --help' ;;
+            consume)
+                words='--queue --book --chained --binding --vhost --user --password-file --prefetch --heartbeat --every --busy --limit'
+                words+=' --report --json -h --help'
+                ;;
         esac
     fi
     # Where there is no such word, files are offered.

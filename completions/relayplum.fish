@@ -6,12 +6,13 @@ complete -c relayplum -n __fish_use_subcommand -f -a run -d 'Run a script on thr
 complete -c relayplum -n __fish_use_subcommand -f -a follow -d 'Follow a stream of messages, apply each event once, and print the book'
 complete -c relayplum -n __fish_use_subcommand -f -a audit -d 'Check whether a stream of messages can be what a ledger published'
 complete -c relayplum -n __fish_use_subcommand -f -a chain -d 'Put each event of a stream into queues, with the timestamp of the event before it'
+complete -c relayplum -n __fish_use_subcommand -f -a consume -d 'Consume a RabbitMQ queue over standard input and output, and acknowledge what is saved'
 complete -c relayplum -n __fish_use_subcommand -f -a help -d 'Print what the program or a command does'
 complete -c relayplum -n __fish_use_subcommand -s V -l version -d 'Print the version'
 complete -c relayplum -n 'not __fish_seen_subcommand_from help' -s h -l help -d 'Print help'
-complete -c relayplum -n '__fish_seen_subcommand_from help' -f -a 'books messages simulate run follow audit chain help'
+complete -c relayplum -n '__fish_seen_subcommand_from help' -f -a 'books messages simulate run follow audit chain consume help'
 complete -c relayplum -n '__fish_seen_subcommand_from books simulate run' -l explain -d 'Print on standard error why each request or batch was not accepted'
-complete -c relayplum -n '__fish_seen_subcommand_from books messages simulate run follow audit' -l json -d 'Print a JSON object on each line instead of text'
+complete -c relayplum -n '__fish_seen_subcommand_from books messages simulate run follow audit consume' -l json -d 'Print a JSON object on each line instead of text'
 complete -c relayplum -n '__fish_seen_subcommand_from books messages simulate' -l check -d 'Validate the files only'
 complete -c relayplum -n '__fish_seen_subcommand_from messages' -l queue -x -a '1 2 3 4 5 6 7 8' -d 'Print only the queue of this subscriber'
 complete -c relayplum -n '__fish_seen_subcommand_from simulate' -l trace -d 'Print on standard error what each step did'
@@ -34,6 +35,7 @@ complete -c relayplum -n '__fish_seen_subcommand_from run' -l close -x -d 'Close
 complete -c relayplum -n '__fish_seen_subcommand_from run' -l start-after -x -d 'Leave out the events up to this timestamp, in nanoseconds'
 complete -c relayplum -n '__fish_seen_subcommand_from run' -l progress -r -d "Save the connector's progress in this file, and resume from it"
 complete -c relayplum -n '__fish_seen_subcommand_from follow' -l chained -d 'Apply an event only if it follows the last one of its queue'
+complete -c relayplum -n '__fish_seen_subcommand_from follow' -l checked -d 'Apply an event only if the balances that it shows follow'
 complete -c relayplum -n '__fish_seen_subcommand_from follow' -l skip-gaps -d 'Skip an event that does not follow the last one, and go on'
 complete -c relayplum -n '__fish_seen_subcommand_from follow' -l binding -x -d 'Apply only the events that match this binding'
 complete -c relayplum -n '__fish_seen_subcommand_from follow' -l after -x -d 'Begin a new book after the event with this timestamp'
@@ -41,6 +43,9 @@ complete -c relayplum -n '__fish_seen_subcommand_from follow' -l book -r -d 'Sav
 complete -c relayplum -n '__fish_seen_subcommand_from follow' -l every -x -d 'Save the book after N lines at the latest'
 complete -c relayplum -n '__fish_seen_subcommand_from follow' -l busy -x -d 'Wait so long for a program that reads the SQLite book'
 complete -c relayplum -n '__fish_seen_subcommand_from follow' -l expect -d 'Print the expected result of each line instead of the book'
+complete -c relayplum -n '__fish_seen_subcommand_from follow' -l sql -x -d 'Print each save as SQL for PostgreSQL, with the tables of this schema'
+complete -c relayplum -n '__fish_seen_subcommand_from follow' -l resume -r -d 'Begin at the position in this file, as the table book has it'
+complete -c relayplum -n '__fish_seen_subcommand_from follow' -l sql-schema -x -d 'Print the SQL that makes the tables in this schema'
 complete -c relayplum -n '__fish_seen_subcommand_from audit' -l book -d 'Print the last balances of each account'
 complete -c relayplum -n '__fish_seen_subcommand_from audit' -l foreign -d "Accept flags that this ledger doesn't have"
 complete -c relayplum -n '__fish_seen_subcommand_from audit' -l duplicates -d "Skip and count events that aren't later than the last accepted one"
@@ -49,6 +54,19 @@ complete -c relayplum -n '__fish_seen_subcommand_from audit' -l every -x -d 'Sav
 complete -c relayplum -n '__fish_seen_subcommand_from chain' -l queue -x -d 'Print the lines of the queue of this binding'
 complete -c relayplum -n '__fish_seen_subcommand_from chain' -l state -r -d 'Save the state in this file, and resume from it'
 complete -c relayplum -n '__fish_seen_subcommand_from chain' -l every -x -d 'Save the state after N lines at the latest'
+complete -c relayplum -n '__fish_seen_subcommand_from consume' -l queue -x -d 'Consume this queue, which has to exist'
+complete -c relayplum -n '__fish_seen_subcommand_from consume' -l book -r -d 'Save the book in this file, or sqlite:FILE, and resume from it'
+complete -c relayplum -n '__fish_seen_subcommand_from consume' -l chained -d 'Apply an event only if it follows the last one of its queue'
+complete -c relayplum -n '__fish_seen_subcommand_from consume' -l binding -x -d 'Apply only the events that match this binding'
+complete -c relayplum -n '__fish_seen_subcommand_from consume' -l vhost -x -d 'Use this virtual host'
+complete -c relayplum -n '__fish_seen_subcommand_from consume' -l user -x -d 'Log in as this user'
+complete -c relayplum -n '__fish_seen_subcommand_from consume' -l password-file -r -d 'Read the password from this file'
+complete -c relayplum -n '__fish_seen_subcommand_from consume' -l prefetch -x -d 'Have at most N unacknowledged deliveries'
+complete -c relayplum -n '__fish_seen_subcommand_from consume' -l heartbeat -x -d 'Negotiate heartbeats of so many seconds'
+complete -c relayplum -n '__fish_seen_subcommand_from consume' -l every -x -d 'Save the book after N deliveries at the latest'
+complete -c relayplum -n '__fish_seen_subcommand_from consume' -l busy -x -d 'Wait so long for a program that reads the SQLite book'
+complete -c relayplum -n '__fish_seen_subcommand_from consume' -l limit -x -d 'End after N deliveries'
+complete -c relayplum -n '__fish_seen_subcommand_from consume' -l report -r -d 'Keep the status, the counts and the place in this file'
 # Called by a path, it may be the launcher in the repository, which takes options before the command.
 function __relayplum_may_be_launcher
     string match -q '*/*' -- (commandline -opc)[1]

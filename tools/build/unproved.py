@@ -10,7 +10,13 @@ from .crates import APP
 # The flags with a value that is no file, even if a file has its name.
 NUMBERED = (
     "--window", "--prefetch", "--lose-confirm", "--lose-publish", "--restart-after", "--repeat", "--close", "--start-after",
-    "--random", "--steps", "--faults", "--queue", "--every", "--busy", "--binding", "--after",
+    "--random", "--steps", "--faults", "--queue", "--every", "--busy", "--binding", "--after", "--vhost", "--user", "--heartbeat",
+    "--limit", "--sql", "--sql-schema",
+)
+# The flags of a command whose value is a file that is handed on by its whole path.
+WHOLE_PATHS = (
+    ("follow", "--book"), ("audit", "--state"), ("chain", "--state"),
+    ("consume", "--book"), ("consume", "--report"), ("consume", "--password-file"),
 )
 
 
@@ -19,7 +25,7 @@ def handed_on(arguments):
     is handed on as a copy, and one that is written by its whole path."""
     data, handed, before = [], [], ""
     for place, argument in enumerate(arguments):
-        if before == "--progress" or (arguments[0], before) in (("follow", "--book"), ("audit", "--state"), ("chain", "--state")):
+        if before == "--progress" or (arguments[0], before) in WHOLE_PATHS:
             handed.append(os.path.realpath(argument))
         elif argument.startswith("--diagram=") and argument != "--diagram=-":
             handed.append(f"--diagram={os.path.realpath(argument.partition('=')[2])}")

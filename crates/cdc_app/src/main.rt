@@ -1,17 +1,19 @@
 //! The program: a script in, and a report of its ledger, its messages or its subscribers' books out.
 #![tactic(auto)]
 
+use cdc_app_consume::run_consume;
 use cdc_app_inputs::{
     EXPLAIN, Kept, Source, abort, advise, advise_on_script, advise_on_steps, hint, note,
     open_standard, shown_name,
 };
 use cdc_app_runs::{WantedRun, run_on_threads};
 use cdc_app_simulations::{Wanted, run_random, run_simulation};
-use cdc_app_streams::{run_audit, run_chain, run_follow};
+use cdc_app_streams::{run_audit, run_chain, run_checked, run_follow};
 pub use cdc_arguments::options;
-use cdc_arguments::{Form, Options, OptionsFault};
+use cdc_arguments::{ChainPlan, FollowPlan, Form, Options, OptionsFault};
 use cdc_audit_command::audit_status;
 use cdc_chain_command::chain_status;
+use cdc_checked_command::check_status;
 use cdc_commands::books::BooksEnded;
 pub use cdc_commands::books::books;
 use cdc_commands::check::{check, check_files};
@@ -31,12 +33,16 @@ use std::sync::Wait;
 use std::thread::Threads;
 use std::{env, io};
 
+/// The number of the system's error for a descriptor that isn't open.
+const BAD_DESCRIPTOR: i32 = 9;
+
 fn main(rt: HostRuntime) -> ExitCode {
-    if let Err(error) = open_standard(&rt) {
-        return ExitCode::from(refuse_descriptors(&rt, error));
-    }
+    let has_output = match open_standard(&rt) {
+        Ok(has_output) => has_output,
+        Err(error) => return ExitCode::from(refuse_descriptors(&rt, error)),
+    };
     let status = match command_line_of(&rt) {
-        Ok(args) => run_arguments(&rt, &rt, args.as_slice()),
+        Ok(args) => run_arguments(&rt, &rt, args.as_slice(), has_output),
         Err(error) if error.kind() == io::ErrorKind::InvalidData => {
             refuse_arguments(&rt, "error: an argument is not UTF-8 text\n").status()
         }
@@ -59,11 +65,12 @@ fn command_line_of(rt: &HostRuntime) -> io::Result<Vec<String>> {
 }
 
 /// Does what the arguments ask for, and returns the exit status. `threads` starts the threads of a run, and those that
-/// read streams ahead.
+/// read streams ahead. `has_output`: standard output isn't closed.
 fn run_arguments<T: Threads + Wait + Sync + AllocGlobal + Copy + Send + 'static>(
     rt: &HostRuntime,
     threads: &T,
     args: &[String],
+    has_output: bool,
 ) -> u8 {
     let texts: Result<Vec<&str>, AllocError> = args
         .iter()
@@ -164,19 +171,51 @@ fn run_arguments<T: Threads + Wait + Sync + AllocGlobal + Copy + Send + 'static>
             },
         ) => run_check(rt, file, steps, has_diagram, form),
         Ok(Options::Follow { file, plan, form }) => {
-            return follow_status(run_follow(rt, threads, file, plan, form));
+            return run_following(rt, threads, file, plan, form);
         }
         Ok(Options::Audit { file, plan, form }) => {
             return audit_status(run_audit(rt, threads, file, plan, form));
         }
         Ok(Options::Chain { file, plan }) => {
-            return chain_status(run_chain(rt, threads, file, plan));
+            return run_chaining(rt, threads, file, plan, has_output);
         }
+        Ok(Options::Consume { plan, form }) => return run_consume(rt, threads, plan, form),
         Ok(Options::Explain { text }) => explain(rt, text.as_str()),
         Err(OptionsFault::BadWords { message }) => refuse_arguments(rt, message.as_str()),
         Err(OptionsFault::OutOfMemory) => abort(rt, ProgramFault::OutOfMemory, Form::Text),
     };
     ending.status()
+}
+
+/// Follows the stream in the file of this name, and returns the exit status.
+fn run_following<T: Threads + Wait + Copy + Send + 'static>(
+    rt: &HostRuntime,
+    threads: &T,
+    file: &str,
+    plan: FollowPlan<'_>,
+    form: Form,
+) -> u8 {
+    if plan.checks {
+        check_status(run_checked(rt, threads, file, plan, form))
+    } else {
+        follow_status(run_follow(rt, threads, file, plan, form))
+    }
+}
+
+/// Chains the stream in the file of this name, if there is a standard output, and returns the exit status. Without one
+/// its lines would be lost, and its state would go on.
+fn run_chaining<T: Threads + Wait + Copy + Send + 'static>(
+    rt: &HostRuntime,
+    threads: &T,
+    file: &str,
+    plan: ChainPlan<'_>,
+    has_output: bool,
+) -> u8 {
+    if !has_output {
+        let closed = io::Error::from_raw_os_error(BAD_DESCRIPTOR);
+        return abort(rt, ProgramFault::WriteFault(closed), Form::Text).status();
+    }
+    chain_status(run_chain(rt, threads, file, plan))
 }
 
 /// Runs `books` over the script of this name, and reports on standard error why it failed, or what wasn't accepted.

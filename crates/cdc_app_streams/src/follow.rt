@@ -6,9 +6,10 @@ use crate::follow_advice::{advise_on_book, advise_on_counts, advise_on_place, ad
 use crate::kept_book::{BookFile, is_in_sqlite, open_book_file};
 use crate::keys::{random_key, refuse_key};
 use crate::lines::{Lines, lines_of, refuse_reading};
+use crate::sql::{run_schema, run_sql};
 use crate::watched::Watched;
 use cdc_app_inputs::{Stream, shown_name};
-use cdc_arguments::{FollowPlan, Form};
+use cdc_arguments::{FollowPlan, Form, SqlPlan};
 use cdc_follow::Follower;
 use cdc_follow_command::{
     FollowEnding, FollowSetup, ResumeError, StreamFollower, begin, follow_command, resume_at,
@@ -39,6 +40,8 @@ pub fn run_follow<T: Threads + Wait + Copy + Send + 'static>(
         every,
         busy,
         expects,
+        checks: _,
+        sql,
     } = plan;
     if expects {
         return run_expect(rt, threads, file, rules, &binding, after);
@@ -52,6 +55,13 @@ pub fn run_follow<T: Threads + Wait + Copy + Send + 'static>(
         Ok(key) => key,
         Err(error) => return StreamEnding::Failed(refuse_key(rt, error, form)),
     };
+    match sql {
+        Some(SqlPlan::Schema(name)) => return run_schema(rt, &name, &setup, after),
+        Some(SqlPlan::Saves(name, position)) => {
+            return run_sql(rt, threads, file, key, name, position, &setup, after, every);
+        }
+        None => {}
+    }
     let (store, follower) = match open_book(rt, key, book, busy, &setup, after) {
         Ok(opened) => opened,
         Err(ResumeError::Store(error)) => return refuse_book(rt, file, book, error, form),
@@ -116,7 +126,7 @@ fn follow_lines<B: LineReader, K: Keeps<StreamFollower> + Drop>(
 /// Opens the book of this name, if there is one, and returns it with the follower that it holds, which is to begin
 /// after the event of this timestamp, if one is named. A book that isn't there yet is made at once, so that the file is
 /// locked from the start.
-fn open_book<'a>(
+pub fn open_book<'a>(
     rt: &'a HostRuntime,
     key: HashKey,
     book: Option<&str>,

@@ -3,6 +3,7 @@
 
 mod audit;
 mod chain;
+mod checked;
 mod expect;
 mod failures;
 mod follow;
@@ -10,8 +11,13 @@ mod follow_advice;
 mod kept_book;
 mod keys;
 mod lines;
+mod sql;
 mod watched;
 
 pub use audit::run_audit;
 pub use chain::run_chain;
-pub use follow::run_follow;
+pub use checked::run_checked;
+pub use follow::{open_book, run_follow};
+pub use follow_advice::{advise_on_book, advise_on_stream};
+pub use kept_book::{BookFile, KeptBook, RowBook, is_in_sqlite};
+pub use keys::random_key;

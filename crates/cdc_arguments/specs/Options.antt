@@ -5,7 +5,8 @@ use Rattle.cdc_types.specs.Windows.{IsWindow}
 use Rattle.cdc_plans.specs.Plans.{IsPlan}
 use Rattle.cdc_plans.specs.declared.run_plans.RunPlan.{RunPlan}
 use Rattle.cdc_arguments.specs.declared.command_line.Options.{Options}
-use Rattle.cdc_arguments.specs.declared.command_line.Options.TheVariants.{Books, Messages, Simulate, Random, Run, Check, Follow, Audit, Chain, Explain}
+use Rattle.cdc_arguments.specs.declared.command_line.Options.TheVariants.{Books, Messages, Simulate, Random, Run, Check, Follow, Audit, Chain}
+use Rattle.cdc_arguments.specs.declared.command_line.Options.TheVariants.{Consume, Explain}
 use Rattle.cdc_arguments.specs.declared.command_line.Form.TheVariants.{Text}
 use Rattle.cdc_arguments.specs.declared.command_line.OptionsFault.{OptionsFault}
 use Rattle.cdc_arguments.specs.declared.command_line.OptionsFault.TheVariants.{BadWords, OutOfMemory}
@@ -31,6 +32,7 @@ IsRun name (Check file steps has_diagram form) = ⊥
 IsRun name (Follow file plan form) = ⊥
 IsRun name (Audit file plan form) = ⊥
 IsRun name (Chain file plan) = ⊥
+IsRun name (Consume plan form) = ⊥
 IsRun name (Explain text) = ⊥
 
 -- the numbers that are asked for are within their limits
@@ -44,6 +46,7 @@ IsWithinLimits (Check file steps has_diagram form) = Unit {0}
 IsWithinLimits (Follow file plan form) = Unit {0}
 IsWithinLimits (Audit file plan form) = Unit {0}
 IsWithinLimits (Chain file plan) = Unit {0}
+IsWithinLimits (Consume plan form) = Unit {0}
 IsWithinLimits (Explain text) = Unit {0}
 
 -- the place of a fault in the list of them

@@ -5,6 +5,7 @@ ghost use Rattle.cdc_arguments.specs.Options.{options_fault_number, options_faul
 
 use crate::audit_options::AuditPlan;
 use crate::chain_options::ChainPlan;
+use crate::consume_options::ConsumePlan;
 use crate::follow_options::FollowPlan;
 use cdc_deliveries::Asked;
 use cdc_plans::{Chances, RunPlan};
@@ -87,6 +88,11 @@ pub enum Options<'a> {
     Chain {
         file: &'a str,
         plan: ChainPlan<'a>,
+    },
+    /// The book of a queue of a server that speaks AMQP on standard input and output.
+    Consume {
+        plan: ConsumePlan<'a>,
+        form: Form,
     },
     /// A text on the program itself: help, or its version.
     Explain {

@@ -7,6 +7,7 @@ use crate::parsing::{STANDARD_INPUT, bad_value, json_flag, usage_error};
 use cdc_follow::Rules;
 use cdc_match::{BindError, Binding};
 use cdc_message::decimal_up_to;
+use cdc_sql::SchemaName;
 use cdc_types::Limits;
 use clap::{Arg, ArgAction, ArgMatches, Command};
 use std::alloc::{AllocError, Global};
@@ -19,6 +20,15 @@ const DEFAULT_BUSY: u64 = 30;
 
 /// For how many seconds, at most, one can be waited for: a day.
 const MOST_BUSY: u64 = 86_400;
+
+/// What is printed as SQL, instead of the book.
+#[derive(Drop)]
+pub enum SqlPlan<'a> {
+    /// What makes the tables, in the schema of this name.
+    Schema(SchemaName),
+    /// The saves in the tables of that schema, from the position in this file on.
+    Saves(SchemaName, &'a str),
+}
 
 /// How a stream is followed.
 #[derive(Drop)]
@@ -38,6 +48,10 @@ pub struct FollowPlan<'a> {
     pub busy: u64,
     /// Whether what comes of each line is printed, instead of the book.
     pub expects: bool,
+    /// Whether each event is checked against the balances of its two accounts.
+    pub checks: bool,
+    /// What is printed as SQL, if that is asked for.
+    pub sql: Option<SqlPlan<'a>>,
 }
 
 pub fn follow_arguments<'a>(alloc: Global) -> Result<Command<'a>, AllocError> {
@@ -54,8 +68,13 @@ pub fn follow_arguments<'a>(alloc: Global) -> Result<Command<'a>, AllocError> {
                 "Apply an event only if it follows the last one of its queue, by its member previous",
             ),
             Argument::flag(
+                "checked",
+                "Apply an event only if the balances that it shows follow from the events applied before",
+            )
+            .without(&["chained", "after", "busy", "expect"]),
+            Argument::flag(
                 "skip-gaps",
-                "Skip an event that does not follow the last one, and go on; needs --chained",
+                "Skip an event that does not follow the last one, and go on; needs --chained or --checked",
             ),
             Argument::option(
                 "binding",
@@ -88,6 +107,27 @@ pub fn follow_arguments<'a>(alloc: Global) -> Result<Command<'a>, AllocError> {
                 "Print the expected result of each line instead of the book, as JSON lines",
             )
             .without(&["book", "every", "busy", "json"]),
+            Argument::option(
+                "sql",
+                "NAME",
+                "Print each save as SQL for PostgreSQL, with the tables of schema NAME, instead of the book",
+            )
+            .with("resume")
+            .without(&["book", "busy", "checked", "expect", "json"]),
+            Argument::option(
+                "resume",
+                "FILE",
+                "Begin at the position in FILE, as the table book has it; needs --sql",
+            )
+            .with("sql"),
+            Argument::option(
+                "sql-schema",
+                "NAME",
+                "Print the SQL that makes the tables in schema NAME, and read no stream",
+            )
+            .without(&[
+                "book", "every", "busy", "checked", "expect", "json", "sql", "resume",
+            ]),
             json_flag(),
         ],
     )
@@ -110,10 +150,18 @@ pub fn follow_plan<'a>(
         chained: arguments.get_flag("chained"),
         skips_gaps: arguments.get_flag("skip-gaps"),
     };
-    if rules.skips_gaps && !rules.chained {
+    let checks = arguments.get_flag("checked");
+    let book = arguments.get_str("book");
+    if rules.skips_gaps && !rules.chained && !checks {
         return Err(usage_error(
             alloc,
-            "error: --skip-gaps needs --chained\n\nFor more information, try '--help'.\n",
+            "error: --skip-gaps needs --chained or --checked\n\nFor more information, try '--help'.\n",
+        )?);
+    }
+    if checks && book.is_some_and(is_in_sqlite) {
+        return Err(usage_error(
+            alloc,
+            "error: --checked keeps no book in SQLite: name a text file\n\nFor more information, try '--help'.\n",
         )?);
     }
     let parts: Vec<&str> = arguments
@@ -131,11 +179,50 @@ pub fn follow_plan<'a>(
         )?,
         binding_text: joined(alloc, parts.as_slice())?,
         after: asked_after(alloc, arguments)?,
-        book: arguments.get_str("book"),
+        book,
         every: asked_every(alloc, arguments)?,
         busy: asked_busy(alloc, arguments)?,
         expects: arguments.get_flag("expect"),
+        checks,
+        sql: asked_sql(alloc, arguments)?,
     })
+}
+
+/// What is to be printed as SQL.
+fn asked_sql<'a>(
+    alloc: Global,
+    arguments: &ArgMatches<'a>,
+) -> Result<Option<SqlPlan<'a>>, OptionsFault> {
+    if let Some(word) = arguments.get_str("sql-schema") {
+        let name = asked_name(alloc, "sql-schema", word)?;
+        return Ok(Some(SqlPlan::Schema(name)));
+    }
+    match (arguments.get_str("sql"), arguments.get_str("resume")) {
+        (Some(word), Some(file)) => {
+            let name = asked_name(alloc, "sql", word)?;
+            Ok(Some(SqlPlan::Saves(name, file)))
+        }
+        _ => Ok(None),
+    }
+}
+
+/// The name of a schema that is the value of the option of this name.
+fn asked_name(alloc: Global, option: &str, word: &str) -> Result<SchemaName, OptionsFault> {
+    let text = Vec::from_slice(alloc, word.as_bytes())?;
+    match SchemaName::new(text) {
+        Some(name) => Ok(name),
+        None => Err(bad_value(
+            alloc,
+            option,
+            word,
+            "the name of a schema: lower-case letters, digits and _, not a digit first",
+        )?),
+    }
+}
+
+/// Whether the book of this name is kept in an SQLite file.
+fn is_in_sqlite(name: &str) -> bool {
+    name.starts_with("sqlite:")
 }
 
 /// The binding that these parts of a word represent, the value of the option of this name.
@@ -202,7 +289,7 @@ pub fn asked_every(alloc: Global, arguments: &ArgMatches<'_>) -> Result<u64, Opt
 }
 
 /// For how many seconds a save waits for a program that reads the book.
-fn asked_busy(alloc: Global, arguments: &ArgMatches<'_>) -> Result<u64, OptionsFault> {
+pub fn asked_busy(alloc: Global, arguments: &ArgMatches<'_>) -> Result<u64, OptionsFault> {
     let Some(word) = arguments.get_str("busy") else {
         return Ok(DEFAULT_BUSY);
     };

@@ -92,6 +92,16 @@ is a gap too, unless it names the last event that was received: lines are compar
 
 An event that is later than the end of the stream contradicts it, and following stops there.
 
+With --checked, no message has to name the one before. Each event shows the balances of its two accounts after it. An
+event that is later than the last one applied of each of its accounts is applied if these balances, and the pending
+transfer that it settles, follow from the events that were applied. If they don't, an earlier event of one of its
+accounts is missing, and following stops. With --skip-gaps it goes on with all other accounts; when the missing event
+comes, it is applied, and its accounts go on. The stream has to begin with the first event of each account, and may lack
+whole accounts, such as other ledgers, but no kinds or codes. --binding chooses among the events that were applied. What
+moves and holds nothing isn't missed, nor is a hold that is lost with its release, nor what follows the last event of an
+account. If a release and a new hold of the same amount are both lost, the next events pass, and the release of the new
+hold is refused for ever: begin a new book.
+
 With --book, the book is saved after every N lines, each time that no whole line of a pipe or a terminal is waiting, and
 at the end. After each save a line with saved and the timestamp of the last event is printed: events up to there may be
 acknowledged, and none later. If following is stopped at any time and started again with that book, it goes on where the
@@ -109,19 +119,30 @@ accounts has the balances, and the table book the timestamp of the last event ap
 A program that is in the middle of reading is waited for, for as many seconds as --busy names; standard error reports
 that. A save that waits longer fails.
 
-The output is these lines, and at the end how far the stream was applied and its book: for each account its pending
-debits, posted debits, pending credits and posted credits.
+With --sql NAME, the output is SQL for PostgreSQL, which psql executes: for each save one transaction over the tables of
+the schema NAME. It moves the position in the table book from where this follower left it, and fails if it isn't there;
+and it puts the accounts that changed into the table accounts. psql then prints saved and the timestamp of the last
+event, and that alone may be acknowledged. FILE of --resume has the position, as psql prints it. With --sql-schema NAME,
+the output is the SQL that makes these tables; name the same --chained and --binding.
+
+Otherwise the output is these lines, and at the end how far the stream was applied and its book: for each account its
+pending debits, posted debits, pending credits and posted credits.
 
 Examples:
   relayplum messages examples/two-phase.script | relayplum follow
   consume-from-my-queue | relayplum follow --chained --book ann.book
+  consume-from-the-ledger | relayplum follow --checked --book ann.book
   consume-from-my-queue | relayplum follow --chained --book sqlite:ann.db
+  relayplum follow --chained --sql-schema bank | psql -X -v ON_ERROR_STOP=1 -d ledger
+  psql -XAt -d ledger -c 'select position from bank.book' >at
+  consume-from-my-queue | relayplum follow --chained --sql bank --resume at | psql -X -d ledger
 
 Exit status:
   0  the stream ended
-  1  there is a gap, or a line contradicts the end; or a read, a write, memory or the store of the book failed: the last
-     line of standard output names the fault, unless a write failed
-  2  the arguments or a line of the stream are bad: standard error reports what was expected, and where";
+  1  a read, a write, memory or the store of the book failed, which may pass: the last line of standard output names the
+     fault, unless a write failed
+  2  the arguments or a line of the stream are bad: standard error reports what was expected, and where
+  3  there is a gap, a line contradicts the end, or with --checked an event doesn't follow: somebody has to look";
 
 pub const AUDIT: &str = "\
 FILE is a stream of messages from a ledger's first event on, one JSON object in each line, and - is standard input. Its
@@ -157,9 +178,10 @@ Examples:
 
 Exit status:
   0  all events are accepted
-  1  an event is refused; or a read, a write, memory or the store of the state failed: the last line of standard output
-     names the fault, unless a write failed
-  2  the arguments or a line of the stream are bad: standard error reports what was expected, and where";
+  1  a read, a write, memory or the store of the state failed, which may pass: the last line of standard output names the
+     fault, unless a write failed
+  2  the arguments or a line of the stream are bad: standard error reports what was expected, and where
+  3  an event is refused: somebody has to look";
 
 pub const CHAIN: &str = "\
 FILE is a stream of messages in their order, and - is standard input. Its lines are those that the command follow reads
@@ -183,5 +205,41 @@ Examples:
 
 Exit status:
   0  the stream ended
-  1  a line contradicts the end; or a read, a write, memory or the store of the state failed: standard error reports it
-  2  the arguments or a line of the stream are bad: standard error reports what was expected, and where";
+  1  a read, a write, memory or the store of the state failed, which may pass: standard error reports it
+  2  the arguments or a line of the stream are bad: standard error reports what was expected, and where
+  3  a line contradicts the end: somebody has to look";
+
+pub const CONSUME: &str = "\
+The command speaks AMQP 0-9-1 with a RabbitMQ server on standard input and output, and opens no socket of its own: socat
+connects it. Messages are standard error's.
+
+Each delivery is a message of the queue, and is followed as the command follow does. Its body is a line of that command,
+except that a blank one is none; a message of the type end is the end of the stream. With --chained, what comes before a
+message is its header previous, or the member of its body if it has no such header.
+
+The book is saved after every N deliveries, and each time that no whole frame is waiting. Deliveries are acknowledged
+once the book that has their events is saved, and none is acknowledged before. So if the command is stopped at any time
+and started again with that book, the server delivers again what was not acknowledged: what the book has is a duplicate,
+and is acknowledged, and what it lacks is applied.
+
+The command ends at the end of the stream, after the N deliveries of --limit, at a message that is no event, at a gap, at
+a message that contradicts the end, or when the connection ends. A message at which it ends is not acknowledged, and
+neither is any after it.
+
+The password is the first line of the file that --password-file names, or the value of the variable RELAYPLUM_PASSWORD.
+
+With --report, that file is replaced at the end, and at most once a second as the book is saved. It has the status, the
+reason, the server's reply code, the tag of the delivery at which the command stopped, the counts, and the timestamp of
+the last event seen.
+
+Examples:
+  socat TCP:rabbit:5672 EXEC:'relayplum consume --queue relayplum.1 --chained --book ann.book --user ann
+  --password-file secret --report ann.status'
+  socat OPENSSL:rabbit:5671,cafile=ca.pem EXEC:'relayplum consume --queue relayplum.1 --chained --book ann.book'
+
+Exit status:
+  0  the stream ended, or --limit was reached
+  1  a failure that may pass, such as a lost connection or a book that another program uses: start the command again
+  2  the arguments or the password are bad; or the server refuses the user, the virtual host or the queue; or a message
+     is no event: standard error reports which
+  3  there is a gap, or a message contradicts the end";

@@ -8,6 +8,7 @@ use crate::arguments::{Argument, with_arguments};
 use crate::audit_options::{audit_arguments, audit_plan};
 use crate::chain_options::{chain_arguments, chain_plan};
 pub use crate::command_line::{Diagnostics, Form, Options, OptionsFault, RunDiagnostics};
+use crate::consume_options::{consume_arguments, consume_plan};
 use crate::delivery_options::{asked_deliveries, deliveries_option, expect_flag};
 use crate::follow_options::{follow_arguments, follow_plan};
 use crate::help;
@@ -41,10 +42,11 @@ enum CommandName {
     Follow,
     Audit,
     Chain,
+    Consume,
 }
 
 /// The commands, in the order in which help lists them.
-const COMMANDS: [CommandName; 7] = [
+const COMMANDS: [CommandName; 8] = [
     CommandName::Books,
     CommandName::Messages,
     CommandName::Simulate,
@@ -52,6 +54,7 @@ const COMMANDS: [CommandName; 7] = [
     CommandName::Follow,
     CommandName::Audit,
     CommandName::Chain,
+    CommandName::Consume,
 ];
 
 const ABOUT: &str =
@@ -100,8 +103,9 @@ Examples:
 Exit status:
   0  all was done
   1  a read, a write, memory, a thread, a store or the run itself failed: the last line of standard output names the
-     fault, unless a write failed; or a step or an event was refused, or a stream has a gap or contradicts its end
-  2  the arguments, a file or a line of a stream are bad: standard error reports what was expected, and where";
+     fault, unless a write failed; or a step was refused
+  2  the arguments, a file or a line of a stream are bad: standard error reports what was expected, and where
+  3  a stream has a gap, an event that is refused, or a line that contradicts its end";
 
 /// What the arguments ask for, without the program's own name. Without arguments it is `run -`.
 pub fn options<'a>(alloc: Global, args: &'a [&'a str]) -> Result<Options<'a>, OptionsFault>
@@ -161,6 +165,7 @@ fn command_of<'a>(alloc: Global, name: CommandName) -> Result<Command<'a>, Alloc
         CommandName::Follow => follow_arguments(alloc),
         CommandName::Audit => audit_arguments(alloc),
         CommandName::Chain => chain_arguments(alloc),
+        CommandName::Consume => consume_arguments(alloc),
     }
 }
 
@@ -291,6 +296,12 @@ fn asked_by<'a>(alloc: Global, matches: &ArgMatches<'a>) -> Result<Options<'a>, 
     ensures { IfOk result IsWithinLimits }
 {
     if let Some((command, arguments)) = matches.subcommand() {
+        if command == "consume" {
+            return Ok(Options::Consume {
+                plan: consume_plan(alloc, arguments)?,
+                form: asked_form(arguments),
+            });
+        }
         if let Some(file) = arguments.get_str("FILE") {
             return asked_of(alloc, command, file, arguments);
         }
