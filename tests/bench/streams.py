@@ -7,6 +7,8 @@ ACCOUNTS = 12
 REAL_ID, REAL_TRANSFER = 10**36, 2 * 10**36
 REAL_CREATED, REAL_TIMESTAMP = 1_745_000_000_000_000_000, 1_745_328_372_000_000_000
 FORMS = ('own', 'documented', 'chained')
+# The same, and lines as `messages --queue` and `chain` print them.
+REAL_FORMS = (*FORMS, 'message', 'numbered')
 
 
 def account_of(number, balances):
@@ -42,14 +44,26 @@ def lines(count, form):
     timestamp of the event before."""
     last = '0'
     for body in bodies(count):
-        own = json.dumps(body, sort_keys=True, separators=(',', ':'))
-        if form == 'own':
-            yield own + '\n'
-        elif form == 'documented':
-            yield json.dumps({name: body[name] for name in ('timestamp', 'type', 'ledger', 'transfer', 'debit_account', 'credit_account')}) + '\n'
-        else:
-            yield f'{{"previous":"{last}","body":{own}}}\n'
+        yield line_of(body, form, last)
         last = body['timestamp']
+
+
+def line_of(body, form, last):
+    """The line of an event, in one of the forms; `last` is the timestamp of the event before."""
+    own = json.dumps(body, sort_keys=True, separators=(',', ':'))
+    if form == 'own':
+        return own + '\n'
+    if form == 'documented':
+        return json.dumps({name: body[name] for name in ('timestamp', 'type', 'ledger', 'transfer', 'debit_account', 'credit_account')}) + '\n'
+    if form == 'chained':
+        return f'{{"previous":"{last}","body":{own}}}\n'
+    headers = {
+        'event_type': body['type'], 'ledger': body['ledger'], 'transfer_code': body['transfer']['code'],
+        'debit_account_code': body['debit_account']['code'], 'credit_account_code': body['credit_account']['code'],
+    }
+    queue = '"queue":1,' if form == 'numbered' else ''
+    middle = f'"headers":{json.dumps(headers, separators=(",", ":"))},"timestamp":{int(body["timestamp"]) // 10**9}'
+    return f'{{{queue}"kind":"message","previous":"{last}",{middle},"body":{own}}}\n'
 
 
 def real_account(number, balances):
@@ -57,8 +71,16 @@ def real_account(number, balances):
     return {**shown, 'timestamp': str(REAL_CREATED + number)}
 
 
-def real_lines(count, accounts):
-    """The lines of so many single-phase transfers between random accounts, as a connector writes them."""
+def real_lines(count, accounts, form='own'):
+    """The lines of so many single-phase transfers between random accounts, in one of the forms."""
+    last = '0'
+    for body in real_bodies(count, accounts):
+        yield line_of(body, form, last)
+        last = body['timestamp']
+
+
+def real_bodies(count, accounts):
+    """The bodies of so many single-phase transfers between random accounts."""
     chosen, balances = random.Random(accounts), [[0, 0] for _ in range(accounts)]
     for place in range(count):
         debit, credit = chosen.sample(range(accounts), 2)
@@ -70,11 +92,10 @@ def real_lines(count, accounts):
             'amount': str(amount), 'code': 1, 'flags': 0, 'id': str(REAL_TRANSFER + place), 'pending_id': '0', 'timeout': 0,
             'timestamp': timestamp, 'user_data_128': '0', 'user_data_32': 0, 'user_data_64': '0',
         }
-        body = {
+        yield {
             'credit_account': real_account(credit, balances[credit]), 'debit_account': real_account(debit, balances[debit]),
             'ledger': 700, 'timestamp': timestamp, 'transfer': transfer, 'type': 'single_phase',
         }
-        yield json.dumps(body, sort_keys=True, separators=(',', ':')) + '\n'
 
 
 def real_book(accounts):

@@ -337,7 +337,7 @@ def audited(bodies, book=False, skips=False):
         it.take(body)
     shown = f"subscriber 1 applied {it.count} last {it.last} ended no closed no\n{it.book()}" if book else ""
     counted = f"duplicates {skipped}\n" if skips else ""
-    return f"accepted {it.count} last {it.last}\n{counted}{shown}{refused}", 1 if refused else 0
+    return f"accepted {it.count} last {it.last}\n{counted}{shown}{refused}", 3 if refused else 0
 
 
 # ---------------------------------------------------------------------------------------------------------------------
@@ -395,54 +395,54 @@ def rows():
     yield "an expiry", [PAID, TIMED, EXPIRY], f"accepted 3 last {UP}\n", 0
     yield "envelopes and the end", [{"previous": "0", "body": PAID}, END], "accepted 1 last 10\n", 0
     yield "the end twice", [PAID, END, END], "accepted 1 last 10\n", 0
-    yield "an event after the end", [PAID, END, HELD], "accepted 1 last 10\nrefused: line 3: end: event 20 came after the end\n", 1
-    yield "an event at 0", [{**PAID, "timestamp": "0"}], "accepted 0 last 0\nrefused: line 1: timestamps: 0, after 0\n", 1
+    yield "an event after the end", [PAID, END, HELD], "accepted 1 last 10\nrefused: line 3: end: event 20 came after the end\n", 3
+    yield "an event at 0", [{**PAID, "timestamp": "0"}], "accepted 0 last 0\nrefused: line 1: timestamps: 0, after 0\n", 3
     yield "one timestamp twice", [PAID, {**HELD, "timestamp": "10"}], (
         "accepted 1 last 10\nrefused: line 2: timestamps: 10, after 10\n"
-    ), 1
-    yield "an event twice", [PAID, PAID], "accepted 1 last 10\nrefused: line 2: timestamps: 10, after 10\n", 1
+    ), 3
+    yield "an event twice", [PAID, PAID], "accepted 1 last 10\nrefused: line 2: timestamps: 10, after 10\n", 3
     one = event(10, 1, SINGLE, 5, (1, 0, 5, 0, 5), (1, 0, 5, 0, 5))
-    yield "one account", [one], "accepted 0 last 0\nrefused: line 1: accounts: account 1 is debited and credited\n", 1
+    yield "one account", [one], "accepted 0 last 0\nrefused: line 1: accounts: account 1 is debited and credited\n", 3
     again = event(20, 1, SINGLE, 1, (1, 0, 31, 0, 0), (2, 0, 0, 0, 31))
-    yield "an id twice", [PAID, again], "accepted 1 last 10\nrefused: line 2: id: transfer 1 came before\n", 1
-    yield "a post of nothing", [PAID, POST], "accepted 1 last 10\nrefused: line 2: pending: no pending transfer 2 came before\n", 1
+    yield "an id twice", [PAID, again], "accepted 1 last 10\nrefused: line 2: id: transfer 1 came before\n", 3
+    yield "a post of nothing", [PAID, POST], "accepted 1 last 10\nrefused: line 2: pending: no pending transfer 2 came before\n", 3
     of_single = event(30, 3, POSTED, 4, (1, 0, 34, 0, 0), (2, 0, 0, 0, 34), 1)
     yield "a post of a single-phase transfer", [PAID, of_single], (
         "accepted 1 last 10\nrefused: line 2: pending: no pending transfer 1 came before\n"
-    ), 1
+    ), 3
     yield "an expiry of what was posted", [PAID, TIMED, POST, EXPIRY], (
         "accepted 3 last 30\nrefused: line 4: ended: pending transfer 2 ended before\n"
-    ), 1
+    ), 3
     second = event(UP + 1, 4, VOIDED, 10, (1, 0, 30, 0, 0), (2, 0, 0, 0, 30), 2)
     yield "a void of what expired", [PAID, TIMED, EXPIRY, second], (
         f"accepted 3 last {UP}\nrefused: line 4: ended: pending transfer 2 ended before\n"
-    ), 1
+    ), 3
     third = event(30, 3, SINGLE, 1, (1, 0, 35, 0, 0), (2, 0, 0, 0, 35))
     yield "an event that was left out", [PAID, third], (
         "accepted 1 last 10\nrefused: line 2: balances: account 1 has debits_posted 35, after 30 and this transfer's 1\n"
-    ), 1
+    ), 3
     wrong = event(20, 2, PENDING, 10, (1, 10, 30, 0, 0), (2, 0, 0, 9, 30))
     yield "credits that aren't held", [PAID, wrong], (
         "accepted 1 last 10\nrefused: line 2: balances: account 2 has credits_pending 9, after 0 and this transfer's 10\n"
-    ), 1
+    ), 3
     whole = event(30, 3, POSTED, 4, (1, 6, 34, 0, 0), (2, 0, 0, 6, 34), 2)
     yield "a post that releases its own amount", [PAID, HELD, whole], (
         "accepted 2 last 20\nrefused: line 3: balances: account 1 has debits_pending 6, after 10 less the pending transfer's 10\n"
-    ), 1
+    ), 3
     other = event(20, 2, SINGLE, 1, (1, 0, 31, 0, 0), (2, 0, 7, 0, 31))
     yield "a side that doesn't move", [PAID, other], (
         "accepted 1 last 10\nrefused: line 2: balances: account 2 has debits_posted 7, after 0\n"
-    ), 1
+    ), 3
     turned = event(20, 2, SINGLE, 1, (1, 0, 30, 0, 1), (2, 0, 1, 0, 30))
     yield "debit and credit exchanged", [PAID, turned], (
         "accepted 1 last 10\nrefused: line 2: balances: account 1 has debits_posted 30, after 30 and this transfer's 1\n"
-    ), 1
+    ), 3
     most = 2**128 - 1
     full = event(10, 1, SINGLE, most, (1, 0, most, 0, 0), (2, 0, 0, 0, most))
     over = event(20, 2, SINGLE, 1, (1, 0, 0, 0, 0), (3, 0, 0, 0, 1))
     yield "a sum past 128 bits", [full, over], (
         f"accepted 1 last 10\nrefused: line 2: balances: account 1 has debits_posted 0, after {most} and this transfer's 1\n"
-    ), 1
+    ), 3
 
     yield from rows_of_fields()
     yield from rows_of_times()
@@ -453,34 +453,34 @@ def rows_of_fields():
     """The rows of what a transfer and an account may have, and of a pending transfer that is settled."""
     first = "accepted 0 last 0\nrefused: line 1: "
     second, third = "accepted 1 last 10\nrefused: line 2: ", "accepted 2 last 20\nrefused: line 3: "
-    yield "no ledger", [{**PAID, "ledger": 0}], first + "shape: transfer 1 is invalid: ledger_must_not_be_zero\n", 1
+    yield "no ledger", [{**PAID, "ledger": 0}], first + "shape: transfer 1 is invalid: ledger_must_not_be_zero\n", 3
     yield "a timeout that none may have", [with_transfer(PAID, timeout=1)], (
         first + "shape: transfer 1 is invalid: timeout_reserved_for_pending_transfer\n"
-    ), 1
+    ), 3
     yield "a post without a code", [PAID, HELD, with_transfer(POST, code=0)], (
         third + "shape: transfer 3 is invalid: code_must_not_be_zero\n"
-    ), 1
-    yield "another kind's flags", [with_transfer(PAID, flags=2)], first + "shape: transfer 1 has the flags of another kind\n", 1
+    ), 3
+    yield "another kind's flags", [with_transfer(PAID, flags=2)], first + "shape: transfer 1 has the flags of another kind\n", 3
     yield "linked", [with_transfer(PAID, flags=1)], "accepted 1 last 10\n", 0
     linked = with_transfer(PAID, flags=1)
-    yield "a chain that breaks", [linked, HELD], second + "chains: event 20 isn't the next of the chain at 10\n", 1
+    yield "a chain that breaks", [linked, HELD], second + "chains: event 20 isn't the next of the chain at 10\n", 3
     next_one = event(11, 2, PENDING, 10, (1, 10, 30, 0, 0), (2, 0, 0, 10, 30))
     yield "a chain", [linked, next_one], "accepted 2 last 11\n", 0
     yield "another timestamp", [with_transfer(PAID, timestamp="9")], (
         first + "shape: transfer 1 has timestamp 9, in an event at 10\n"
-    ), 1
+    ), 3
     exclusive = {**PAID, "credit_account": account(2, 0, 0, 0, 30, flags=6)}
-    yield "two limits", [exclusive], first + "shape: account 2 is invalid: flags_are_mutually_exclusive\n", 1
+    yield "two limits", [exclusive], first + "shape: account 2 is invalid: flags_are_mutually_exclusive\n", 3
     other = {**HELD, "credit_account": account(2, 0, 0, 10, 30, code=2)}
-    yield "another code", [PAID, other], second + "fields: account 2 has code 2, after 1\n", 1
+    yield "another code", [PAID, other], second + "fields: account 2 has code 2, after 1\n", 3
     other = {**HELD, "ledger": 701}
-    yield "another ledger", [PAID, other], second + "fields: account 1 has ledger 701, after 700\n", 1
+    yield "another ledger", [PAID, other], second + "fields: account 1 has ledger 701, after 700\n", 3
     later = {**PAID, "debit_account": account(1, 0, 30, 0, 0, timestamp="10")}
-    yield "an account of later", [later], first + "created: account 1 at 10, in an event at 10\n", 1
+    yield "an account of later", [later], first + "created: account 1 at 10, in an event at 10\n", 3
     nothing = {**PAID, "debit_account": account(1, 0, 30, 0, 0, timestamp="0")}
-    yield "an account of 0", [nothing], first + "created: account 1 at 0, in an event at 10\n", 1
+    yield "an account of 0", [nothing], first + "created: account 1 at 0, in an event at 10\n", 3
     together = {**PAID, "credit_account": account(2, 0, 0, 0, 30, timestamp="1")}
-    yield "two accounts at once", [together], first + "created: account 2 at 1, as account 1\n", 1
+    yield "two accounts at once", [together], first + "created: account 2 at 1, as account 1\n", 3
     for side, taken in (("debit_account", 1), ("credit_account", 2)):
         new = event(20, 2, SINGLE, 0, (1, 0, 30, 0, 0), (3, 0, 0, 0, 0))
         if side == "debit_account":
@@ -489,42 +489,42 @@ def rows_of_fields():
         for time, thing in ((taken, f"account {taken}"), (10, "an event")):
             other = {**new, side: account(3, 0, 0, 0, 0, timestamp=str(time))}
             printed = second + f"created: account 3 at {time}, as {thing}\n"
-            yield f"an account at {time}, {side}", [PAID, other], printed, 1
+            yield f"an account at {time}, {side}", [PAID, other], printed, 3
     settles = "settles: pending transfer 2 has other accounts, another ledger, code or user data\n"
     other = event(30, 3, POSTED, 4, (1, 6, 34, 0, 0), (3, 0, 0, 0, 4), 2)
-    yield "a post to another account", [PAID, HELD, other], third + settles, 1
-    yield "a void with another code", [PAID, HELD, with_transfer(VOID, code=2)], third + settles, 1
-    yield "an expiry with another timeout", [PAID, TIMED, with_transfer(EXPIRY, timeout=2)], third + settles, 1
+    yield "a post to another account", [PAID, HELD, other], third + settles, 3
+    yield "a void with another code", [PAID, HELD, with_transfer(VOID, code=2)], third + settles, 3
+    yield "an expiry with another timeout", [PAID, TIMED, with_transfer(EXPIRY, timeout=2)], third + settles, 3
     for name in DATA:
         held = with_transfer(HELD, **{name: 7 if name == "user_data_32" else "7"})
-        yield f"a post without {name}", [PAID, held, POST], third + settles, 1
-        yield f"a void without {name}", [PAID, held, VOID], third + settles, 1
+        yield f"a post without {name}", [PAID, held, POST], third + settles, 3
+        yield f"a void without {name}", [PAID, held, VOID], third + settles, 3
         given = with_transfer(POST, **{name: 8 if name == "user_data_32" else "8"})
         yield f"a post with another {name}", [PAID, held, given], "accepted 3 last 30\n", 0
         yield f"a post with a {name}", [PAID, HELD, given], "accepted 3 last 30\n", 0
     more = event(30, 3, POSTED, 11, (1, 0, 41, 0, 0), (2, 0, 0, 0, 41), 2)
-    yield "a post of more", [PAID, HELD, more], third + "amount: 11 of pending transfer 2, which holds 10\n", 1
+    yield "a post of more", [PAID, HELD, more], third + "amount: 11 of pending transfer 2, which holds 10\n", 3
     yield "a void of less", [PAID, HELD, with_transfer(VOID, amount="9")], (
         third + "amount: 9 of pending transfer 2, which holds 10\n"
-    ), 1
+    ), 3
     endless = {**EXPIRY, "transfer": HELD["transfer"]}
-    yield "an expiry without a timeout", [PAID, HELD, endless], third + "timeouts: pending transfer 2 has no timeout\n", 1
+    yield "an expiry without a timeout", [PAID, HELD, endless], third + "timeouts: pending transfer 2 has no timeout\n", 3
     soon = {**EXPIRY, "timestamp": str(UP - 1)}
     yield "an expiry too soon", [PAID, TIMED, soon], (
         third + f"timeouts: pending transfer 2 expires at {UP - 1}, and its time is up at {UP}\n"
-    ), 1
+    ), 3
     last = event(UP - 1, 3, POSTED, 4, (1, 0, 34, 0, 0), (2, 0, 0, 0, 34), 2)
     yield "a post just in time", [PAID, TIMED, last], f"accepted 3 last {UP - 1}\n", 0
     late = event(UP, 3, POSTED, 4, (1, 0, 34, 0, 0), (2, 0, 0, 0, 34), 2)
     yield "a post too late", [PAID, TIMED, late], (
         third + f"timeouts: pending transfer 2 is settled at {UP}, and its time is up at {UP}\n"
-    ), 1
+    ), 3
     limited = {**PAID, "debit_account": account(1, 0, 30, 0, 0, flags=2)}
-    yield "debits above credits", [limited], first + "limits: account 1 has debits of 30, above its credits of 0\n", 1
+    yield "debits above credits", [limited], first + "limits: account 1 has debits of 30, above its credits of 0\n", 3
     limited = {**PAID, "credit_account": account(2, 0, 0, 0, 30, flags=4)}
-    yield "credits above debits", [limited], first + "limits: account 2 has credits of 30, above its debits of 0\n", 1
+    yield "credits above debits", [limited], first + "limits: account 2 has credits of 30, above its debits of 0\n", 3
     full = event(10, 1, PENDING, 1, (1, 1, 2**128 - 1, 0, 0), (2, 0, 0, 1, 0))
-    yield "debits above 128 bits", [full], first + "limits: account 1 has debits above 128 bits\n", 1
+    yield "debits above 128 bits", [full], first + "limits: account 1 has debits above 128 bits\n", 3
 
 
 def chain_of(count, first, linked_last):
@@ -544,18 +544,18 @@ def rows_of_chains():
     """The rows of chains that can't have their next item."""
     first, second = "accepted 0 last 0\nrefused: line 1: ", "accepted 1 last 10\nrefused: line 2: "
     after = "links: account 3 at {}, linked, right before an event\n"
-    yield "a linked account before its event", [between_linked(10, 1, (3, 9, 1), (2, 2, 0))], first + after.format(9), 1
-    yield "a credited one", [between_linked(10, 1, (2, 2, 0), (3, 9, 1))], first + after.format(9), 1
+    yield "a linked account before its event", [between_linked(10, 1, (3, 9, 1), (2, 2, 0))], first + after.format(9), 3
+    yield "a credited one", [between_linked(10, 1, (2, 2, 0), (3, 9, 1))], first + after.format(9), 3
     yield "an unlinked account before its event", [between_linked(10, 1, (3, 9, 8), (2, 2, 0))], "accepted 1 last 10\n", 0
     event_first = [between_linked(10, 1, (1, 1, 0), (2, 2, 0)), between_linked(20, 2, (3, 9, 1), (2, 2, 0))]
-    yield "a linked account before an earlier event", event_first, second + after.format(9), 1
+    yield "a linked account before an earlier event", event_first, second + after.format(9), 3
     event_first = [between_linked(10, 1, (1, 1, 0), (2, 2, 0)), between_linked(20, 2, (3, 11, 1), (2, 2, 0))]
     yield "a linked account after an earlier event", event_first, "accepted 2 last 20\n", 0
     between = [between_linked(10, 1, (3, 5, 1), (2, 6, 1)), between_linked(20, 2, (1, 7, 0), (4, 11, 0))]
     yield "a chain of accounts", between, "accepted 2 last 20\n", 0
     yield "a linked transfer at the greatest timestamp", [with_transfer(at(GREATEST, PAID), flags=1)], (
         first + f"links: event {GREATEST} is linked, at the greatest timestamp\n"
-    ), 1
+    ), 3
     yield "a linked transfer before it", [with_transfer(at(GREATEST - 1, PAID), flags=1)], (
         f"accepted 1 last {GREATEST - 1}\n"
     ), 0
@@ -564,7 +564,7 @@ def rows_of_chains():
     yield "a longer chain", chain_of(BATCH, 10, True), (
         f"accepted {BATCH - 1} last {BATCH + 8}\nrefused: line {BATCH}: "
         f"links: event {BATCH + 9} is in a chain longer than a batch\n"
-    ), 1
+    ), 3
     pairs = [(created, created + 1) for created in range(1, BATCH - 1, 2)]
     accounts = [between_linked(5000 + one, one, (one, one, 1), (other, other, 1)) for one, other in pairs]
     count, last = len(accounts), 5000 + pairs[-1][0]
@@ -576,7 +576,7 @@ def rows_of_chains():
     yield "too many accounts linked in a row", [*accounts, body], (
         f"accepted {count} last {last}\nrefused: line {count + 1}: "
         f"links: account {BATCH} at {BATCH}, in a chain longer than a batch\n"
-    ), 1
+    ), 3
 
 
 def at(timestamp, body):
@@ -606,7 +606,7 @@ def rows_of_times():
     late = "pending transfer 3 expires before pending transfer 2, which is first to expire\n"
     yield "an expiry before the first one", [PAID, TIMED, THREE, expiry(up, THREE, 10)], (
         "accepted 3 last 30\nrefused: line 4: expiries: " + late
-    ), 1
+    ), 3
     free = with_transfer(THREE, timeout=0)
     yield "an expiry, and one without a timeout", [PAID, TIMED, free, expiry(up, TIMED, 5)], f"accepted 4 last {up}\n", 0
     balances = {"debit_account": account(1, 5, 30, 0, 0), "credit_account": account(2, 0, 0, 5, 30)}
@@ -617,23 +617,23 @@ def rows_of_times():
     yield "two expiries of one time", [*both, one, other], f"accepted 5 last {UP_BOTH + 1}\n", 0
     fifth = f"accepted 4 last {UP_BOTH}\nrefused: line 5: expiries: "
     apart = fifth + "pending transfer 3 expires with pending transfer 2, and not right after it\n"
-    yield "two expiries of one time apart", [*both, one, expiry(UP_BOTH + 2, LATE, 0)], apart, 1
+    yield "two expiries of one time apart", [*both, one, expiry(UP_BOTH + 2, LATE, 0)], apart, 3
     paid = event(UP_BOTH + 1, 4, SINGLE, 1, (1, 5, 31, 0, 0), (2, 0, 0, 5, 31))
     balances = {"debit_account": account(1, 0, 31, 0, 0), "credit_account": account(2, 0, 0, 0, 31)}
     between = [*both, one, paid, {**expiry(UP_BOTH + 2, LATE, 0), **balances}]
-    yield "an event between two expiries of one time", between, apart, 1
-    yield "one of two expiries of one time alone", [*both, one, at(9 * UP_BOTH, paid)], apart, 1
+    yield "an event between two expiries of one time", between, apart, 3
+    yield "one of two expiries of one time alone", [*both, one, at(9 * UP_BOTH, paid)], apart, 3
     yield "the second of two expiries of one time", [*both, expiry(UP_BOTH, LATE, 10)], (
         f"accepted 3 last {UP}\nrefused: line 4: expiries: " + late
-    ), 1
+    ), 3
     yield "the greatest timestamp", [at(GREATEST, PAID)], f"accepted 1 last {GREATEST}\n", 0
     yield "a greater timestamp", [at(GREATEST + 1, PAID)], (
         f"accepted 0 last 0\nrefused: line 1: timestamps: {GREATEST + 1} is above the greatest timestamp\n"
-    ), 1
+    ), 3
     yield "the greatest expiry time", [PAID, at(GREATEST - SECOND, TIMED)], f"accepted 2 last {GREATEST - SECOND}\n", 0
     yield "a greater expiry time", [PAID, at(GREATEST - SECOND + 1, TIMED)], (
         "accepted 1 last 10\nrefused: line 2: shape: transfer 2 is invalid: overflows_timeout\n"
-    ), 1
+    ), 3
     yield "no expiry time", [PAID, at(GREATEST, HELD)], f"accepted 2 last {GREATEST}\n", 0
 
 
@@ -644,19 +644,19 @@ def rows_of_another_ledger():
     yield "a flag and another timestamp", [with_transfer(PAID, flags=256, timestamp="5")], "accepted 1 last 10\n", 0
     yield "no flag and another timestamp", [with_transfer(PAID, timestamp="5")], (
         first + "shape: transfer 1 has timestamp 5, in an event at 10\n"
-    ), 1
+    ), 3
     yield "a linked transfer's flag", [with_transfer(PAID, flags=17), HELD], (
         second + "chains: event 20 isn't the next of the chain at 10\n"
-    ), 1
+    ), 3
     timed = with_transfer(TIMED, flags=18)
     yield "an expiry's flag", [PAID, timed, {**EXPIRY, "transfer": timed["transfer"]}], f"accepted 3 last {UP}\n", 0
     open_one = {**PAID, "debit_account": account(1, 0, 30, 0, 0, flags=16)}
     closed = {**HELD, "debit_account": account(1, 10, 30, 0, 0, flags=48)}
     yield "an account's flags that change", [open_one, closed], "accepted 2 last 20\n", 0
     other = {**HELD, "debit_account": account(1, 10, 30, 0, 0, flags=24)}
-    yield "a flag of ours that changes", [open_one, other], second + "fields: account 1 has flags 8, after 0\n", 1
+    yield "a flag of ours that changes", [open_one, other], second + "fields: account 1 has flags 8, after 0\n", 3
     limited = {**PAID, "debit_account": account(1, 0, 30, 0, 0, flags=18)}
-    yield "a limit and a flag", [limited], first + "limits: account 1 has debits of 30, above its credits of 0\n", 1
+    yield "a limit and a flag", [limited], first + "limits: account 1 has debits of 30, above its credits of 0\n", 3
 
 
 def rows_with_duplicates():
@@ -672,13 +672,13 @@ def rows_with_duplicates():
     yield "all again, after the end", [PAID, HELD, END, PAID, HELD, END], "accepted 2 last 20\nduplicates 2\n", 0
     yield "a later event after the end", [PAID, END, PAID, HELD], (
         "accepted 1 last 10\nduplicates 1\nrefused: line 4: end: event 20 came after the end\n"
-    ), 1
+    ), 3
     yield "an event that is lost", [PAID, PAID, POST, PAID], (
         "accepted 1 last 10\nduplicates 1\nrefused: line 3: pending: no pending transfer 2 came before\n"
-    ), 1
+    ), 3
     yield "an event that is lost before a rewind", [PAID, POST, PAID, HELD, POST], (
         "accepted 1 last 10\nduplicates 0\nrefused: line 2: pending: no pending transfer 2 came before\n"
-    ), 1
+    ), 3
     # (what isn't found)
     yield "an event that is changed and comes late", [PAID, HELD, {**PAID, "ledger": 0}], "accepted 2 last 20\nduplicates 1\n", 0
     apart = event(20, 2, SINGLE, 5, (3, 0, 5, 0, 0), (4, 0, 0, 0, 5))
@@ -687,7 +687,7 @@ def rows_with_duplicates():
     yield "the next event after a swap", [apart, PAID, later], (
         "accepted 1 last 20\nduplicates 1\n"
         "refused: line 3: balances: account 1 has debits_posted 31, after 0 and this transfer's 1\n"
-    ), 1
+    ), 3
     yield "the timestamp 0", [at(0, PAID), PAID], "accepted 1 last 10\nduplicates 1\n", 0
 
 

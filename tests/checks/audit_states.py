@@ -279,7 +279,7 @@ def duplicates(folder):
     before = state_of(state)
     found = run(["--state", state], "".join(lines).encode())
     refused = "refused: line 1: timestamps: 10, after " + str(30 + 2 * SECOND) + "\n"
-    check("without the flag it is refused", found[0] == 1 and found[1].endswith(refused), found)
+    check("without the flag it is refused", found[0] == 3 and found[1].endswith(refused), found)
     check("a state of such a refusal", state_of(state) == before, read(state))
     for place in range(len(lines) + 1):
         other = os.path.join(folder, "other")

@@ -3,7 +3,8 @@
 
   tests/checks/chain.py [PROGRAM] [--streams N] [--soak]    PROGRAM: crates/cdc_app/out/cdc_app; N random streams, 2,000 by default
 
-By hand: each kind of line, each fault and status, what standard error reports, and the saved state, which other bindings refuse.
+By hand: each kind of line, each fault and status, what standard error reports, and the saved state, which other bindings refuse;
+with standard output closed the command is refused.
 Random streams have duplicates, ends, lines that are ignored, and events by their bodies, in envelopes and as `messages --json` prints
 them; up to four queues take them. They are cut in two, and the second run goes on from the state of the first. What is printed has to
 be that of the model. The lines of each queue are lost, repeated and shuffled, and `follow --chained` has to report or skip each gap,
@@ -111,8 +112,8 @@ def rows():
     yield "a duplicate", both, [first, first, second, third, END], "".join(LINES), 0, skipped(1)
     yield "an earlier event", both, [second, first, third], line_of(1, 0, THIRD) + line_of(2, 0, THIRD), 0, skipped(1)
     yield "duplicates after the end", both, [first, END, first, END], LINES[0] + line_of(1, 10, None) + line_of(2, 0, None), 0, skipped(2)
-    yield "an event after the end", both, [first, END, third, first], LINES[0] + line_of(1, 10, None) + line_of(2, 0, None), 1, ":3: after_end"
-    yield "an event after the end that no queue takes", both, [first, END, second], LINES[0] + line_of(1, 10, None) + line_of(2, 0, None), 1, ":3: after_end"
+    yield "an event after the end", both, [first, END, third, first], LINES[0] + line_of(1, 10, None) + line_of(2, 0, None), 3, ":3: after_end"
+    yield "an event after the end that no queue takes", both, [first, END, second], LINES[0] + line_of(1, 10, None) + line_of(2, 0, None), 3, ":3: after_end"
     yield "an envelope", both, [json.dumps({"x": 1, "body": FIRST})], LINES[0], 0, ""
     yield "a line of a queue", both, [line_of(7, 3, FIRST).strip()], LINES[0], 0, ""
     yield "the end of a queue", both, [first, line_of(7, 3, None).strip()], LINES[0] + line_of(1, 10, None) + line_of(2, 0, None), 0, ""
@@ -155,7 +156,7 @@ def states(folder):
     found = run([*options_of(["all ledger=0700", "any event_type=two_phase_posted event_type=two_phase_posted"]), "--state", state], text_of([END]))
     check("under other texts of its bindings", found == (0, LINES[2], ""), found)
     found = run(options, text_of([END, own(event(40))]))
-    check("it has ended", found[:2] == (1, "") and ":2: after_end" in found[2], found)
+    check("it has ended", found[:2] == (3, "") and ":2: after_end" in found[2], found)
     before = read(state)
     for others in ([LEDGER], [POSTED, LEDGER], [LEDGER, POSTED, "all"], ["all ledger=701", POSTED], ["any ledger=700", POSTED]):
         found = run([*options_of(others), "--state", state], text_of([END]))
@@ -227,7 +228,7 @@ def chained(model, bindings, lines):
             continue
         made = model.take(None, []) if body is None else model.take(int(body["timestamp"]), taken_by(bindings, body))
         if made is None:
-            return printed, 1
+            return printed, 3
         printed += "".join(line_of(queue, previous, body) for queue, previous in made)
     return printed, 0
 
@@ -283,7 +284,7 @@ def followed(rng, queues, printed, has_ended):
                 stop = stopped
                 break
         found = run_follow(["--chained", *["--skip-gaps"] * skips], given)
-        if found != (1 if stop else 0, model.text() + stop):
+        if found != (3 if stop else 0, model.text() + stop):
             return f"queue {queue}: {found!r}, not {model.text() + stop!r}"
         if is_whole and (stop or model.gaps or model.ended != has_ended or model.applied != len(lines) - has_ended):
             return f"queue {queue}: its lines are no chain: {stop!r}, {lines!r}"
@@ -345,13 +346,29 @@ class KilledChain(interrupted.Interrupted):
         return None
 
 
+def closed(folder):
+    """With standard output closed no line is lost: the command is refused, and leaves no state."""
+    state = os.path.join(folder, "closed.state")
+    for numbers_closed, wanted in (((0, 2), 0), ((1,), 1), ((0, 1), 1), ((0, 1, 2), 1)):
+        for options in (options_of([LEDGER]), [*options_of([LEDGER]), "--state", state]):
+            found = subprocess.run(
+                [commands.program, "chain", *options], stdin=subprocess.DEVNULL, stdout=subprocess.DEVNULL, stderr=subprocess.PIPE,
+                preexec_fn=lambda: [os.close(it) for it in numbers_closed], timeout=commands.SECONDS, check=False,
+            )
+            is_reported = b"write_fault" in found.stderr or 2 in numbers_closed or not wanted
+            check(f"{options} with {numbers_closed} closed", found.returncode == wanted and is_reported, found)
+            check(f"no state of {options} with {numbers_closed} closed", not wanted or not os.path.exists(state), os.listdir(folder))
+            if os.path.exists(state):
+                os.remove(state)
+
+
 def killed(folder):
     """Runs that end at each call, or for which it is refused."""
     interrupted.check_all(KilledChain, folder)
 
 
 def main(arguments):
-    return commands.main(arguments, __doc__, "chain", [by_hand, states, killed], random_streams, STREAMS)
+    return commands.main(arguments, __doc__, "chain", [by_hand, states, closed, killed], random_streams, STREAMS)
 
 
 if __name__ == "__main__":

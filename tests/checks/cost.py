@@ -7,7 +7,8 @@
 The parts are accounts-2 and accounts-5000 (`books` on more and more transfers), full (a script of the greatest size),
 subscribers (what each further one takes), peak (the memory that such a script holds), phases (pending transfers, posts and
 a pulse), chains (transfers that are linked), log (reads of the log under `simulate`), memory (the bytes that `books` asks
-for), saves (`follow` with a book, of streams with a real ledger's numbers; --soak takes one ten times as large) and chosen (streams
+for), lines (`follow` and `audit` of lines with a real ledger's numbers, in each form that has a fast reader), saves (`follow` with a
+book, of such streams; --soak takes one ten times as large), checked (`follow --checked`, with that of `follow`) and chosen (streams
 whose ids collide if the key of a hash is fixed). Valgrind counts, so other work on the machine disturbs no figure. All of it takes
 some minutes of CPU time. The last line is 'N passed, M failed', of the figures that have limits; exit status 1 where one is over, 2
 where nothing could be counted.
@@ -51,6 +52,18 @@ SEARCH = 1_200
 BYTES_EXPONENT = 1.05  # of the bytes that growing lists ask for in all
 FIRST = 395_000  # bytes that the first transfer may ask for: a segment of the log has room for 1,024 events
 
+# Instructions for each line with a real ledger's numbers, by command and form: 5 per cent above what was measured. A line that no
+# fast reader reads takes 70,000 and more.
+LINE = {
+    ("follow", "own"): (14_800, 18_700),
+    ("follow", "documented"): (25_300, 30_100),
+    ("follow --chained", "chained"): (15_200, 19_200),
+    ("follow --chained", "message"): (15_900, 20_200),
+    ("follow --chained", "numbered"): (16_000, 20_300),
+    ("audit", "own"): (22_400, 24_800),
+    ("audit", "message"): (23_600, 26_300),
+}
+CHECKED = 1.3  # what `follow --checked` may take, in what `follow` takes
 WITH_BOOK = 2.0  # what `follow` may take with a book, in what it takes without one
 CHOSEN = 1.3  # what a stream with chosen ids may take, in what one with random ids takes
 MANY_ACCOUNTS = 20  # what a save of 1,000 lines may take with 100,000 accounts, in what it takes with ten
@@ -140,7 +153,7 @@ class Counter:
         """A future of the instructions of a command over a stream."""
         self.made += 1
         out = f"{self.folder}/{self.made}.out"
-        return self.pool.submit(counted, [*tool_arguments("cachegrind", out), self.program, command, stream], out)
+        return self.pool.submit(counted, [*tool_arguments("cachegrind", out), self.program, *command.split(), stream], out)
 
     def chosen(self, count, kind):
         """Writes a stream whose ids are chosen, and returns its path."""
@@ -149,11 +162,11 @@ class Counter:
             file.writelines(chosen_ids.lines(kind, count))
         return path
 
-    def stream_of(self, count, accounts):
+    def stream_of(self, count, accounts, form="own"):
         """Writes a stream with a real ledger's numbers, and returns its path."""
-        path = f"{self.folder}/{count}-{accounts}.stream"
+        path = f"{self.folder}/{count}-{accounts}-{form}.stream"
         with open(path, "w", encoding="ascii") as file:
-            file.writelines(streams.real_lines(count, accounts))
+            file.writelines(streams.real_lines(count, accounts, form))
         return path
 
     def peak(self, text):
@@ -356,6 +369,18 @@ def memory(counter, table):
             table.row(f"{size:,} transfers", total, exponent, BYTES_EXPONENT)
 
 
+def lines(counter, table):
+    sizes, accounts = (1_000, 5_000), 100
+    runs = {}
+    for arguments, form in LINE:
+        runs[arguments, form] = [counter.over(arguments, counter.stream_of(it, accounts, form)) for it in sizes]
+    table.head("lines with a real ledger's numbers: instructions for each")
+    for (arguments, form), limits in LINE.items():
+        few, many = [total_of(run.result()) for run in runs[arguments, form]]
+        each = (many - few) / (sizes[1] - sizes[0])
+        table.row(f"{arguments}, {form}", round(each), each, limits[counter.compiler])
+
+
 def saves(counter, table):
     count, accounts = (200_000, 97_000) if counter.is_long else (20_000, 9_700)
     stream = counter.stream_of(count, accounts)
@@ -371,6 +396,16 @@ def saves(counter, table):
     few, many = [(more - less) / 2 for more, less in [[total_of(run.result()) for run in apart[it]] for it in sizes]]
     table.row(f"{sizes[0]:,} accounts", round(few))
     table.row(f"{sizes[1]:,} accounts", round(many), many / few, MANY_ACCOUNTS)
+
+
+def checked(counter, table):
+    count, accounts = (200_000, 97_000) if counter.is_long else (20_000, 9_700)
+    stream = counter.stream_of(count, accounts)
+    runs = [counter.over(it, stream) for it in ("follow", "follow --checked")]
+    plain, total = [total_of(run.result()) for run in runs]
+    table.head(f"{count:,} messages over {accounts:,} accounts: instructions; in those of follow")
+    table.row("follow", plain)
+    table.row("follow --checked", total, total / plain, CHECKED)
 
 
 def chosen(counter, table):
@@ -397,7 +432,7 @@ def top(counter, count):
 
 COUNTS = {"accounts-2": accounts_2, "accounts-5000": accounts_5000, "full": full, "subscribers": subscribers,
           "peak": peak, "phases": phases, "chains": chains, "log": log, "memory": memory,
-          "saves": saves, "chosen": chosen}
+          "lines": lines, "saves": saves, "checked": checked, "chosen": chosen}
 
 
 def main(arguments):

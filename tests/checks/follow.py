@@ -276,7 +276,7 @@ def rows():
     yield "the end twice, and a duplicate between", [], lines(first, end(), first, end()), ended, 0, ""
     yield "an event after the end", [], lines(first, end(), second, end()), (
         ended + "after_end: line 3: ended after 10\n"
-    ), 1, ":3: after_end: the event has the timestamp 20, and the stream ended after 10"
+    ), 3, ":3: after_end: the event has the timestamp 20, and the stream ended after 10"
     yield "an event after the end that the binding doesn't take", ["--binding", "all ledger=700"], lines(
         first, end(), own({**SECOND, "ledger": 701})
     ), ended, 0, ""
@@ -317,11 +317,11 @@ def rows():
     yield "a chain and its end", chain, lines(chained(0, FIRST), end(10)), ONE.replace("ended no", "ended yes"), 0, ""
     yield "a gap", chain, lines(chained(0, FIRST), chained(15, SECOND)), (
         ONE + "gap: line 2: after 15, expected after 10\n"
-    ), 1, ":2: gap: "
-    yield "a gap before the first event", chain, lines(chained(10, SECOND)), NOTHING + "gap: line 1: after 10, expected after 0\n", 1, "gap"
+    ), 3, ":2: gap: "
+    yield "a gap before the first event", chain, lines(chained(10, SECOND)), NOTHING + "gap: line 1: after 10, expected after 0\n", 3, "gap"
     yield "a gap before the end", chain, lines(chained(0, FIRST), end(20)), (
         ONE + "gap: line 2: after 20, expected after 10\n"
-    ), 1, "gap"
+    ), 3, "gap"
     yield "an event after a gap that is skipped", [*chain, "--skip-gaps"], lines(
         chained(10, SECOND), chained(0, FIRST), chained(10, SECOND)
     ), TWO, 0, 1
@@ -334,25 +334,25 @@ def rows():
     yield "duplicates are no gaps", [*chain, "--skip-gaps"], lines(chained(0, FIRST), chained(7, FIRST), chained(90, FIRST)), ONE, 0, ""
     yield "an event of another queue", chain, lines(chained(0, FIRST), chained(0, SECOND), chained(10, event(30))), (
         ONE + "gap: line 2: after 0, expected after 10\n"
-    ), 1, ":2: gap: the message before this one in its queue has the timestamp 0, and the last one that came has 10: this message is of"
+    ), 3, ":2: gap: the message before this one in its queue has the timestamp 0, and the last one that came has 10: this message is of"
     yield "an event of another queue that is skipped", [*chain, "--skip-gaps"], lines(
         chained(0, FIRST), chained(0, event(15)), chained(10, SECOND)
     ), TWO, 0, 1
     yield "the end of another queue", chain, lines(chained(0, FIRST), end(0)), (
         ONE + "gap: line 2: after 0, expected after 10\n"
-    ), 1, ":2: gap: "
+    ), 3, ":2: gap: "
     yield "a redelivery after the end", chain, lines(chained(0, FIRST), end(10), chained(0, FIRST), end(10)), ended, 0, ""
     for name, options in (("an event after the end of a chain", chain), ("with gaps that are skipped", [*chain, "--skip-gaps"])):
         yield name, options, lines(chained(0, FIRST), end(10), chained(10, SECOND)), (
             ended + "after_end: line 3: ended after 10\n"
-        ), 1, ":3: after_end: the event has the timestamp 20"
+        ), 3, ":3: after_end: the event has the timestamp 20"
     yield "an event after the end, of which the binding takes none", [*chain, "--binding", "all ledger=701"], lines(
         chained(0, FIRST), end(10), chained(10, SECOND)
-    ), NOTHING.replace("ended no", "ended yes") + "after_end: line 3: ended after 10\n", 1, "after_end"
+    ), NOTHING.replace("ended no", "ended yes") + "after_end: line 3: ended after 10\n", 3, "after_end"
     for previous in (0, 20):
         yield f"another end, after {previous}", chain, lines(chained(0, FIRST), end(10), end(previous)), (
             ended + "after_end: line 3: ended after 10\n"
-        ), 1, f":3: after_end: this end comes after {previous}, and the stream ended after 10"
+        ), 3, f":3: after_end: this end comes after {previous}, and the stream ended after 10"
     yield "a chain's timestamp out of range", chain, lines(chained(0, FIRST), chained(10, event(GREATEST + 1))), (
         ONE + "fault: line 2: out_of_range\n"
     ), 2, "out_of_range"
@@ -381,12 +381,12 @@ def rows():
     yield "a late start, and a redelivery from before it", [*chain, *late], lines(chained(0, FIRST), chained(10, SECOND)), later, 0, ""
     yield "a late start amid an event", [*chain, *late], lines(chained(15, SECOND)), (
         NOTHING + "gap: line 1: after 15, expected after 10\n"
-    ), 1, "has the timestamp 15, and the last one that came has 10"
+    ), 3, "has the timestamp 15, and the last one that came has 10"
     yield "a late start and a first event", [*chain, *late], lines(chained(0, SECOND)), (
         NOTHING + "gap: line 1: after 0, expected after 10\n"
-    ), 1, ":1: gap: "
+    ), 3, ":1: gap: "
     yield "a late start at the end", [*chain, *late], lines(end(10)), NOTHING.replace("ended no", "ended yes"), 0, ""
-    yield "a late start and an earlier end", [*chain, *late], lines(end(0)), NOTHING + "gap: line 1: after 0, expected after 10\n", 1, "gap"
+    yield "a late start and an earlier end", [*chain, *late], lines(end(0)), NOTHING + "gap: line 1: after 0, expected after 10\n", 3, "gap"
     yield "a late start without --chained", late, lines(first, second), later, 0, ""
     yield "a late start before all events", ["--after", "9"], lines(first, second), TWO, 0, ""
     yield "a late start after all events", ["--after", "20"], lines(first, second), NOTHING, 0, ""
@@ -403,7 +403,7 @@ JSON_ROWS = [
         '{"kind":"account","subscriber":1,"id":"2","debits_pending":"0","debits_posted":"0","credits_pending":"0","credits_posted":"5"}\n'
         '{"kind":"gap","line":2,"after":"30","expected_after":"10"}\n'
         + counted(applied=1),
-        1,
+        3,
     ),
     (
         "what contradicts the end, as JSON",
@@ -412,7 +412,7 @@ JSON_ROWS = [
         '{"kind":"subscriber","subscriber":1,"applied":0,"last":"0","ended":true,"closed":false}\n'
         '{"kind":"after_end","line":2,"ended_after":"0"}\n'
         + counted(),
-        1,
+        3,
     ),
     (
         "a bad line as JSON",
@@ -480,8 +480,8 @@ EXPECTED = [
 ]
 NO_JSON = '{"kind":"expect","line":1,"result":"bad_line","name":"not_json","applied":0,"last":"0","accounts":[]}\n'
 EXPECT_ROWS = [
-    ("each kind of line", [*OF_700, "--skip-gaps"], EACH_KIND, "".join(EXPECTED), 1),
-    ("a gap", OF_700, EACH_KIND, "".join(EXPECTED[:5]), 1),
+    ("each kind of line", [*OF_700, "--skip-gaps"], EACH_KIND, "".join(EXPECTED), 3),
+    ("a gap", OF_700, EACH_KIND, "".join(EXPECTED[:5]), 3),
     ("up to the end", [*OF_700, "--skip-gaps"], EACH_KIND[:6], "".join(EXPECTED[:6]), 0),
     ("no lines", [], [], "", 0),
     ("a bad line", [], ["x", own(FIRST)], NO_JSON, 2),
@@ -521,7 +521,7 @@ def counts(folder):
     """The counts of each kind of line, with each save and at the end, of this run alone."""
     found = run([*OF_700, "--skip-gaps", "--json"], text_of(EACH_KIND))
     end_of_all = '{"kind":"after_end","line":8,"ended_after":"20"}\n' + counted(1, 2, 1, 1, 1)
-    check("the counts of each kind of line", found[0] == 1 and found[1].endswith(end_of_all), found)
+    check("the counts of each kind of line", found[0] == 3 and found[1].endswith(end_of_all), found)
     book = os.path.join(folder, "counted.book")
     arguments = [*OF_700, "--skip-gaps", "--json", "--every", "1", "--book", book]
     found = run(arguments, text_of(EACH_KIND[:6]))
@@ -584,7 +584,7 @@ def random_stream(seed):
         stop = model.take(number, line)
         results_printed += model.expected(number)
         if stop and not (skips and stop.startswith("gap: ")):
-            printed, status = stop, 1
+            printed, status = stop, 3
             break
         results.append(model.result)
     arguments = ["--chained"] * is_chained + ["--skip-gaps"] * (is_chained and skips)
@@ -1030,8 +1030,8 @@ def closed(folder):
         it.write(messages + b"x\n")
     book = books_of(lines, is_chained=False)[-1]
     for name, arguments, wanted in (
-        ("book", ["follow", stream, "--book", "FILE", "--every", "3"], (1, book)),
-        ("book in SQLite", ["follow", stream, "--book", "sqlite:FILE", "--every", "3"], (1, book)),
+        ("book", ["follow", stream, "--book", "FILE", "--every", "3"], (3, book)),
+        ("book in SQLite", ["follow", stream, "--book", "sqlite:FILE", "--every", "3"], (3, book)),
         ("book of nothing", ["follow", "--book", "FILE"], (0, (0, NOTHING))),
         ("book of nothing in SQLite", ["follow", "--book", "sqlite:FILE"], (0, (0, NOTHING))),
         ("state", ["audit", bodies, "--state", "FILE", "--every", "1"], None),

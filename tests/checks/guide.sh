@@ -93,7 +93,7 @@ shown=$(sed -n '/^"delivery":2/,/^```$/p' "$top/README.md" | sed '$d')
 line=$(sed -n 's/.*`\(subscriber 1 applied [0-9 of]*deliveries\)`.*/\1/p' "$top/README.md")
 grep -qx "relayplum: $line" said || wrong 'README: how many deliveries were applied'
 theorems=$(awk -v RS= '/^> / { gsub(/(^|\n)> /, " "); print substr($0, 2) }' "$top/README.md")
-[ "$(wc -l <<<"$theorems")" == 2 ] || wrong "README: not two theorems"
+[ "$(wc -l <<<"$theorems")" == 3 ] || wrong "README: not three theorems"
 while IFS= read -r theorem; do
     [ "$theorem" != '' ] && grep -qF "$theorem" "$top/docs/PROOFS.md" || wrong "README: not a theorem of PROOFS.md"
 done <<<"$theorems"

@@ -128,7 +128,7 @@ def main(arguments):
             for found in pool.map(lambda name: helps(name, env), names):
                 for it in found:
                     same(*it)
-    same("there are scripts in each folder", {"tests", "tools", "checks", "bench", "common", "faults", "rabbitmq"},
+    same("there are scripts in each folder", {"tests", "tools", "checks", "bench", "common", "faults", "postgresql", "rabbitmq"},
          {os.path.basename(os.path.dirname(it)) for it in names})
     parts_left_out()
     print(f"scripts: {checks.passed} passed, {checks.failed} failed")

@@ -82,8 +82,8 @@ BOOK = (
     "change the file, and a file at its name with .new appended has to be what a save left\n"
 )
 NO_BOOK = (
-    "bad_record: it holds no book, or one that was saved with another --binding, or with --chained where that isn't given now, "
-    "or the other way round: name its options, or another file\n"
+    "bad_record: it holds no book, or one that was saved with another --binding, or with --chained or --checked where that isn't "
+    "given now, or the other way round: name its options, or another file\n"
 )
 NO_FILE = "read_fault: it is no regular file: name another one\n"
 UNOPENED = "read_fault: it can't be opened: name a file that can be read, or one that isn't there in a folder that is\n"
@@ -101,7 +101,7 @@ def rows():
     """Each row: the arguments, the status, and standard error."""
     yield ["books", b"\xff"], 2, "error: an argument is not UTF-8 text\n"
     yield ["simulate", "one.script", "-"], 1, "-: read_fault: No such file or directory (os error 2)\n"
-    yield ["follow", "gap.stream", "--skip-gaps"], 2, f"error: --skip-gaps needs --chained\n{MORE}"
+    yield ["follow", "gap.stream", "--skip-gaps"], 2, f"error: --skip-gaps needs --chained or --checked\n{MORE}"
     for option, command, wrong, wanted in [
         ("--queue", ["messages", "one.script"], "9", "the number of a subscriber, from 1 to 8"),
         ("--repeat", ["run", "one.script"], "0:1", "a queue from 1, a colon and a position from 1, such as 1:2"),
@@ -153,10 +153,10 @@ def rows():
         f"chain.script:7: batch 2 transfer 2 (id 2): {posts}\n"
     )
     gap = "the message before this one in its queue has the timestamp 15, and the last one that came has 10"
-    yield ["follow", "--chained", "gap.stream"], 1, (
+    yield ["follow", "--chained", "gap.stream"], 3, (
         f"{counts_of('gap.stream', applied=1)}gap.stream:2: gap: {gap}: messages between them are missing\n"
     )
-    yield ["audit", "wrong.stream"], 1, (
+    yield ["audit", "wrong.stream"], 3, (
         "wrong.stream:2: balances: no ledger publishes this event after those before it: one of them was lost, duplicated, "
         "moved or changed, or this one was\n"
     )

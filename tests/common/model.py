@@ -791,6 +791,77 @@ class Chain:
         return lines
 
 
+class Checked:
+    """What checked following applies of events that come in any order and number: an event is applied if it is later than
+    the last applied one of each of its accounts, and if its balances, and what it settles, follow from what was applied
+    of these."""
+
+    def __init__(self):
+        self.applied = []
+        self.lasts = {}  # of each account the timestamp of its last applied event
+        self.balances = {}  # and the balances that it shows
+        self.open_ones = {}  # the event of each open pending transfer, by the transfer's id
+
+    def take(self, event):
+        """What becomes of an event: applied, late, or the reason why it is refused."""
+        if event.timestamp <= max(self.lasts.get(id, 0) for id in accounts_of(event)):
+            return 'late'
+        why = self.refusal(event)
+        if why:
+            return why
+        for id, shown in zip(accounts_of(event), (event.debit_balances, event.credit_balances)):
+            self.lasts[id], self.balances[id] = event.timestamp, shown
+        if event.kind == 'two_phase_pending':
+            self.open_ones[event.transfer.request.id] = event
+        self.open_ones.pop(settled_by(event), None)
+        self.applied.append(event)
+        return 'applied'
+
+    def refusal(self, event):
+        """Why an event doesn't follow, or None."""
+        pending = self.open_ones.get(settled_by(event))
+        if settled_by(event) is not None and pending is None:
+            return 'not pending'
+        if pending and not settles_so(event, pending):
+            return 'settles'
+        debit, credit = (self.balances.get(id, Balances()) for id in accounts_of(event))
+        amount = event.transfer.request.amount
+        posted = amount if event.kind in ('single_phase', 'two_phase_posted') else 0
+        held = (amount if event.kind == 'two_phase_pending' else 0) - (pending.transfer.request.amount if pending else 0)
+        debit = replace(debit, debits_pending=debit.debits_pending + held, debits_posted=debit.debits_posted + posted)
+        credit = replace(credit, credits_pending=credit.credits_pending + held, credits_posted=credit.credits_posted + posted)
+        return None if (event.debit_balances, event.credit_balances) == (debit, credit) else 'balances'
+
+
+def accounts_of(event):
+    """The ids of an event's debited and credited account."""
+    return event.debit_account.request.id, event.credit_account.request.id
+
+
+def settled_by(event):
+    """The id of the pending transfer that an event settles, or None."""
+    request = event.transfer.request
+    if event.kind == 'two_phase_expired':
+        return request.id
+    return request.pending_id if event.kind in ('two_phase_posted', 'two_phase_voided') else None
+
+
+def settles_so(event, pending):
+    """Whether an event has the accounts, the ledger and the code of the pending transfer, and an amount and a timestamp at
+    which it can settle that one."""
+    one, other = event.transfer.request, pending.transfer.request
+    if (accounts_of(event), one.ledger, one.code) != (accounts_of(pending), other.ledger, other.code):
+        return False
+    end = pending.transfer.end
+    if event.kind == 'two_phase_expired':
+        return event.transfer == pending.transfer and end is not None and end <= event.timestamp
+    if end is not None and end <= event.timestamp:
+        return False
+    if any(not getattr(one, name) and getattr(other, name) for name in ('user_data_128', 'user_data_64', 'user_data_32')):
+        return False
+    return one.amount <= other.amount if event.kind == 'two_phase_posted' else one.amount == other.amount
+
+
 # ---------------------------------------------------------------- The world
 
 # The steps and how many numbers follow each one's words.
