@@ -723,7 +723,7 @@ def by_hand(folder):
         found = run(["--foreign"], text_of(stream))
         check(f"--foreign, {name}", found[:2] == (status, printed), found)
         plain = run([], text_of(stream))
-        check(f"{name}, without --foreign", plain[0] == 1 and plain[1].endswith((": reserved_flag\n", "event at 10\n")), plain)
+        check(f"{name}, without --foreign", plain[0] == 3 and plain[1].endswith((": reserved_flag\n", "event at 10\n")), plain)
     for name, stream, printed, status in rows():
         found = run([], text_of(stream))
         check(name, found[:2] == (status, printed) and bool(found[2]) == (status != 0), found)
@@ -736,7 +736,7 @@ def by_hand(folder):
     check("the book", found[:2] == (0, "accepted 3 last 30\n" + book), found)
     found = run(["--json"], text_of([PAID, POST]))
     lines = '{"kind":"accepted","events":1,"last":"10"}\n{"kind":"refusal","line":2,"rule":"pending","transfer":"2"}\n'
-    check("as JSON", found[:2] == (1, lines), found)
+    check("as JSON", found[:2] == (3, lines), found)
     for stream, members in json_rows():
         found = run(["--json"], text_of(stream))
         line = json.loads(found[1].splitlines()[-1])
