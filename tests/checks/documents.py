@@ -43,7 +43,6 @@ BUDGETS = [
     (3_600, "docs/REFERENCE.md"),
     (8_140, "docs/FORMATS.md"),
     (5_000, "docs/PROOFS.md"),
-    (300, "drafts/README.md"),
     (2_590, "docs/ARCHITECTURE.md"),
     (3_720, "CONTRIBUTING.md"),
     (3_740, "docs/DECISIONS.md"),

@@ -1,5 +1,6 @@
 pub mod Bodies
 pub mod Decimals
+pub mod Digits
 pub mod Errors
 pub mod Fields
 pub mod Found

@@ -6,6 +6,7 @@ ghost use Rattle.std.specs.Char.{is_ascii_digit};
 ghost use Rattle.std.specs.List.{list_all, take_while};
 ghost use Rattle.std.specs.Str.Parse.{digits_value};
 ghost use Rattle.cdc_message.specs.Decimals as spec;
+ghost use Rattle.cdc_message.specs.Digits.{AreDigits};
 ghost use Rattle.cdc_message.specs.OwnBodies.{begins_with_digit};
 
 fn has_digits_alone(text: &[u8]) -> bool
@@ -81,23 +82,65 @@ pub(crate) fn leading_number(text: &[u8]) -> Option<u128>
     value_of(digits)
 }
 
-/// The number that the digits at the front of a text represent, and how many they are. `None` if there is no digit, if
-/// there are more than 19, or if the first of several is a zero.
-pub(crate) fn short_number(text: &[u8]) -> Option<(u64, usize)>
-    ensures digits { IfSome result (λ found. (found.1 ≤ length text.now) × (decimal found.0 ≡ take found.1 text.now)) }
-    ensures whole { IfSome result (λ found. begins_with_digit (drop found.1 text.now) ≡ false) }
+// How many digits always fit into 64 bits.
+const FIRST: usize = 19;
+
+// How many digits always fit into 128 bits.
+const MOST: usize = 38;
+
+// The first digits of a text, at most 19: the number that they represent, and how many they are.
+fn first_digits(text: &[u8]) -> (u64, usize)
+    ensures reads { AreDigits text.now result.1 result.0 }
+    ensures few { result.1 ≤ FIRST }
+    ensures whole { result.1 < FIRST → begins_with_digit (drop result.1 text.now) ≡ false }
 {
     let mut number = 0;
     let mut count = 0;
-    while count < text.len() && text[count].is_ascii_digit() {
-        if count == 19 {
-            return None;
-        }
+    while count < FIRST && count < text.len() && text[count].is_ascii_digit() {
         number = number * 10 + u64::from(text[count] - b'0');
         count += 1;
     }
+    (number, count)
+}
+
+// The number that the digits at the front of a text represent, of which the first 19 represent this one, and how many
+// they are. `None` if there are more than 38.
+fn more_digits(text: &[u8], high: u64) -> Option<(u128, usize)>
+    requires { AreDigits text.now FIRST high }
+    ensures reads { IfSome result (λ found. AreDigits text.now found.1 found.0) }
+    ensures few { IfSome result (λ found. (FIRST ≤ found.1) × (found.1 ≤ MOST)) }
+    ensures whole { IfSome result (λ found. begins_with_digit (drop found.1 text.now) ≡ false) }
+{
+    let mut low: u64 = 0;
+    let mut scale: u64 = 1;
+    let mut count = FIRST;
+    while count < text.len() && text[count].is_ascii_digit() {
+        if count == MOST {
+            return None;
+        }
+        low = low * 10 + u64::from(text[count] - b'0');
+        scale *= 10;
+        count += 1;
+    }
+    Some((
+        u128::from(high) * u128::from(scale) + u128::from(low),
+        count,
+    ))
+}
+
+/// The number that the digits at the front of a text represent, and how many they are. `None` if there is no digit, if
+/// there are more than 38, or if the first of several is a zero.
+pub(crate) fn front_number(text: &[u8]) -> Option<(u128, usize)>
+    ensures digits { IfSome result (λ found. (found.1 ≤ length text.now) × (decimal found.0 ≡ take found.1 text.now)) }
+    ensures fits { IfSome result (λ found. found.0 < 10 ^ MOST) }
+    ensures whole { IfSome result (λ found. begins_with_digit (drop found.1 text.now) ≡ false) }
+{
+    let (number, count) = first_digits(text);
     if count == 0 || (count > 1 && text[0] == b'0') {
         return None;
     }
-    Some((number, count))
+    if count < FIRST {
+        return Some((u128::from(number), count));
+    }
+    more_digits(text, number)
 }

@@ -9,7 +9,7 @@ ghost use Rattle.cdc_message.specs.OwnBodies.{begins_with_digit, IsOwnBody, Read
 ghost use Rattle.cdc_message.specs.Reading.{read};
 ghost use Rattle.cdc_message.specs.Widths.{AccountFits, EventFits, TransferFits};
 
-use crate::decimals::{leading_number, short_number};
+use crate::decimals::{front_number, leading_number};
 use crate::kinds::kind_of;
 use crate::words::same;
 use cdc_types::{Event, EventAccount, EventKind, EventTransfer};
@@ -51,21 +51,20 @@ impl Cursor<'_> {
         Some(())
     }
 
-    /// Reads a number without leading zeros. `None` if there is none, or if it has more than 128 bits. Most have at
-    /// most 19 digits.
+    /// Reads a number without leading zeros. `None` if there is none, or if it has more than 128 bits.
     pub fn number(&mut self) -> Option<u128>
         ensures text { IfSome result (λ n. self.old.rest.now ≡ decimal n ++ self.new.rest.now) }
         ensures complete { (n : ℕ) (rest : List ℕ) → self.old.rest.now ≡ decimal n ++ rest → n < 2 ^ 128
             → begins_with_digit rest ≡ false → (result ≡ Some n) × (self.new.rest.now ≡ rest) }
     {
-        if let Some((number, count)) = short_number(self.rest) {
+        if let Some((number, count)) = front_number(self.rest) {
             self.rest = &self.rest[count..];
-            return Some(u128::from(number));
+            return Some(number);
         }
         self.long_number()
     }
 
-    // Reads a number without leading zeros: the text is compared with that of the number.
+    // Reads a number without leading zeros, of any length: the text is compared with that of the number.
     #[inline(never)]
     fn long_number(&mut self) -> Option<u128>
         ensures text { IfSome result (λ n. self.old.rest.now ≡ decimal n ++ self.new.rest.now) }

@@ -9,9 +9,9 @@ pub returns-in-Some-clause-complete : goal.returns-in-Some-clause-complete
 returns-in-Some-clause-complete c n rest is small ends =
     let text = c.args.self.now.rest.now in
     let count = c.in-Some.count in
-    let fits : c.in-Some.number < 10 ^ 64 = omega (arith, c.from.type_inv, c.from.ensures) in
+    let fits : c.in-Some.number < 10 ^ 64 = omega (arith, c.in-Some.ensures.fits) in
     let same = read_is text rest c.in-Some.number count n c.in-Some.ensures.digits.1 c.in-Some.ensures.whole fits is
     (omega arith) ends in (
-      ap Some (c.from.ensures ∙ same.0),
+      ap Some same.0,
       ap (λ k. take k (drop count text)) (sym (length-drop count text)) ∙ take-length (drop count text) ∙ same.1,
     )
