@@ -61,18 +61,18 @@ class Series:
                 return True
             return (arguments, form) != ALONE and (arguments[0] == 'follow' or not name.endswith(FOLLOWS_ONLY))
 
-        return {name: words for name, words in self.programs.items() if does(name)}
+        return {name: command for name, command in self.programs.items() if does(name)}
 
     def counts(self, arguments, form):
         """The instructions of a line, by program."""
-        def total(name, words, size):
+        def total(name, command, size):
             out = self.folder / f'{name.replace("/", "-")}-{"-".join(arguments)}-{form}-{size}.out'
-            counting.counted([*counting.tool_arguments('callgrind', out), *called(words, arguments, self.stream_of(size, form))], out)
+            counting.counted([*counting.tool_arguments('callgrind', out), *called(command, arguments, self.stream_of(size, form))], out)
             return counting.total_of(out)
 
         for size in SIZES:
             self.stream_of(size, form)
-        runs = {name: [self.pool.submit(total, name, words, size) for size in SIZES] for name, words in self.doing(arguments, form).items()}
+        runs = {name: [self.pool.submit(total, name, command, size) for size in SIZES] for name, command in self.doing(arguments, form).items()}
         few_and_many = {name: [it.result() for it in pair] for name, pair in runs.items()}
         return {name: (many - few) / (SIZES[1] - SIZES[0]) for name, (few, many) in few_and_many.items()}
 
@@ -98,14 +98,14 @@ class Series:
             yield f'| {" ".join(["`" + " ".join(arguments) + "`,", form])} | {" | ".join(cells)} |'
 
 
-def called(words, arguments, stream):
+def called(command, arguments, stream):
     """The command of a program for this work on a stream."""
-    program, *own = words
+    program, *own = command
     return [program, *arguments, *own, str(stream)]
 
 
 def peer_of(text):
-    """The name and the words of a peer."""
+    """The name and the command of a peer."""
     name, equals, command = text.partition('=')
     if not (name and equals and shlex.split(command)):
         raise ValueError(text)

@@ -1,5 +1,5 @@
 #!/usr/bin/env bash
-# docs/GUIDE.md, REFERENCE.md, AUDIT.md, EXACTLY-ONCE.md and TESTING-A-CONSUMER.md as their reader meets them: each `sh` block
+# docs/GUIDE.md, STREAMS.md, REFERENCE.md, AUDIT.md, EXACTLY-ONCE.md and TESTING-A-CONSUMER.md as their reader meets them: each `sh` block
 # of a page is run, in their order, in one folder that begins with the program, the examples and tools/try-consumer, and what it
 # prints on standard output is compared with the block of output after it. A block without one prints nothing. Whatever it writes
 # is in the folder play/.
@@ -81,7 +81,7 @@ run_page() {
     diff -r examples "$top/examples" || wrong "$name.md: an example was changed"
 }
 
-for name in GUIDE REFERENCE AUDIT EXACTLY-ONCE TESTING-A-CONSUMER; do
+for name in GUIDE STREAMS REFERENCE AUDIT EXACTLY-ONCE TESTING-A-CONSUMER; do
     run_page
 done
 
