@@ -1,5 +1,5 @@
 # Completions of relayplum for bash. Source this file, or put it, under the name relayplum, into the folder
-# bash-completion/completions of ~/.local/share or /usr/share.
+# bash-completion/completions of ~/.local/share or /usr/share. tools/pages writes it.
 _relayplum() {
     local word=${COMP_WORDS[COMP_CWORD]} words='' launcher='' first=1
     COMPREPLY=()
@@ -13,33 +13,47 @@ _relayplum() {
         # A folder follows --install.
         compopt -o filenames 2>/dev/null
         mapfile -t COMPREPLY < <(compgen -d -- "$word")
+        return
     elif [ "$COMP_CWORD" = "$first" ]; then
         words="books messages simulate run follow audit chain consume help -h --help -V --version $launcher"
     elif [ "${COMP_WORDS[first]}" = help ]; then
         words='books messages simulate run follow audit chain consume help'
-    elif [ "${COMP_WORDS[COMP_CWORD - 1]}" = --window ]; then
-        words='1 2 8 64'
-    elif [ "${COMP_WORDS[first]} ${COMP_WORDS[COMP_CWORD - 1]}" = 'messages --queue' ] ||
-        [ "${COMP_WORDS[COMP_CWORD - 1]}" = --deliveries ]; then
-        words='1 2 3 4 5 6 7 8'
-    elif [[ $word == -* ]]; then
+    else
+        # The values of a flag.
+        case "${COMP_WORDS[first]} ${COMP_WORDS[COMP_CWORD - 1]}" in
+        'messages --queue' | 'simulate --deliveries' | 'run --deliveries') words='1 2 3 4 5 6 7 8' ;;
+        'simulate --window' | 'run --window') words='1 2 8 64' ;;
+        esac
+    fi
+    if [ -z "$words" ] && [[ $word == -* ]]; then
         case ${COMP_WORDS[first]} in
-            books) words='--explain --json --check -h --help' ;;
-            messages) words='--queue --json --check -h --help' ;;
-            simulate) words='--random --to-end --steps --faults --skip-refused --deliveries --expect --window --explain --trace --diagram --json --check -h --help' ;;
+            books)
+                words='--explain --json --check -h --help'
+                ;;
+            messages)
+                words='--queue --json --check -h --help'
+                ;;
+            simulate)
+                words='--random --to-end --steps --faults --skip-refused --deliveries --expect --window --explain'
+                words+=' --trace --diagram --json --check -h --help'
+                ;;
             run)
-                words='--window --prefetch --lose-confirm --lose-publish --restart-after --repeat --close --start-after --progress'
-                words+=' --deliveries --expect --explain --trace --json -h --help'
+                words='--window --prefetch --lose-confirm --lose-publish --restart-after --repeat --close'
+                words+=' --start-after --progress --deliveries --expect --explain --trace --json -h --help'
                 ;;
             follow)
-                words='--chained --checked --skip-gaps --binding --after --book --every --busy --expect --sql --resume --sql-schema'
-                words+=' --json -h --help'
+                words='--chained --checked --skip-gaps --binding --after --book --every --busy --expect --sql'
+                words+=' --resume --sql-schema --json -h --help'
                 ;;
-            audit) words='--book --foreign --duplicates --state --every --json -h --help' ;;
-            chain) words='--queue --state --every -h --help' ;;
+            audit)
+                words='--book --foreign --duplicates --state --every --json -h --help'
+                ;;
+            chain)
+                words='--queue --state --every -h --help'
+                ;;
             consume)
-                words='--queue --book --chained --binding --vhost --user --password-file --prefetch --heartbeat --every --busy --limit'
-                words+=' --report --json -h --help'
+                words='--queue --book --chained --binding --vhost --user --password-file --prefetch --heartbeat'
+                words+=' --every --busy --limit --report --json -h --help'
                 ;;
         esac
     fi

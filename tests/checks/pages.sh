@@ -2,8 +2,9 @@
 # The man page and the completions, compared with the program's own help: each command and each flag that the help
 # names is in each of them, and no other is. Flags are compared command by command, except in the man page, which has
 # them in one list. The launcher options, which ./relayplum takes before the command, are compared in the same way.
-# Then docs/help, which `relayplum` answers from before there is a program: each text is what the program prints.
-# Takes the program's path, crates/cdc_app/out/cdc_app where none is given; with `--write` before it, it writes docs/help.
+# Then docs/help, which `relayplum` answers from before there is a program: each text is what the program prints; and what
+# tools/pages makes of these texts. Takes the program's path, crates/cdc_app/out/cdc_app where none is given; with `--write` before
+# it, it writes docs/help, and then all that tools/pages makes of it.
 # Prints each check that fails.
 set -uo pipefail
 writes=false
@@ -49,7 +50,7 @@ same 'the page: commands' "$all_commands" "$(part COMMANDS | grep -A 1 '^\.TP' |
 same 'the page: synopsis' "$all_commands" "$(part SYNOPSIS | sed -n 's/^\.B relayplum \([a-z]*\).*/\1/p' | sorted)"
 same 'the page: options' "$all_flags" "$(part OPTIONS | grep -A 1 '^\.TP' | grep '^\.BR' | flags_in)"
 same 'the page: launcher options' "$launcher_flags" "$(part 'LAUNCHER OPTIONS' | grep -A 1 '^\.TP' | grep '^\.BR' | flags_in)"
-same 'the page: flags anywhere' "$(sorted <<<"$all_flags"$'\n'"$launcher_flags")" "$(sed 's/\\-/-/g' "$page" | flags_in)"
+same 'the page: flags anywhere' "$(sorted <<<"$all_flags"$'\n'"$launcher_flags")" "$(sed '/^\.nf/,/^\.fi/d; s/\\-/-/g' "$page" | flags_in)"
 
 # bash: what is offered, by the function itself.
 . "$bash_file"
@@ -80,7 +81,7 @@ same 'bash: the launcher, the folder' "$top/crates" "$(offered_to ./relayplum --
 # zsh: what its file has, command by command; `$help` and its like stand for a list further up.
 zsh_list() { sed -n "/^    $1=/p" "$zsh_file" | flags_in; }
 same 'zsh: launcher options' "$launcher_flags" "$(sed -n "/^ *launcher=(/,/^ *)/s/^ *'\(--[a-z-]*\)\[.*/\1/p" "$zsh_file" | sorted)"
-same 'zsh: commands' "$all_commands" "$(sed -n "/^    commands=(/,/^    )/s/^ *'\([a-z]*\):.*/\1/p" "$zsh_file" | sorted)"
+same 'zsh: commands' "$all_commands" "$(sed -n "/^    commands=(/,/^    )/s/^ *['\"]\([a-z]*\):.*/\1/p" "$zsh_file" | sorted)"
 same 'zsh: the first word' "$(flags)" "$({ zsh_list help; grep -- '--version' "$zsh_file" | flags_in; } | sorted)"
 for command in $with_flags; do
     found=$(sed -n "/^        ($command)\$/,/;;/p" "$zsh_file")
@@ -120,6 +121,14 @@ for name in relayplum version $with_flags; do
     failed=$((failed + 1))
     printf 'failed: docs/help/%s.txt is not what the program prints (tests/checks/pages.sh --write writes it)\n' "$name"
 done
+
+# The rest, which tools/pages makes of docs/help.
+! $writes || "$top/tools/pages" --write
+checks=$((checks + 1))
+if ! made=$("$top/tools/pages"); then
+    failed=$((failed + 1))
+    printf '%s\n' "$made"
+fi
 
 echo "pages: $checks checks, $failed failed"
 [ "$failed" == 0 ]
