@@ -3,7 +3,7 @@
 # of a page is run, in their order, in one folder that begins with the program, the examples and tools/try-consumer, and what it
 # prints on standard output is compared with the block of output after it. A block without one prints nothing. Whatever it writes
 # is in the folder play/.
-# Of README what it shows of the marketplace is run and compared, and its theorems have to stand in docs/PROOFS.md, word for word.
+# Of README what it shows of the marketplace is run and compared, and its sentence of what is proved has to be in docs/PROOFS.md.
 # Takes the program's path, crates/cdc_app/out/cdc_app where none is given. Prints each block that fails.
 set -uo pipefail
 top=$(cd "$(dirname "${BASH_SOURCE[0]}")/../.." && pwd)
@@ -85,18 +85,16 @@ for name in GUIDE STREAMS REFERENCE AUDIT EXACTLY-ONCE TESTING-A-CONSUMER; do
     run_page
 done
 
-# README: what two consumers make of the deliveries, the line that counts them, the theorems.
+# README: what two consumers make of the deliveries, the line that counts them, what is proved.
 clone README
 sed -n '/^market=/,/^```$/p' "$top/README.md" | sed '$d' >shown.sh
 shown=$(sed -n '/^"delivery":2/,/^```$/p' "$top/README.md" | sed '$d')
 [ "$shown" != '' ] && [ "$shown" == "$(bash shown.sh 2>said)" ] || wrong 'README: the second delivery'
 line=$(sed -n 's/.*`\(subscriber 1 applied [0-9 of]*deliveries\)`.*/\1/p' "$top/README.md")
 grep -qx "relayplum: $line" said || wrong 'README: how many deliveries were applied'
-theorems=$(awk -v RS= '/^> / { gsub(/(^|\n)> /, " "); print substr($0, 2) }' "$top/README.md")
-[ "$(wc -l <<<"$theorems")" == 3 ] || wrong "README: not three theorems"
-while IFS= read -r theorem; do
-    [ "$theorem" != '' ] && grep -qF "$theorem" "$top/docs/PROOFS.md" || wrong "README: not a theorem of PROOFS.md"
-done <<<"$theorems"
+theorem=$(sed -n 's/^> //p' "$top/README.md")
+[ "$theorem" != '' ] && [ "$(wc -l <<<"$theorem")" == 1 ] || wrong 'README: not one sentence of what is proved'
+grep -qF "$theorem" "$top/docs/PROOFS.md" || wrong 'README: its sentence of what is proved is not in PROOFS.md'
 
 [ "$lack_jq" == 0 ] || echo "guide: not tried: $lack_jq blocks: there is no jq (Debian package jq)"
 echo "guide: $blocks blocks, $failed failed"
