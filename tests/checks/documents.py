@@ -41,7 +41,7 @@ BUDGETS = [
     (1_730, "docs/EXACTLY-ONCE.md"),
     (1_060, "docs/AUDIT.md"),
     (900, "docs/STREAMS.md"),
-    (4_320, "docs/REFERENCE.md"),
+    (4_700, "docs/REFERENCE.md"),
     (9_770, "docs/FORMATS.md"),
     (6_000, "docs/PROOFS.md"),
     (3_110, "docs/ARCHITECTURE.md"),
