@@ -55,13 +55,13 @@ FIRST = 395_000  # bytes that the first transfer may ask for: a segment of the l
 # Instructions for each line with a real ledger's numbers, by command and form: 5 per cent above what was measured. A line that no
 # fast reader reads takes 70,000 and more.
 LINE = {
-    ("follow", "own"): (14_800, 18_700),
-    ("follow", "documented"): (25_300, 30_100),
-    ("follow --chained", "chained"): (15_200, 19_200),
-    ("follow --chained", "message"): (15_900, 20_200),
-    ("follow --chained", "numbered"): (16_000, 20_300),
-    ("audit", "own"): (22_400, 24_800),
-    ("audit", "message"): (23_600, 26_300),
+    ("follow", "own"): (9_170, 10_040),
+    ("follow", "documented"): (19_630, 21_450),
+    ("follow --chained", "chained"): (9_610, 10_550),
+    ("follow --chained", "message"): (10_400, 11_590),
+    ("follow --chained", "numbered"): (10_480, 11_680),
+    ("audit", "own"): (16_820, 16_130),
+    ("audit", "message"): (18_040, 17_680),
 }
 CHECKED = 1.3  # what `follow --checked` may take, in what `follow` takes
 WITH_BOOK = 2.0  # what `follow` may take with a book, in what it takes without one
