@@ -46,6 +46,7 @@ complete -c relayplum -n '__fish_seen_subcommand_from follow' -l expect -d 'Prin
 complete -c relayplum -n '__fish_seen_subcommand_from follow' -l sql -x -d 'Print each save as SQL for PostgreSQL, with the tables of this schema'
 complete -c relayplum -n '__fish_seen_subcommand_from follow' -l resume -r -d 'Begin at the position in this file, as the table book has it'
 complete -c relayplum -n '__fish_seen_subcommand_from follow' -l sql-schema -x -d 'Print the SQL that makes the tables in this schema'
+complete -c relayplum -n '__fish_seen_subcommand_from follow' -l events -d 'Keep the events that are applied in a table, too'
 complete -c relayplum -n '__fish_seen_subcommand_from audit' -l book -d 'Print the last balances of each account'
 complete -c relayplum -n '__fish_seen_subcommand_from audit' -l foreign -d "Accept flags that this ledger doesn't have"
 complete -c relayplum -n '__fish_seen_subcommand_from audit' -l duplicates -d "Skip and count events that aren't later than the last accepted one"

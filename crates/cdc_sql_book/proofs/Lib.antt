@@ -1,2 +1,1 @@
 mod PrintingLemmas
-mod WholeLemmas
