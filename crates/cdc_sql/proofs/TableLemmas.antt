@@ -84,7 +84,9 @@ module _ (keeps chained : Bool) (binding : List ℕ) where
       let tables = tables_by keeps chained binding place applied in
       let save = save_of keeps place step in
       let taken : takes chained binding tables save ≡ true =
-      rw (same_here (row_at chained binding place)) (kept_distinct keeps applied (events_in step.items) new) in
+      ap (λ b. b && are_distinct (times_of (kept_if keeps applied ++ kept_if keeps (events_in step.items))))
+      (same_here (row_at chained binding place))
+      ∙ kept_distinct keeps applied (events_in step.items) new in
       ap (λ b. cond b (joined step.after applied (events_in step.items)) tables) taken
       ∙ moved step.after applied (events_in step.items)
 
