@@ -13,7 +13,8 @@ is wrong, nothing is lost that was reported as saved, and the next follower goes
 same of a program that is killed while it follows a pipe into psql. Rivals: of followers that start at one row, one saves at a time, and
 the tables are those of a prefix of the queue. Stale: a follower that was stopped and wakes up after another one has saved changes
 nothing. Cuts: a save's text that is cut off at any byte is committed or changes nothing. Numbers: the greatest value in every column.
-Names: a schema whose name is a reserved word. Supervisor: contrib/postgresql/supervise.py prints what is saved, and ends both.
+Names: a schema whose name is a reserved word. Closed: standard descriptors. Moved: a position
+that was moved back. Every other schema has a table of events. Supervisor: contrib/postgresql/supervise.py prints what is saved, and ends both.
 
 The last line is `sql: N passed, M failed`; the status is 1 if one failed.
 """
@@ -411,6 +412,31 @@ def refused(program):
     check("no file", (status, text) == (1, "") and "read_fault" in said, (status, text, said))
 
 
+def closed(program):
+    """With standard descriptors closed, the text is the same, or none if standard output is closed, and no message gets into a file."""
+    lines = [*stream_of(12), follow.chained(5, follow.event(10**6))]  # (standard error reports the gap at the last line)
+    at = position(0, 0, 0, False) + "\n"
+    wanted = "".join([PREAMBLE, *texts_of("bank", at, lines, 5)])
+    for numbers in ((), (0,), (1,), (2,), (0, 1), (0, 2), (1, 2), (0, 1, 2)):
+        with tempfile.TemporaryDirectory() as folder:
+            paths = {it: os.path.join(folder, it) for it in ("at", "stream", "out", "err")}
+            for name, text in (("at", at), ("stream", "".join(f"{it}\n" for it in lines))):
+                with open(paths[name], "w") as file:
+                    file.write(text)
+            arguments = ["--chained", "--sql", "bank", "--resume", paths["at"], "--every", "5", paths["stream"]]
+            with open(paths["out"], "wb") as out, open(paths["err"], "wb") as err:
+                close = lambda given=numbers: [os.close(it) for it in given]
+                done = subprocess.run([program, "follow", *arguments], stdin=subprocess.DEVNULL, stdout=out, stderr=err, preexec_fn=close, check=False)
+            found = {}
+            for name, path in paths.items():
+                with open(path) as file:
+                    found[name] = file.read()
+            check(f"{numbers} closed: the status", done.returncode == 3, done)
+            check(f"{numbers} closed: the text", found["out"] == ("" if 1 in numbers else wanted), found["out"][:500])
+            check(f"{numbers} closed: a message", ("gap" in found["err"]) == (2 not in numbers), found["err"])
+            check(f"{numbers} closed: the files", found["at"] == at and found["stream"].count("\n") == len(lines), found)
+
+
 # ---------------------------------------------------------------------------------------------------------------------
 # What is tried with the server.
 
@@ -665,6 +691,7 @@ def main(arguments):
     if not options.model:
         printed(options.program)
         refused(options.program)
+        closed(options.program)
     if tools() is None:
         print("sql: not tried: the saves on a server, since there is no PostgreSQL (Debian package postgresql)")
         return commands.ended("sql")
