@@ -19,12 +19,12 @@ abbrev pub ins : Rows → ℕ → AccountRow → Rows
 ins rows id row = insert_entry nat_eq rows id row
 
 -- an account with this number has a row
-has : ℕ → Rows → Bool
+abbrev has : ℕ → Rows → Bool
 has id [] = false
 has id (r ∷ rest) = cond (id == r.0) true (has id rest)
 
 -- no account has two rows
-distinct : Rows → Bool
+abbrev distinct : Rows → Bool
 distinct [] = true
 distinct (r ∷ rest) = not (has r.0 rest) && distinct rest
 
@@ -53,9 +53,9 @@ stays other id row (r ∷ rest) there =
       | inl same ↦ rw same.0 there
       | inr apart ↦ elim (eqb_tells other r.0) [
         | inl is ↦ rw (apart.0, is.0) refl
-        | inr no ↦
-            let later : has other rest ≡ true = rw no.0 at there in
-            rw (apart.0, no.0) (stays other id row rest later)
+        | inr differs ↦
+            let later : has other rest ≡ true = rw differs.0 at there in
+            rw (apart.0, differs.0) (stays other id row rest later)
       ]
     ]
 

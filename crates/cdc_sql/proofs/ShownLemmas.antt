@@ -68,16 +68,16 @@ row_put n id row (r ∷ rest) =
         | inl is ↦
             let back : (n == id) ≡ true = subst (λ m. (n == m) ≡ true) (sym same.1) is.0 in
             rw (same.0, is.0, back) refl
-        | inr no ↦
-            let back : (n == id) ≡ false = subst (λ m. (n == m) ≡ false) (sym same.1) no.0 in
-            rw (same.0, no.0, back) refl
+        | inr differs ↦
+            let back : (n == id) ≡ false = subst (λ m. (n == m) ≡ false) (sym same.1) differs.0 in
+            rw (same.0, differs.0, back) refl
       ]
       | inr other ↦ elim (eqb_tells n r.0) [
         | inl is ↦
             let back : (n == id) ≡ false =
             subst (λ m. (m == id) ≡ false) (sym is.1) (eqb_swap id r.0 other.0) in
             rw (other.0, is.0, back) refl
-        | inr no ↦ rw (other.0, no.0) (row_put n id row rest)
+        | inr differs ↦ rw (other.0, differs.0) (row_put n id row rest)
       ]
     ]
 

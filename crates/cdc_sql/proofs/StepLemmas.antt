@@ -51,7 +51,7 @@ module _ (binding : Arguments) where
       (state_apart change outcome entry.previous entry.content apart)
       ∙ ap (λ s. items_by binding s entries) (sym (state_with from change outcome entry.previous entry.content apart)))
 
-  made : Place → List Item → Step
+  abbrev made : Place → List Item → Step
   made to items = record { after = to; items = items }
 
   emptied_step : (state : FollowState) (entries : List Entry)

@@ -82,17 +82,35 @@ fn event_columns() -> &'static str
      credit_account_timestamp"
 }
 
+/// Adds how a statement begins that puts accounts.
+fn push_account_head(text: &mut Vec<u8>, name: &SchemaName) -> Result<(), AllocError>
+    ensures { OnOk result (text.new.items ≡ text.old.items ++ account_statement name.now.text.items) }
+{
+    push(text, "INSERT INTO ")?;
+    push_accounts_table(text, name)?;
+    push(text, " (id, ")?;
+    push(text, row_columns())?;
+    push(text, ") VALUES\n")
+}
+
 /// How a statement begins that puts accounts.
 fn account_head(alloc: Global, name: &SchemaName) -> Result<Vec<u8>, AllocError>
     ensures { IfOk result (λ head. head.items ≡ account_statement name.now.text.items) }
 {
     let mut head = Vec::new(alloc);
-    push(&mut head, "INSERT INTO ")?;
-    push_accounts_table(&mut head, name)?;
-    push(&mut head, " (id, ")?;
-    push(&mut head, row_columns())?;
-    push(&mut head, ") VALUES\n")?;
+    push_account_head(&mut head, name)?;
     Ok(head)
+}
+
+/// Adds how a statement begins that adds events.
+fn push_event_head(text: &mut Vec<u8>, name: &SchemaName) -> Result<(), AllocError>
+    ensures { OnOk result (text.new.items ≡ text.old.items ++ event_statement name.now.text.items) }
+{
+    push(text, "INSERT INTO ")?;
+    push_events_table(text, name)?;
+    push(text, " (")?;
+    push(text, event_columns())?;
+    push(text, ") VALUES\n")
 }
 
 /// How a statement begins that adds events.
@@ -100,11 +118,7 @@ fn event_head(alloc: Global, name: &SchemaName) -> Result<Vec<u8>, AllocError>
     ensures { IfOk result (λ head. head.items ≡ event_statement name.now.text.items) }
 {
     let mut head = Vec::new(alloc);
-    push(&mut head, "INSERT INTO ")?;
-    push_events_table(&mut head, name)?;
-    push(&mut head, " (")?;
-    push(&mut head, event_columns())?;
-    push(&mut head, ") VALUES\n")?;
+    push_event_head(&mut head, name)?;
     Ok(head)
 }
 
@@ -295,15 +309,22 @@ fn push_event(text: &mut Vec<u8>, event: &Event) -> Result<(), AllocError>
     push(text, ")")
 }
 
+/// The event at this index.
+fn event_at(events: &[Event], place: usize) -> Option<Event>
+    ensures { result ≡ slice_get events.now place }
+{
+    events.get(place).copied()
+}
+
 /// Adds the rows of events.
 fn push_event_rows(text: &mut Vec<u8>, head: &[u8], events: &[Event]) -> Result<(), AllocError>
     ensures { OnOk result (text.new.items
         ≡ text.old.items ++ list_text (lead_text head.now spec.event_end) event_text 0 events.now) }
 {
     'events: for place in 0..events.len() {
-        if let Some(event) = events.get(place) {
+        if let Some(event) = event_at(events, place) {
             push_lead(text, head, ";\n", place)?;
-            push_event(text, event)?;
+            push_event(text, &event)?;
         }
     }
     Ok(())

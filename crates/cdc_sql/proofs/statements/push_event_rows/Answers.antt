@@ -11,11 +11,11 @@ events-preserved c =
     let place = c.events.place in
     let whole = c.args.text.now.items ++ list_text lead event_text 0 items in
     let next : suc place ≡ place + 1 = omega arith in
-    elim c.match-get.branch [
+    elim c.match-event_at.branch [
       | in-Some+in_ok-push_lead+in_ok-push_event w ↦
           rw w.text-is
           (subst (λ n. IsRest lead event_text items w.push_event.new.text.items n whole) next
-          (row_added lead event_text items place w.in-Some.event.now c.events.text.items
+          (row_added lead event_text items place w.in-Some.event c.events.text.items
           w.push_lead.new.text.items w.push_event.new.text.items whole (sym w.in-Some.ensures) c.events.invariant
           w.in_ok-push_lead.ensures w.in_ok-push_event.ensures))
       | in_default w ↦
