@@ -1,5 +1,5 @@
 -- What the saves of followers of a chained queue leave in the tables.
-use Rattle.std.proofs.Common.{◌≡◌, ℕ, List, [], ◌∷◌, ◌++◌, Bool, true, false, cond, ◌&&◌, refl, sym, ap, ◌∙◌, subst}
+use Rattle.std.proofs.Common.{◌≡◌, ℕ, List, [], ◌∷◌, ◌++◌, Bool, true, false, cond, refl, sym, ap, ◌∙◌, subst}
 use Rattle.std.specs.List.{AllByRecursion, flat_map}
 use Rattle.std.proofs.lemmas.Bool.{and_parts}
 use Rattle.std.proofs.lemmas.List.Sums.{fold-append}
@@ -11,10 +11,10 @@ use Rattle.cdc_follow.specs.declared.entries.Entry.{Entry}
 use Rattle.cdc_follow.specs.Following.{FollowState, follow_all, next_follow}
 use Rattle.cdc_follow.specs.Laws.{IsOfQueue, KeepsPrefix, taken_by}
 use Rattle.cdc_sql.specs.Laws.{AreOf, AreOfPrefix, IsSaveOf, SavesKeepAPrefix, WhateverSavesKeepAPrefix}
-use Rattle.cdc_sql.specs.Laws.{items_by, step_by, steps_by}
+use Rattle.cdc_sql.specs.Laws.{step_by, steps_by}
 use Rattle.cdc_sql.specs.Places.{place_of}
-use Rattle.cdc_sql.specs.Rows.{put_rows, rows_by}
-use Rattle.cdc_sql.specs.Saves.{Save, Step, events_in, kept_if, save_of, saves_from}
+use Rattle.cdc_sql.specs.Rows.{put_rows}
+use Rattle.cdc_sql.specs.Saves.{Save, Step, events_in, save_of, saves_from}
 use Rattle.cdc_sql.specs.Tables.{Tables, execute, execute_all, row_at, same_row, tables_by, takes, times_of}
 use Rattle.cdc_sql.proofs.RowLemmas.{place_of_row}
 use Rattle.cdc_sql.proofs.StepLemmas.{all_grow, same_step, taken_distinct}

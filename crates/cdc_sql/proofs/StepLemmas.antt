@@ -1,7 +1,7 @@
 -- A follower's step by entries: it depends on the follower's place alone, and of a chained queue it goes on with the
 -- events of a prefix.
-use Rattle.std.proofs.Common.{◌≡◌, ◌==◌, ℕ, ◌<◌, ◌≤◌, List, [], ◌∷◌, ◌++◌, append_assoc, append-nil, Bool, true, false, cond, not, ◌&&◌}
-use Rattle.std.proofs.Common.{Option, Some, None, refl, sym, ap, ◌∙◌, arith, subst, eqb-true, inl, inr}
+use Rattle.std.proofs.Common.{◌≡◌, ℕ, ◌≤◌, List, [], ◌∷◌, ◌++◌, append_assoc, append-nil, Bool, true, false, cond}
+use Rattle.std.proofs.Common.{Option, Some, refl, sym, ap, ◌∙◌, arith, subst, eqb-true, inl, inr}
 use Rattle.std.specs.Prelude.{nat_eq, nat_le, nat_lt, filter}
 use Rattle.std.specs.List.{AllByRecursion}
 use Rattle.std.proofs.lemmas.Bool.Decides.{eqb_tells}
@@ -17,7 +17,6 @@ use Rattle.cdc_match.specs.Arguments.{Arguments}
 use Rattle.cdc_match.specs.Matching.{matches}
 use Rattle.cdc_subscriber.specs.Answers.{listens}
 use Rattle.cdc_subscriber.specs.Book.{are_distinct, ids_of, is_among}
-use Rattle.cdc_subscriber.proofs.BookLemmas.{eqb_swap}
 use Rattle.cdc_follow.specs.declared.entries.Content.{Content}
 use Rattle.cdc_follow.specs.declared.entries.Content.TheVariants as content
 use Rattle.cdc_follow.specs.declared.entries.Entry.{Entry}

@@ -1,12 +1,12 @@
 -- What executing the saves of one follower leaves in the tables.
-use Rattle.std.proofs.Common.{◌≡◌, ◌==◌, ℕ, List, [], ◌∷◌, ◌++◌, append_assoc, append-nil, Bool, true, false, cond, not, ◌&&◌, ◌||◌, refl, sym, ap, ◌∙◌, subst}
+use Rattle.std.proofs.Common.{◌≡◌, ◌==◌, ℕ, List, [], ◌∷◌, ◌++◌, append_assoc, append-nil, Bool, true, false, cond, not, ◌&&◌, refl, sym, ap, ◌∙◌, subst}
 use Rattle.std.proofs.lemmas.Slice.Eq.{bytes_eq-Decides}
 use Rattle.cdc_types.specs.declared.events.Event.{Event}
 use Rattle.cdc_subscriber.specs.Book.{are_distinct, is_among}
 use Rattle.cdc_subscriber.proofs.BookLemmas.{eqb_same, neither}
 use Rattle.cdc_sql.specs.Laws.{SavesMakeTables, events_of_steps, place_after}
 use Rattle.cdc_sql.specs.Rows.{put_rows, rows_by}
-use Rattle.cdc_sql.specs.Saves.{Save, Step, events_in, kept_if, save_of, saves_from}
+use Rattle.cdc_sql.specs.Saves.{Step, events_in, kept_if, save_of, saves_from}
 use Rattle.cdc_sql.specs.Tables.{BookRow, Tables, execute, execute_all, row_at, same_row, tables_by, takes, times_of}
 use Rattle.cdc_sql.specs.declared.places.Place.{Place}
 use Rattle.cdc_sql.proofs.PutLemmas.{Rows, put_join}

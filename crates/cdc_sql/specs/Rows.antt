@@ -1,5 +1,5 @@
 -- The rows of accounts, and what a follower has applied since a save.
-use Rattle.std.specs.Prelude.{◌<◌, ◌≤◌, ℕ, nat_eq, fold, length, List, [], Option, Some, None, IfSome}
+use Rattle.std.specs.Prelude.{◌<◌, ◌≤◌, ℕ, nat_eq, fold, List, [], Option, Some, None, IfSome}
 use Rattle.std.specs.Vec.{vec_capacity, vec_len}
 use Rattle.std.specs.declared.alloc.Global.{Global}
 use Rattle.std.specs.declared.vec.Vec.{Vec}
