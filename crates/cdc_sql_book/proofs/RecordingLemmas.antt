@@ -1,5 +1,5 @@
 -- A follower that keeps what it applies takes an entry.
-use Rattle.std.proofs.Common.{◌≡◌, ℕ, List, [], ◌∷◌, ◌++◌, append-nil, Option, None, Some, refl, sym, ap, ◌∙◌}
+use Rattle.std.proofs.Common.{◌≡◌, ℕ, Bool, List, [], ◌∷◌, ◌++◌, append-nil, Option, None, Some, refl, sym, ap, ◌∙◌}
 use Rattle.std.specs.Option.{option_map}
 use Rattle.std.specs.declared.alloc.Global.{Global}
 use Rattle.std.specs.declared.vec.Vec.{Vec}
@@ -9,10 +9,12 @@ use Rattle.cdc_follow.specs.declared.entries.Entry.{Entry}
 use Rattle.cdc_follow.specs.declared.follower.Following.{Following}
 use Rattle.cdc_follow.specs.Following.{next_follow, outcome_of}
 use Rattle.cdc_book_log.specs.Details.{items_of}
+use Rattle.cdc_sql.specs.Places.{place_of}
 use Rattle.cdc_sql.specs.Rows.{rows_after}
 use Rattle.cdc_sql.specs.Saves.{events_in}
 use Rattle.cdc_sql.specs.declared.rows.AccountRow.{AccountRow}
-use Rattle.cdc_sql_book.specs.Recording.{RecordedState, RecordsOn, Taking, events_taken}
+use Rattle.cdc_sql_book.specs.Recording.{IsRecordedSince, RecordedState, RecordsOn, Taking}
+use Rattle.cdc_sql_book.specs.Recording.{events_taken}
 
 -- the events of a vector, if there is one
 abbrev pub listed : Option (Vec Event Global) → Option (List Event)
@@ -46,3 +48,28 @@ take_moves binding entry old new following rows mid after answer base saved stat
           ∙ ap (option_map (λ all. all ++ events_in (items_of following entry.content))) was
           ∙ ap (λ m. option_map (λ all. all ++ m) old.events) more;
     }
+
+-- no events in the place of some
+abbrev nothing : List Event → List Event
+nothing events = []
+
+-- a follower that begins to keep what it applies
+pub fresh : (old : RecordedState) (is_saved : Bool) → IsRecordedSince old.follower (record {
+  follower = old.follower;
+  base = place_of old.follower;
+  is_saved = is_saved;
+  rows = [];
+  events = option_map (λ _. []) old.events;
+})
+fresh old is_saved = record {
+  taken = [];
+  base = refl;
+  follower = refl;
+  rows = refl;
+  events = none old.events;
+}
+  where
+    none : (events : Option (List Event))
+        → option_map nothing events ≡ option_map nothing (option_map nothing events)
+    none None = refl
+    none (Some kept) = refl
