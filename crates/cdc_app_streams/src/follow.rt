@@ -59,11 +59,13 @@ pub fn run_follow<T: Threads + Wait + Copy + Send + 'static>(
         Some(SqlPlan::Schema { name, keeps_events }) => {
             return run_schema(rt, &name, keeps_events, &setup, after);
         }
-        Some(SqlPlan::Saves {
-            name,
-            position,
-            keeps_events,
-        }) => {
+        Some(
+            SqlPlan::Saves {
+                name,
+                position,
+                keeps_events,
+            },
+        ) => {
             let saves = SqlSaves {
                 name,
                 keeps_events,

@@ -59,7 +59,11 @@ impl Recent {
     {
         Recent {
             rows: IndexMap::with_hasher(alloc, key),
-            events: if keeps_events { Some(Vec::new(alloc)) } else { None },
+            events: if keeps_events {
+                Some(Vec::new(alloc))
+            } else {
+                None
+            },
         }
     }
 

@@ -61,7 +61,10 @@ fn push_accounts_schema(text: &mut Vec<u8>, name: &SchemaName) -> Result<(), All
     push_accounts_table(text, name)?;
     push(text, account_schema_columns())?;
     push_accounts_table(text, name)?;
-    push(text, " IS 'Each account after the last event that has it.';\n")
+    push(
+        text,
+        " IS 'Each account after the last event that has it.';\n",
+    )
 }
 
 /// The columns of the table `events`, except those of the events' accounts.
@@ -111,7 +114,10 @@ fn push_events_schema(text: &mut Vec<u8>, name: &SchemaName) -> Result<(), Alloc
     push(text, credit_schema_columns())?;
     push(text, ");\nCOMMENT ON TABLE ")?;
     push_events_table(text, name)?;
-    push(text, " IS 'The events that were applied. Rows are only added.';\n")
+    push(
+        text,
+        " IS 'The events that were applied. Rows are only added.';\n",
+    )
 }
 
 /// Adds what makes the table `events`, if events are kept.
@@ -160,11 +166,7 @@ fn push_create(text: &mut Vec<u8>, name: &SchemaName) -> Result<(), AllocError>
 }
 
 /// Adds what makes the schema with its tables.
-fn push_tables(
-    text: &mut Vec<u8>,
-    name: &SchemaName,
-    keeps_events: bool,
-) -> Result<(), AllocError>
+fn push_tables(text: &mut Vec<u8>, name: &SchemaName, keeps_events: bool) -> Result<(), AllocError>
     ensures { OnOk result (text.new.items ≡ text.old.items ++ tables_schema keeps_events name.now.text.items) }
 {
     push_create(text, name)?;

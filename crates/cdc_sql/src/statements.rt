@@ -131,12 +131,7 @@ fn push_next(text: &mut Vec<u8>, head: &[u8], tail: &str) -> Result<(), AllocErr
 }
 
 /// Adds what stands before the row of this place, which isn't the first one.
-fn push_between(
-    text: &mut Vec<u8>,
-    head: &[u8],
-    tail: &str,
-    place: usize,
-) -> Result<(), AllocError>
+fn push_between(text: &mut Vec<u8>, head: &[u8], tail: &str, place: usize) -> Result<(), AllocError>
     ensures { OnOk result (text.new.items ≡ text.old.items ++ between_text head.now tail.now place) }
 {
     if place % STATEMENT_ROWS == 0 {
@@ -147,12 +142,7 @@ fn push_between(
 }
 
 /// Adds what precedes the row of this place.
-fn push_lead(
-    text: &mut Vec<u8>,
-    head: &[u8],
-    tail: &str,
-    place: usize,
-) -> Result<(), AllocError>
+fn push_lead(text: &mut Vec<u8>, head: &[u8], tail: &str, place: usize) -> Result<(), AllocError>
     ensures { OnOk result (text.new.items ≡ text.old.items ++ lead_text head.now tail.now place) }
 {
     if place == 0 {

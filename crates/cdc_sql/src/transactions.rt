@@ -139,7 +139,9 @@ pub fn transaction_text(
         ≡ text_of name.now.text.items chained binding.now (save_between before after recent.now)) }
 {
     let mut text = Vec::new(alloc);
-    push_body(&mut text, alloc, name, chained, binding, before, after, recent)?;
+    push_body(
+        &mut text, alloc, name, chained, binding, before, after, recent,
+    )?;
     push_commit(&mut text, name, after.ended)?;
     Ok(text)
 }

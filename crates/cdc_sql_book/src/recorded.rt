@@ -44,14 +44,14 @@ impl Model for Recorded {
 impl Recorded {
     /// This follower, which has applied nothing since. Numbers of accounts are hashed with this key. The events that it
     /// applies are kept only if they are to be.
-    pub fn new(
-        alloc: Global,
-        key: HashKey,
-        follower: Follower,
-        keeps_events: bool,
-    ) -> Recorded
-        ensures { result ≡ record { follower = follower; base = place_of follower; is_saved = false; rows = [];
-            events = if keeps_events then Some [] else None } }
+    pub fn new(alloc: Global, key: HashKey, follower: Follower, keeps_events: bool) -> Recorded
+        ensures { result ≡ record {
+          follower = follower;
+          base = place_of follower;
+          is_saved = false;
+          rows = [];
+          events = if keeps_events then Some [] else None;
+        } }
     {
         Recorded {
             base: Place::of(&follower),
@@ -92,8 +92,13 @@ impl Recorded {
 
     /// Begins to keep what it applies from now on. `is_saved`: it is saved now.
     pub fn begin(&mut self, is_saved: bool)
-        ensures { self.new ≡ record { follower = self.old.follower; base = place_of self.old.follower;
-            is_saved = is_saved; rows = []; events = option_map (λ _. []) self.old.events } }
+        ensures { self.new ≡ record {
+          follower = self.old.follower;
+          base = place_of self.old.follower;
+          is_saved = is_saved;
+          rows = [];
+          events = option_map (λ _. []) self.old.events;
+        } }
     {
         self.base = Place::of(&self.follower);
         self.is_saved = is_saved;

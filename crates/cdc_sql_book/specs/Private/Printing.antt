@@ -154,7 +154,7 @@ since_on past old new moves since =
     ap (λ s. events_taken s moves.taken) since.follower in
     let all = events_joined past since.taken moves.taken in
     let joined : events_taken past (since.taken ++ moves.taken)
-        ≡ events_taken past since.taken ++ events_taken old.follower moves.taken =
+    ≡ events_taken past since.taken ++ events_taken old.follower moves.taken =
     all ∙ ap (λ (l : List Event). events_taken past since.taken ++ l) (sym more) in record {
       taken = since.taken ++ moves.taken;
       base = moves.base ∙ since.base;
