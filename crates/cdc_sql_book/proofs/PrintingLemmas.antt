@@ -197,15 +197,15 @@ module _ (setup : FollowSetup) (keeps : Bool) (name : List ℕ) (start place : P
       → save ≡ save_of keeps from (step_taken past since.taken)) → (all : Option (List ℕ))
       → IfSome all (λ bytes. Continues setup keeps name start place printed bytes now)
       → IfSome all (λ bytes. Held setup keeps name start printed bytes Save_text now.follower)
-  later_held from is as None has = tt
-  later_held from is as (Some bytes) has = record {
+  later_held from is same_save None has = tt
+  later_held from is same_save (Some bytes) has = record {
     before = has.before;
     text = has.text;
     bytes_are = has.bytes_are;
     count = has.count;
     saves = subst (λ t. IsSavesOf setup keeps name start (has.text ++ t) now.follower)
         (ap (transaction_text name setup.rules.chained setup.binding_text.items)
-        (ap (λ p. save_of keeps p (step_taken has.past has.since.taken)) (sym is) ∙ sym (as has.past has.since)))
+        (ap (λ p. save_of keeps p (step_taken has.past has.since.taken)) (sym is) ∙ sym (same_save has.past has.since)))
         (subst (IsSavesOf setup keeps name start
         (has.text ++ Text setup keeps name start place (step_taken has.past has.since.taken)))
         (sym has.since.follower)
@@ -218,13 +218,13 @@ module _ (setup : FollowSetup) (keeps : Bool) (name : List ℕ) (start place : P
       → save ≡ save_of keeps from (step_taken past since.taken))
       → (first : (past : FollowState) × IsRecordedSince past now)
       → IfSome known (λ bytes. Held setup keeps name start printed bytes Save_text now.follower)
-  first_held from is none plain base as first =
+  first_held from is none plain base same_save first =
       let past = first.0 in
       let since = first.1 in
       let at : place_of past ≡ start = sym since.base ∙ base ∙ is in
       subst (λ t. IfSome known (λ bytes. Held setup keeps name start printed bytes t now.follower))
       (ap (transaction_text name setup.rules.chained setup.binding_text.items)
-      (ap (λ p. save_of keeps p (step_taken past since.taken)) (sym is) ∙ sym (as past since)))
+      (ap (λ p. save_of keeps p (step_taken past since.taken)) (sym is) ∙ sym (same_save past since)))
       (subst (λ s. IfSome known (λ bytes.
       Held setup keeps name start printed bytes (Text setup keeps name start start (step_taken past since.taken)) s))
       (sym since.follower)
@@ -237,12 +237,12 @@ module _ (setup : FollowSetup) (keeps : Bool) (name : List ℕ) (start place : P
       → ((past : FollowState) (since : IsRecordedSince past now)
       → save ≡ save_of keeps from (step_taken past since.taken))
       → IfSome known (λ bytes. Held setup keeps name start printed bytes Save_text now.follower)
-  held fits either plain from is base as =
+  held fits either plain from is base same_save =
       elim (eqb_tells printed 0) [
         | inl zero ↦
-            first_held from (is ∙ ap (λ b. cond b start place) zero.0) zero.1 plain base as fits.first
+            first_held from (is ∙ ap (λ b. cond b start place) zero.0) zero.1 plain base same_save fits.first
         | inr more ↦
-            later_held from (is ∙ ap (λ b. cond b start place) more.0) as known
+            later_held from (is ∙ ap (λ b. cond b start place) more.0) same_save known
             (fits.later (or_saved (printed == 0) now.is_saved either more.0))
       ]
 
