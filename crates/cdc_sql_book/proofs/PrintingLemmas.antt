@@ -167,7 +167,7 @@ kept_events (Some kept) all keeps is has =
     let same : kept.items ≡ all = cc in
     subst (λ b. kept.items ≡ kept_if b all) has same
 
-saved : Place → Place → List (ℕ × AccountRow) → List Event → Save
+abbrev saved : Place → Place → List (ℕ × AccountRow) → List Event → Save
 saved from to rows events = record { before = from; after = to; rows = rows; events = events }
 
 -- what a follower has kept is the save of its step
