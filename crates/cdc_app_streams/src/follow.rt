@@ -6,7 +6,7 @@ use crate::follow_advice::{advise_on_book, advise_on_counts, advise_on_place, ad
 use crate::kept_book::{BookFile, is_in_sqlite, open_book_file};
 use crate::keys::{random_key, refuse_key};
 use crate::lines::{Lines, lines_of, refuse_reading};
-use crate::sql::{run_schema, run_sql};
+use crate::sql::{SqlSaves, run_schema, run_sql};
 use crate::watched::Watched;
 use cdc_app_inputs::{Stream, shown_name};
 use cdc_arguments::{FollowPlan, Form, SqlPlan};
@@ -56,9 +56,22 @@ pub fn run_follow<T: Threads + Wait + Copy + Send + 'static>(
         Err(error) => return StreamEnding::Failed(refuse_key(rt, error, form)),
     };
     match sql {
-        Some(SqlPlan::Schema(name)) => return run_schema(rt, &name, &setup, after),
-        Some(SqlPlan::Saves(name, position)) => {
-            return run_sql(rt, threads, file, key, name, position, &setup, after, every);
+        Some(SqlPlan::Schema { name, keeps_events }) => {
+            return run_schema(rt, &name, keeps_events, &setup, after);
+        }
+        Some(
+            SqlPlan::Saves {
+                name,
+                position,
+                keeps_events,
+            },
+        ) => {
+            let saves = SqlSaves {
+                name,
+                keeps_events,
+                every,
+            };
+            return run_sql(rt, threads, file, key, saves, position, &setup, after);
         }
         None => {}
     }

@@ -1,4 +1,4 @@
-//! The flags `--sql` and `--sql-schema` of `follow`: a stream in, and SQL for PostgreSQL out.
+//! The flags `--sql`, `--sql-schema` and `--events` of `follow`: a stream in, and SQL for PostgreSQL out.
 
 use crate::failures::print_failure;
 use crate::follow_advice::{advise_on_counts, advise_on_stream, unread};
@@ -7,25 +7,35 @@ use crate::watched::Watched;
 use cdc_app_inputs::{Escaped, Stream, advise_on_failure, shown_name};
 use cdc_arguments::Form;
 use cdc_follow::{Follower, Stop};
-use cdc_follow_command::{
-    FollowEnding, FollowSetup, ResumeError, StreamFollower, begin, follow_command, resume_at,
-};
+use cdc_follow_command::{FollowEnding, FollowSetup, ResumeError, begin, resume_at};
 use cdc_keys::HashKey;
 use cdc_output::ProgramFault;
 use cdc_progress::StoreError;
 use cdc_sql::{Place, SchemaName, preamble_text, schema_text};
-use cdc_sql_book::{SqlBook, SqlForm};
+use cdc_sql_book::{Recorded, SqlBook, SqlFollower, SqlForm, sql_command};
 use cdc_streams::{Keeps, LineReader, Saver, StreamEnding, write_part};
 use std::io::ErrorKind;
 use std::sync::Wait;
 use std::thread::Threads;
 use std::{fs, io};
 
-/// Prints the SQL that makes the tables in the schema of this name, and their row at the place where a follower begins:
-/// at the first event, or after the event of this timestamp.
+/// Which saves are printed.
+#[derive(Drop)]
+pub struct SqlSaves {
+    /// The name of the tables' schema.
+    pub name: SchemaName,
+    /// Whether they add the events that are applied.
+    pub keeps_events: bool,
+    /// After how many lines, at most, one is printed.
+    pub every: u64,
+}
+
+/// Prints the SQL that makes the tables in the schema of this name, among them that of the events if these are kept, and
+/// their row at the place where a follower begins: at the first event, or after the event of this timestamp.
 pub fn run_schema(
     rt: &HostRuntime,
     name: &SchemaName,
+    keeps_events: bool,
     setup: &FollowSetup,
     after: Option<u64>,
 ) -> FollowEnding {
@@ -33,7 +43,7 @@ pub fn run_schema(
     let chained = setup.rules.chained;
     let binding = setup.binding_text.as_slice();
     let place = Place::of(&begun);
-    let ending = match schema_text(rt.alloc(), name, chained, binding, place) {
+    let ending = match schema_text(rt.alloc(), name, keeps_events, chained, binding, place) {
         Ok(text) => print_text(rt, text.as_slice()),
         Err(_) => Err(ProgramFault::OutOfMemory),
     };
@@ -43,19 +53,23 @@ pub fn run_schema(
     }
 }
 
-/// Follows the stream in the file of this name, from the position in the second one on, and prints each save as SQL for
-/// the tables in the schema of this name. Reports on standard error why that stopped before the end.
+/// Follows the stream in the file of this name, from the position in the second one on, and prints these saves as SQL.
+/// Reports on standard error why that stopped before the end.
 pub fn run_sql<T: Threads + Wait + Copy + Send + 'static>(
     rt: &HostRuntime,
     threads: &T,
     file: &str,
     key: HashKey,
-    name: SchemaName,
+    saves: SqlSaves,
     position: &str,
     setup: &FollowSetup,
     after: Option<u64>,
-    every: u64,
 ) -> FollowEnding {
+    let SqlSaves {
+        name,
+        keeps_events,
+        every,
+    } = saves;
     let follower = match resumed(rt, key, position, setup, after) {
         Ok(follower) => follower,
         Err(error) => return refuse_position(rt, position, error),
@@ -63,9 +77,10 @@ pub fn run_sql<T: Threads + Wait + Copy + Send + 'static>(
     if let Err(fault) = print_text(rt, preamble_text().as_bytes()) {
         return refuse(rt, fault);
     }
-    let book = SqlBook::new(io::writer(rt), name, Place::of(&follower));
+    let book = SqlBook::new(io::writer(rt), name, keeps_events, Place::of(&follower));
     let saver = Saver::new(Some(book), every);
-    let mut followed = StreamFollower::new(follower);
+    let recorded = Recorded::new(rt.alloc(), key, follower, keeps_events);
+    let mut followed = SqlFollower::new(recorded);
     let stream = Stream::of(rt, file);
     let may_wait = stream.may_wait();
     let Ok(source) = Watched::new(*rt, stream, shown_name(file), setup.rules.chained) else {
@@ -79,22 +94,22 @@ pub fn run_sql<T: Threads + Wait + Copy + Send + 'static>(
     advise_on_counts(rt, file, followed.counts(), Form::Text);
     match ending {
         StreamEnding::Failed(ProgramFault::Store(error)) => advise_on_save(rt, error),
-        _ => advise_on_stream(rt, file, None, followed.follower(), ending),
+        _ => advise_on_stream(rt, file, None, followed.recorded().follower(), ending),
     }
     ending
 }
 
 /// Follows the lines of this reader. The line of a failure goes to standard error, since psql executes what standard
 /// output has.
-fn sql_lines<B: LineReader, K: Keeps<StreamFollower> + Drop>(
+fn sql_lines<B: LineReader, K: Keeps<SqlFollower> + Drop>(
     rt: &HostRuntime,
     reader: &mut B,
     mut saver: Saver<K>,
     setup: &FollowSetup,
-    followed: &mut StreamFollower,
+    followed: &mut SqlFollower,
 ) -> FollowEnding {
     let mut writer = rt.stderr();
-    follow_command(
+    sql_command(
         &SqlForm,
         rt.alloc(),
         reader,

@@ -25,9 +25,19 @@ const MOST_BUSY: u64 = 86_400;
 #[derive(Drop)]
 pub enum SqlPlan<'a> {
     /// What makes the tables, in the schema of this name.
-    Schema(SchemaName),
-    /// The saves in the tables of that schema, from the position in this file on.
-    Saves(SchemaName, &'a str),
+    Schema {
+        name: SchemaName,
+        /// Whether the table `events` is one of them.
+        keeps_events: bool,
+    },
+    /// The saves in the tables of that schema.
+    Saves {
+        name: SchemaName,
+        /// The file with the position where they begin.
+        position: &'a str,
+        /// Whether they add the events that are applied.
+        keeps_events: bool,
+    },
 }
 
 /// How a stream is followed.
@@ -128,6 +138,10 @@ pub fn follow_arguments<'a>(alloc: Global) -> Result<Command<'a>, AllocError> {
             .without(&[
                 "book", "every", "busy", "checked", "expect", "json", "sql", "resume",
             ]),
+            Argument::flag(
+                "events",
+                "Keep the events that are applied in a table, too; needs --sql or --sql-schema",
+            ),
             json_flag(),
         ],
     )
@@ -164,6 +178,13 @@ pub fn follow_plan<'a>(
             "error: --checked keeps no book in SQLite: name a text file\n\nFor more information, try '--help'.\n",
         )?);
     }
+    let sql = asked_sql(alloc, arguments)?;
+    if arguments.get_flag("events") && sql.is_none() {
+        return Err(usage_error(
+            alloc,
+            "error: --events needs --sql or --sql-schema\n\nFor more information, try '--help'.\n",
+        )?);
+    }
     let parts: Vec<&str> = arguments
         .get_str("binding")
         .unwrap_or("all")
@@ -184,7 +205,7 @@ pub fn follow_plan<'a>(
         busy: asked_busy(alloc, arguments)?,
         expects: arguments.get_flag("expect"),
         checks,
-        sql: asked_sql(alloc, arguments)?,
+        sql,
     })
 }
 
@@ -193,14 +214,19 @@ fn asked_sql<'a>(
     alloc: Global,
     arguments: &ArgMatches<'a>,
 ) -> Result<Option<SqlPlan<'a>>, OptionsFault> {
+    let keeps_events = arguments.get_flag("events");
     if let Some(word) = arguments.get_str("sql-schema") {
         let name = asked_name(alloc, "sql-schema", word)?;
-        return Ok(Some(SqlPlan::Schema(name)));
+        return Ok(Some(SqlPlan::Schema { name, keeps_events }));
     }
     match (arguments.get_str("sql"), arguments.get_str("resume")) {
-        (Some(word), Some(file)) => {
+        (Some(word), Some(position)) => {
             let name = asked_name(alloc, "sql", word)?;
-            Ok(Some(SqlPlan::Saves(name, file)))
+            Ok(Some(SqlPlan::Saves {
+                name,
+                position,
+                keeps_events,
+            }))
         }
         _ => Ok(None),
     }

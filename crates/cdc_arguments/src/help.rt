@@ -121,9 +121,10 @@ that. A save that waits longer fails.
 
 With --sql NAME, the output is SQL for PostgreSQL, which psql executes: for each save one transaction over the tables of
 the schema NAME. It moves the position in the table book from where this follower left it, and fails if it isn't there;
-and it puts the accounts that changed into the table accounts. psql then prints saved and the timestamp of the last
-event, and that alone may be acknowledged. FILE of --resume has the position, as psql prints it. With --sql-schema NAME,
-the output is the SQL that makes these tables; name the same --chained and --binding.
+and it puts the accounts that changed into the table accounts; with --events, it also adds the events that were applied
+to the table events. psql then prints saved and the timestamp of the last event, and that alone may be acknowledged.
+FILE of --resume has the position, as psql prints it. With --sql-schema NAME, the output is the SQL that makes these
+tables; name the same --chained, --binding and --events.
 
 Otherwise the output is these lines, and at the end how far the stream was applied and its book: for each account its
 pending debits, posted debits, pending credits and posted credits.

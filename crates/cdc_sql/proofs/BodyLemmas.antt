@@ -10,16 +10,23 @@ use Rattle.std.proofs.lemmas.Fmt.{decimal_is_IsNumeral_wide}
 use Rattle.std.proofs.lemmas.List.Folds.{list_all-append}
 use Rattle.cdc_message.proofs.DecimalTexts.{own_digits}
 use Rattle.cdc_codec.specs.Texts.{flagged}
-use Rattle.cdc_subscriber.specs.declared.book.BookEntry.{BookEntry}
-use Rattle.cdc_follow.specs.Saved.{EntryFits}
-use Rattle.cdc_sql.specs.Laws.{BodiesDoNotCommit, is_no_m}
+use Rattle.cdc_types.specs.declared.events.Event.{Event}
+use Rattle.cdc_types.specs.declared.events.EventKind.{EventKind}
+use Rattle.cdc_types.specs.declared.events.EventKind.TheVariants.{SinglePhase, TwoPhasePending, TwoPhasePosted}
+use Rattle.cdc_types.specs.declared.events.EventKind.TheVariants.{TwoPhaseVoided, TwoPhaseExpired}
+use Rattle.cdc_message.specs.Kinds.{kind_text}
+use Rattle.cdc_sql.specs.Laws.{AreNumbers, BodiesDoNotCommit, EventFits, RowFits, is_no_m}
 use Rattle.cdc_sql.specs.Names.{is_in_name, is_name}
-use Rattle.cdc_sql.specs.Places.{PlaceFits, place_of}
+use Rattle.cdc_sql.specs.Places.{PlaceFits}
 use Rattle.cdc_sql.specs.Plain.{is_plain, is_plain_byte}
-use Rattle.cdc_sql.specs.Texts.{accounts_table, accounts_text, between_text, book_table, columns_text, conflict_text}
-use Rattle.cdc_sql.specs.Texts.{insert_text, lead_text, move_text, next_statement, position_text, rows_text}
-use Rattle.cdc_sql.specs.Texts.{statement_accounts, values_text}
+use Rattle.cdc_sql.specs.Statements.{account_conflict, account_numbers, account_statement, accounts_table}
+use Rattle.cdc_sql.specs.Statements.{accounts_text, between_text, event_columns, event_end, event_statement, event_text}
+use Rattle.cdc_sql.specs.Statements.{events_table, events_text, lead_text, list_text, next_text, numbers_text}
+use Rattle.cdc_sql.specs.Statements.{row_columns, row_numbers, row_text, statement_rows, statements_text}
+use Rattle.cdc_sql.specs.Statements.{transfer_numbers}
+use Rattle.cdc_sql.specs.Texts.{book_table, columns_text, move_text, position_text}
 use Rattle.cdc_sql.specs.declared.places.Place.{Place}
+use Rattle.cdc_sql.specs.declared.rows.AccountRow.{AccountRow}
 
 -- a text has no letter M
 record NoM (text : List ℕ) : Type 0 where
@@ -103,48 +110,85 @@ module _ (name : List ℕ) (named : is_name name ≡ true) (chained : Bool) (bin
       (join (book_table name) (codes " is not where this follower left it'; END IF;\nEND$$;\n")
       (tables (codes "\".book") (given refl)) (given refl))))))))
 
-  inserts : NoM (insert_text name)
-  inserts =
-      join (codes "INSERT INTO ") _ (given refl) (join (accounts_table name)
-      (codes " (id, debits_pending, debits_posted, credits_pending, credits_posted) VALUES\n")
-      (tables (codes "\".accounts") (given refl)) (given refl))
-
   either : (b : Bool) (x y : List ℕ) → NoM x → NoM y → NoM (cond b x y)
   either true x y one two = one
   either false x y one two = two
 
-  leads : (place : ℕ) → NoM (lead_text name place)
-  leads place =
-      either (place == 0) (insert_text name) (between_text name place) inserts
-      (either ((place % statement_accounts) == 0) (next_statement name) (codes ",\n")
-      (join conflict_text (insert_text name) (given refl) inserts) (given refl))
-
   comma : (n : ℕ) → n < 2 ^ 128 → NoM (codes ", " ++ decimal n)
   comma n fits = join (codes ", ") (decimal n) (given refl) (number n fits)
 
-  values : (entry : BookEntry) → EntryFits entry → NoM (values_text entry)
-  values entry fits =
-      let b = entry.balances in
-      join (codes "(" ++ decimal entry.id) _ (join (codes "(") (decimal entry.id) (given refl) (number entry.id fits.id))
-      (join (codes ", " ++ decimal b.debits_pending) _ (comma b.debits_pending fits.debits_pending)
-      (join (codes ", " ++ decimal b.debits_posted) _ (comma b.debits_posted fits.debits_posted)
-      (join (codes ", " ++ decimal b.credits_pending) _ (comma b.credits_pending fits.credits_pending)
-      (join (codes ", " ++ decimal b.credits_posted) (codes ")") (comma b.credits_posted fits.credits_posted) (given refl)))))
+  numbers : (list : List ℕ) → AreNumbers list → NoM (numbers_text list)
+  numbers [] fit = given refl
+  numbers (n ∷ list) fit = join (codes ", " ++ decimal n) _ (comma n fit.0) (numbers list fit.1)
 
-  rows : (place : ℕ) (entries : List BookEntry) → AllByRecursion EntryFits entries → NoM (rows_text name place entries)
-  rows place [] fit = (given refl)
-  rows place (entry ∷ later) fit =
-      join (lead_text name place) _ (leads place) (join (values_text entry) (rows_text name (place + 1) later)
-      (values entry fit.0) (rows (place + 1) later fit.1))
+  leads : (start end : List ℕ) → NoM start → NoM end → (place : ℕ) → NoM (lead_text start end place)
+  leads start end one two place =
+      either (place == 0) start (between_text start end place) one
+      (either ((place % statement_rows) == 0) (next_text start end) (codes ",\n")
+      (join end start two one) (given refl))
 
-  accounts : (entries : List BookEntry) → AllByRecursion EntryFits entries → NoM (accounts_text name entries)
-  accounts entries fit =
-      either (length entries == 0) [] (rows_text name 0 entries ++ conflict_text) (given refl)
-      (join (rows_text name 0 entries) conflict_text (rows 0 entries fit) (given refl))
+  lists : {X : Type 0} (lead : ℕ → List ℕ) (row : X → List ℕ) (Fits : X → Type 0) → ((place : ℕ) → NoM (lead place))
+      → ((x : X) → Fits x → NoM (row x)) → (place : ℕ) (items : List X) → AllByRecursion Fits items
+      → NoM (list_text lead row place items)
+  lists lead row Fits leading rows place [] fit = given refl
+  lists lead row Fits leading rows place (x ∷ later) fit =
+      join (lead place) _ (leading place) (join (row x) (list_text lead row (place + 1) later)
+      (rows x fit.0) (lists lead row Fits leading rows (place + 1) later fit.1))
+
+  statements : {X : Type 0} (start end : List ℕ) (row : X → List ℕ) (Fits : X → Type 0) → NoM start → NoM end
+      → ((x : X) → Fits x → NoM (row x)) → (items : List X) → AllByRecursion Fits items
+      → NoM (statements_text start end row items)
+  statements start end row Fits one two rows items fit =
+      either (length items == 0) [] (list_text (lead_text start end) row 0 items ++ end) (given refl)
+      (join (list_text (lead_text start end) row 0 items) end
+      (lists (lead_text start end) row Fits (leads start end one two) rows 0 items fit) two)
+
+  account_row : (account : ℕ × AccountRow) → RowFits account → NoM (row_text account)
+  account_row account fit =
+      join (codes "(" ++ decimal account.0) _
+      (join (codes "(") (decimal account.0) (given refl) (number account.0 fit.0))
+      (join (numbers_text (row_numbers account.1)) (codes ")") (numbers (row_numbers account.1) fit.1) (given refl))
+
+  account_start : NoM (account_statement name)
+  account_start =
+      join (codes "INSERT INTO ") _ (given refl) (join (accounts_table name)
+      (codes " (id, " ++ (row_columns ++ codes ") VALUES\n")) (tables (codes "\".accounts") (given refl)) (given refl))
+
+  accounts : (rows : List (ℕ × AccountRow)) → AllByRecursion RowFits rows → NoM (accounts_text name rows)
+  accounts rows fit =
+      statements (account_statement name) account_conflict row_text RowFits account_start (given refl) account_row rows fit
+
+  kind : (k : EventKind) → NoM (kind_text k)
+  kind SinglePhase = given refl
+  kind TwoPhasePending = given refl
+  kind TwoPhasePosted = given refl
+  kind TwoPhaseVoided = given refl
+  kind TwoPhaseExpired = given refl
+
+  event_row : (e : Event) → EventFits e → NoM (event_text e)
+  event_row e fit =
+      join (codes "('") _ (given refl) (join (kind_text e.kind) _ (kind e.kind)
+      (join (codes "', " ++ decimal e.timestamp) _
+      (join (codes "', ") (decimal e.timestamp) (given refl) (number e.timestamp fit.0.0))
+      (join (codes ", " ++ decimal e.ledger) _ (comma e.ledger fit.0.1.0)
+      (join (numbers_text (transfer_numbers e.transfer)) _ (numbers (transfer_numbers e.transfer) fit.1.0)
+      (join (numbers_text (account_numbers e.debit_account)) _ (numbers (account_numbers e.debit_account) fit.1.1.0)
+      (join (numbers_text (account_numbers e.credit_account)) (codes ")")
+      (numbers (account_numbers e.credit_account) fit.1.1.1) (given refl)))))))
+
+  event_start : NoM (event_statement name)
+  event_start =
+      join (codes "INSERT INTO ") _ (given refl) (join (events_table name)
+      (codes " (" ++ (event_columns ++ codes ") VALUES\n")) (tables (codes "\".events") (given refl)) (given refl))
+
+  events : (added : List Event) → AllByRecursion EventFits added → NoM (events_text name added)
+  events added fit =
+      statements (event_statement name) event_end event_text EventFits event_start (given refl) event_row added fit
 
 pub bodies : BodiesDoNotCommit
-bodies name chained binding place change named plain fits saved =
-    (join (move_text name chained binding place (place_of change)) (accounts_text name change.kept.book)
-    (moves name named chained binding plain place (place_of change) fits
-    (record { seen = saved.seen; last = saved.last; applied = saved.applied }))
-    (accounts name named chained binding plain change.kept.book saved.book.fit)).none
+bodies name chained binding save named plain fits =
+    (join (move_text name chained binding save.before save.after) _
+    (moves name named chained binding plain save.before save.after fits.before fits.after)
+    (join (accounts_text name save.rows) (events_text name save.events)
+    (accounts name named chained binding plain save.rows fits.rows)
+    (events name named chained binding plain save.events fits.events))).none

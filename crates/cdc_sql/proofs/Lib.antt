@@ -6,4 +6,7 @@ mod QuoteLemmas
 mod RowLemmas
 mod RowsLemmas
 mod SaveLemmas
+mod ShownLemmas
+mod StepLemmas
+mod TableLemmas
 mod TextLemmas

@@ -1,117 +1,160 @@
--- Accounts that are put into others, which are put into a book.
-use Rattle.std.proofs.Common.{◌≡◌, ◌==◌, ℕ, List, [], ◌∷◌, Bool, true, false, not, ◌&&◌, refl, sym, ap, ◌∙◌, inl, inr}
+-- Rows that are put into others, which are put into a table.
+use Rattle.std.proofs.Common.{◌≡◌, ◌==◌, ℕ, List, [], ◌∷◌, ◌++◌, Bool, true, false, cond, not, ◌&&◌, refl, sym, ap, ◌∙◌, inl, inr, subst}
+use Rattle.std.specs.Prelude.{nat_eq}
+use Rattle.std.proofs.lemmas.Bool.{false≢true}
 use Rattle.std.proofs.lemmas.Bool.Decides.{eqb_tells}
-use Rattle.cdc_subscriber.specs.Book.{are_distinct, ids_of, is_among, put}
-use Rattle.cdc_subscriber.specs.declared.book.BookEntry.{BookEntry}
-use Rattle.cdc_subscriber.proofs.BookLemmas.{eqb_same, eqb_swap, neither}
-use Rattle.cdc_subscriber.proofs.PushLemmas.{is_among-put}
-use Rattle.cdc_book_log.specs.Replay.{put_all}
+use Rattle.std.proofs.lemmas.List.Sums.{fold-append}
+use Rattle.indexmap.specs.IndexMap.{insert_entry}
+use Rattle.cdc_types.specs.declared.events.Event.{Event}
+use Rattle.cdc_subscriber.proofs.BookLemmas.{eqb_same, eqb_swap}
+use Rattle.cdc_sql.specs.Rows.{put_rows, row_of, rows_after, rows_by, show_rows}
+use Rattle.cdc_sql.specs.declared.rows.AccountRow.{AccountRow}
+
+-- rows by the numbers of their accounts
+abbrev pub Rows : Type 0
+Rows = List (ℕ × AccountRow)
+
+-- a row that is put
+abbrev pub ins : Rows → ℕ → AccountRow → Rows
+ins rows id row = insert_entry nat_eq rows id row
+
+-- an account with this number has a row
+abbrev has : ℕ → Rows → Bool
+has id [] = false
+has id (r ∷ rest) = cond (id == r.0) true (has id rest)
+
+-- no account has two rows
+abbrev distinct : Rows → Bool
+distinct [] = true
+distinct (r ∷ rest) = not (has r.0 rest) && distinct rest
 
 both_true : (a b : Bool) → (not a && b) ≡ true → (a ≡ false) × (b ≡ true)
 both_true true b is = absurd cc
 both_true false b is = (refl, is)
 
--- an account that is put is there
-here : (entry : BookEntry) (book : List BookEntry) → is_among entry.id (ids_of (put entry book)) ≡ true
-here entry [] = rw (eqb_same entry.id) refl
-here entry (other ∷ rest) =
-    elim (eqb_tells other.id entry.id) [
-      | inl same ↦ rw (same.0, eqb_same entry.id) refl
-      | inr apart ↦ rw (apart.0, apart.0) (here entry rest)
+both_no : (a b : Bool) → cond a true b ≡ false → (a ≡ false) × (b ≡ false)
+both_no true b is = absurd (false≢true (sym is))
+both_no false b is = (refl, is)
+
+-- a row that is put is there
+here : (id : ℕ) (row : AccountRow) (rows : Rows) → has id (ins rows id row) ≡ true
+here id row [] = rw (eqb_same id) refl
+here id row (r ∷ rest) =
+    elim (eqb_tells id r.0) [
+      | inl same ↦ rw (same.0, same.0) refl
+      | inr other ↦ rw (other.0, other.0) (here id row rest)
     ]
 
--- of two entries with one number the later counts
-put_twice : (a b : BookEntry) (book : List BookEntry) → a.id ≡ b.id → put b (put a book) ≡ put b book
-put_twice a b [] same = rw (same, eqb_same b.id) refl
-put_twice a b (other ∷ rest) same =
-    elim (eqb_tells other.id a.id) [
-      | inl is ↦
-          let one : (other.id == b.id) ≡ true = rw (← same) is.0 in
-          let two : (a.id == b.id) ≡ true = rw (same, eqb_same b.id) refl in
-          rw (is.0, one, two) refl
-      | inr apart ↦
-          let one : (other.id == b.id) ≡ false = rw (← same) apart.0 in
-          rw (apart.0, one) (ap (λ (es : List BookEntry). other ∷ es) (put_twice a b rest same))
-    ]
-
--- an entry whose number is there can be put before another one or after it
-put_swap : (a b : BookEntry) (book : List BookEntry) → (a.id == b.id) ≡ false → is_among b.id (ids_of book) ≡ true
-    → put b (put a book) ≡ put a (put b book)
-put_swap a b [] apart there = cc
-put_swap a b (other ∷ rest) apart there =
-    let back = eqb_swap a.id b.id apart in
-    elim (eqb_tells other.id a.id) [
-      | inl same ↦
-          let no : (other.id == b.id) ≡ false = rw same.1 apart in
-          rw (same.0, no, apart, same.0) refl
-      | inr not_a ↦ elim (eqb_tells other.id b.id) [
-        | inl same ↦ rw (not_a.0, same.0, back) refl
-        | inr not_b ↦
-            let later : is_among b.id (ids_of rest) ≡ true = rw not_b.0 at there in
-            rw (not_a.0, not_b.0, not_a.0)
-            (ap (λ (es : List BookEntry). other ∷ es) (put_swap a b rest apart later))
+-- what is there stays there
+stays : (other id : ℕ) (row : AccountRow) (rows : Rows) → has other rows ≡ true → has other (ins rows id row) ≡ true
+stays other id row [] there = absurd (false≢true there)
+stays other id row (r ∷ rest) there =
+    elim (eqb_tells id r.0) [
+      | inl same ↦ rw same.0 there
+      | inr apart ↦ elim (eqb_tells other r.0) [
+        | inl is ↦ rw (apart.0, is.0) refl
+        | inr differs ↦
+            let later : has other rest ≡ true = rw differs.0 at there in
+            rw (apart.0, differs.0) (stays other id row rest later)
       ]
     ]
 
--- an entry whose number is there, and not among further entries, can be put before them or after
-put_all_swap : (changed : List BookEntry) (entry : BookEntry) (book : List BookEntry)
-    → is_among entry.id (ids_of changed) ≡ false → is_among entry.id (ids_of book) ≡ true
-    → put_all changed (put entry book) ≡ put entry (put_all changed book)
-put_all_swap [] entry book apart there = refl
-put_all_swap (first ∷ rest) entry book apart there =
-    let both = neither (first.id == entry.id) (is_among entry.id (ids_of rest)) apart in
-    ap (put_all rest) (sym (put_swap first entry book both.0 there))
-    ∙ put_all_swap rest entry (put first book) both.1 (is_among-put entry.id first book there)
+-- of two rows with one number the later counts
+put_twice : (id : ℕ) (a b : AccountRow) (rows : Rows) → ins (ins rows id a) id b ≡ ins rows id b
+put_twice id a b [] = rw (eqb_same id) refl
+put_twice id a b (r ∷ rest) =
+    elim (eqb_tells id r.0) [
+      | inl same ↦ rw (same.0, same.0) refl
+      | inr other ↦ rw (other.0, other.0) (ap (λ l. r ∷ l) (put_twice id a b rest))
+    ]
 
--- one more account among the changes is one more that is put
-put_all-put : (entry : BookEntry) (changed book : List BookEntry) → are_distinct (ids_of changed) ≡ true
-    → put_all (put entry changed) book ≡ put entry (put_all changed book)
-put_all-put entry [] book distinct = refl
-put_all-put entry (first ∷ rest) book distinct =
-    let both = both_true (is_among first.id (ids_of rest)) (are_distinct (ids_of rest)) distinct in
-    elim (eqb_tells first.id entry.id) [
+-- a row whose number is there can be put before another one or after it
+put_swap : (k : ℕ) (a : AccountRow) (j : ℕ) (b : AccountRow) (rows : Rows) → (k == j) ≡ false → has j rows ≡ true
+    → ins (ins rows k a) j b ≡ ins (ins rows j b) k a
+put_swap k a j b [] apart there = absurd (false≢true there)
+put_swap k a j b (r ∷ rest) apart there =
+    let back = eqb_swap k j apart in
+    elim (eqb_tells k r.0) [
       | inl same ↦
-          let apart : is_among entry.id (ids_of rest) ≡ false = rw (← same.1) both.0 in
-          let there : is_among entry.id (ids_of (put first book)) ≡ true = rw (← same.1) (here first book) in
-          rw same.0 (ap (put_all rest) (sym (put_twice first entry book same.1))
-          ∙ put_all_swap rest entry (put first book) apart there)
-      | inr other ↦ rw other.0 (put_all-put entry rest (put first book) both.1)
+          let no : (j == r.0) ≡ false = subst (λ n. (j == n) ≡ false) same.1 back in
+          rw (same.0, no, same.0) refl
+      | inr not_k ↦ elim (eqb_tells j r.0) [
+        | inl same ↦ rw (not_k.0, same.0, not_k.0) refl
+        | inr not_j ↦
+            let later : has j rest ≡ true = rw not_j.0 at there in
+            rw (not_k.0, not_j.0, not_k.0) (ap (λ l. r ∷ l) (put_swap k a j b rest apart later))
+      ]
     ]
 
--- an account that is put is the only further one
-put_apart : (id : ℕ) (entry : BookEntry) (book : List BookEntry) → (entry.id == id) ≡ false
-    → is_among id (ids_of book) ≡ false → is_among id (ids_of (put entry book)) ≡ false
-put_apart id entry [] differs apart = rw differs refl
-put_apart id entry (other ∷ rest) differs apart =
-    let both = neither (other.id == id) (is_among id (ids_of rest)) apart in
-    elim (eqb_tells other.id entry.id) [
-      | inl same ↦ rw (same.0, differs, both.1) refl
-      | inr other-id ↦ rw (other-id.0, both.0) (put_apart id entry rest differs both.1)
+-- a row whose number is there, and not among further rows, can be put before them or after
+put_all_swap : (changed : Rows) (j : ℕ) (b : AccountRow) (rows : Rows) → has j changed ≡ false → has j rows ≡ true
+    → put_rows changed (ins rows j b) ≡ ins (put_rows changed rows) j b
+put_all_swap [] j b rows apart there = refl
+put_all_swap (r ∷ rest) j b rows apart there =
+    let both = both_no (j == r.0) (has j rest) apart in
+    ap (put_rows rest) (sym (put_swap r.0 r.1 j b rows (eqb_swap j r.0 both.0) there))
+    ∙ put_all_swap rest j b (ins rows r.0 r.1) both.1 (stays j r.0 r.1 rows there)
+
+-- one more row among the changes is one more that is put
+put_one_more : (id : ℕ) (row : AccountRow) (changed rows : Rows) → distinct changed ≡ true
+    → put_rows (ins changed id row) rows ≡ ins (put_rows changed rows) id row
+put_one_more id row [] rows is = refl
+put_one_more id row (r ∷ rest) rows is =
+    let both = both_true (has r.0 rest) (distinct rest) is in
+    elim (eqb_tells id r.0) [
+      | inl same ↦
+          rw same.0 (ap (put_rows rest) (sym (put_twice r.0 r.1 row rows))
+          ∙ put_all_swap rest r.0 row (ins rows r.0 r.1) both.0 (here r.0 r.1 rows)
+          ∙ ap (λ n. ins (put_rows rest (ins rows r.0 r.1)) n row) (sym same.1))
+      | inr other ↦ rw other.0 (put_one_more id row rest (ins rows r.0 r.1) both.1)
     ]
 
--- no account occurs twice then
-put_distinct : (entry : BookEntry) (book : List BookEntry) → are_distinct (ids_of book) ≡ true
-    → are_distinct (ids_of (put entry book)) ≡ true
-put_distinct entry [] distinct = refl
-put_distinct entry (other ∷ rest) distinct =
-    let both = both_true (is_among other.id (ids_of rest)) (are_distinct (ids_of rest)) distinct in
-    elim (eqb_tells other.id entry.id) [
-      | inl same ↦ rw (same.0, sym same.1, both.0) both.1
-      | inr apart ↦ rw (apart.0, put_apart other.id entry rest (eqb_swap other.id entry.id apart.0) both.0)
-          (put_distinct entry rest both.1)
+-- a row that is put is the only further one
+put_apart : (n id : ℕ) (row : AccountRow) (rows : Rows) → (n == id) ≡ false → has n rows ≡ false
+    → has n (ins rows id row) ≡ false
+put_apart n id row [] differs apart = rw differs refl
+put_apart n id row (r ∷ rest) differs apart =
+    let both = both_no (n == r.0) (has n rest) apart in
+    elim (eqb_tells id r.0) [
+      | inl same ↦ rw same.0 apart
+      | inr other ↦ rw (other.0, both.0) (put_apart n id row rest differs both.1)
     ]
 
--- accounts that are put into some, which are put into a book, can be put into the book after these
-pub put_all_join : (changed first book : List BookEntry) → are_distinct (ids_of first) ≡ true
-    → put_all changed (put_all first book) ≡ put_all (put_all changed first) book
-put_all_join [] first book distinct = refl
-put_all_join (entry ∷ changed) first book distinct =
-    ap (put_all changed) (sym (put_all-put entry first book distinct))
-    ∙ put_all_join changed (put entry first) book (put_distinct entry first distinct)
+put_distinct : (id : ℕ) (row : AccountRow) (rows : Rows) → distinct rows ≡ true → distinct (ins rows id row) ≡ true
+put_distinct id row [] is = refl
+put_distinct id row (r ∷ rest) is =
+    let both = both_true (has r.0 rest) (distinct rest) is in
+    elim (eqb_tells id r.0) [
+      | inl same ↦ rw same.0 is
+      | inr other ↦
+          let absent = put_apart r.0 id row rest (eqb_swap id r.0 other.0) both.0 in
+          rw (other.0, absent) (put_distinct id row rest both.1)
+    ]
 
--- no account occurs twice then
-pub put_all_distinct : (changed first : List BookEntry) → are_distinct (ids_of first) ≡ true
-    → are_distinct (ids_of (put_all changed first)) ≡ true
-put_all_distinct [] first distinct = distinct
-put_all_distinct (entry ∷ changed) first distinct =
-    put_all_distinct changed (put entry first) (put_distinct entry first distinct)
+-- the rows that an event shows can be put into the changes, or into the table after these
+show_put : (changed rows : Rows) (e : Event) → distinct changed ≡ true
+    → put_rows (show_rows e changed) rows ≡ show_rows e (put_rows changed rows)
+show_put changed rows e is =
+    let debit = row_of e e.debit_account in
+    let credit = row_of e e.credit_account in
+    put_one_more e.credit_account.id credit (ins changed e.debit_account.id debit) rows
+    (put_distinct e.debit_account.id debit changed is)
+    ∙ ap (λ l. ins l e.credit_account.id credit) (put_one_more e.debit_account.id debit changed rows is)
+
+show_distinct : (rows : Rows) (e : Event) → distinct rows ≡ true → distinct (show_rows e rows) ≡ true
+show_distinct rows e is =
+    put_distinct e.credit_account.id (row_of e e.credit_account) (ins rows e.debit_account.id (row_of e e.debit_account))
+    (put_distinct e.debit_account.id (row_of e e.debit_account) rows is)
+
+after_put : (changed rows : Rows) (events : List Event) → distinct changed ≡ true
+    → put_rows (rows_after changed events) rows ≡ rows_after (put_rows changed rows) events
+after_put changed rows [] is = refl
+after_put changed rows (e ∷ events) is =
+    after_put (show_rows e changed) rows events (show_distinct changed e is)
+    ∙ ap (λ l. rows_after l events) (show_put changed rows e is)
+
+-- the rows of events, put into the rows of those before them, are the rows of all
+pub put_join : (applied more : List Event) → put_rows (rows_by more) (rows_by applied) ≡ rows_by (applied ++ more)
+put_join applied more =
+    after_put [] (rows_by applied) more refl
+    ∙ sym (fold-append (λ (shown : Rows) (e : Event). show_rows e shown) [] applied more)

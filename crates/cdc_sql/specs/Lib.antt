@@ -2,7 +2,9 @@ pub mod Laws
 pub mod Names
 pub mod Places
 pub mod Plain
+pub mod Rows
 pub mod Saves
 pub mod Schema
+pub mod Statements
 pub mod Tables
 pub mod Texts

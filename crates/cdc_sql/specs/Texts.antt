@@ -1,10 +1,10 @@
 -- The text of a save: a transaction, and then what prints that it is saved.
-use Rattle.std.specs.Prelude.{ℕ, ◌+◌, ◌%◌, ◌==◌, Bool, if◌then◌else◌, List, [], ◌∷◌, ◌++◌, codes, decimal, length}
+use Rattle.std.specs.Prelude.{ℕ, Bool, if◌then◌else◌, List, [], ◌++◌, codes, decimal}
 use Rattle.std.specs.List.{flat_map}
 use Rattle.cdc_codec.specs.Texts.{flagged}
-use Rattle.cdc_subscriber.specs.declared.book.BookEntry.{BookEntry}
 use Rattle.cdc_sql.specs.declared.places.Place.{Place}
 use Rattle.cdc_sql.specs.Saves.{Save}
+use Rattle.cdc_sql.specs.Statements.{accounts_text, events_text}
 
 -- a position: the text of a saved book at a place that has no accounts, without its last line feed
 abbrev pub position_text : Bool → List ℕ → Place → List ℕ
@@ -17,10 +17,6 @@ position_text chained binding place =
 -- the table `book` of the schema of this name
 abbrev pub book_table : List ℕ → List ℕ
 book_table name = codes "\"" ++ (name ++ codes "\".book")
-
--- the table `accounts`
-abbrev pub accounts_table : List ℕ → List ℕ
-accounts_table name = codes "\"" ++ (name ++ codes "\".accounts")
 
 -- each column of the book's row at a place, and its value
 abbrev pub columns_text : List ℕ → Bool → List ℕ → Place → List ℕ
@@ -37,61 +33,11 @@ move_text name chained binding before after =
     ++ (columns_text (codes " AND ") chained binding before ++ (codes ";\nIF NOT FOUND THEN RAISE '"
     ++ (book_table name ++ codes " is not where this follower left it'; END IF;\nEND$$;\n")))))))
 
--- how many accounts a statement has, at most
-abbrev pub statement_accounts : ℕ
-statement_accounts = 1000
-
--- how a statement begins that puts accounts
-abbrev pub insert_text : List ℕ → List ℕ
-insert_text name = codes "INSERT INTO " ++ (accounts_table name
-    ++ codes " (id, debits_pending, debits_posted, credits_pending, credits_posted) VALUES\n")
-
--- a column of an account that is there already gets the new value
-abbrev pub renewed : List ℕ → List ℕ
-renewed column = column ++ (codes " = excluded." ++ column)
-
--- how it ends: an account that is there already gets these balances
-abbrev pub conflict_text : List ℕ
-conflict_text =
-    codes "\nON CONFLICT (id) DO UPDATE SET " ++ (renewed (codes "debits_pending") ++ (codes ", "
-    ++ (renewed (codes "debits_posted") ++ (codes ", " ++ (renewed (codes "credits_pending") ++ (codes ", "
-    ++ (renewed (codes "credits_posted") ++ codes ";\n")))))))
-
--- a statement ends, and another one begins
-abbrev pub next_statement : List ℕ → List ℕ
-next_statement name = conflict_text ++ insert_text name
-
--- what stands between two accounts, of which the second one has this place in a book, counted from 0
-abbrev pub between_text : List ℕ → ℕ → List ℕ
-between_text name place =
-    if (place % statement_accounts) == 0 then next_statement name else codes ",\n"
-
--- what precedes the account of this place
-abbrev pub lead_text : List ℕ → ℕ → List ℕ
-lead_text name place = if place == 0 then insert_text name else between_text name place
-
--- the number of an account, and its balances
-abbrev pub values_text : BookEntry → List ℕ
-values_text entry =
-    (codes "(" ++ decimal entry.id) ++ ((codes ", " ++ decimal entry.balances.debits_pending)
-    ++ ((codes ", " ++ decimal entry.balances.debits_posted) ++ ((codes ", " ++ decimal entry.balances.credits_pending)
-    ++ ((codes ", " ++ decimal entry.balances.credits_posted) ++ codes ")"))))
-
--- accounts, of which the first has this place in its book
-abbrev pub rows_text : List ℕ → ℕ → List BookEntry → List ℕ
-rows_text name place [] = []
-rows_text name place (entry ∷ later) =
-    lead_text name place ++ (values_text entry ++ rows_text name (place + 1) later)
-
--- the accounts of a book are put, each once
-abbrev pub accounts_text : List ℕ → List BookEntry → List ℕ
-accounts_text name entries =
-    if length entries == 0 then [] else (rows_text name 0 entries ++ conflict_text)
-
 -- what a transaction has before its commit
 abbrev pub body_text : List ℕ → Bool → List ℕ → Save → List ℕ
 body_text name chained binding save =
-    move_text name chained binding save.before save.after ++ accounts_text name save.changed
+    move_text name chained binding save.before save.after
+    ++ (accounts_text name save.rows ++ events_text name save.events)
 
 -- what prints that the end was received, from the row itself
 abbrev pub end_report : List ℕ → List ℕ

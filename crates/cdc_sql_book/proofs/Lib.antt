@@ -1,2 +1,2 @@
 mod PrintingLemmas
-mod WholeLemmas
+mod RecordingLemmas

@@ -1,2 +1,4 @@
 pub mod Books
+pub mod Following
 pub mod Private
+pub mod Recording

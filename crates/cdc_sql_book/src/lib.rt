@@ -2,9 +2,13 @@
 #![tactic(auto)]
 
 mod books;
+mod followers;
 mod forms;
+mod recorded;
 mod writers;
 
 pub use books::SqlBook;
+pub use followers::{SqlFollower, sql_command};
 pub use forms::SqlForm;
+pub use recorded::Recorded;
 pub use writers::SteadyWrite;
