@@ -10,7 +10,7 @@ ghost use Rattle.cdc_subscriber.specs.Book.{entries_of, entry_of as shown_entry,
 ghost use Rattle.cdc_subscriber.specs.Steps.{book_after};
 ghost use Rattle.cdc_checked.specs.Standing.{CheckerState};
 ghost use Rattle.cdc_checked_follow.specs.Checking.{CheckedState, content_outcome, next_content};
-ghost use Rattle.cdc_checked_follow.specs.Standing.{StandsFor, changes_nothing, has_nothing};
+ghost use Rattle.cdc_checked_follow.specs.Standing.{StandsFor, begun_by, changes_nothing, has_nothing};
 
 use cdc_audit::Refusal;
 use cdc_checked::{Checker, Outcome};
@@ -49,10 +49,10 @@ pub struct CheckedFollower {
     applied: u64,
     /// The greatest timestamp of an applied event, in nanoseconds; 0 before the first.
     last: u64,
-    /// How many refused events were skipped. The count saturates at 2^64-1.
-    skipped: u64,
     /// Whether the end-of-stream marker was received.
     ended: bool,
+    /// Whether the first event of an account is taken as it is.
+    baseline: bool,
 }
 
 impl Model for CheckedFollower {
@@ -65,8 +65,8 @@ impl Model for CheckedFollower {
       book = f.book.entries;
       applied = f.applied;
       last = f.last;
-      skipped = f.skipped;
       ended = f.ended;
+      baseline = f.baseline;
     } };
 }
 
@@ -75,33 +75,42 @@ impl CheckedFollower {
     pub fn keyed(alloc: Global, key: HashKey) -> CheckedFollower
         ensures { result ≡ has_nothing }
     {
+        CheckedFollower::begin(alloc, key, false)
+    }
+
+    /// A follower that has received nothing, which hashes ids with this key. `baseline`: it takes the first event of an
+    /// account as it is, so that its stream may begin anywhere.
+    pub fn begin(alloc: Global, key: HashKey, baseline: bool) -> CheckedFollower
+        ensures { result ≡ begun_by baseline }
+    {
         CheckedFollower {
             checker: Checker::keyed(alloc, key),
             book: IndexMap::with_hasher(alloc, key),
             applied: 0,
             last: 0,
-            skipped: 0,
             ended: false,
+            baseline,
         }
     }
 
     /// A follower that goes on where another one stopped, with that one's checker and book, the number of events that
-    /// the book has, the greatest timestamp of an applied event, and whether the end was received. No event was
-    /// skipped yet.
+    /// the book has, the greatest timestamp of an applied event, whether the end was received, and whether it began by
+    /// baseline.
     pub fn resume(
         checker: Checker,
         book: KeyedMap<u128, Balances>,
         applied: u64,
         last: u64,
         ended: bool,
+        baseline: bool,
     ) -> CheckedFollower
         ensures { result ≡ record {
           checker = checker;
           book = book.entries;
           applied = applied;
           last = last;
-          skipped = 0;
           ended = ended;
+          baseline = baseline;
         } }
     {
         CheckedFollower {
@@ -109,8 +118,8 @@ impl CheckedFollower {
             book,
             applied,
             last,
-            skipped: 0,
             ended,
+            baseline,
         }
     }
 
@@ -127,13 +136,6 @@ impl CheckedFollower {
             Content::Event(event) => self.take_event(binding, event),
             Content::End => Ok(self.take_end()),
         }
-    }
-
-    /// Counts an event that was refused and is skipped.
-    pub(crate) fn count_skipped(&mut self)
-        ensures { self.new ≡ record self.old { skipped = min (self.old.skipped + 1) max_64 } }
-    {
-        self.skipped = self.skipped.saturating_add(1);
     }
 
     /// What is known of each account by all applied events, and the open pending transfers.
@@ -164,18 +166,18 @@ impl CheckedFollower {
         self.last
     }
 
-    /// How many refused events were skipped. The count saturates at 2^64-1.
-    pub fn skipped_count(&self) -> u64
-        ensures { result ≡ self.now.skipped }
-    {
-        self.skipped
-    }
-
     /// Whether the end-of-stream marker was received.
     pub fn ended(&self) -> bool
         ensures { result ≡ self.now.ended }
     {
         self.ended
+    }
+
+    /// Whether it takes the first event of an account as it is.
+    pub fn baseline(&self) -> bool
+        ensures { result ≡ self.now.baseline }
+    {
+        self.baseline
     }
 
     /// Takes an event.
@@ -191,7 +193,7 @@ impl CheckedFollower {
             return Ok(Checking::OutOfRange);
         }
         self.book.reserve(2)?;
-        match self.checker.take(event)? {
+        match self.checker.take_by(self.baseline, event)? {
             Outcome::Applied => {
                 let taken = binding.matches(&headers_of(event));
                 keep_in_book(&mut self.book, taken, event);
