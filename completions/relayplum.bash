@@ -32,7 +32,7 @@ _relayplum() {
                 words+=' --deliveries --expect --explain --trace --json -h --help'
                 ;;
             follow)
-                words='--chained --checked --skip-gaps --binding --after --book --every --busy --expect --sql --resume --sql-schema'
+                words='--chained --checked --baseline --from-book --skip-gaps --binding --after --book --every --busy --expect --sql --resume --sql-schema'
                 words+=' --json -h --help'
                 ;;
             audit) words='--book --foreign --duplicates --state --every --json -h --help' ;;

@@ -36,6 +36,8 @@ complete -c relayplum -n '__fish_seen_subcommand_from run' -l start-after -x -d 
 complete -c relayplum -n '__fish_seen_subcommand_from run' -l progress -r -d "Save the connector's progress in this file, and resume from it"
 complete -c relayplum -n '__fish_seen_subcommand_from follow' -l chained -d 'Apply an event only if it follows the last one of its queue'
 complete -c relayplum -n '__fish_seen_subcommand_from follow' -l checked -d 'Apply an event only if the balances that it shows follow'
+complete -c relayplum -n '__fish_seen_subcommand_from follow' -l baseline -d 'Take the first event of each account as it is'
+complete -c relayplum -n '__fish_seen_subcommand_from follow' -l from-book -r -d 'Begin a new book as a copy of this checked book'
 complete -c relayplum -n '__fish_seen_subcommand_from follow' -l skip-gaps -d 'Skip an event that does not follow the last one, and go on'
 complete -c relayplum -n '__fish_seen_subcommand_from follow' -l binding -x -d 'Apply only the events that match this binding'
 complete -c relayplum -n '__fish_seen_subcommand_from follow' -l after -x -d 'Begin a new book after the event with this timestamp'

@@ -24,7 +24,7 @@ use Rattle.cdc_checked.proofs.StandLemmas.{next_if_applied, next_if_not, next_if
 use Rattle.cdc_checked_follow.specs.declared.follower.Checking.{Checking}
 use Rattle.cdc_checked_follow.specs.declared.follower.Checking.TheVariants.{Applied, Late, Refused, Ended, OutOfRange}
 use Rattle.cdc_checked_follow.specs.declared.streams.CheckStop.{CheckStop}
-use Rattle.cdc_checked_follow.specs.Checking.{CheckedState, checking_of, content_outcome, is_out_of_range, next_content, stop_for}
+use Rattle.cdc_checked_follow.specs.Checking.{CheckedState, checking_of, content_outcome, end_outcome, is_out_of_range, next_content, stop_for}
 use Rattle.cdc_checked_follow.specs.Standing.{CheckedFollowerState, StandsFor, changes_nothing, greatest, taken_of, takes}
 
 -- ---- what the checker makes of an event
@@ -71,7 +71,11 @@ nothing_is (Some y) x none is = cc
 
 pub unchanged_at_stop : (skips : Bool) (state : CheckedState) (c : Content) (number : ℕ) (why : CheckStop)
     → stop_for skips (content_outcome state c) number ≡ Some why → next_content state c ≡ state
-unchanged_at_stop skips state content.End number why stops = absurd (nothing_is _ why refl stops)
+unchanged_at_stop skips state content.End number why stops = absurd (nothing_is _ why (by state.ended) stops)
+  where
+    by : (ended : Bool) → stop_for skips (end_outcome ended) number ≡ None
+    by true = refl
+    by false = refl
 unchanged_at_stop skips state (content.Event e) number why stops =
     by (is_out_of_range e) refl (outcome_by state.baseline state.applied e) refl
   where

@@ -41,11 +41,16 @@ checking_of (outcome.Refused why) = Refused why
 abbrev pub is_out_of_range : Event → Bool
 is_out_of_range e = nat_lt TIMESTAMP e.timestamp
 
+-- what becomes of an end: the first one is received, and any other one is a duplicate
+abbrev pub end_outcome : Bool → Checking
+end_outcome false = Ended
+end_outcome true = Late
+
 -- what becomes of an entry
 abbrev pub content_outcome : CheckedState → Content → Checking
 content_outcome state (content.Event e) =
     if is_out_of_range e then OutOfRange else checking_of (outcome_by state.baseline state.applied e)
-content_outcome state content.End = Ended
+content_outcome state content.End = end_outcome state.ended
 
 -- what was followed after an entry; the end changes nothing of what is applied after it, nor does a refused event
 abbrev pub next_content : CheckedState → Content → CheckedState

@@ -9,7 +9,7 @@ ghost use Rattle.cdc_match.specs.Matching as matching;
 ghost use Rattle.cdc_subscriber.specs.Book.{entries_of, entry_of as shown_entry, put as put_entry};
 ghost use Rattle.cdc_subscriber.specs.Steps.{book_after};
 ghost use Rattle.cdc_checked.specs.Standing.{CheckerState};
-ghost use Rattle.cdc_checked_follow.specs.Checking.{CheckedState, content_outcome, next_content};
+ghost use Rattle.cdc_checked_follow.specs.Checking.{CheckedState, content_outcome, end_outcome, next_content};
 ghost use Rattle.cdc_checked_follow.specs.Standing.{StandsFor, begun_by, changes_nothing, has_nothing};
 
 use cdc_audit::Refusal;
@@ -29,7 +29,8 @@ use std::marker::Model;
 pub enum Checking {
     /// The event is applied. The book has it if the binding takes it.
     Applied,
-    /// Nothing changes: the event isn't later than the last applied event of one of its accounts.
+    /// Nothing changes: the event isn't later than the last applied event of one of its accounts, or an end was received
+    /// before this one.
     Late,
     /// Nothing changes: the event doesn't follow, for this reason. An earlier event of one of its accounts is missing.
     Refused(Refusal),
@@ -208,9 +209,12 @@ impl CheckedFollower {
 
     /// Takes the end.
     fn take_end(&mut self) -> Checking
-        ensures answer { result ≡ Checking.Ended }
+        ensures answer { result ≡ end_outcome self.old.ended }
         ensures next { self.new ≡ record self.old { ended = true } }
     {
+        if self.ended {
+            return Checking::Late;
+        }
         self.ended = true;
         Checking::Ended
     }

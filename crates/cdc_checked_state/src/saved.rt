@@ -70,6 +70,21 @@ fn is_text_of(
     Ok(printed.as_slice() == text)
 }
 
+/// Whether two followers have the same state: with this binding, their texts are the same.
+pub fn are_same(
+    alloc: Global,
+    binding: &[u8],
+    one: &CheckedFollower,
+    other: &CheckedFollower,
+) -> Result<bool, AllocError>
+    ensures { IfOk result (λ same.
+        IsTrue same ↔ (state_text binding.now one.now ≡ state_text binding.now other.now)) }
+{
+    let mut text = Vec::new(alloc);
+    push_state(alloc, &mut text, binding, one)?;
+    is_text_of(alloc, text.as_slice(), binding, other)
+}
+
 /// A follower with these parts.
 fn follower_of(front: &Front<'_>, parts: Parts) -> CheckedFollower
     ensures { result ≡ record {
