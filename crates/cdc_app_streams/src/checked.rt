@@ -188,7 +188,8 @@ fn begun_follower<'p>(
     }
 }
 
-/// The follower of the checked book with this text, in the file of this name.
+/// The follower of the checked book with this text, in the file of this name, which began by baseline if this one is to,
+/// and otherwise didn't.
 fn resumed<'p>(
     rt: &HostRuntime,
     key: HashKey,
@@ -197,9 +198,14 @@ fn resumed<'p>(
     baseline: bool,
     binding: &Binding,
 ) -> Result<CheckedFollower, StartError<'p>> {
-    match resume(rt.alloc(), key, text, binding, baseline) {
-        Ok(follower) => Ok(follower),
-        Err(error) => Err(StartError::File(Some(path), error)),
+    let follower = match resume(rt.alloc(), key, text, binding) {
+        Ok(follower) => follower,
+        Err(error) => return Err(StartError::File(Some(path), error)),
+    };
+    if follower.baseline() == baseline {
+        Ok(follower)
+    } else {
+        Err(StartError::File(Some(path), StoreError::BadRecord))
     }
 }
 

@@ -1,5 +1,5 @@
 -- How checked following goes on from a saved state.
-use Rattle.std.specs.Prelude.{◌≡◌, ◌≢◌, ◌⊎◌, ℕ, Bool, List, true}
+use Rattle.std.specs.Prelude.{◌≡◌, ◌⊎◌, ℕ, List, true}
 use Rattle.cdc_files.specs.declared.errors.StoreError.{StoreError}
 use Rattle.cdc_files.specs.declared.errors.StoreError.TheVariants.{BadRecord, OutOfMemory}
 use Rattle.cdc_match.specs.Arguments.{Arguments}
@@ -24,13 +24,6 @@ IsNoLog binding text =
     → is_of binding saved ≡ true → CanBeSaved saved base → StandsFor binding base state
     → CanBeReplayed state records torn → ¬ IsLogText text saved base records torn
 
--- a text is that of a follower which began by baseline and isn't to, or the other way round
-abbrev pub BeganOtherwise : Arguments → List ℕ → Bool → Type 0
-BeganOtherwise binding text by_baseline =
-    (follower : CheckedFollowerState) × IsResumed binding text follower × (follower.baseline ≢ by_baseline)
-
--- a text isn't resumed because memory runs out, or because it is none of those, or began otherwise
-abbrev pub IsRefused : Arguments → List ℕ → Bool → StoreError → Type 0
-IsRefused binding text by_baseline error =
-    (error ≡ OutOfMemory)
-    ⊎ ((error ≡ BadRecord) × (IsNoLog binding text ⊎ BeganOtherwise binding text by_baseline))
+-- a text isn't resumed because memory runs out, or because it is none of those
+abbrev pub IsRefused : Arguments → List ℕ → StoreError → Type 0
+IsRefused binding text error = (error ≡ OutOfMemory) ⊎ ((error ≡ BadRecord) × IsNoLog binding text)

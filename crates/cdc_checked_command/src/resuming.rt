@@ -17,31 +17,26 @@ use cdc_match::Binding;
 use std::alloc::Global;
 
 /// The follower of a saved state with this text, which hashes ids with this key. The text is that of a log, whose torn
-/// end is ignored. `BadRecord`: it isn't, or the state is that of a binding that doesn't mean
-/// the same as this one, or it began by baseline and isn't to (`baseline`), or the other way round.
+/// end is ignored. `BadRecord`: it isn't, or the state is that of a binding that doesn't mean the same as this one. It
+/// may have begun by baseline.
 pub fn resume(
     alloc: Global,
     key: HashKey,
     text: &[u8],
     binding: &Binding,
-    baseline: bool,
 ) -> Result<CheckedFollower, StoreError>
     ensures resumed { IfOk result (IsResumed binding.now text.now) }
-    ensures baseline { IfOk result (λ follower. follower.baseline ≡ baseline) }
     ensures all { (saved : List ℕ) (base : CheckedFollowerState) (records : List (List ℕ)) (torn : List ℕ)
         (state : CheckedState) → is_text_of binding.now saved ≡ true → CanBeSaved saved base
         → IsLogText text.now saved base records torn
         → StandsFor binding.now base state → CanBeReplayed state records torn
         → IfOk result (λ follower. StandsFor binding.now follower (checked_all state records)) }
-    ensures refused { IfErr result (IsRefused binding.now text.now baseline) }
+    ensures refused { IfErr result (IsRefused binding.now text.now) }
 {
     let Some(saved) = read_log(alloc, key, text, binding)? else {
         return Err(StoreError::BadRecord);
     };
-    if !is_text_of_binding(alloc, saved.binding.as_slice(), binding)? {
-        return Err(StoreError::BadRecord);
-    }
-    if saved.follower.baseline() == baseline {
+    if is_text_of_binding(alloc, saved.binding.as_slice(), binding)? {
         Ok(saved.follower)
     } else {
         Err(StoreError::BadRecord)

@@ -12,6 +12,7 @@ pub mod Books
 pub mod Redelivered
 pub mod Closed
 pub mod Baselines
+pub mod Late
 pub mod Bytes
 pub mod Silent
 mod Examples

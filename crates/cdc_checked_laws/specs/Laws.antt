@@ -1,5 +1,5 @@
 -- What checked following promises of a ledger's events.
-use Rattle.std.specs.Prelude.{◌≡◌, ◌<◌, ℕ, [], ◌∷◌, ◌++◌, Bool, ◌==◌, ◌&&◌, not, nat_lt, true, false, List, filter, fold, sum_by, take, Contains, if◌then◌else◌}
+use Rattle.std.specs.Prelude.{◌≡◌, ◌<◌, ℕ, [], ◌∷◌, ◌++◌, Bool, ◌==◌, ◌&&◌, not, nat_lt, true, false, List, filter, fold, sum_by, take, drop, Contains, if◌then◌else◌}
 use Rattle.std.specs.List.{AllByRecursion, list_all, list_any}
 use Rattle.cdc_types.specs.declared.events.Event.{Event}
 use Rattle.cdc_ledger.specs.Balances.{balances}
@@ -162,6 +162,11 @@ BaselinesMissNoMoney = (h : History) (received : List Event) (id : ℕ) (f e : E
     → AllByRecursion (Contains (events h)) received → Contains (based received) f → Contains (based received) e
     → names id f ≡ true → names id e ≡ true
     → MovedNoMoney (missed_between (events h) (based received) id f.timestamp e.timestamp) id
+
+-- there is no false alarm by baseline: a ledger's events that are received in order, from any one on, are all applied
+abbrev pub LateStreamsAreApplied : Type 0
+LateStreamsAreApplied = (h : History) (start count : ℕ) → IsLegal h
+    → based (take count (drop start (events h))) ≡ take count (drop start (events h))
 
 -- ---- bytes
 

@@ -4,7 +4,8 @@ ghost use Rattle.cdc_checked_laws.specs.Laws.{BaselinesMissNoMoney, CheckedAccou
 ghost use Rattle.cdc_checked_laws.specs.Laws.{CheckedBooksHoldBalances, FollowedBytesMissNoMoney};
 ghost use Rattle.cdc_checked_laws.specs.Laws.{CheckedMovementsAreAPrefix, CheckedPartsAreAPrefix};
 ghost use Rattle.cdc_checked_laws.specs.Laws.{CheckedPartsMissNothing, FollowedBytesAreChecked};
-ghost use Rattle.cdc_checked_laws.specs.Laws.{FollowedBytesMissNothing, LedgerBindingsAreClosed, MissedEventsAreSilent};
+ghost use Rattle.cdc_checked_laws.specs.Laws.{FollowedBytesMissNothing, LateStreamsAreApplied};
+ghost use Rattle.cdc_checked_laws.specs.Laws.{LedgerBindingsAreClosed, MissedEventsAreSilent};
 ghost use Rattle.cdc_checked_laws.specs.Laws.{TheNextEventIsApplied, WholePartsAreApplied, WholeStreamsAreApplied};
 
 /// Does nothing. A checked follower receives some of a ledger's events, in any order and number. If it applied an event
@@ -57,7 +58,8 @@ pub fn followed_bytes_are_checked()
 
 /// Does nothing. A follower that begins by baseline takes the first event of an account as it is. If it applied two
 /// events of an account, those that it missed between them moved nothing posted. What they held need not be what they
-/// released.
+/// released. There is no false alarm: a ledger's events that are received in order, from any one on, are all applied.
 pub fn baselines_miss_no_money()
-    ensures { BaselinesMissNoMoney }
+    ensures money { BaselinesMissNoMoney }
+    ensures whole { LateStreamsAreApplied }
 {}

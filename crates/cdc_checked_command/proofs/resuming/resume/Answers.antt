@@ -1,4 +1,4 @@
-use Rattle.std.proofs.Common.{◌≡◌, ◌∙◌, ap, false, inl, inr, refl, sym}
+use Rattle.std.proofs.Common.{◌≡◌, ◌∙◌, ap, false, inr, refl, sym}
 use Rattle.std.proofs.lemmas.Bool.{false≢true}
 use Rattle.cdc_bindings.specs.Bindings.{is_of}
 use Rattle.cdc_checked_command.proofs.resuming.resume.Goals as goal
@@ -6,8 +6,8 @@ use Rattle.cdc_checked_command.proofs.resuming.resume.Goals as goal
 pub returns-in_default-clause-refused : goal.returns-in_default-clause-refused
 returns-in_default-clause-refused c = inr (
   refl,
-  inl (λ saved base records torn state means can stands replays log.
-      rw c.in_default.is at (c.in_ok-saved.ensures.all saved base records torn state can log stands replays)),
+  λ saved base records torn state means can stands replays log.
+      rw c.in_default.is at (c.in_ok-saved.ensures.all saved base records torn state can log stands replays),
 )
 
 pub returns-then-branch-clause-resumed : goal.returns-then-branch-clause-resumed
