@@ -77,11 +77,18 @@ pub fn run_checked<T: Threads + Wait + Copy + Send + 'static>(
         baseline,
         from_book,
     };
-    let (store, mut checker) =
-        match open_checked(rt, key, book, start, &setup, binding, binding_text) {
-            Ok(opened) => opened,
-            Err(error) => return refuse_start(rt, file, error, form),
-        };
+    let (store, mut checker) = match open_checked(
+        rt,
+        key,
+        book,
+        start,
+        &setup,
+        binding,
+        binding_text,
+    ) {
+        Ok(opened) => opened,
+        Err(error) => return refuse_start(rt, file, error, form),
+    };
     let saver = Saver::new(store, every);
     let stream = Stream::of(rt, file);
     let may_wait = stream.may_wait();
@@ -157,7 +164,9 @@ fn open_checked<'a, 'p>(
     let mut store = CheckedLog::new(file);
     if let Some(text) = text {
         let follower = resumed(rt, key, path, text.as_slice(), start.baseline, &binding)?;
-        if start.from_book.is_some() && !are_alike(rt, binding_text.as_slice(), &follower, &begun)? {
+        if start.from_book.is_some()
+            && !are_alike(rt, binding_text.as_slice(), &follower, &begun)?
+        {
             return Err(StartError::Elsewhere(path));
         }
         return Ok((Some(store), checker_of(binding, binding_text, follower)));
@@ -247,12 +256,7 @@ fn refuse_checked(
 }
 
 /// Prints the fault of checked following that can't begin, and reports why on standard error.
-fn refuse_start(
-    rt: &HostRuntime,
-    file: &str,
-    error: StartError<'_>,
-    form: Form,
-) -> CheckEnding {
+fn refuse_start(rt: &HostRuntime, file: &str, error: StartError<'_>, form: Form) -> CheckEnding {
     match error {
         StartError::File(book, error) => refuse_checked(rt, file, book, error, form),
         StartError::Elsewhere(book) => {

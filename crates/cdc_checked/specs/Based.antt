@@ -35,7 +35,7 @@ fall None None e = 0
 abbrev pub inferred : Option Balances → Option Balances → Event → ℕ
 inferred debited credited e =
     if settles e.kind then
-      (if moves e.kind then max (fall debited credited e) e.transfer.amount else e.transfer.amount) else 0
+    (if moves e.kind then max (fall debited credited e) e.transfer.amount else e.transfer.amount) else 0
 
 -- what an event releases, by the event that stored the pending transfer that it settles
 abbrev pub freed_by : Option Event → Option Balances → Option Balances → Event → ℕ

@@ -187,7 +187,7 @@ module _ (all applied : List Event) (e : Event) (accepted : is_accepted all ≡ 
     (other : (x : Event) → names id x ≡ false → w x ≡ 0)
     (shows : names id e ≡ true → read (balances_after (applied ++ e ∷ []) id) ≡ until all w e.timestamp)
     (adds : names id e ≡ true → (last_of applied id == 0) ≡ false
-      → read (balances_after (applied ++ e ∷ []) id) ≡ read (balances_after applied id) + w e)
+    → read (balances_after (applied ++ e ∷ []) id) ≡ read (balances_after applied id) + w e)
     (tracks : Tracks all applied id w read) where
   -- the events of the account that were applied have timestamps above 0, up to the last one
   up_to_last : (f : Event) → Contains applied f → names id f ≡ true
@@ -477,7 +477,7 @@ module _ (all applied : List Event) (id : ℕ) (f e : Event) (accepted : is_acce
       (λ x. if has_event_at applied x.timestamp then (if nat_lt f.timestamp x.timestamp then w x else 0) else 0)
       (λ x. if misses x then w x else 0) all
       (each_from (λ x. ((if has_event_at applied x.timestamp then
-        (if nat_lt f.timestamp x.timestamp then w x else 0) else 0) + (if misses x then w x else 0))
+      (if nat_lt f.timestamp x.timestamp then w x else 0) else 0) + (if misses x then w x else 0))
       ≡ (if has_event_at applied x.timestamp then (if nat_lt f.timestamp x.timestamp then w x else 0) else 0)
       + (if misses x then w x else 0)) all (λ x x_there. refl)) in
       omega (arith, sums, weights, both, two)

@@ -199,7 +199,7 @@ module _ (past : List Event) (e : Event) (can : CanFollow past e) where
       released_none : settles e.kind ≡ false → real ≡ 0
       released_none not =
           sym known.1 ∙ ap amount_held (ap (λ b. if b then
-            (if is_settled past (settled_id e) then None else pending_event past (settled_id e)) else None) not)
+          (if is_settled past (settled_id e) then None else pending_event past (settled_id e)) else None) not)
 
       falls : (debited credited : Option Balances) → Before past e debited credited
           → ((debited ≡ None) → (credited ≡ None) → ⊥) → held e ≡ 0 → e.transfer.amount ≤ real
