@@ -1,6 +1,6 @@
 -- By baseline: between two applied events of an account no event was missed that moved posted money.
 use Rattle.std.proofs.Common.{◌≡◌, ◌≢◌, ℕ, ◌+◌, ◌<◌, ◌≤◌, Bool, true, false, not, List, [], ◌∷◌, ◌++◌, is_none, refl, sym, ap, ap₂, ◌∙◌, subst, inl, inr, arith}
-use Rattle.std.specs.Prelude.{◌⊎◌, ◌==◌, ◌&&◌, nat_lt, Contains, fold, sum_by, Option, Some, None, if◌then◌else◌}
+use Rattle.std.specs.Prelude.{◌⊎◌, ◌==◌, ◌&&◌, ◌||◌, nat_lt, Contains, fold, sum_by, Option, Some, None, if◌then◌else◌}
 use Rattle.std.specs.List.{AllByRecursion}
 use Rattle.std.proofs.lemmas.Bool.{and_from, and_parts, cases_Bool, eq-eqb, eqb-true, false≢true, le-ltb, lt-ltb, ltb-false, ltb-true, ne_eqb, not-false, not-true, or_parts}
 use Rattle.std.proofs.lemmas.Bool.Decides.{eqb_tells}
@@ -29,7 +29,7 @@ use Rattle.cdc_checked.proofs.StandLemmas.{balances_after-push}
 use Rattle.cdc_checked_laws.specs.Laws.{BaselinesMissNoMoney, MovedNoMoney, has_event_at, is_missed, missed, missed_between}
 use Rattle.cdc_checked_laws.proofs.Among.{IsAmong, among-nil, among-push}
 use Rattle.cdc_checked_laws.proofs.Applicable.{last_of-named, last_of-other, none_is}
-use Rattle.cdc_checked_laws.proofs.Members.{Parts, above, each_from, each_has, has_own, parts_at}
+use Rattle.cdc_checked_laws.proofs.Members.{Parts, above, each_from, each_has, has_own, none_there, parts_at}
 use Rattle.cdc_checked_laws.proofs.Missed.{accepted_events}
 use Rattle.cdc_checked_laws.proofs.Prefix.{adds_nothing, passes, was_there}
 use Rattle.cdc_checked_laws.proofs.Released.{event_follows}
@@ -113,14 +113,14 @@ at_or_before a b n =
     elim (eqb_tells b a) [
       | inl same ↦
           let equal = same.1 in
-          rw (same.0, le-ltb b a (omega (arith, equal)), le-ltb a b (omega (arith, equal))) refl
+          rw (same.0, le-ltb b a (omega (arith, equal)), le-ltb a b (omega (arith, equal))) (omega arith)
       | inr other ↦ elim (cases_Bool (nat_lt a b)) [
         | inl less ↦
             let lower = ltb-true a b less in rw (other.0, less, le-ltb b a (omega (arith, lower))) (omega arith)
         | inr more ↦
             let high = ltb-false a b more in
             let apart = other.1 in
-            rw (other.0, more, lt-ltb b a (above_it a b high apart)) refl
+            rw (other.0, more, lt-ltb b a (above_it a b high apart)) (omega arith)
       ]
     ]
   where
@@ -160,7 +160,7 @@ record Tracks (all applied : List Event) (id : ℕ) (w : Event → ℕ) (read : 
 tracks-nil : (all : List Event) (id : ℕ) (w : Event → ℕ) (read : Balances → ℕ) → Tracks all [] id w read
 tracks-nil all id w read = record {
   shown = λ is. absurd (false≢true (sym is));
-  sums = λ f there named. let less = there.1 in absurd (omega (arith, less));
+  sums = λ f there named. absurd (none_there f there);
 }
 
 -- what an event shows of its account, whatever came before it
@@ -171,7 +171,7 @@ shown_same es fs e id named =
     ∙ by (e.debit_account.id == id) (e.credit_account.id == id) named
     ∙ sym (balances_after-push fs e id)
   where
-    by : (d c : Bool) → (if d then true else c) ≡ true
+    by : (d c : Bool) → (d || c) ≡ true
         → (if c then (entry_of e.credit_account).balances
         else (if d then (entry_of e.debit_account).balances else balances_after es id))
         ≡ (if c then (entry_of e.credit_account).balances
@@ -323,8 +323,8 @@ module _ (all applied : List Event) (e : Event) (accepted : is_accepted all ≡ 
   parts : Parts all e
   parts = parts_at all e there
 
-  at : (is_accepted parts.front ≡ true) × CanFollow parts.front e
-  at = event_follows parts.front e parts.back
+  place : (is_accepted parts.front ≡ true) × CanFollow parts.front e
+  place = event_follows parts.front e parts.back
       (subst (λ (es : List Event). is_accepted es ≡ true) parts.whole accepted)
 
   front_inside : AllByRecursion (Contains all) parts.front
@@ -336,8 +336,8 @@ module _ (all applied : List Event) (e : Event) (accepted : is_accepted all ≡ 
   -- the balances of the ledger after the event
   ledger_sums : (id : ℕ) → BalancesAdd all (parts.front ++ e ∷ []) id
   ledger_sums id =
-      balances_add-push all parts.front e id (follow_step all parts.front e accepted front_inside at.1)
-      (balances_add_on all [] parts.front id accepted tt front_inside (balances_add-nil all id) at.0)
+      balances_add-push all parts.front e id (follow_step all parts.front e accepted front_inside place.1)
+      (balances_add_on all [] parts.front id accepted tt front_inside (balances_add-nil all id) place.0)
 
   debits_shown : (id : ℕ) → names id e ≡ true
       → (balances_after (applied ++ e ∷ []) id).debits_posted ≡ until all (debit_of id) e.timestamp
@@ -367,7 +367,7 @@ module _ (all applied : List Event) (e : Event) (accepted : is_accepted all ≡ 
             let adds = subst (λ (n : ℕ). (last_of applied n == 0) ≡ false
             → AddsTo e.credit_account (balances_after applied n) 0 (posted e)) credit.1 follows.credit was in
             let apart : (e.debit_account.id == id) ≡ false =
-            ne_eqb e.debit_account.id id (λ debit. at.1.apart (debit ∙ sym credit.1)) in
+            ne_eqb e.debit_account.id id (λ debit. place.1.apart (debit ∙ sym credit.1)) in
             let shown : balances_after (applied ++ e ∷ []) id ≡ (entry_of e.credit_account).balances =
             balances_after-push applied e id
             ∙ ap (λ b. if b then (entry_of e.credit_account).balances
