@@ -19,7 +19,6 @@ use cdc_match::Binding;
 use cdc_output::{Json, ProgramFault, Text};
 use cdc_progress::StoreError;
 use cdc_streams::{Keeps, LineReader, LogFile, Saver, StreamEnding};
-use std::alloc::AllocError;
 use std::io::ErrorKind;
 use std::sync::Wait;
 use std::thread::Threads;
@@ -39,7 +38,7 @@ struct CheckStart<'p> {
 enum StartError<'p> {
     /// The file of this name fails, or it has no checked book of the binding.
     File(Option<&'p str>, StoreError),
-    /// The book in the file of this name has followed events since it began, or it began otherwise.
+    /// The book in the file of this name has another state than the one of which it is to be a copy.
     Elsewhere(&'p str),
 }
 
@@ -142,6 +141,9 @@ fn check_lines<B: LineReader, K: Keeps<StreamChecker> + Drop>(
     }
 }
 
+/// A book at some path, if there is one, and what follows the stream.
+type Opened<'a> = (Option<CheckedLog<LogFile<'a, HostRuntime>>>, StreamChecker);
+
 /// Opens the book at this path, if there is one, and returns it with the follower that it holds. A book that isn't
 /// there yet is made at once, so that the file is locked from the start.
 fn open_checked<'a, 'p>(
@@ -152,29 +154,101 @@ fn open_checked<'a, 'p>(
     setup: &CheckSetup,
     binding: Binding,
     binding_text: Vec<u8>,
-) -> Result<(Option<CheckedLog<LogFile<'a, HostRuntime>>>, StreamChecker), StartError<'p>> {
+) -> Result<Opened<'a>, StartError<'p>> {
     let begun = begun_follower(rt, key, start, &binding)?;
-    let Some(path) = book else {
-        return Ok((None, checker_of(binding, binding_text, begun)));
+    let bound = BoundFollower {
+        binding,
+        binding_text,
+        follower: begun,
+        counts: Counts::none(),
     };
+    match book {
+        Some(path) => open_book_at(rt, key, path, start, setup, bound),
+        None => Ok((None, StreamChecker::new(bound))),
+    }
+}
+
+/// Opens the book at this path. A new one begins with this follower.
+fn open_book_at<'a, 'p>(
+    rt: &'a HostRuntime,
+    key: HashKey,
+    path: &'p str,
+    start: CheckStart<'p>,
+    setup: &CheckSetup,
+    begun: BoundFollower,
+) -> Result<Opened<'a>, StartError<'p>> {
     let (file, text) = match LogFile::open(rt, path, CHECKED_MARK) {
         Ok(opened) => opened,
-        Err(error) => return Err(StartError::File(book, error)),
+        Err(error) => return Err(StartError::File(Some(path), error)),
     };
-    let mut store = CheckedLog::new(file);
-    if let Some(text) = text {
-        let follower = resumed(rt, key, path, text.as_slice(), start.baseline, &binding)?;
-        if start.from_book.is_some()
-            && !are_alike(rt, binding_text.as_slice(), &follower, &begun)?
-        {
-            return Err(StartError::Elsewhere(path));
+    let store = CheckedLog::new(file);
+    match text {
+        Some(text) => {
+            let bound = resumed_in(rt, key, path, text.as_slice(), start, begun)?;
+            Ok((Some(store), StreamChecker::new(bound)))
         }
-        return Ok((Some(store), checker_of(binding, binding_text, follower)));
+        None => keep_first(rt, path, setup, store, begun),
     }
-    let checker = checker_of(binding, binding_text, begun);
+}
+
+/// Saves the follower with which a new book begins.
+fn keep_first<'a, 'p>(
+    rt: &'a HostRuntime,
+    path: &'p str,
+    setup: &CheckSetup,
+    mut store: CheckedLog<LogFile<'a, HostRuntime>>,
+    begun: BoundFollower,
+) -> Result<Opened<'a>, StartError<'p>> {
+    let checker = StreamChecker::new(begun);
     match store.keep(setup, rt.alloc(), &checker) {
         Ok(()) => Ok((Some(store), checker)),
-        Err(error) => Err(StartError::File(book, error)),
+        Err(error) => Err(StartError::File(Some(path), error)),
+    }
+}
+
+/// The follower of the book with this text, which was begun by this one if it is to be a copy of another book.
+fn resumed_in<'p>(
+    rt: &HostRuntime,
+    key: HashKey,
+    path: &'p str,
+    text: &[u8],
+    start: CheckStart<'p>,
+    begun: BoundFollower,
+) -> Result<BoundFollower, StartError<'p>> {
+    let follower = resumed(rt, key, path, text, start.baseline, &begun.binding)?;
+    if start.from_book.is_some() {
+        compare(rt, path, &begun, &follower)?;
+    }
+    let BoundFollower {
+        binding,
+        binding_text,
+        follower: _,
+        counts,
+    } = begun;
+    Ok(BoundFollower {
+        binding,
+        binding_text,
+        follower,
+        counts,
+    })
+}
+
+/// Fails if the follower of the book in the file of this name hasn't the state of the one with which it would begin.
+fn compare<'p>(
+    rt: &HostRuntime,
+    path: &'p str,
+    begun: &BoundFollower,
+    follower: &CheckedFollower,
+) -> Result<(), StartError<'p>> {
+    match are_same(
+        rt.alloc(),
+        begun.binding_text.as_slice(),
+        &begun.follower,
+        follower,
+    ) {
+        Ok(true) => Ok(()),
+        Ok(false) => Err(StartError::Elsewhere(path)),
+        Err(_) => Err(StartError::File(None, StoreError::OutOfMemory)),
     }
 }
 
@@ -216,29 +290,6 @@ fn resumed<'p>(
     } else {
         Err(StartError::File(Some(path), StoreError::BadRecord))
     }
-}
-
-/// Whether two followers of this binding have the same state.
-fn are_alike<'p>(
-    rt: &HostRuntime,
-    binding: &[u8],
-    one: &CheckedFollower,
-    other: &CheckedFollower,
-) -> Result<bool, StartError<'p>> {
-    match are_same(rt.alloc(), binding, one, other) {
-        Ok(same) => Ok(same),
-        Err(AllocError) => Err(StartError::File(None, StoreError::OutOfMemory)),
-    }
-}
-
-/// What goes on from this follower, by this binding.
-fn checker_of(binding: Binding, binding_text: Vec<u8>, follower: CheckedFollower) -> StreamChecker {
-    StreamChecker::new(BoundFollower {
-        binding,
-        binding_text,
-        follower,
-        counts: Counts::none(),
-    })
 }
 
 /// Prints the fault of a book that can't be opened, and reports why on standard error.
