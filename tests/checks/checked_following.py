@@ -15,6 +15,11 @@ What the model applies is checked against the ledger's whole list:
 - no new event is refused unless an earlier one of its accounts isn't applied;
 - the ledger's events in order are all applied, and so are those of one ledger number alone.
 
+A third of the streams is followed by baseline:
+
+- between two applied events of an account, the missed events of the account moved nothing posted;
+- the ledger's events in order from any place on are all applied.
+
 Killed: a run with a book ends at each read, write, sync and rename, and is started again over the whole stream; it has to come to the
 book of a run without a stop. --model-alone runs the theorem's checks without a program. Ends at calls of the C library need a C
 compiler, `cc`. The last line is `checked_following: N passed, M failed`; the status is 1 where one failed.
@@ -64,32 +69,13 @@ def counted(applied=0, duplicates=0, passed=0, gaps=0, skipped=0):
     )
 
 
-def mismatch(checked, event):
-    """The first balance of an event that doesn't follow: its account, its name, what is shown, what was known, what is added, and what
-    is released."""
-    pending = checked.open_ones.get(model.settled_by(event))
-    amount = event.transfer.request.amount
-    posted = amount if event.kind in ('single_phase', 'two_phase_posted') else 0
-    held = amount if event.kind == 'two_phase_pending' else 0
-    released = pending.transfer.request.amount if pending else 0
-    moved = {'pending': (held, released), 'posted': (posted, 0)}
-    shown = (event.debit_balances, event.credit_balances)
-    for account, side, balances in zip(model.accounts_of(event), ('debits', 'credits'), shown):
-        known = checked.balances.get(account, model.Balances())
-        for name in FIELDS:
-            added, gone = moved[name.split('_')[1]] if name.startswith(side) else (0, 0)
-            if getattr(balances, name) != getattr(known, name) + added - gone:
-                return account, name, getattr(balances, name), getattr(known, name), added, gone
-    return None
-
-
 def reason(checked, event, answer):
     """The text of a refusal, as far as the model has it."""
     if answer == 'not pending':
         return f'pending: no pending transfer {model.settled_by(event)} came before'
     if answer != 'balances':
         return ''
-    account, name, shown, known, added, released = mismatch(checked, event)
+    account, name, shown, known, added, released = next(checked.mismatches(event))
     text = f'balances: account {account} has {name} {shown}, after {known}'
     text += f" and this transfer's {added}" if added else ''
     return text + (f" less the pending transfer's {released}" if released else '')
@@ -98,11 +84,11 @@ def reason(checked, event, answer):
 class Followed:
     """What a follower of a binding makes of lines: the model's checker, the book, and the counts."""
 
-    def __init__(self, binding='all'):
+    def __init__(self, binding='all', baseline=False):
         mode, *pairs = binding.split()
         split = [it.split('=') for it in pairs]
         self.binding = model.Binding(mode, tuple((key, int(it) if it.isdigit() else it) for key, it in split))
-        self.checked, self.ended, self.book, self.taken = model.Checked(), False, {}, 0
+        self.checked, self.ended, self.book, self.taken = model.Checked(baseline), False, {}, 0
         self.begin()
 
     def begin(self):
@@ -114,6 +100,7 @@ class Followed:
         if content is None:
             self.counts['skipped'] += 1
         elif content == 'end':
+            self.counts['duplicates'] += self.ended
             self.ended = True
         else:
             return self.take_event(content, skips)
@@ -213,6 +200,9 @@ VOIDED = bodies(lambda it: [it.hold(50, 1, 2, 5), it.void(50), it.pay(1, 2, 7)])
 SWAP = bodies(lambda it: [it.hold(50, 1, 2, 5), it.void(50), it.hold(51, 1, 2, 5), it.pay(1, 2, 7), it.void(51), it.pay(1, 2, 1)])
 # A payment of 0 between two others.
 SILENT = bodies(lambda it: [it.pay(1, 2, 5), it.pay(1, 2, 0), it.pay(1, 2, 7)])
+# A hold of 5, a payment, a hold of 3, and a post of 2 of the first hold; or of 4.
+LATE = bodies(lambda it: [it.hold(50, 1, 2, 5), it.pay(1, 2, 1), it.hold(51, 1, 2, 3), it.post(50, 2)])
+LATE_MORE = bodies(lambda it: [it.hold(50, 1, 2, 5), it.pay(1, 2, 1), it.hold(51, 1, 2, 3), it.post(50, 4)])
 # Payments on two ledgers.
 LEDGERS = bodies(lambda it: [it.pay(1, 2, 5), it.pay(5, 6, 9), it.pay(1, 2, 7)])
 
@@ -234,6 +224,7 @@ def rows():
     yield 'a duplicate', [], [one, one], 0, head(1, 110) + ONE_TWO, counted(1, 1)
     yield 'ignored lines', [], ['', one, 'event_type=x'], 0, head(1, 110) + ONE_TWO, counted(1, skipped=2)
     yield 'the end', [], [one, '{"end":true}'], 0, head(1, 110, 'yes') + ONE_TWO, counted(1)
+    yield 'the end twice', [], [one, '{"end":true}', '{"end":true}'], 0, head(1, 110, 'yes') + ONE_TWO, counted(1, 1)
     after_end = 'account 1 0 12 0 0\naccount 2 0 0 0 12\n'
     yield 'an event after the end', [], [one, '{"end":true}', two], 0, head(2, 120, 'yes') + after_end, counted(2)
     # (by hand: account 2 shows debits of 4 and credits of 12; what is known is 0 and 5, so credits don't follow)
@@ -263,6 +254,7 @@ def rows():
     yield 'the swap', [], lossy[:2], 0, head(2, 140) + swapped, counted(2)
     yield 'the swap sticks', [], lossy, 3, head(2, 140) + swapped + stuck.format(3), counted(2) + 'only a new book helps'
     yield 'the swap sticks although all is redelivered', [], [*lossy[:2], *SWAP], 3, head(2, 140) + swapped + stuck.format(7), counted(2, 4) + ':7: gap'
+    yield from late_rows()
     # Bindings take what is applied: the book has these alone, and the others are checked.
     options = ['--binding', 'all ledger=700']
     yield 'a binding', options, LEDGERS, 0, head(2, 130) + after_end, counted(2, passed=1)
@@ -273,8 +265,26 @@ def rows():
     yield 'a timestamp out of range', [], [one, high], 2, head(1, 110) + ONE_TWO + 'fault: line 2: out_of_range\n', counted(1) + ':2: out_of_range'
 
 
+def late_rows():
+    """Streams that begin late, by baseline."""
+    late = ['--baseline']
+    yield 'it begins late', late, PAID[1:], 0, head(3, 140) + ALL_PAID, counted(3)
+    gap = 'gap: line 2: balances: account 2 has credits_posted 12, after 5\n'
+    yield 'a lost payment by baseline', late, [PAID[0], PAID[2]], 3, head(1, 110) + ONE_TWO + gap, counted(1) + ':2: gap'
+    seven = 'account 1 0 7 0 0\naccount 2 0 0 0 7\n'
+    yield 'a void of a hold before the stream', late, VOIDED[1:], 0, head(2, 130) + seven, counted(2)
+    held = 'account 1 3 3 0 0\naccount 2 0 0 3 3\n'
+    yield 'a post of a hold before the stream', late, LATE[1:], 0, head(3, 140) + held, counted(3)
+    # (the post releases 5; with the lost hold of 3 it seems to release 2)
+    yield 'a lost hold that the post of another one hides', late, [LATE[1], LATE[3]], 0, head(2, 140) + held, counted(2)
+    # (the pending debits fall from 5 to 3, and a post of 4 releases at least 4)
+    gap = "gap: line 2: balances: account 1 has debits_pending 3, after 5 less the pending transfer's 4\n"
+    known = 'account 1 5 1 0 0\naccount 2 0 0 5 1\n'
+    yield 'a post of more than is released', late, [LATE_MORE[1], LATE_MORE[3]], 3, head(1, 120) + known + gap, counted(1) + ':2: gap'
+
+
 USAGE = [
-    ['--chained'], ['--after', '5'], ['--busy', '1'], ['--expect'], ['--book', 'sqlite:a.db'], ['--binding', 'some'], ['--every', '0'], ['a', 'b'],
+    ['--chained'], ['--after', '5'], ['--from-book'], ['--busy', '1'], ['--expect'], ['--book', 'sqlite:a.db'], ['--binding', 'some'], ['--every', '0'], ['a', 'b'],
 ]
 
 
@@ -344,6 +354,50 @@ def books(folder):
     check('an open pending transfer is kept', found[0] == 0 and found[1].endswith(head(3, 130) + 'account 1 0 7 0 0\naccount 2 0 0 0 7\n'), found)
 
 
+def copies(folder):
+    """A book that begins as a copy of another one, or by baseline."""
+    other, mine = (os.path.join(folder, it) for it in ('other.book', 'mine.book'))
+    run(['--book', other], VOIDED[:1])
+    before = read(other)
+    copied = ['--book', mine, '--from-book', other]
+    found = run(copied, [])
+    check('a copy', found[0] == 0 and found[1].endswith(head(1, 110) + 'account 1 5 0 0 0\naccount 2 0 0 5 0\n'), found)
+    found = run(copied, VOIDED[1:])
+    voided = head(3, 130) + 'account 1 0 7 0 0\naccount 2 0 0 0 7\n'
+    check('it goes on with the open pending transfer', found[0] == 0 and found[1].endswith(voided), found)
+    check('the other stays', read(other) == before, read(other))
+    kept = read(mine)
+    found = run(copied, VOIDED)
+    check('it is elsewhere', found[:2] == (1, 'fault: store\n') and 'leave out --from-book' in found[2] and read(mine) == kept, found)
+    found = run(['--book', mine], VOIDED)
+    check('it is resumed without', found[0] == 0 and found[1].endswith(voided), found)
+    found = run(['--from-book', other], VOIDED[1:])
+    check('a copy in memory', found[:2] == (0, voided), found)
+    plain, new = (os.path.join(folder, it) for it in ('plain.book', 'new.book'))
+    commands.run(['--book', plain], text_of(PAID[:1]))
+    for name, options in (
+        ('no checked book', ['--from-book', plain]),
+        ('no file', ['--from-book', os.path.join(folder, 'none')]),
+        ('another binding', ['--from-book', other, '--binding', 'all ledger=700']),
+        ('not by baseline', ['--from-book', other, '--baseline']),
+    ):
+        found = run(['--book', new, *options], PAID)
+        check(f'a copy of {name}', found[:2] == (1, 'fault: store\n') and not os.path.exists(new), found)
+    late = os.path.join(folder, 'late.book')
+    found = run(['--book', late, '--baseline'], PAID[1:])
+    check('a book by baseline', found[0] == 0 and b' baseline yes\n' in read(late), found)
+    kept = read(late)
+    found = run(['--book', late], PAID)
+    check('it is not resumed otherwise', found[:2] == (1, 'fault: store\n') and read(late) == kept, found)
+    found = run(['--book', late, '--baseline'], PAID)
+    check('it is resumed by baseline', found[0] == 0 and found[2] == counted(0, 4), found)
+    found = run(['--book', other, '--baseline'], PAID)
+    check('a whole book is not resumed by baseline', found[:2] == (1, 'fault: store\n') and read(other) == before, found)
+    for arguments in (['--baseline'], ['--from-book', other]):
+        found = commands.run(arguments, b'')
+        check(f'{arguments} without --checked', found[0] == 2 and '--checked' in found[2], found)
+
+
 def read(path):
     with open(path, 'rb') as it:
         return it.read()
@@ -372,7 +426,7 @@ def stream_of(rng, events):
 
 
 def differences(events, stream):
-    """What is wrong with what is applied of a stream."""
+    """What is wrong with what is applied of a stream, not by baseline."""
     amounts = {event.transfer.request.id: event.transfer.request.amount for event in events if moved(event)[1]}
     follower = model.Checked()
     for event in stream:
@@ -390,6 +444,21 @@ def differences(events, stream):
         )
         if ours != theirs[: len(ours)]:
             yield f'account {account}: what moved money is no prefix'
+
+
+def late_differences(events, stream):
+    """What is wrong with what is applied of a stream by baseline."""
+    follower = model.Checked(baseline=True)
+    firsts = {}  # of each account the timestamp of its first applied event
+    for event in stream:
+        if follower.take(event) != 'applied':
+            continue
+        times = {it.timestamp for it in follower.applied}
+        for account in model.accounts_of(event):
+            first = firsts.setdefault(account, event.timestamp)
+            for it in missed(events, account, event.timestamp, times):
+                if it.timestamp > first and moved(it)[0]:
+                    yield f'{event.timestamp}: posted money of account {account} at {it.timestamp} is missed'
 
 
 def missed(events, account, timestamp, times):
@@ -438,17 +507,18 @@ def written(rng, event):
 def random_stream(seed, with_program=True):
     """A random stream, cut in two, and what is wrong with what is made of it, or None."""
     rng = random.Random(seed)
-    events = ledger_of(rng)
-    whole = model.Checked()
-    if [whole.take(event) for event in events] != ['applied'] * len(events):
+    events, baseline = ledger_of(rng), rng.random() < 0.3
+    whole = model.Checked(baseline)
+    rest = events[rng.randrange(len(events) + 1) :] if baseline else events
+    if [whole.take(event) for event in rest] != ['applied'] * len(rest):
         return f'{seed}: a whole stream is not applied'
-    stream = rng.choice([stream_of(rng, events), stream_of(rng, events), events])
-    for wrong in differences(events, stream):
+    stream = rng.choice([stream_of(rng, events), stream_of(rng, events), rest])
+    for wrong in (late_differences if baseline else differences)(events, stream):
         return f'{seed}: {wrong}'
-    return wrong_run(rng, seed, stream) if with_program else None
+    return wrong_run(rng, seed, stream, baseline) if with_program else None
 
 
-def wrong_run(rng, seed, stream):
+def wrong_run(rng, seed, stream, baseline):
     """What is wrong with what the program makes of a stream, or None."""
     contents = list(stream)
     for _ in range(rng.choice([0, 0, 2])):
@@ -456,10 +526,10 @@ def wrong_run(rng, seed, stream):
     text = {None: lambda: rng.choice(['', ' ', 'event_type=x']), 'end': lambda: '{"end":true}'}
     lines = [text[it]() if it in (None, 'end') else written(rng, it) for it in contents]
     binding, skips = rng.choice(BINDINGS), rng.random() < 0.7
-    wanted, cut = Followed(binding), rng.randrange(len(lines) + 1)
+    wanted, cut = Followed(binding, baseline), rng.randrange(len(lines) + 1)
     with rooms.room('checked-') as folder:
         path = os.path.join(folder, 'a.book')
-        arguments = ['--binding', binding, '--book', path, '--every', str(rng.choice([1, 2, 7, 1000])), *['--skip-gaps'] * skips]
+        arguments = ['--binding', binding, '--book', path, '--every', str(rng.choice([1, 2, 7, 1000])), *['--skip-gaps'] * skips, *['--baseline'] * baseline]
         for part in (slice(0, cut), slice(cut, None)):
             status, printed = wanted.run(contents[part], skips)
             found = run(arguments, lines[part])
@@ -526,7 +596,7 @@ def main(arguments):
     options = rooms.options_of(parser, arguments)
     commands.begin(options.program, 'follow', options.soak)
     with rooms.room('checked-following-') as folder:
-        for part in (by_hand, as_json, books, killed):
+        for part in (by_hand, as_json, books, copies, killed):
             room = os.path.join(folder, part.__name__)
             os.mkdir(room)
             part(room)

@@ -82,8 +82,8 @@ BOOK = (
     "change the file, and a file at its name with .new appended has to be what a save left\n"
 )
 NO_BOOK = (
-    "bad_record: it holds no book, or one that was saved with another --binding, or with --chained or --checked where that isn't "
-    "given now, or the other way round: name its options, or another file\n"
+    "bad_record: it holds no book, or one that was saved with another --binding, or with --chained, --checked or --baseline where "
+    "that isn't given now, or the other way round: name its options, or another file\n"
 )
 NO_FILE = "read_fault: it is no regular file: name another one\n"
 UNOPENED = "read_fault: it can't be opened: name a file that can be read, or one that isn't there in a folder that is\n"

@@ -791,12 +791,17 @@ class Chain:
         return lines
 
 
+BALANCES = ('debits_pending', 'debits_posted', 'credits_pending', 'credits_posted')
+
+
 class Checked:
     """What checked following applies of events that come in any order and number: an event is applied if it is later than
     the last applied one of each of its accounts, and if its balances, and what it settles, follow from what was applied
-    of these."""
+    of these. `baseline`: the first event of an account is taken as it is, and a pending transfer that no applied event
+    stored is taken to hold what its settlement releases."""
 
-    def __init__(self):
+    def __init__(self, baseline=False):
+        self.baseline = baseline
         self.applied = []
         self.lasts = {}  # of each account the timestamp of its last applied event
         self.balances = {}  # and the balances that it shows
@@ -820,17 +825,50 @@ class Checked:
     def refusal(self, event):
         """Why an event doesn't follow, or None."""
         pending = self.open_ones.get(settled_by(event))
-        if settled_by(event) is not None and pending is None:
+        if settled_by(event) is not None and pending is None and not self.baseline:
             return 'not pending'
         if pending and not settles_so(event, pending):
             return 'settles'
-        debit, credit = (self.balances.get(id, Balances()) for id in accounts_of(event))
+        return None if not list(self.mismatches(event)) else 'balances'
+
+    def mismatches(self, event):
+        """The balances of an event that don't follow: of each the account, the name, what is shown, what is known, what is added and
+        what is released."""
+        posted, held, released = self.moved(event)
+        moved = {'pending': (held, released), 'posted': (posted, 0)}
+        shown = (event.debit_balances, event.credit_balances)
+        for account, side, balances in zip(accounts_of(event), ('debits', 'credits'), shown):
+            known = self.known(account)
+            for name in BALANCES if known else ():
+                added, gone = moved[name.split('_')[1]] if name.startswith(side) else (0, 0)
+                if getattr(balances, name) != getattr(known, name) + added - gone:
+                    yield account, name, getattr(balances, name), getattr(known, name), added, gone
+
+    def known(self, account):
+        """The balances of an account; None if they aren't known."""
+        return self.balances.get(account, None if self.baseline else Balances())
+
+    def moved(self, event):
+        """What an event adds to posted sums, what it adds to pending ones, and what it releases of these."""
         amount = event.transfer.request.amount
         posted = amount if event.kind in ('single_phase', 'two_phase_posted') else 0
-        held = (amount if event.kind == 'two_phase_pending' else 0) - (pending.transfer.request.amount if pending else 0)
-        debit = replace(debit, debits_pending=debit.debits_pending + held, debits_posted=debit.debits_posted + posted)
-        credit = replace(credit, credits_pending=credit.credits_pending + held, credits_posted=credit.credits_posted + posted)
-        return None if (event.debit_balances, event.credit_balances) == (debit, credit) else 'balances'
+        held = amount if event.kind == 'two_phase_pending' else 0
+        if settled_by(event) is None:
+            return posted, held, 0
+        pending = self.open_ones.get(settled_by(event))
+        return posted, held, pending.transfer.request.amount if pending else self.inferred(event)
+
+    def inferred(self, event):
+        """What an event releases of a pending transfer that no applied event stored."""
+        amount = event.transfer.request.amount
+        return max(amount, self.fall(event)) if event.kind == 'two_phase_posted' else amount
+
+    def fall(self, event):
+        """How far a pending sum falls with an event: the debited account's if it is known, otherwise the credited one's."""
+        debit, credit = (self.known(account) for account in accounts_of(event))
+        if debit:
+            return max(debit.debits_pending - event.debit_balances.debits_pending, 0)
+        return max(credit.credits_pending - event.credit_balances.credits_pending, 0) if credit else 0
 
 
 def accounts_of(event):

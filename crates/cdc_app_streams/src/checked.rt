@@ -12,16 +12,35 @@ use cdc_checked_command::{
     BoundFollower, CheckEnding, CheckSetup, CheckedLog, StreamChecker, check_command, resume,
 };
 use cdc_checked_follow::{CheckStop, CheckedFollower};
-use cdc_checked_state::CHECKED_MARK;
+use cdc_checked_state::{CHECKED_MARK, are_same};
 use cdc_follow::Counts;
 use cdc_keys::HashKey;
 use cdc_match::Binding;
 use cdc_output::{Json, ProgramFault, Text};
 use cdc_progress::StoreError;
 use cdc_streams::{Keeps, LineReader, LogFile, Saver, StreamEnding};
-use std::io;
+use std::io::ErrorKind;
 use std::sync::Wait;
 use std::thread::Threads;
+use std::{fs, io};
+
+/// How a new book begins.
+#[derive(Clone, Copy)]
+struct CheckStart<'p> {
+    /// Whether the first event of an account is taken as it is.
+    baseline: bool,
+    /// The file of the checked book of which it is a copy; `None`: it begins with nothing.
+    from_book: Option<&'p str>,
+}
+
+/// Why checked following can't begin.
+#[derive(Clone, Copy)]
+enum StartError<'p> {
+    /// The file of this name fails, or it has no checked book of the binding.
+    File(Option<&'p str>, StoreError),
+    /// The book in the file of this name has another state than the one of which it is to be a copy.
+    Elsewhere(&'p str),
+}
 
 /// Follows the stream in the file of this name by checking each event, and reports on standard error why that stopped
 /// before the end. A stream that may have to be waited for is read ahead, on a thread that `threads` starts.
@@ -42,6 +61,8 @@ pub fn run_checked<T: Threads + Wait + Copy + Send + 'static>(
         busy: _,
         expects: _,
         checks: _,
+        baseline,
+        from_book,
         sql: _,
     } = plan;
     let setup = CheckSetup {
@@ -51,9 +72,21 @@ pub fn run_checked<T: Threads + Wait + Copy + Send + 'static>(
         Ok(key) => key,
         Err(error) => return StreamEnding::Failed(refuse_key(rt, error, form)),
     };
-    let (store, mut checker) = match open_checked(rt, key, book, &setup, binding, binding_text) {
+    let start = CheckStart {
+        baseline,
+        from_book,
+    };
+    let (store, mut checker) = match open_checked(
+        rt,
+        key,
+        book,
+        start,
+        &setup,
+        binding,
+        binding_text,
+    ) {
         Ok(opened) => opened,
-        Err(error) => return refuse_checked(rt, file, book, error, form),
+        Err(error) => return refuse_start(rt, file, error, form),
     };
     let saver = Saver::new(store, every);
     let stream = Stream::of(rt, file);
@@ -108,40 +141,155 @@ fn check_lines<B: LineReader, K: Keeps<StreamChecker> + Drop>(
     }
 }
 
+/// A book at some path, if there is one, and what follows the stream.
+type Opened<'a> = (Option<CheckedLog<LogFile<'a, HostRuntime>>>, StreamChecker);
+
 /// Opens the book at this path, if there is one, and returns it with the follower that it holds. A book that isn't
 /// there yet is made at once, so that the file is locked from the start.
-fn open_checked<'a>(
+fn open_checked<'a, 'p>(
     rt: &'a HostRuntime,
     key: HashKey,
-    book: Option<&str>,
+    book: Option<&'p str>,
+    start: CheckStart<'p>,
     setup: &CheckSetup,
     binding: Binding,
     binding_text: Vec<u8>,
-) -> Result<(Option<CheckedLog<LogFile<'a, HostRuntime>>>, StreamChecker), StoreError> {
-    let Some(path) = book else {
-        let follower = CheckedFollower::keyed(rt.alloc(), key);
-        return Ok((None, checker_of(binding, binding_text, follower)));
+) -> Result<Opened<'a>, StartError<'p>> {
+    let begun = begun_follower(rt, key, start, &binding)?;
+    let bound = BoundFollower {
+        binding,
+        binding_text,
+        follower: begun,
+        counts: Counts::none(),
     };
-    let (file, text) = LogFile::open(rt, path, CHECKED_MARK)?;
-    let mut store = CheckedLog::new(file);
-    if let Some(text) = text {
-        let follower = resume(rt.alloc(), key, text.as_slice(), &binding)?;
-        return Ok((Some(store), checker_of(binding, binding_text, follower)));
+    match book {
+        Some(path) => open_book_at(rt, key, path, start, setup, bound),
+        None => Ok((None, StreamChecker::new(bound))),
     }
-    let follower = CheckedFollower::keyed(rt.alloc(), key);
-    let begun = checker_of(binding, binding_text, follower);
-    store.keep(setup, rt.alloc(), &begun)?;
-    Ok((Some(store), begun))
 }
 
-/// What goes on from this follower, by this binding.
-fn checker_of(binding: Binding, binding_text: Vec<u8>, follower: CheckedFollower) -> StreamChecker {
-    StreamChecker::new(BoundFollower {
+/// Opens the book at this path. A new one begins with this follower.
+fn open_book_at<'a, 'p>(
+    rt: &'a HostRuntime,
+    key: HashKey,
+    path: &'p str,
+    start: CheckStart<'p>,
+    setup: &CheckSetup,
+    begun: BoundFollower,
+) -> Result<Opened<'a>, StartError<'p>> {
+    let (file, text) = match LogFile::open(rt, path, CHECKED_MARK) {
+        Ok(opened) => opened,
+        Err(error) => return Err(StartError::File(Some(path), error)),
+    };
+    let store = CheckedLog::new(file);
+    match text {
+        Some(text) => {
+            let bound = resumed_in(rt, key, path, text.as_slice(), start, begun)?;
+            Ok((Some(store), StreamChecker::new(bound)))
+        }
+        None => keep_first(rt, path, setup, store, begun),
+    }
+}
+
+/// Saves the follower with which a new book begins.
+fn keep_first<'a, 'p>(
+    rt: &'a HostRuntime,
+    path: &'p str,
+    setup: &CheckSetup,
+    mut store: CheckedLog<LogFile<'a, HostRuntime>>,
+    begun: BoundFollower,
+) -> Result<Opened<'a>, StartError<'p>> {
+    let checker = StreamChecker::new(begun);
+    match store.keep(setup, rt.alloc(), &checker) {
+        Ok(()) => Ok((Some(store), checker)),
+        Err(error) => Err(StartError::File(Some(path), error)),
+    }
+}
+
+/// The follower of the book with this text, which was begun by this one if it is to be a copy of another book.
+fn resumed_in<'p>(
+    rt: &HostRuntime,
+    key: HashKey,
+    path: &'p str,
+    text: &[u8],
+    start: CheckStart<'p>,
+    begun: BoundFollower,
+) -> Result<BoundFollower, StartError<'p>> {
+    let follower = resumed(rt, key, path, text, start.baseline, &begun.binding)?;
+    if start.from_book.is_some() {
+        compare(rt, path, &begun, &follower)?;
+    }
+    let BoundFollower {
+        binding,
+        binding_text,
+        follower: _,
+        counts,
+    } = begun;
+    Ok(BoundFollower {
         binding,
         binding_text,
         follower,
-        counts: Counts::none(),
+        counts,
     })
+}
+
+/// Fails if the follower of the book in the file of this name hasn't the state of the one with which it would begin.
+fn compare<'p>(
+    rt: &HostRuntime,
+    path: &'p str,
+    begun: &BoundFollower,
+    follower: &CheckedFollower,
+) -> Result<(), StartError<'p>> {
+    match are_same(
+        rt.alloc(),
+        begun.binding_text.as_slice(),
+        &begun.follower,
+        follower,
+    ) {
+        Ok(true) => Ok(()),
+        Ok(false) => Err(StartError::Elsewhere(path)),
+        Err(_) => Err(StartError::File(None, StoreError::OutOfMemory)),
+    }
+}
+
+/// The follower with which a new book begins.
+fn begun_follower<'p>(
+    rt: &HostRuntime,
+    key: HashKey,
+    start: CheckStart<'p>,
+    binding: &Binding,
+) -> Result<CheckedFollower, StartError<'p>> {
+    let Some(path) = start.from_book else {
+        return Ok(CheckedFollower::begin(rt.alloc(), key, start.baseline));
+    };
+    match fs::read(rt, path) {
+        Ok(text) => resumed(rt, key, path, text.as_slice(), start.baseline, binding),
+        Err(error) if error.kind() == ErrorKind::OutOfMemory => {
+            Err(StartError::File(Some(path), StoreError::OutOfMemory))
+        }
+        Err(_) => Err(StartError::File(Some(path), StoreError::ReadFault)),
+    }
+}
+
+/// The follower of the checked book with this text, in the file of this name, which began by baseline if this one is to,
+/// and otherwise didn't.
+fn resumed<'p>(
+    rt: &HostRuntime,
+    key: HashKey,
+    path: &'p str,
+    text: &[u8],
+    baseline: bool,
+    binding: &Binding,
+) -> Result<CheckedFollower, StartError<'p>> {
+    let follower = match resume(rt.alloc(), key, text, binding) {
+        Ok(follower) => follower,
+        Err(error) => return Err(StartError::File(Some(path), error)),
+    };
+    if follower.baseline() == baseline {
+        Ok(follower)
+    } else {
+        Err(StartError::File(Some(path), StoreError::BadRecord))
+    }
 }
 
 /// Prints the fault of a book that can't be opened, and reports why on standard error.
@@ -156,6 +304,25 @@ fn refuse_checked(
     print_failure(rt, form, fault);
     advise_on_book(rt, shown_name(file), book, fault);
     StreamEnding::Failed(fault)
+}
+
+/// Prints the fault of checked following that can't begin, and reports why on standard error.
+fn refuse_start(rt: &HostRuntime, file: &str, error: StartError<'_>, form: Form) -> CheckEnding {
+    match error {
+        StartError::File(book, error) => refuse_checked(rt, file, book, error, form),
+        StartError::Elsewhere(book) => {
+            let error = StoreError::BadRecord;
+            let fault = ProgramFault::from(error);
+            print_failure(rt, form, fault);
+            let name = error.name();
+            let book = Escaped(book);
+            let _ = eprintln!(rt;
+                "{book}: store: {name}: it has another state than the book that --from-book names: leave out \
+                 --from-book to resume it, or name another file"
+            );
+            StreamEnding::Failed(fault)
+        }
+    }
 }
 
 /// Reports why following stopped before the end of the stream in the file of this name, whose book is in that file.

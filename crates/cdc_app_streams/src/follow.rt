@@ -41,6 +41,8 @@ pub fn run_follow<T: Threads + Wait + Copy + Send + 'static>(
         busy,
         expects,
         checks: _,
+        baseline: _,
+        from_book: _,
         sql,
     } = plan;
     if expects {

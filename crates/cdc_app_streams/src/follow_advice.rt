@@ -187,8 +187,8 @@ fn trouble(rt: &HostRuntime, book: &str, error: StoreError) -> &'static str {
              change the file, and a file at its name with .new appended has to be what a save left"
         }
         StoreError::BadRecord => {
-            "it holds no book, or one that was saved with another --binding, or with --chained or --checked where that \
-             isn't given now, or the other way round: name its options, or another file"
+            "it holds no book, or one that was saved with another --binding, or with --chained, --checked or \
+             --baseline where that isn't given now, or the other way round: name its options, or another file"
         }
         StoreError::OutOfMemory => "no memory was left",
     }

@@ -60,6 +60,10 @@ pub struct FollowPlan<'a> {
     pub expects: bool,
     /// Whether each event is checked against the balances of its two accounts.
     pub checks: bool,
+    /// Whether the first event of an account is taken as it is.
+    pub baseline: bool,
+    /// The file of the checked book from which a new one begins; `None`: it begins with nothing.
+    pub from_book: Option<&'a str>,
     /// What is printed as SQL, if that is asked for.
     pub sql: Option<SqlPlan<'a>>,
 }
@@ -82,6 +86,17 @@ pub fn follow_arguments<'a>(alloc: Global) -> Result<Command<'a>, AllocError> {
                 "Apply an event only if the balances that it shows follow from the events applied before",
             )
             .without(&["chained", "after", "busy", "expect"]),
+            Argument::flag(
+                "baseline",
+                "Take the first event of each account as it is, so that the stream may begin anywhere; needs --checked",
+            )
+            .with("checked"),
+            Argument::option(
+                "from-book",
+                "FILE",
+                "Begin a new book as a copy of the checked book in FILE; needs --checked",
+            )
+            .with("checked"),
             Argument::flag(
                 "skip-gaps",
                 "Skip an event that does not follow the last one, and go on; needs --chained or --checked",
@@ -205,6 +220,8 @@ pub fn follow_plan<'a>(
         busy: asked_busy(alloc, arguments)?,
         expects: arguments.get_flag("expect"),
         checks,
+        baseline: arguments.get_flag("baseline"),
+        from_book: arguments.get_str("from-book"),
         sql,
     })
 }

@@ -102,6 +102,14 @@ moves and holds nothing isn't missed, nor is a hold that is lost with its releas
 account. If a release and a new hold of the same amount are both lost, the next events pass, and the release of the new
 hold is refused for ever: begin a new book.
 
+With --baseline the stream may begin anywhere: the first event of each account is taken as it is, and a pending transfer
+that the stream lacks is taken to hold what its post, void or expiry releases. Then no posted money is missed between
+two events of an account, but a hold may be, if such a release hides it. The book is resumed only with --baseline.
+
+With --from-book, a new book begins as a copy of the checked book in FILE, with its accounts and open pending transfers.
+That one has to have the same binding, and to have begun by --baseline or not, as this one does. A book that is there
+already is resumed only if it still has the state of FILE.
+
 With --book, the book is saved after every N lines, each time that no whole line of a pipe or a terminal is waiting, and
 at the end. After each save a line with saved and the timestamp of the last event is printed: events up to there may be
 acknowledged, and none later. If following is stopped at any time and started again with that book, it goes on where the

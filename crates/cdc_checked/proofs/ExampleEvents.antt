@@ -110,3 +110,13 @@ void_other = event TwoPhaseVoided 2005 5 3 5 (account 1 0 1 0 0) (account 2 0 0 
 -- after it account 1 pays 1 more
 abbrev pub pays_again : Event
 pays_again = event SinglePhase 2006 6 0 1 (account 1 0 2 0 0) (account 2 0 0 0 2)
+
+-- account 1 has 5 held for account 2; it pays 1, holds 3 more, and posts 2 of the first 5
+abbrev pub pays_late : Event
+pays_late = event SinglePhase 2002 2 0 1 (account 1 5 1 0 0) (account 2 0 0 5 1)
+
+abbrev pub holds_more : Event
+holds_more = event TwoPhasePending 2003 3 0 3 (account 1 8 1 0 0) (account 2 0 0 8 1)
+
+abbrev pub posts_some : Event
+posts_some = event TwoPhasePosted 2004 4 1 2 (account 1 3 3 0 0) (account 2 0 0 3 3)

@@ -1,7 +1,8 @@
 -- Short streams: what is applied of them, and what checked following can't notice.
 use Rattle.std.proofs.Common.{◌≡◌, [], ◌∷◌, ◌++◌, refl}
+use Rattle.cdc_checked.specs.Based.{based, is_based}
 use Rattle.cdc_checked.specs.Checked.{checked, is_applicable}
-use Rattle.cdc_checked.proofs.ExampleEvents.{after_post, after_void, all, elsewhere, first, fourth, hold_one, hold_other, holding, nothing, pays, pays_again, posting, second, third, void_one, void_other, voiding}
+use Rattle.cdc_checked.proofs.ExampleEvents.{after_post, after_void, all, elsewhere, first, fourth, hold_one, hold_other, holding, holds_more, nothing, pays, pays_again, pays_late, posting, posts_some, second, third, void_one, void_other, voiding}
 
 -- a whole stream is applied, and a redelivered event changes nothing
 whole : (checked all ≡ all) × (checked (all ++ all) ≡ all)
@@ -47,3 +48,19 @@ stuck : checked (hold_one ∷ pays ∷ hold_one ∷ void_one ∷ hold_other ∷ 
     ≡ hold_one ∷ pays ∷ []
 unfolding is_applicable
 stuck = refl
+
+-- a stream that begins late is applied by baseline, also a post of a pending transfer that it lacks
+late : (checked (pays_late ∷ []) ≡ []) × (based (pays_late ∷ []) ≡ pays_late ∷ [])
+    × (based (hold_one ∷ pays_late ∷ holds_more ∷ []) ≡ hold_one ∷ pays_late ∷ holds_more ∷ [])
+unfolding is_applicable is_based
+late = (refl, refl, refl)
+
+-- by baseline a lost payment is noticed after the first event of an account, and before it isn't
+late_lost : (based (second ∷ fourth ∷ []) ≡ second ∷ []) × (based (fourth ∷ []) ≡ fourth ∷ [])
+unfolding is_based
+late_lost = (refl, refl)
+
+-- a lost pending transfer isn't, if the next event settles one of before: the post releases 5, and seems to release 2
+late_held : based (pays_late ∷ posts_some ∷ []) ≡ pays_late ∷ posts_some ∷ []
+unfolding is_based
+late_held = refl

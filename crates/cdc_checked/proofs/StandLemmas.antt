@@ -21,8 +21,9 @@ use Rattle.cdc_subscriber.specs.Book.{entry_of, sides}
 use Rattle.cdc_audit.specs.declared.refusals.Refusal.{Refusal}
 use Rattle.cdc_audit.specs.Known.{balances_after, settled_id}
 use Rattle.cdc_checked.specs.declared.checker.KnownAccount.{KnownAccount}
-use Rattle.cdc_checked.specs.Checked.{account_rules, is_applicable, is_new, last_of, lines_by, names, next_checked, open_in, open_one, open_then}
-use Rattle.cdc_checked.specs.Standing.{CheckerState, StandsFor, known_by, known_under, one_under, unknown, with_accounts}
+use Rattle.cdc_checked.specs.Based.{based_rules, is_based, next_by, rules_by}
+use Rattle.cdc_checked.specs.Checked.{account_rules, is_applicable, is_new, last_of, names, open_in, open_one, open_then}
+use Rattle.cdc_checked.specs.Standing.{CheckerState, StandsFor, known_after, known_by, known_under, lines_for, one_under, unknown, with_accounts}
 
 -- ---- what is kept under a key
 
@@ -189,44 +190,70 @@ is_newer checker applied e stands debit credit =
     (lt-ltb (last_of applied e.credit_account.id) e.timestamp
     (let same = stands.last e.credit_account.id in omega (arith, same, credit)))
 
+-- what is known of an account is what the events show of it
+pub known_is : (checker : CheckerState) (applied : List Event) (id : ℕ) → StandsFor checker applied
+    → known_under checker.accounts id ≡ known_after applied id
+known_is checker applied id stands =
+    ap₂ (λ (b : Balances) (t : ℕ). let it : KnownAccount = record { balances = b; last = t } in it)
+    (stands.balances id) (stands.last id)
+
+-- with what is known in place of the events, the lines are the same
+lines_are : (baseline : Bool) (applied : List Event) (e : Event)
+    → lines_for baseline (open_one applied e) (known_after applied e.debit_account.id)
+    (known_after applied e.credit_account.id) e ≡ rules_by baseline applied e
+lines_are true applied e = refl
+lines_are false applied e = refl
+
 -- the reason by what is known is the one by the events
-pub same_reason : (checker : CheckerState) (applied : List Event) (e : Event) → StandsFor checker applied
-    → first_line (lines_by (one_under checker.open_ones e) (known_under checker.accounts e.debit_account.id).balances
-    (known_under checker.accounts e.credit_account.id).balances e) ≡ first_line (account_rules applied e)
-same_reason checker applied e stands =
-    ap (λ (o : Option Event). first_line (lines_by (if settles e.kind then o else None)
-    (known_under checker.accounts e.debit_account.id).balances
-    (known_under checker.accounts e.credit_account.id).balances e)) (stands.open_ones (settled_id e))
-    ∙ ap₂ (λ (a b : Balances). first_line (lines_by (open_one applied e) a b e)) (stands.balances e.debit_account.id)
-    (stands.balances e.credit_account.id)
+pub same_reason : (baseline : Bool) (checker : CheckerState) (applied : List Event) (e : Event)
+    → StandsFor checker applied
+    → first_line (lines_for baseline (one_under checker.open_ones e)
+    (known_under checker.accounts e.debit_account.id) (known_under checker.accounts e.credit_account.id) e)
+    ≡ first_line (rules_by baseline applied e)
+same_reason baseline checker applied e stands =
+    ap (λ (o : Option Event). first_line (lines_for baseline (if settles e.kind then o else None)
+    (known_under checker.accounts e.debit_account.id) (known_under checker.accounts e.credit_account.id) e))
+    (stands.open_ones (settled_id e))
+    ∙ ap₂ (λ (a b : KnownAccount). first_line (lines_for baseline (open_one applied e) a b e))
+    (known_is checker applied e.debit_account.id stands) (known_is checker applied e.credit_account.id stands)
+    ∙ ap first_line (lines_are baseline applied e)
 
 -- an event that becomes something else than applied changes nothing
-pub next_if_not : (applied : List Event) (e : Event) → is_new applied e ≡ false → next_checked applied e ≡ applied
-unfolding is_applicable
-next_if_not applied e not =
+pub next_if_not : (baseline : Bool) (applied : List Event) (e : Event) → is_new applied e ≡ false
+    → next_by baseline applied e ≡ applied
+unfolding is_applicable is_based
+next_if_not true applied e not =
+    ap (λ b. if b && is_none (first_line (based_rules applied e)) then applied ++ e ∷ [] else applied) not
+next_if_not false applied e not =
     ap (λ b. if b && is_none (first_line (account_rules applied e)) then applied ++ e ∷ [] else applied) not
 
-pub next_if_refused : (applied : List Event) (e : Event) (why : Refusal)
-    → first_line (account_rules applied e) ≡ Some why → next_checked applied e ≡ applied
-unfolding is_applicable
-next_if_refused applied e why refused =
+pub next_if_refused : (baseline : Bool) (applied : List Event) (e : Event) (why : Refusal)
+    → first_line (rules_by baseline applied e) ≡ Some why → next_by baseline applied e ≡ applied
+unfolding is_applicable is_based
+next_if_refused true applied e why refused =
+    ap (λ (o : Option Refusal). if is_new applied e && is_none o then applied ++ e ∷ [] else applied) refused
+    ∙ ap (λ b. if b then applied ++ e ∷ [] else applied) (and_right (is_new applied e) false refl)
+next_if_refused false applied e why refused =
     ap (λ (o : Option Refusal). if is_new applied e && is_none o then applied ++ e ∷ [] else applied) refused
     ∙ ap (λ b. if b then applied ++ e ∷ [] else applied) (and_right (is_new applied e) false refl)
 
-pub next_if_applied : (applied : List Event) (e : Event) → is_new applied e ≡ true
-    → first_line (account_rules applied e) ≡ None → next_checked applied e ≡ applied ++ e ∷ []
-unfolding is_applicable
-next_if_applied applied e new passes =
+pub next_if_applied : (baseline : Bool) (applied : List Event) (e : Event) → is_new applied e ≡ true
+    → first_line (rules_by baseline applied e) ≡ None → next_by baseline applied e ≡ applied ++ e ∷ []
+unfolding is_applicable is_based
+next_if_applied true applied e new passes =
+    ap₂ (λ b (o : Option Refusal). if b && is_none o then applied ++ e ∷ [] else applied) new passes
+next_if_applied false applied e new passes =
     ap₂ (λ b (o : Option Refusal). if b && is_none o then applied ++ e ∷ [] else applied) new passes
 
 -- the same of a reason that was found so
-pub reason_is : (checker : CheckerState) (applied : List Event) (e : Event) (why : Option Refusal) (one : Option Event)
-    (debited credited : KnownAccount) → StandsFor checker applied
-    → why ≡ first_line (lines_by one debited.balances credited.balances e) → one ≡ one_under checker.open_ones e
+pub reason_is : (baseline : Bool) (checker : CheckerState) (applied : List Event) (e : Event) (why : Option Refusal)
+    (one : Option Event) (debited credited : KnownAccount) → StandsFor checker applied
+    → why ≡ first_line (lines_for baseline one debited credited e) → one ≡ one_under checker.open_ones e
     → debited ≡ known_under checker.accounts e.debit_account.id
-    → credited ≡ known_under checker.accounts e.credit_account.id → why ≡ first_line (account_rules applied e)
-reason_is checker applied e why one debited credited stands is one_is debited_is credited_is =
-    is ∙ ap (λ (o : Option Event). first_line (lines_by o debited.balances credited.balances e)) one_is
+    → credited ≡ known_under checker.accounts e.credit_account.id
+    → why ≡ first_line (rules_by baseline applied e)
+reason_is baseline checker applied e why one debited credited stands is one_is debited_is credited_is =
+    is ∙ ap (λ (o : Option Event). first_line (lines_for baseline o debited credited e)) one_is
     ∙ ap₂ (λ (a b : KnownAccount).
-    first_line (lines_by (one_under checker.open_ones e) a.balances b.balances e)) debited_is credited_is
-    ∙ same_reason checker applied e stands
+    first_line (lines_for baseline (one_under checker.open_ones e) a b e)) debited_is credited_is
+    ∙ same_reason baseline checker applied e stands

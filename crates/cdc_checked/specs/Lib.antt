@@ -1,4 +1,5 @@
 -- what has to be believed
 pub mod Checked
+pub mod Based
 -- what a checker keeps
 pub mod Standing

@@ -13,7 +13,8 @@ use Rattle.cdc_audit.specs.Known.{balances_after, settled_id}
 use Rattle.cdc_checked.specs.declared.checker.KnownAccount.{KnownAccount}
 use Rattle.cdc_checked.specs.declared.checker.Outcome.{Outcome}
 use Rattle.cdc_checked.specs.declared.checker.Outcome.TheVariants.{Applied, Late, Refused}
-use Rattle.cdc_checked.specs.Checked.{account_rules, is_new, last_of, open_in}
+use Rattle.cdc_checked.specs.Based.{rules_by, seen, seen_rules}
+use Rattle.cdc_checked.specs.Checked.{account_rules, is_new, last_of, lines_by, open_in}
 
 -- what becomes of an event that is new or not, and that is refused for this reason, if at all
 abbrev pub outcome_if : Bool → Option Refusal → Outcome
@@ -24,6 +25,10 @@ outcome_if true (Some why) = Refused why
 -- what becomes of an event after these were applied
 abbrev pub outcome_of : List Event → Event → Outcome
 outcome_of applied e = outcome_if (is_new applied e) (first_line (account_rules applied e))
+
+-- the same by baseline, or not
+abbrev pub outcome_by : Bool → List Event → Event → Outcome
+outcome_by baseline applied e = outcome_if (is_new applied e) (first_line (rules_by baseline applied e))
 
 -- each account, and the events of the open pending transfers, by their ids
 pub record CheckerState : Type 0 where
@@ -45,6 +50,16 @@ known_under accounts id = unwrap_or (lookup (nat_eq id) accounts) unknown
 -- the event of the open pending transfer that an event settles
 abbrev pub one_under : List (ℕ × Event) → Event → Option Event
 one_under open_ones e = if settles e.kind then lookup (nat_eq (settled_id e)) open_ones else None
+
+-- the lines on an event, by baseline or not, by what is known of its accounts
+abbrev pub lines_for : Bool → Option Event → KnownAccount → KnownAccount → Event → List (Bool × Refusal)
+lines_for true pending debited credited e =
+    seen_rules pending (seen debited.last debited.balances) (seen credited.last credited.balances) e
+lines_for false pending debited credited e = lines_by pending debited.balances credited.balances e
+
+-- what these applied events show of an account
+abbrev pub known_after : List Event → ℕ → KnownAccount
+known_after applied id = record { balances = balances_after applied id; last = last_of applied id }
 
 -- what an event of this timestamp shows of an account
 abbrev pub known_by : ℕ → EventAccount → KnownAccount

@@ -7,6 +7,7 @@ ghost use Rattle.indexmap.specs.IndexMap.{insert_entry, spare};
 ghost use Rattle.cdc_types.specs.declared.events.Event.{Event as Emitted};
 ghost use Rattle.cdc_types.specs.Lines.{first_line};
 ghost use Rattle.cdc_audit.specs.Checks as checks;
+ghost use Rattle.cdc_checked.specs.Based as based;
 ghost use Rattle.cdc_checked.specs.Checked as spec;
 ghost use Rattle.cdc_checked.specs.Standing as standing;
 ghost use Rattle.cdc_checked.specs.Standing.{StandsFor};
@@ -99,13 +100,27 @@ impl Checker {
         ensures same { IfOk result (λ answer. answer ≢ Outcome.Applied → self.new ≡ self.old) }
         ensures err { OnErr result (self.new ≡ self.old) }
     {
+        self.take_by(false, event)
+    }
+
+    /// Takes an event. `baseline`: the first event of an account is taken as it is, and a pending transfer that no
+    /// applied event stored is taken to hold what its settlement releases; otherwise it does what `take` does. Only an
+    /// event that is applied changes anything. The one error is that memory ran out, and then nothing changes.
+    pub fn take_by(&mut self, baseline: bool, event: &Event) -> Result<Outcome, AllocError>
+        ensures answer { IfOk result (λ answer. (applied : List Emitted) → StandsFor self.old applied
+            → answer ≡ standing.outcome_by baseline applied event.now) }
+        ensures next { OnOk result ((applied : List Emitted) → StandsFor self.old applied
+            → StandsFor self.new (based.next_by baseline applied event.now)) }
+        ensures same { IfOk result (λ answer. answer ≢ Outcome.Applied → self.new ≡ self.old) }
+        ensures err { OnErr result (self.new ≡ self.old) }
+    {
         let debited = self.account(event.debit_account.id);
         let credited = self.account(event.credit_account.id);
         if event.timestamp <= debited.last || event.timestamp <= credited.last {
             return Ok(Outcome::Late);
         }
         let pending = self.open_one(event);
-        if let Some(why) = refusal_by(pending, &debited.balances, &credited.balances, event) {
+        if let Some(why) = refusal_for(baseline, pending, debited, credited, event) {
             return Ok(Outcome::Refused(why));
         }
         self.accounts.reserve(2)?;
@@ -173,15 +188,15 @@ fn amount_held(pending: Option<Event>) -> u128
     }
 }
 
-/// What an event moves.
-fn amounts_by(pending: Option<Event>, event: &Event) -> Amounts
-    ensures { result ≡ spec.amounts_by pending event.now }
+/// What an event moves, if it releases this.
+fn moved_by(freed: u128, event: &Event) -> Amounts
+    ensures { result ≡ based.moved_by freed event.now }
 {
     let amount = event.transfer.amount;
     Amounts {
         posted: amount_if(moves(event.kind), amount),
         held: amount_if(holds(event.kind), amount),
-        released: amount_held(pending),
+        released: freed,
     }
 }
 
@@ -205,18 +220,8 @@ fn balances_refusal(
 ) -> Option<Refusal>
     ensures { result ≡ first_line (spec.sums_lines pending debited.now credited.now event.now) }
 {
-    let amounts = amounts_by(pending, event);
-    let nothing = Amounts {
-        posted: 0,
-        held: 0,
-        released: 0,
-    };
-    account_refusal(&event.debit_account, debited, amounts, nothing).or(account_refusal(
-        &event.credit_account,
-        credited,
-        nothing,
-        amounts,
-    ))
+    let freed = amount_held(pending);
+    seen_sums_refusal(freed, Some(*debited), Some(*credited), event)
 }
 
 /// Why an event doesn't follow from these balances and this pending transfer; `None` if it follows.
@@ -229,6 +234,132 @@ fn refusal_by(
     ensures { result ≡ first_line (spec.lines_by pending debited.now credited.now event.now) }
 {
     pending_refusal(pending, event).or(balances_refusal(pending, debited, credited, event))
+}
+
+/// The balances of an account, if an event of it was applied.
+fn seen(known: KnownAccount) -> Option<Balances>
+    ensures { result ≡ based.seen known.last known.balances }
+{
+    if known.last == 0 {
+        None
+    } else {
+        Some(known.balances)
+    }
+}
+
+/// How far the pending debits of the debited account fall with an event, if it was seen; otherwise how far the pending
+/// credits of the credited one do; 0 if neither was seen.
+fn fall(debited: Option<Balances>, credited: Option<Balances>, event: &Event) -> u128
+    ensures { result ≡ based.fall debited credited event.now }
+{
+    match debited {
+        Some(before) => before
+            .debits_pending
+            .saturating_sub(event.debit_account.debits_pending),
+        None => match credited {
+            Some(before) => before
+                .credits_pending
+                .saturating_sub(event.credit_account.credits_pending),
+            None => 0,
+        },
+    }
+}
+
+/// What an event releases of a pending transfer that no applied event stored.
+fn inferred(debited: Option<Balances>, credited: Option<Balances>, event: &Event) -> u128
+    ensures { result ≡ based.inferred debited credited event.now }
+{
+    let amount = event.transfer.amount;
+    if !settles(event.kind) {
+        0
+    } else if moves(event.kind) {
+        fall(debited, credited, event).max(amount)
+    } else {
+        amount
+    }
+}
+
+/// What an event releases.
+fn freed_by(
+    pending: Option<Event>,
+    debited: Option<Balances>,
+    credited: Option<Balances>,
+    event: &Event,
+) -> u128
+    ensures { result ≡ based.freed_by pending debited credited event.now }
+{
+    match pending {
+        Some(pending) => pending.transfer.amount,
+        None => inferred(debited, credited, event),
+    }
+}
+
+/// The refusal of an event by an account that was seen.
+fn seen_refusal(
+    account: &EventAccount,
+    before: Option<Balances>,
+    debits: Amounts,
+    credits: Amounts,
+) -> Option<Refusal>
+    ensures { result ≡ first_line (based.seen_lines account.now before debits credits) }
+{
+    match before {
+        Some(before) => account_refusal(account, &before, debits, credits),
+        None => None,
+    }
+}
+
+/// The refusal of an event by the balances of its accounts that were seen, if it releases this.
+fn seen_sums_refusal(
+    freed: u128,
+    debited: Option<Balances>,
+    credited: Option<Balances>,
+    event: &Event,
+) -> Option<Refusal>
+    ensures { result ≡ first_line (based.seen_sums freed debited credited event.now) }
+{
+    let amounts = moved_by(freed, event);
+    let nothing = Amounts {
+        posted: 0,
+        held: 0,
+        released: 0,
+    };
+    seen_refusal(&event.debit_account, debited, amounts, nothing).or(seen_refusal(
+        &event.credit_account,
+        credited,
+        nothing,
+        amounts,
+    ))
+}
+
+/// Why an event doesn't follow by baseline from the balances of its accounts that were seen; `None` if it follows.
+fn based_refusal(
+    pending: Option<Event>,
+    debited: Option<Balances>,
+    credited: Option<Balances>,
+    event: &Event,
+) -> Option<Refusal>
+    ensures { result ≡ first_line (based.seen_rules pending debited credited event.now) }
+{
+    let freed = freed_by(pending, debited, credited, event);
+    settling_refusal(pending, event).or(seen_sums_refusal(freed, debited, credited, event))
+}
+
+/// Why an event doesn't follow, by baseline or not, from what is known of its accounts; `None` if it follows.
+fn refusal_for(
+    baseline: bool,
+    pending: Option<Event>,
+    debited: KnownAccount,
+    credited: KnownAccount,
+    event: &Event,
+) -> Option<Refusal>
+    ensures { result ≡ first_line (standing.lines_for baseline pending debited credited event.now) }
+{
+    if baseline {
+        based_refusal(pending, seen(debited), seen(credited), event)
+    } else {
+        refusal_by(pending, &debited.balances, &credited.balances, event)
+    }
 }
 
 /// Keeps what an event shows of an account.

@@ -8,7 +8,7 @@ use Rattle.cdc_checked_follow.specs.declared.follower.Checking.{Checking}
 use Rattle.cdc_checked_follow.specs.declared.follower.Checking.TheVariants.{Applied, Late, Refused, Ended, OutOfRange}
 use Rattle.cdc_checked_follow.specs.declared.streams.CheckStop.{CheckStop}
 use Rattle.cdc_checked_follow.specs.declared.streams.CheckStop.TheVariants as stop
-use Rattle.cdc_checked_follow.specs.Checking.{Checked, CheckedState, content_outcome, lines_checked, next_state, stop_for}
+use Rattle.cdc_checked_follow.specs.Checking.{Checked, CheckedState, content_outcome, lines_checked, next_content, stop_for}
 use Rattle.cdc_checked_follow.proofs.StreamLemmas.{bad_line, entry_line, no_lines, past_line}
 
 -- following doesn't stop at an entry as if the lines had ended
@@ -51,7 +51,7 @@ module _ (binding : Arguments) (skips : Bool) where
           ≡ lines_checked skips (lines_checked skips state number (line ∷ front)).state
           (number + length (line ∷ front)) rest
       by None stops =
-          let next = next_state state entry.content in
+          let next = next_content state entry.content in
           let first = entry_line binding skips state number line front entry None is stops in
           let count : (number + 1) + length front ≡ number + length (line ∷ front) = omega arith in
           entry_line binding skips state number line (front ++ rest) entry None is stops

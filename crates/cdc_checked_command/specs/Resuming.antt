@@ -21,7 +21,7 @@ IsResumed binding text follower =
 abbrev pub IsNoLog : Arguments → List ℕ → Type 0
 IsNoLog binding text =
     (saved : List ℕ) (base : CheckedFollowerState) (records : List (List ℕ)) (torn : List ℕ) (state : CheckedState)
-    → is_of binding saved ≡ true → CanBeSaved saved base → StandsFor binding (record base { skipped = 0 }) state
+    → is_of binding saved ≡ true → CanBeSaved saved base → StandsFor binding base state
     → CanBeReplayed state records torn → ¬ IsLogText text saved base records torn
 
 -- a text isn't resumed because memory runs out, or because it is none of those

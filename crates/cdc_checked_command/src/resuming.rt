@@ -17,8 +17,8 @@ use cdc_match::Binding;
 use std::alloc::Global;
 
 /// The follower of a saved state with this text, which hashes ids with this key. The text is that of a log, whose torn
-/// end is ignored. No event was skipped yet. `BadRecord`: it isn't, or the state is that of a binding that doesn't mean
-/// the same as this one.
+/// end is ignored. `BadRecord`: it isn't, or the state is that of a binding that doesn't mean the same as this one. It
+/// may have begun by baseline.
 pub fn resume(
     alloc: Global,
     key: HashKey,
@@ -29,7 +29,7 @@ pub fn resume(
     ensures all { (saved : List ℕ) (base : CheckedFollowerState) (records : List (List ℕ)) (torn : List ℕ)
         (state : CheckedState) → is_text_of binding.now saved ≡ true → CanBeSaved saved base
         → IsLogText text.now saved base records torn
-        → StandsFor binding.now (record base { skipped = 0 }) state → CanBeReplayed state records torn
+        → StandsFor binding.now base state → CanBeReplayed state records torn
         → IfOk result (λ follower. StandsFor binding.now follower (checked_all state records)) }
     ensures refused { IfErr result (IsRefused binding.now text.now) }
 {

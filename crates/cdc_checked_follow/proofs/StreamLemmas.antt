@@ -18,10 +18,10 @@ use Rattle.cdc_checked_follow.specs.declared.streams.CheckStop.TheVariants as st
 use Rattle.cdc_checked_follow.specs.declared.turns.CheckTurn.{CheckTurn}
 use Rattle.cdc_checked_follow.specs.declared.turns.CheckTurn.TheVariants.{Stops}
 use Rattle.cdc_checked_follow.specs.Turns.{read_state, stop_of}
-use Rattle.cdc_checked_follow.specs.Checking.{Checked, CheckedState, bytes_checked, check_entries, checked_on, content_outcome, lines_checked, next_content, next_state, stop_at, stop_for}
-use Rattle.cdc_checked_follow.specs.Standing.{CheckedFollowerState, StandsFor, counted}
+use Rattle.cdc_checked_follow.specs.Checking.{Checked, CheckedState, bytes_checked, check_entries, checked_on, content_outcome, lines_checked, next_content, stop_at, stop_for}
+use Rattle.cdc_checked_follow.specs.Standing.{CheckedFollowerState, StandsFor}
 use Rattle.cdc_checked_follow.specs.Streams.{Checks, EndsAs, KeepsFirst, LineLeadsTo, StepLeadsTo}
-use Rattle.cdc_checked_follow.proofs.StandLemmas.{stands_counted, unchanged_at_stop}
+use Rattle.cdc_checked_follow.proofs.StandLemmas.{unchanged_at_stop}
 
 module _ (binding : Arguments) (skips : Bool) where
   -- following a stream
@@ -36,10 +36,10 @@ module _ (binding : Arguments) (skips : Bool) where
   entries-first : (state : CheckedState) (end : CheckStop) (numbered : NumberedEntry) (rest : List NumberedEntry)
       (answer : Option CheckStop) → stop_for skips (content_outcome state numbered.entry.content) numbered.line ≡ answer
       → check_entries skips state end (numbered ∷ rest)
-      ≡ checked_on answer state (check_entries skips (next_state state numbered.entry.content) end rest)
+      ≡ checked_on answer state (check_entries skips (next_content state numbered.entry.content) end rest)
   unfolding check_entries
   entries-first state end numbered rest answer is =
-      ap (λ answer. checked_on answer state (check_entries skips (next_state state numbered.entry.content) end rest)) is
+      ap (λ answer. checked_on answer state (check_entries skips (next_content state numbered.entry.content) end rest)) is
 
   -- following lines, by the entry of the first one
   first_checked : (state : CheckedState) (number : ℕ) (line : List ℕ) (rest : List (List ℕ))
@@ -69,7 +69,7 @@ module _ (binding : Arguments) (skips : Bool) where
       (answer : Option CheckStop) → line_entry false line ≡ Ok (Some entry)
       → stop_for skips (content_outcome state entry.content) number ≡ answer
       → lines_checked skips state number (line ∷ rest)
-      ≡ checked_on answer state (lines_checked skips (next_state state entry.content) (number + 1) rest)
+      ≡ checked_on answer state (lines_checked skips (next_content state entry.content) (number + 1) rest)
   entry_line state number line rest entry answer is stops =
       let later = stream_of_lines false (number + 1) rest in
       first_checked state number line rest (Ok (Some entry)) is
@@ -139,23 +139,20 @@ module _ (binding : Arguments) (skips : Bool) where
         (entry_line state number line rest entry (Some why) (entry_read read entry gives is) at)
 
     pub leads_when_on : (read : Option Entry) (entry : Entry) (checking : Checking) (answer : Option CheckStop)
-        (mid new : CheckedFollowerState) → GivesUnlessMemory (Ok read) (line_entry false line) → read ≡ Some entry
-        → answer ≡ stop_for skips checking number → answer ≡ None → new ≡ counted checking mid
+        (new : CheckedFollowerState) → GivesUnlessMemory (Ok read) (line_entry false line) → read ≡ Some entry
+        → answer ≡ stop_for skips checking number → answer ≡ None
         → ((state : CheckedState) → StandsFor binding old state → checking ≡ content_outcome state entry.content)
         → ((state : CheckedState) → StandsFor binding old state
-        → StandsFor binding mid (next_content state entry.content))
+        → StandsFor binding new (next_content state entry.content))
         → LineLeadsTo binding skips number line old None new
-    leads_when_on read entry checking answer mid new gives is stops on counts answers goes state stands =
+    leads_when_on read entry checking answer new gives is stops on answers goes state stands =
         let made = answers state stands in
         let at : stop_for skips (content_outcome state entry.content) number ≡ None =
         ap (λ c. stop_for skips c number) (sym made) ∙ sym stops ∙ on in
         record {
-          next = next_state state entry.content;
+          next = next_content state entry.content;
           next_is = sym (ap (read_state state) (entry_read read entry gives is));
-          stands = subst (λ f. StandsFor binding f (next_state state entry.content))
-              (sym (counts ∙ ap (λ c. counted c mid) made))
-              (stands_counted binding (content_outcome state entry.content) mid (next_content state entry.content)
-              (goes state stands));
+          stands = goes state stands;
           leads = λ rest. entry_line state number line rest entry None (entry_read read entry gives is) at;
         }
 
@@ -334,7 +331,7 @@ module _ (binding : Arguments) (skips : Bool) where
           (entry_line start number line front entry (Some why) is stops)
       by_answer None stops =
           let numbered : NumberedEntry = record { line = number; entry = entry } in
-          let others = later (next_state start entry.content) in
+          let others = later (next_content start entry.content) in
           let entries = (stream_of_lines false (number + 1) (front ++ rest)).entries in (
             suc others.0,
             ap (λ (a : Checked). a.state) (entry_line start number line front entry None is stops) ∙ others.1

@@ -1,5 +1,5 @@
 -- Checked following of a stream: what becomes of each entry, up to the one at which it stops.
-use Rattle.std.specs.Prelude.{ℕ, ◌+◌, Bool, true, false, nat_lt, List, [], ◌∷◌, Option, Some, None, if◌then◌else◌}
+use Rattle.std.specs.Prelude.{ℕ, Bool, true, false, nat_lt, List, [], ◌∷◌, Option, Some, None, if◌then◌else◌}
 use Rattle.cdc_types.specs.declared.bounds.TheConstants.Limits.{TIMESTAMP}
 use Rattle.cdc_types.specs.declared.events.Event.{Event}
 use Rattle.cdc_follow.specs.declared.entries.Content.{Content}
@@ -10,23 +10,26 @@ use Rattle.cdc_follow.specs.Streams as streams
 use Rattle.cdc_follow.specs.Streams.{NumberedEntry, stream_of_lines}
 use Rattle.cdc_checked.specs.declared.checker.Outcome.{Outcome}
 use Rattle.cdc_checked.specs.declared.checker.Outcome.TheVariants as outcome
-use Rattle.cdc_checked.specs.Checked.{next_checked}
-use Rattle.cdc_checked.specs.Standing.{outcome_of}
+use Rattle.cdc_checked.specs.Based.{next_by}
+use Rattle.cdc_checked.specs.Standing.{outcome_by}
 use Rattle.cdc_checked_follow.specs.declared.follower.Checking.{Checking}
 use Rattle.cdc_checked_follow.specs.declared.follower.Checking.TheVariants.{Applied, Late, Refused, Ended, OutOfRange}
 use Rattle.cdc_checked_follow.specs.declared.streams.CheckStop.{CheckStop}
 use Rattle.cdc_checked_follow.specs.declared.streams.CheckStop.TheVariants.{AtEnd, Gap, BadLine}
 
--- what was followed so far: the events that were applied, how many refused ones were skipped, and whether the end of
--- the stream was received
+-- what was followed so far: the events that were applied, whether the end of the stream was received, and whether
+-- events are applied by baseline
 pub record CheckedState : Type 0 where
   pub applied : List Event
-  pub skipped : ℕ
   pub ended : Bool
+  pub baseline : Bool
 
--- nothing was followed yet
+-- nothing was followed yet, by baseline or not
+abbrev pub begins_by : Bool → CheckedState
+begins_by by_baseline = record { applied = []; ended = false; baseline = by_baseline }
+
 abbrev pub begins : CheckedState
-begins = record { applied = []; skipped = 0; ended = false }
+begins = begins_by false
 
 -- what becomes of an event of which the checker makes this
 abbrev pub checking_of : Outcome → Checking
@@ -38,26 +41,22 @@ checking_of (outcome.Refused why) = Refused why
 abbrev pub is_out_of_range : Event → Bool
 is_out_of_range e = nat_lt TIMESTAMP e.timestamp
 
+-- what becomes of an end: the first one is received, and any other one is a duplicate
+abbrev pub end_outcome : Bool → Checking
+end_outcome false = Ended
+end_outcome true = Late
+
 -- what becomes of an entry
 abbrev pub content_outcome : CheckedState → Content → Checking
 content_outcome state (content.Event e) =
-    if is_out_of_range e then OutOfRange else checking_of (outcome_of state.applied e)
-content_outcome state content.End = Ended
+    if is_out_of_range e then OutOfRange else checking_of (outcome_by state.baseline state.applied e)
+content_outcome state content.End = end_outcome state.ended
 
--- what was followed after an entry; the end changes nothing of what is applied after it
+-- what was followed after an entry; the end changes nothing of what is applied after it, nor does a refused event
 abbrev pub next_content : CheckedState → Content → CheckedState
 next_content state (content.Event e) =
-    if is_out_of_range e then state else record state { applied = next_checked state.applied e }
+    if is_out_of_range e then state else record state { applied = next_by state.baseline state.applied e }
 next_content state content.End = record state { ended = true }
-
--- a refused event that is skipped is counted
-abbrev pub with_skipped : Checking → CheckedState → CheckedState
-with_skipped (Refused why) state = record state { skipped = state.skipped + 1 }
-with_skipped _ state = state
-
--- what was followed after an entry at which following doesn't stop
-abbrev pub next_state : CheckedState → Content → CheckedState
-next_state state content = with_skipped (content_outcome state content) (next_content state content)
 
 -- why following stops at the line with an entry of which this becomes, if it does: at a refused event, unless these are
 -- to be skipped, and at an event out of range
@@ -88,7 +87,7 @@ unfoldable pub check_entries : Bool → CheckedState → CheckStop → List Numb
 check_entries skips state end [] = record { state = state; stop = end }
 check_entries skips state end (numbered ∷ rest) =
     checked_on (stop_for skips (content_outcome state numbered.entry.content) numbered.line) state
-    (check_entries skips (next_state state numbered.entry.content) end rest)
+    (check_entries skips (next_content state numbered.entry.content) end rest)
 
 -- following lines, numbered from this one on; predecessors aren't looked at
 abbrev pub lines_checked : Bool → CheckedState → ℕ → List (List ℕ) → Checked

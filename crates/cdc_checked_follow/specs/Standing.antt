@@ -1,5 +1,5 @@
 -- What a checked follower keeps, and what it stands for.
-use Rattle.std.specs.Prelude.{◌≡◌, ℕ, ◌+◌, Bool, true, false, List, [], filter, fold, length, max, min}
+use Rattle.std.specs.Prelude.{◌≡◌, ℕ, Bool, true, false, List, [], filter, fold, length, max, min}
 use Rattle.cdc_types.specs.declared.accounts.Balances.{Balances}
 use Rattle.cdc_types.specs.declared.events.Event.{Event}
 use Rattle.cdc_types.specs.Widths.{max_64}
@@ -13,15 +13,15 @@ use Rattle.cdc_checked_follow.specs.declared.follower.Checking.{Checking}
 use Rattle.cdc_checked_follow.specs.declared.follower.Checking.TheVariants.{Applied, Late, Refused, Ended, OutOfRange}
 use Rattle.cdc_checked_follow.specs.Checking.{CheckedState}
 
--- what a checker knows, a book by the accounts' ids, how many events it has, the greatest timestamp, how many events
--- were skipped, and whether the end was received
+-- what a checker knows, a book by the accounts' ids, how many events it has, the greatest timestamp, whether the end was
+-- received, and whether events are applied by baseline
 pub record CheckedFollowerState : Type 0 where
   pub checker : CheckerState
   pub book : List (ℕ × Balances)
   pub applied : ℕ
   pub last : ℕ
-  pub skipped : ℕ
   pub ended : Bool
+  pub baseline : Bool
 
 -- an entry of which this becomes changes nothing
 abbrev pub changes_nothing : Checking → Bool
@@ -31,14 +31,19 @@ changes_nothing (Refused why) = true
 changes_nothing Ended = false
 changes_nothing OutOfRange = true
 
--- a refused event that is skipped is counted, up to 2^64-1
-abbrev pub counted : Checking → CheckedFollowerState → CheckedFollowerState
-counted (Refused why) follower = record follower { skipped = min (follower.skipped + 1) max_64 }
-counted _ follower = follower
+-- it has received nothing, and applies events by baseline or not
+abbrev pub begun_by : Bool → CheckedFollowerState
+begun_by by_baseline = record {
+  checker = knows_nothing;
+  book = [];
+  applied = 0;
+  last = 0;
+  ended = false;
+  baseline = by_baseline;
+}
 
--- it has received nothing
 abbrev pub has_nothing : CheckedFollowerState
-has_nothing = record { checker = knows_nothing; book = []; applied = 0; last = 0; skipped = 0; ended = false }
+has_nothing = begun_by false
 
 -- a binding takes an event
 abbrev pub takes : Arguments → Event → Bool
@@ -59,5 +64,5 @@ pub record StandsFor (binding : Arguments) (follower : CheckedFollowerState) (st
   pub book : entries_of follower.book ≡ book_of (taken_of binding state.applied)
   pub applied : follower.applied ≡ min (length (taken_of binding state.applied)) max_64
   pub last : follower.last ≡ greatest state.applied
-  pub skipped : follower.skipped ≡ min state.skipped max_64
   pub ended : follower.ended ≡ state.ended
+  pub baseline : follower.baseline ≡ state.baseline

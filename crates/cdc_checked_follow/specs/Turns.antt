@@ -17,7 +17,7 @@ use Rattle.cdc_checked_follow.specs.declared.streams.CheckStop.{CheckStop}
 use Rattle.cdc_checked_follow.specs.declared.streams.CheckStop.TheVariants.{AtEnd, BadLine}
 use Rattle.cdc_checked_follow.specs.declared.turns.CheckTurn.{CheckTurn}
 use Rattle.cdc_checked_follow.specs.declared.turns.CheckTurn.TheVariants.{GoesOn, Stops}
-use Rattle.cdc_checked_follow.specs.Checking.{CheckedState, content_outcome, next_state, stop_for}
+use Rattle.cdc_checked_follow.specs.Checking.{CheckedState, content_outcome, next_content, stop_for}
 use Rattle.cdc_checked_follow.specs.Standing.{CheckedFollowerState, StandsFor, takes}
 
 -- what becomes of an entry that is applied: the book has the event, or the binding doesn't take it
@@ -57,7 +57,7 @@ line_turn binding skips state number line = read_turn binding skips state number
 -- what was followed after a line at which following doesn't stop, by what it is read as
 abbrev pub read_state : CheckedState → Result (Option Entry) LineError → CheckedState
 read_state state (Ok None) = state
-read_state state (Ok (Some entry)) = next_state state entry.content
+read_state state (Ok (Some entry)) = next_content state entry.content
 read_state state (Err error) = state
 
 -- what was followed after a line at which following doesn't stop

@@ -9,8 +9,8 @@ ghost use Rattle.cdc_match.specs.Matching as matching;
 ghost use Rattle.cdc_subscriber.specs.Book.{entries_of, entry_of as shown_entry, put as put_entry};
 ghost use Rattle.cdc_subscriber.specs.Steps.{book_after};
 ghost use Rattle.cdc_checked.specs.Standing.{CheckerState};
-ghost use Rattle.cdc_checked_follow.specs.Checking.{CheckedState, content_outcome, next_content};
-ghost use Rattle.cdc_checked_follow.specs.Standing.{StandsFor, changes_nothing, has_nothing};
+ghost use Rattle.cdc_checked_follow.specs.Checking.{CheckedState, content_outcome, end_outcome, next_content};
+ghost use Rattle.cdc_checked_follow.specs.Standing.{StandsFor, begun_by, changes_nothing, has_nothing};
 
 use cdc_audit::Refusal;
 use cdc_checked::{Checker, Outcome};
@@ -29,7 +29,8 @@ use std::marker::Model;
 pub enum Checking {
     /// The event is applied. The book has it if the binding takes it.
     Applied,
-    /// Nothing changes: the event isn't later than the last applied event of one of its accounts.
+    /// Nothing changes: the event isn't later than the last applied event of one of its accounts, or an end was received
+    /// before this one.
     Late,
     /// Nothing changes: the event doesn't follow, for this reason. An earlier event of one of its accounts is missing.
     Refused(Refusal),
@@ -49,10 +50,10 @@ pub struct CheckedFollower {
     applied: u64,
     /// The greatest timestamp of an applied event, in nanoseconds; 0 before the first.
     last: u64,
-    /// How many refused events were skipped. The count saturates at 2^64-1.
-    skipped: u64,
     /// Whether the end-of-stream marker was received.
     ended: bool,
+    /// Whether the first event of an account is taken as it is.
+    baseline: bool,
 }
 
 impl Model for CheckedFollower {
@@ -65,8 +66,8 @@ impl Model for CheckedFollower {
       book = f.book.entries;
       applied = f.applied;
       last = f.last;
-      skipped = f.skipped;
       ended = f.ended;
+      baseline = f.baseline;
     } };
 }
 
@@ -75,33 +76,42 @@ impl CheckedFollower {
     pub fn keyed(alloc: Global, key: HashKey) -> CheckedFollower
         ensures { result ≡ has_nothing }
     {
+        CheckedFollower::begin(alloc, key, false)
+    }
+
+    /// A follower that has received nothing, which hashes ids with this key. `baseline`: it takes the first event of an
+    /// account as it is, so that its stream may begin anywhere.
+    pub fn begin(alloc: Global, key: HashKey, baseline: bool) -> CheckedFollower
+        ensures { result ≡ begun_by baseline }
+    {
         CheckedFollower {
             checker: Checker::keyed(alloc, key),
             book: IndexMap::with_hasher(alloc, key),
             applied: 0,
             last: 0,
-            skipped: 0,
             ended: false,
+            baseline,
         }
     }
 
     /// A follower that goes on where another one stopped, with that one's checker and book, the number of events that
-    /// the book has, the greatest timestamp of an applied event, and whether the end was received. No event was
-    /// skipped yet.
+    /// the book has, the greatest timestamp of an applied event, whether the end was received, and whether it began by
+    /// baseline.
     pub fn resume(
         checker: Checker,
         book: KeyedMap<u128, Balances>,
         applied: u64,
         last: u64,
         ended: bool,
+        baseline: bool,
     ) -> CheckedFollower
         ensures { result ≡ record {
           checker = checker;
           book = book.entries;
           applied = applied;
           last = last;
-          skipped = 0;
           ended = ended;
+          baseline = baseline;
         } }
     {
         CheckedFollower {
@@ -109,8 +119,8 @@ impl CheckedFollower {
             book,
             applied,
             last,
-            skipped: 0,
             ended,
+            baseline,
         }
     }
 
@@ -127,13 +137,6 @@ impl CheckedFollower {
             Content::Event(event) => self.take_event(binding, event),
             Content::End => Ok(self.take_end()),
         }
-    }
-
-    /// Counts an event that was refused and is skipped.
-    pub(crate) fn count_skipped(&mut self)
-        ensures { self.new ≡ record self.old { skipped = min (self.old.skipped + 1) max_64 } }
-    {
-        self.skipped = self.skipped.saturating_add(1);
     }
 
     /// What is known of each account by all applied events, and the open pending transfers.
@@ -164,18 +167,18 @@ impl CheckedFollower {
         self.last
     }
 
-    /// How many refused events were skipped. The count saturates at 2^64-1.
-    pub fn skipped_count(&self) -> u64
-        ensures { result ≡ self.now.skipped }
-    {
-        self.skipped
-    }
-
     /// Whether the end-of-stream marker was received.
     pub fn ended(&self) -> bool
         ensures { result ≡ self.now.ended }
     {
         self.ended
+    }
+
+    /// Whether it takes the first event of an account as it is.
+    pub fn baseline(&self) -> bool
+        ensures { result ≡ self.now.baseline }
+    {
+        self.baseline
     }
 
     /// Takes an event.
@@ -191,7 +194,7 @@ impl CheckedFollower {
             return Ok(Checking::OutOfRange);
         }
         self.book.reserve(2)?;
-        match self.checker.take(event)? {
+        match self.checker.take_by(self.baseline, event)? {
             Outcome::Applied => {
                 let taken = binding.matches(&headers_of(event));
                 keep_in_book(&mut self.book, taken, event);
@@ -206,9 +209,12 @@ impl CheckedFollower {
 
     /// Takes the end.
     fn take_end(&mut self) -> Checking
-        ensures answer { result ≡ Checking.Ended }
+        ensures answer { result ≡ end_outcome self.old.ended }
         ensures next { self.new ≡ record self.old { ended = true } }
     {
+        if self.ended {
+            return Checking::Late;
+        }
         self.ended = true;
         Checking::Ended
     }

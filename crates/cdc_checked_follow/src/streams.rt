@@ -4,7 +4,6 @@
 ghost use Rattle.std.specs.Prelude.{◌≡◌, ◌≢◌, Some, None, IfOk, IfSome, IsSome, OnErr, if◌then◌else◌};
 ghost use Rattle.cdc_follow.specs.LineParts.{HasNoFeed};
 ghost use Rattle.cdc_checked_follow.specs.Checking as spec;
-ghost use Rattle.cdc_checked_follow.specs.Standing as standing;
 ghost use Rattle.cdc_checked_follow.specs.Streams.{Checks, IsTaken, KeepsFirst, LineLeadsTo, StepLeadsTo};
 ghost use Rattle.cdc_checked_follow.specs.Turns.{LineTurns, StepTurns, stop_of};
 
@@ -48,15 +47,6 @@ fn stop_for(skips_gaps: bool, checking: Checking, number: u64) -> Option<CheckSt
     }
 }
 
-// Counts an event that is refused and skipped.
-fn count_refused(checking: Checking, follower: &mut CheckedFollower)
-    ensures { follower.new ≡ standing.counted checking follower.old }
-{
-    if let Checking::Refused(_) = checking {
-        follower.count_skipped();
-    }
-}
-
 // Stops at the line of this number, which isn't read for this reason.
 fn stop_at_line(number: u64, error: LineError) -> Result<CheckTurn, FollowError>
     ensures { IfOk result (λ turn.
@@ -94,13 +84,12 @@ fn check_bytes(
     if let Some(stop) = stop_for(skips_gaps, checking, number) {
         return Ok(CheckTurn::Stops(stop));
     }
-    count_refused(checking, follower);
     let following = following_of(binding, &entry.content, checking);
     Ok(CheckTurn::GoesOn(Taken::Entry(entry, following)))
 }
 
 /// Reads the line of this number into the buffer and follows it.
-/// `skips_gaps`: a refused event is counted and skipped, and following goes on with the events of all other accounts;
+/// `skips_gaps`: a refused event is skipped, and following goes on with the events of all other accounts;
 /// otherwise following stops at it. If following stops, and after an error, the follower is as it was.
 pub fn check_line<B: BufRead>(
     alloc: Global,

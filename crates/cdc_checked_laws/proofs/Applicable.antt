@@ -27,7 +27,7 @@ pub record Applicable (applied : List Event) (e : Event) : Type 0 where
       (amounts_by (open_one applied e) e))
 
 -- no refusal
-none_is : {A : Type 0} (o : Option A) → is_none o ≡ true → o ≡ None
+pub none_is : {A : Type 0} (o : Option A) → is_none o ≡ true → o ≡ None
 none_is None is = refl
 none_is (Some x) is = cc
 

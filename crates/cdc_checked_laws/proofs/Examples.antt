@@ -9,9 +9,10 @@ use Rattle.cdc_audit.specs.Audits.{follows_on, is_accepted}
 use Rattle.cdc_audit.specs.Known.{is_settled}
 use Rattle.cdc_audit.specs.Rules.{refusal}
 use Rattle.cdc_audit_laws.specs.Laws.{debits_posted_by}
+use Rattle.cdc_checked.specs.Based.{based, is_based}
 use Rattle.cdc_checked.specs.Checked.{checked, is_applicable, names}
-use Rattle.cdc_checked.proofs.ExampleEvents.{after_void, all, elsewhere, first, fourth, hold_one, hold_other, holding, pays, second, third, void_one, voiding}
-use Rattle.cdc_checked_laws.specs.Laws.{debits_held_by, has_event_at, missed}
+use Rattle.cdc_checked.proofs.ExampleEvents.{after_void, all, elsewhere, first, fourth, hold_one, hold_other, holding, holds_more, pays, pays_late, posts_some, second, third, void_one, voiding}
+use Rattle.cdc_checked_laws.specs.Laws.{MovedNothing, debits_held_by, has_event_at, missed, missed_between}
 
 -- that no event is missed before an applied one: events that move and hold nothing are
 abbrev NothingIsMissed : Type 0
@@ -68,3 +69,19 @@ unfolding is_applicable follows_on refusal
 not_tails law =
     let none = law (first ∷ second ∷ []) (first ∷ []) 1 refl ((0, omega arith, refl), tt) in
     let five : 5 ≡ 0 = none in omega (arith, five)
+
+-- that between two events applied by baseline the missed ones released as much as they held: a pending transfer is
+-- missed, and a post of an earlier one, which the stream lacks, seems to release so much less
+abbrev BaselinesMissNothing : Type 0
+BaselinesMissNothing = (es received : List Event) (id : ℕ) (f e : Event) → is_accepted es ≡ true
+    → AllByRecursion (Contains es) received → Contains (based received) f → Contains (based received) e
+    → names id f ≡ true → names id e ≡ true
+    → MovedNothing es (missed_between es (based received) id f.timestamp e.timestamp) id
+
+not_by_baseline : BaselinesMissNothing → ⊥
+unfolding is_based follows_on refusal
+not_by_baseline law =
+    let nothing_missed = law (hold_one ∷ pays_late ∷ holds_more ∷ posts_some ∷ []) (pays_late ∷ posts_some ∷ []) 1
+    pays_late posts_some refl ((1, omega arith, refl), ((3, omega arith, refl), tt)) (0, omega arith, refl)
+    (1, omega arith, refl) refl refl in
+    let three : 3 ≡ 0 = nothing_missed.debits_held in omega (arith, three)

@@ -15,6 +15,7 @@ use Rattle.cdc_audit_laws.proofs.Following.{CanFollow}
 use Rattle.cdc_audit_laws.proofs.Streams.{accepted_events_rise}
 use Rattle.cdc_checked.specs.Checked.{is_applicable, last_of, names, next_checked, open_one}
 use Rattle.cdc_checked_laws.specs.Laws.{MovedNothing, has_event_at, is_missed, missed}
+use Rattle.cdc_checked_laws.proofs.Among.{IsAmong, among-nil, among-push, old_or_new}
 use Rattle.cdc_checked_laws.proofs.Applicable.{Applicable, applicable, last_of-named, last_of-other, names_debit, newer}
 use Rattle.cdc_checked_laws.proofs.Members.{Parts, each_from, filter_same, has_event_at-push, parts_at, same_time}
 use Rattle.cdc_checked_laws.proofs.Released.{amount_same, event_follows}
@@ -35,13 +36,6 @@ pub record Holds (all applied : List Event) : Type 0 where
       → names id f ≡ true → MovedNothing all (missed all applied id f.timestamp) id
 
 -- ---- tests
-
-either_weight : (a b : Bool) (n : ℕ) → (a ≡ true → b ≡ true → ⊥)
-    → (if a || b then n else 0) ≡ (if a then n else 0) + (if b then n else 0)
-either_weight true true n apart = absurd (apart refl refl)
-either_weight true false n apart = omega arith
-either_weight false true n apart = omega arith
-either_weight false false n apart = omega arith
 
 -- one more event isn't missed, and where it would count it is too late
 missed_same : (n l h b : Bool) → (n ≡ true → b ≡ true → l ≡ false)
@@ -83,12 +77,11 @@ module _ (all applied : List Event) (e : Event) (accepted : is_accepted all ≡ 
   follows = event_follows parts.front e parts.back
       (subst (λ (es : List Event). is_accepted es ≡ true) parts.whole accepted)
 
-  -- its timestamp is new
-  fresh : has_event_at applied e.timestamp ≡ false
-  fresh =
-      false_from_ne_true (has_event_at applied e.timestamp) (λ is.
-      let old = holds.last e there is e.debit_account.id (names_debit e) in
-      let new = can.debit_new in omega (arith, old, new))
+  before_it : IsAmong all applied
+  before_it = record { inside = holds.inside; weights = holds.weights; last = holds.last }
+
+  with_it : IsAmong all (applied ++ e ∷ [])
+  with_it = among-push all applied e accepted before_it (λ id named. newer applied e id can named) there
 
   -- it follows what was applied, and the events before it
   step : IsStep all applied e
@@ -116,59 +109,6 @@ module _ (all applied : List Event) (e : Event) (accepted : is_accepted all ≡ 
       by : (b : Bool) → names id e ≡ b → RiseFrom 0 (filter (names id) applied ++ (if b then e ∷ [] else []))
       by true is = RiseFrom-push 0 (filter (names id) applied) e (holds.rises id) (newer applied e id can is)
       by false is = rw append-nil (holds.rises id)
-
-  -- an event that was applied was so before, or is this one
-  old_or_new : (f : Event) → Contains all f → has_event_at (applied ++ e ∷ []) f.timestamp ≡ true
-      → (has_event_at applied f.timestamp ≡ true) ⊎ (e ≡ f)
-  old_or_new f f_there is =
-      elim (or_cases (has_event_at applied f.timestamp) (e.timestamp == f.timestamp)
-      (sym (has_event_at-push applied e f.timestamp) ∙ is)) [
-        | inl old ↦ inl old
-        | inr new ↦ inr (same_time 0 all e f rise there f_there (eqb-true e.timestamp f.timestamp new))
-      ]
-
-  then_weights : (w : Event → ℕ)
-      → sum_by w (applied ++ e ∷ [])
-      ≡ sum_by (λ f. if has_event_at (applied ++ e ∷ []) f.timestamp then w f else 0) all
-  then_weights w =
-      let more = sum_by_push w applied e in
-      let old = holds.weights w in
-      let new = sum_at 0 all e w rise there in
-      let both : sum_by (λ f. if has_event_at (applied ++ e ∷ []) f.timestamp then w f else 0) all
-      ≡ sum_by (λ f. if has_event_at applied f.timestamp then w f else 0) all
-      + sum_by (λ f. if e.timestamp == f.timestamp then w f else 0) all =
-      sum_by_both (λ f. if has_event_at (applied ++ e ∷ []) f.timestamp then w f else 0)
-      (λ f. if has_event_at applied f.timestamp then w f else 0)
-      (λ f. if e.timestamp == f.timestamp then w f else 0) all
-      (each_from (λ f. (if has_event_at (applied ++ e ∷ []) f.timestamp then w f else 0)
-      ≡ (if has_event_at applied f.timestamp then w f else 0) + (if e.timestamp == f.timestamp then w f else 0)) all
-      (λ f f_there. ap (λ b. if b then w f else 0) (has_event_at-push applied e f.timestamp)
-      ∙ either_weight (has_event_at applied f.timestamp) (e.timestamp == f.timestamp) (w f) (λ a b.
-      false≢true (sym fresh ∙ ap (has_event_at applied) (eqb-true e.timestamp f.timestamp b) ∙ a)))) in
-      omega (arith, more, old, new, both)
-
-  -- the last timestamp of an account never falls
-  grows : (id : ℕ) → last_of applied id ≤ last_of (applied ++ e ∷ []) id
-  grows id =
-      elim (cases_Bool (names id e)) [
-        | inl named ↦
-            let now = last_of-named applied e id named in
-            let more = newer applied e id can named in omega (arith, now, more)
-        | inr other ↦ let now = last_of-other applied e id other in omega (arith, now)
-      ]
-
-  then_last : (f : Event) → Contains all f → has_event_at (applied ++ e ∷ []) f.timestamp ≡ true → (id : ℕ)
-      → names id f ≡ true → f.timestamp ≤ last_of (applied ++ e ∷ []) id
-  then_last f f_there is id named =
-      elim (old_or_new f f_there is) [
-        | inl old ↦
-            let before = holds.last f f_there old id named in
-            let more = grows id in omega (arith, before, more)
-        | inr same ↦
-            let named_e : names id e ≡ true = ap (names id) same ∙ named in
-            let now = last_of-named applied e id named_e in
-            let equal = ap (λ (x : Event). x.timestamp) same in omega (arith, now, equal)
-      ]
 
   -- before an earlier event of an account nothing else was missed
   still_missed : (f : Event) → Contains all f → has_event_at applied f.timestamp ≡ true → (id : ℕ)
@@ -248,7 +188,7 @@ module _ (all applied : List Event) (e : Event) (accepted : is_accepted all ≡ 
   then_nothing : (f : Event) → Contains all f → has_event_at (applied ++ e ∷ []) f.timestamp ≡ true → (id : ℕ)
       → names id f ≡ true → MovedNothing all (missed all (applied ++ e ∷ []) id f.timestamp) id
   then_nothing f f_there is id named =
-      elim (old_or_new f f_there is) [
+      elim (old_or_new all applied e accepted before_it (λ i named. newer applied e i can named) there f f_there is) [
         | inl old ↦
             subst (λ (es : List Event). MovedNothing all es id) (sym (still_missed f f_there old id named))
             (holds.nothing f f_there old id named)
@@ -259,27 +199,22 @@ module _ (all applied : List Event) (e : Event) (accepted : is_accepted all ≡ 
 
   pub holds-push : Holds all (applied ++ e ∷ [])
   holds-push = record {
-    inside = AllByRecursion_push (Contains all) applied e holds.inside there;
+    inside = with_it.inside;
     rises = then_rises;
-    weights = then_weights;
-    last = then_last;
+    weights = with_it.weights;
+    last = with_it.last;
     sums = λ id. balances_add-push all applied e id step (holds.sums id);
     nothing = then_nothing;
   }
 
 -- ---- all events
 
-nothing_yet : (w : Event → ℕ) (all : List Event) → 0 ≡ sum_by (λ f. if false then w f else 0) all
-nothing_yet w all =
-    sym (sum_by_zero (λ f. if false then w f else 0) all
-    (AllByRecursion-every (λ f. (if false then w f else 0) ≡ 0) (λ f. refl) all))
-
 pub holds-nil : (all : List Event) → Holds all []
 holds-nil all = record {
-  inside = tt;
+  inside = (among-nil all).inside;
   rises = λ id. tt;
-  weights = λ w. nothing_yet w all;
-  last = λ f there is. absurd (false≢true is);
+  weights = (among-nil all).weights;
+  last = (among-nil all).last;
   sums = λ id. balances_add-nil all id;
   nothing = λ f there is. absurd (false≢true is);
 }

@@ -27,7 +27,7 @@ use Rattle.cdc_checked_laws.specs.Laws.{WholeStreamsAreApplied}
 use Rattle.cdc_checked_laws.proofs.Released.{is_pending, none_pending}
 
 -- the last timestamp of some of the events of a rising list is at most that of all
-last_below : (p : Event → Bool) (s t : ℕ) (es : List Event) → s ≤ t → RiseFrom t es
+pub last_below : (p : Event → Bool) (s t : ℕ) (es : List Event) → s ≤ t → RiseFrom t es
     → last_timestamp_from s (filter p es) ≤ last_timestamp_from t es
 last_below p s t [] less rise = less
 last_below p s t (e ∷ es) less rise =
@@ -160,7 +160,7 @@ open_alike past (e ∷ rest) id follow alike =
     (open_alike (past ++ e ∷ []) rest id first.1 (open_alike-push past e id first.0 alike))
 
 -- so an event of an accepted stream settles the same
-one_settled : (past : List Event) (e : Event) → is_accepted past ≡ true → open_one past e ≡ settled_event past e
+pub one_settled : (past : List Event) (e : Event) → is_accepted past ≡ true → open_one past e ≡ settled_event past e
 one_settled past e accepted =
     ap (λ (o : Option Event). if settles e.kind then o else None)
     (open_alike [] past (settled_id e) accepted (record { same = refl; stored = λ _. refl })).same
@@ -239,7 +239,7 @@ follows_applicable past e accepted can =
     (ap (λ (o : Option Refusal). is_none o) (no_first_line (account_rules past e) none_here))
 
 -- the first of the events that follow accepted ones is accepted after them
-accepted_push : (past : List Event) (e : Event) (rest : List Event) → is_accepted past ≡ true
+pub accepted_push : (past : List Event) (e : Event) (rest : List Event) → is_accepted past ≡ true
     → follows_on past (e ∷ rest) ≡ true → is_accepted (past ++ e ∷ []) ≡ true
 accepted_push past e rest accepted follow =
     follow_parts [] past (e ∷ []) accepted

@@ -1,5 +1,5 @@
 -- What checked following promises of a ledger's events.
-use Rattle.std.specs.Prelude.{◌≡◌, ◌<◌, ℕ, [], ◌∷◌, ◌++◌, Bool, ◌==◌, ◌&&◌, not, nat_lt, true, false, List, filter, fold, sum_by, take, Contains, if◌then◌else◌}
+use Rattle.std.specs.Prelude.{◌≡◌, ◌<◌, ℕ, [], ◌∷◌, ◌++◌, Bool, ◌==◌, ◌&&◌, not, nat_lt, true, false, List, filter, fold, sum_by, take, drop, Contains, if◌then◌else◌}
 use Rattle.std.specs.List.{AllByRecursion, list_all, list_any}
 use Rattle.cdc_types.specs.declared.events.Event.{Event}
 use Rattle.cdc_ledger.specs.Balances.{balances}
@@ -18,8 +18,9 @@ use Rattle.cdc_follow.specs.Streams.{NumberedEntry, stream_of}
 use Rattle.cdc_audit.specs.Known.{balances_after}
 use Rattle.cdc_audit.specs.Rules.{held, posted, released}
 use Rattle.cdc_audit_laws.specs.Laws.{credits_posted_by, debits_posted_by}
-use Rattle.cdc_checked.specs.Checked.{checked, last_of, names, next_checked}
-use Rattle.cdc_checked_follow.specs.Checking.{CheckedState, begins, bytes_checked}
+use Rattle.cdc_checked.specs.Based.{based, next_by}
+use Rattle.cdc_checked.specs.Checked.{checked, last_of, names}
+use Rattle.cdc_checked_follow.specs.Checking.{CheckedState, begins, begins_by, bytes_checked}
 
 -- one of these events has this timestamp
 abbrev pub has_event_at : List Event → ℕ → Bool
@@ -143,6 +144,30 @@ abbrev pub WholePartsAreApplied : Type 0
 WholePartsAreApplied = (h : History) (takes : Event → Bool) (count : ℕ) → IsLegal h → IsClosed takes (events h)
     → checked (take count (filter takes (events h))) ≡ take count (filter takes (events h))
 
+-- ---- by baseline
+
+-- the events of the account between these two timestamps that weren't applied
+abbrev pub missed_between : List Event → List Event → ℕ → ℕ → ℕ → List Event
+missed_between all applied id s t = filter (λ f. nat_lt s f.timestamp) (missed all applied id t)
+
+-- these events moved nothing posted of an account
+pub record MovedNoMoney (es : List Event) (id : ℕ) : Type 0 where
+  pub debits : debits_posted_by es id ≡ 0
+  pub credits : credits_posted_by es id ≡ 0
+
+-- if two events of an account were applied by baseline, the events of the account that were missed between them moved
+-- nothing posted
+abbrev pub BaselinesMissNoMoney : Type 0
+BaselinesMissNoMoney = (h : History) (received : List Event) (id : ℕ) (f e : Event) → IsLegal h
+    → AllByRecursion (Contains (events h)) received → Contains (based received) f → Contains (based received) e
+    → names id f ≡ true → names id e ≡ true
+    → MovedNoMoney (missed_between (events h) (based received) id f.timestamp e.timestamp) id
+
+-- there is no false alarm by baseline: a ledger's events that are received in order, from any one on, are all applied
+abbrev pub LateStreamsAreApplied : Type 0
+LateStreamsAreApplied = (h : History) (start count : ℕ) → IsLegal h
+    → based (take count (drop start (events h))) ≡ take count (drop start (events h))
+
 -- ---- bytes
 
 -- the event of an entry, if it has one, in front of others
@@ -155,11 +180,12 @@ abbrev pub events_in : List NumberedEntry → List Event
 events_in [] = []
 events_in (numbered ∷ rest) = event_before numbered.entry.content (events_in rest)
 
--- what a checked follower applies of bytes is what checked following makes of the events of some of the first entries
+-- what a checked follower applies of bytes is what checked following, by baseline or not, makes of the events of some of
+-- the first entries
 abbrev pub FollowedBytesAreChecked : Type 0
 FollowedBytesAreChecked = (skips : Bool) (state : CheckedState) (bytes : List ℕ) → (count : ℕ)
     × ((bytes_checked skips state bytes).state.applied
-    ≡ fold next_checked state.applied (events_in (take count (stream_of false bytes).entries)))
+    ≡ fold (next_by state.baseline) state.applied (events_in (take count (stream_of false bytes).entries)))
 
 -- so if the bytes have a ledger's events, in any order and number, a checked follower of them misses nothing, whether
 -- it stops at gaps or skips them
@@ -169,3 +195,13 @@ FollowedBytesMissNothing = (h : History) (skips : Bool) (bytes : List ℕ) (id :
     → Contains (bytes_checked skips begins bytes).state.applied e → names id e ≡ true
     → MovedNothing (events h)
     (missed (events h) (bytes_checked skips begins bytes).state.applied id e.timestamp) id
+
+-- by baseline it misses no posted money between two applied events of an account
+abbrev pub FollowedBytesMissNoMoney : Type 0
+FollowedBytesMissNoMoney = (h : History) (skips : Bool) (bytes : List ℕ) (id : ℕ) (f e : Event) → IsLegal h
+    → AllByRecursion (Contains (events h)) (events_in (stream_of false bytes).entries)
+    → Contains (bytes_checked skips (begins_by true) bytes).state.applied f
+    → Contains (bytes_checked skips (begins_by true) bytes).state.applied e
+    → names id f ≡ true → names id e ≡ true
+    → MovedNoMoney (missed_between (events h) (bytes_checked skips (begins_by true) bytes).state.applied id
+    f.timestamp e.timestamp) id

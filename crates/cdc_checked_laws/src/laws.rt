@@ -1,9 +1,11 @@
 //! What checked following promises. The laws are the postconditions of functions that do nothing.
 
-ghost use Rattle.cdc_checked_laws.specs.Laws.{CheckedAccountsMissNothing, CheckedBooksHoldBalances};
+ghost use Rattle.cdc_checked_laws.specs.Laws.{BaselinesMissNoMoney, CheckedAccountsMissNothing};
+ghost use Rattle.cdc_checked_laws.specs.Laws.{CheckedBooksHoldBalances, FollowedBytesMissNoMoney};
 ghost use Rattle.cdc_checked_laws.specs.Laws.{CheckedMovementsAreAPrefix, CheckedPartsAreAPrefix};
 ghost use Rattle.cdc_checked_laws.specs.Laws.{CheckedPartsMissNothing, FollowedBytesAreChecked};
-ghost use Rattle.cdc_checked_laws.specs.Laws.{FollowedBytesMissNothing, LedgerBindingsAreClosed, MissedEventsAreSilent};
+ghost use Rattle.cdc_checked_laws.specs.Laws.{FollowedBytesMissNothing, LateStreamsAreApplied};
+ghost use Rattle.cdc_checked_laws.specs.Laws.{LedgerBindingsAreClosed, MissedEventsAreSilent};
 ghost use Rattle.cdc_checked_laws.specs.Laws.{TheNextEventIsApplied, WholePartsAreApplied, WholeStreamsAreApplied};
 
 /// Does nothing. A checked follower receives some of a ledger's events, in any order and number. If it applied an event
@@ -47,8 +49,17 @@ pub fn checked_parts_miss_nothing()
 {}
 
 /// Does nothing. A checked follower of bytes applies what checked following makes of the events of some of the first
-/// entries: up to the one at which it stops. So it misses nothing, either.
+/// entries: up to the one at which it stops. So it misses nothing, either; by baseline it misses no posted money.
 pub fn followed_bytes_are_checked()
     ensures checked { FollowedBytesAreChecked }
     ensures missed { FollowedBytesMissNothing }
+    ensures money { FollowedBytesMissNoMoney }
+{}
+
+/// Does nothing. A follower that begins by baseline takes the first event of an account as it is. If it applied two
+/// events of an account, those that it missed between them moved nothing posted. What they held need not be what they
+/// released. There is no false alarm: a ledger's events that are received in order, from any one on, are all applied.
+pub fn baselines_miss_no_money()
+    ensures money { BaselinesMissNoMoney }
+    ensures whole { LateStreamsAreApplied }
 {}

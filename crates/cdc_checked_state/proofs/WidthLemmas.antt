@@ -30,13 +30,14 @@ use Rattle.cdc_follow.proofs.EntryWidths.{entries_fit}
 use Rattle.cdc_audit.specs.Known.{balances_after, settled_id}
 use Rattle.cdc_audit_state.specs.Saveable.{AreDistinct, IsByItsId}
 use Rattle.cdc_checked.specs.declared.checker.KnownAccount.{KnownAccount}
+use Rattle.cdc_checked.specs.Based.{is_based, next_by}
 use Rattle.cdc_checked.specs.Checked.{is_applicable, last_of, names, open_then}
 use Rattle.cdc_checked.specs.Standing.{known_under, unknown}
 use Rattle.cdc_checked.proofs.StandLemmas.{balances_after-push}
 use Rattle.cdc_checked_follow.specs.declared.follower.Checking.{Checking}
 use Rattle.cdc_checked_follow.specs.declared.follower.Checking.TheVariants.{Applied, Late, Refused, Ended, OutOfRange}
 use Rattle.cdc_checked_follow.specs.declared.streams.CheckStop.{CheckStop}
-use Rattle.cdc_checked_follow.specs.Checking.{Checked, CheckedState, content_outcome, is_out_of_range, lines_checked, next_state, stop_for, with_skipped}
+use Rattle.cdc_checked_follow.specs.Checking.{Checked, CheckedState, content_outcome, is_out_of_range, lines_checked, next_content, stop_for}
 use Rattle.cdc_checked_follow.specs.Standing.{taken_of, takes}
 use Rattle.cdc_checked_follow.proofs.StreamLemmas.{bad_line, entry_line, no_lines, past_line}
 use Rattle.cdc_checked_state.specs.declared.rows.Row.{Row}
@@ -252,24 +253,24 @@ can_be_saved taking binding follower state stands fit one_line book accounts ope
 
 -- ---- what is applied of bytes
 
-skipped_fits : (c : Checking) (state : CheckedState) → AppliedFit state → AppliedFit (with_skipped c state)
-skipped_fits Applied state fits = fits
-skipped_fits Late state fits = fits
-skipped_fits (Refused why) state fits = fits
-skipped_fits Ended state fits = fits
-skipped_fits OutOfRange state fits = fits
-
-next_fits : (state : CheckedState) (c : Content) → AppliedFit state → ContentFits c → AppliedFit (next_state state c)
+next_fits : (state : CheckedState) (c : Content) → AppliedFit state → ContentFits c
+    → AppliedFit (next_content state c)
 next_fits state content.End fits small = fits
 next_fits state (content.Event e) fits small =
-    skipped_fits (content_outcome state (content.Event e)) _
-    (by (is_out_of_range e) (is_applicable state.applied e))
+    by (is_out_of_range e) (next_by state.baseline state.applied e) (one_more state.baseline)
   where
-    by : (a b : Bool) → AppliedFit (if a then state
-        else record state { applied = if b then state.applied ++ e ∷ [] else state.applied })
-    by true b = fits
-    by false true = AllByRecursion_push EventFits state.applied e fits small
-    by false false = fits
+    by : (a : Bool) (later : List Event) → AllByRecursion EventFits later
+        → AppliedFit (if a then state else record state { applied = later })
+    by true later all = fits
+    by false later all = all
+
+    one_or_none : (b : Bool) → AllByRecursion EventFits (if b then state.applied ++ e ∷ [] else state.applied)
+    one_or_none true = AllByRecursion_push EventFits state.applied e fits small
+    one_or_none false = fits
+
+    one_more : (baseline : Bool) → AllByRecursion EventFits (next_by baseline state.applied e)
+    one_more true = one_or_none (is_based state.applied e)
+    one_more false = one_or_none (is_applicable state.applied e)
 
 -- what is followed in the end fits
 abbrev EndFits : Checked → Type 0
@@ -291,7 +292,7 @@ module _ (taking : Arguments) (skips : Bool) where
           → EndFits (lines_checked skips state number (line ∷ rest))
       by None stops =
           subst EndFits (sym (entry_line taking skips state number line rest entry None is stops))
-          (later (next_state state entry.content)
+          (later (next_content state entry.content)
           (next_fits state entry.content all (entries_fit false line entry is)))
       by (Some why) stops =
           subst EndFits (sym (entry_line taking skips state number line rest entry (Some why) is stops)) all

@@ -52,6 +52,7 @@ pub record IsFront (front : Front) (binding : List ℕ) (follower : CheckedFollo
   pub applied : front.applied ≡ follower.applied
   pub last : front.last ≡ follower.last
   pub ended : front.ended ≡ follower.ended
+  pub baseline : front.baseline ≡ follower.baseline
   pub binding_is : front.binding.now ≡ binding
   pub lines_are : front.lines.now ≡ lines
 

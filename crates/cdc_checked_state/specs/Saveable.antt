@@ -38,7 +38,7 @@ pub record CanBeSaved (binding : List ℕ) (follower : CheckedFollowerState) : T
   pub open_ones : AreDistinct follower.checker.open_ones
   pub by_ids : AllByRecursion IsByItsId follower.checker.open_ones
 
--- a state that was read is this one; no event was skipped since
+-- a state that was read is this one
 pub record IsState (saved : SavedState) (binding : List ℕ) (follower : CheckedFollowerState) : Type 0 where
   pub binding_is : saved.binding.items ≡ binding
-  pub follower_is : saved.follower ≡ record follower { skipped = 0 }
+  pub follower_is : saved.follower ≡ follower

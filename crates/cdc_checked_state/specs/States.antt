@@ -44,11 +44,12 @@ all_rows follower =
     book_rows follower.book ++ (known_rows follower.checker.accounts ++ open_rows follower.checker.open_ones)
 
 -- the version of the text, how many events the book has, the greatest timestamp of an applied event, whether the end
--- was received, and the text of the binding
+-- was received, whether it began by baseline, and the text of the binding
 abbrev pub heading : List ℕ → CheckedFollowerState → List ℕ
 heading binding follower =
     named (codes "checked-book 1 applied") follower.applied ++ (named (codes " last") follower.last
-    ++ (flagged (codes " ended") follower.ended ++ (codes "\nbinding " ++ (binding ++ codes "\n"))))
+    ++ (flagged (codes " ended") follower.ended ++ (flagged (codes " baseline") follower.baseline
+    ++ (codes "\nbinding " ++ (binding ++ codes "\n")))))
 
 -- the whole text
 unfoldable pub state_text : List ℕ → CheckedFollowerState → List ℕ

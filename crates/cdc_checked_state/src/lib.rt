@@ -11,4 +11,4 @@ pub mod saved;
 pub use laws::{followed_events_fit, followers_can_be_saved, logs_can_be_cut};
 pub use logs::{base_text, read_log, record_text};
 pub use printing::{push_book, push_state};
-pub use saved::{CHECKED_MARK, SavedState, read_state};
+pub use saved::{CHECKED_MARK, SavedState, are_same, read_state};

@@ -107,7 +107,7 @@ pub fn read_log(
     ensures all { (binding_text : List ℕ) (base : CheckedFollowerState) (records : List (List ℕ)) (torn : List ℕ)
         (state : CheckedState) → CanBeSaved binding_text base
         → IsLogText text.now binding_text base records torn
-        → StandsFor binding.now (record base { skipped = 0 }) state → CanBeReplayed state records torn
+        → StandsFor binding.now base state → CanBeReplayed state records torn
         → IfOk result (λ read. IsSomeAnd read (λ saved. (saved.binding.items ≡ binding_text)
         × StandsFor binding.now saved.follower (checked_all state records))) }
 {

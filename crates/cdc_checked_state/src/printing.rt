@@ -50,6 +50,7 @@ fn push_heading(text: &mut Vec<u8>, binding: &[u8], follower: &CheckedFollower) 
     write_named(text, "checked-book 1 applied", follower.applied_count())?;
     write_named(text, " last", follower.last())?;
     write_flagged(text, " ended", follower.ended())?;
+    write_flagged(text, " baseline", follower.baseline())?;
     push_binding(text, binding)
 }
 

@@ -22,7 +22,7 @@ pub const CHECKED_MARK: &[u8] = b"checked-book ";
 pub struct SavedState {
     /// The text of the follower's binding.
     pub binding: Vec<u8>,
-    /// The follower as it was when it was saved. No event was skipped since.
+    /// The follower as it was when it was saved.
     pub follower: CheckedFollower,
 }
 
@@ -32,6 +32,7 @@ pub(crate) struct Front<'a> {
     applied: u64,
     last: u64,
     ended: bool,
+    baseline: bool,
     binding: &'a [u8],
     lines: &'a [u8],
 }
@@ -43,11 +44,13 @@ fn read_front(text: &[u8]) -> Front<'_>
     let (applied, rest) = number_64(skip(text, 22));
     let (last, rest) = number_64(skip(rest, 5));
     let (ended, rest) = flag(skip(rest, 6));
+    let (baseline, rest) = flag(skip(rest, 9));
     let (binding, lines) = line(skip(rest, 9));
     Front {
         applied,
         last,
         ended,
+        baseline,
         binding,
         lines,
     }
@@ -67,6 +70,21 @@ fn is_text_of(
     Ok(printed.as_slice() == text)
 }
 
+/// Whether two followers have the same state: with this binding, their texts are the same.
+pub fn are_same(
+    alloc: Global,
+    binding: &[u8],
+    one: &CheckedFollower,
+    other: &CheckedFollower,
+) -> Result<bool, AllocError>
+    ensures { IfOk result (λ same.
+        IsTrue same ↔ (state_text binding.now one.now ≡ state_text binding.now other.now)) }
+{
+    let mut text = Vec::new(alloc);
+    push_state(alloc, &mut text, binding, one)?;
+    is_text_of(alloc, text.as_slice(), binding, other)
+}
+
 /// A follower with these parts.
 fn follower_of(front: &Front<'_>, parts: Parts) -> CheckedFollower
     ensures { result ≡ record {
@@ -74,8 +92,8 @@ fn follower_of(front: &Front<'_>, parts: Parts) -> CheckedFollower
       book = parts.book;
       applied = front.now.applied;
       last = front.now.last;
-      skipped = 0;
       ended = front.now.ended;
+      baseline = front.now.baseline;
     } }
 {
     let Parts {
@@ -84,7 +102,14 @@ fn follower_of(front: &Front<'_>, parts: Parts) -> CheckedFollower
         open_ones,
     } = parts;
     let checker = Checker::resume(accounts, open_ones);
-    CheckedFollower::resume(checker, book, front.applied, front.last, front.ended)
+    CheckedFollower::resume(
+        checker,
+        book,
+        front.applied,
+        front.last,
+        front.ended,
+        front.baseline,
+    )
 }
 
 /// Reads the text of a saved state, whose follower then hashes ids with this key. `None`: it is the text of no state

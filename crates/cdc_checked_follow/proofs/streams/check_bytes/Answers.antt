@@ -26,8 +26,8 @@ pub returns-clause-leads : goal.returns-clause-leads
 returns-clause-leads c =
     leads_when_on c.args.binding.now c.args.skips_gaps c.args.number c.args.line.now c.args.follower.now
     c.in-Ok-Some.field-0 c.in-Ok-Some.entry c.in_ok-checking.checking c.stop_for.result c.take.new.self
-    c.count_refused.new.follower c.in-Ok-Some.ensures c.in-Ok-Some.field-0-is c.stop_for.ensures c.in_default.is
-    c.count_refused.ensures c.in_ok-checking.ensures.answer c.in_ok-checking.ensures.next
+    c.in-Ok-Some.ensures c.in-Ok-Some.field-0-is c.stop_for.ensures c.in_default.is
+    c.in_ok-checking.ensures.answer c.in_ok-checking.ensures.next
 
 pub returns-in-Ok-None-clause-turns : goal.returns-in-Ok-None-clause-turns
 returns-in-Ok-None-clause-turns c =
@@ -61,9 +61,9 @@ pub returns-clause-taken : goal.returns-clause-taken
 returns-clause-taken c = λ _ number.
     leads_when_on c.args.binding.now true number c.args.line.now c.args.follower.now c.in-Ok-Some.field-0
     c.in-Ok-Some.entry c.in_ok-checking.checking (stop_for true c.in_ok-checking.checking number) c.take.new.self
-    c.count_refused.new.follower c.in-Ok-Some.ensures c.in-Ok-Some.field-0-is refl
+    c.in-Ok-Some.ensures c.in-Ok-Some.field-0-is refl
     (skips_too c.args.skips_gaps c.in_ok-checking.checking c.args.number number
-    (sym c.stop_for.ensures ∙ c.in_default.is)) c.count_refused.ensures c.in_ok-checking.ensures.answer
+    (sym c.stop_for.ensures ∙ c.in_default.is)) c.in_ok-checking.ensures.answer
     c.in_ok-checking.ensures.next
 
 pub returns-in-Some-clause-stays : goal.returns-in-Some-clause-stays

@@ -17,5 +17,8 @@ returns c =
     ∙ ap (λ n. c.write_named.new.writer.items ++ named (codes " last") n) c.last.ensures)
     (pieces _ c.write_flagged.new.writer.items _ (flagged (codes " ended") follower.ended) _
     (c.in_ok-write_flagged.ensures
-    ∙ ap (λ b. c.write_named-2.new.writer.items ++ flagged (codes " ended") b) c.ended.ensures) end)))
+    ∙ ap (λ b. c.write_named-2.new.writer.items ++ flagged (codes " ended") b) c.ended.ensures)
+    (pieces _ c.write_flagged-2.new.writer.items _ (flagged (codes " baseline") follower.baseline) _
+    (c.in_ok-write_flagged-2.ensures
+    ∙ ap (λ b. c.write_flagged.new.writer.items ++ flagged (codes " baseline") b) c.baseline.ensures) end))))
     c.push_binding.ensures
