@@ -1,10 +1,14 @@
 //! Where a chain begins: before the first event, or at the places of a saved state.
 
-ghost use Rattle.std.specs.Prelude.{◌≡◌, ◌⊎◌, ℕ, List, None, true, IfErr, IfOk, IfSome, IsSomeAnd, length, map};
-ghost use Rattle.cdc_chain.specs.Chains.{ChainState, begins};
-ghost use Rattle.cdc_chain_command.specs.States.{CanBeSaved, IsRefused, IsResumed, are_of as all_of, fresh, state_text};
+ghost use Rattle.std.specs.Prelude.{◌≡◌, ◌⊎◌, ℕ, List, Some, None, true, IfErr, IfOk, IfSome, IsSomeAnd, length, map};
+ghost use Rattle.std.specs.List.{AllByRecursion};
+ghost use Rattle.cdc_chain.specs.Chains.{begins};
+ghost use Rattle.cdc_chain_command.specs.Logs.{Fits, IsLogText, Saved, last_saved};
+ghost use Rattle.cdc_chain_command.specs.Resuming.{IsRefused, IsResumed};
+ghost use Rattle.cdc_chain_command.specs.States.{are_of as all_of};
 
-use crate::reading::read_state;
+use crate::logs::read_log;
+use crate::reading::{SavedState, read_state};
 use crate::states::ChainSetup;
 use cdc_bindings::is_of;
 use cdc_chain::Chain;
@@ -27,23 +31,47 @@ fn are_of(alloc: Global, bindings: &[Binding], texts: &[Vec<u8>]) -> Result<bool
     Ok(true)
 }
 
-/// The chain of a saved state with this text. `BadRecord`: it is no text of a state of queues whose bindings mean the
-/// same as these, in their order.
+/// The chain of a state that was read, if its bindings mean the same as these, in their order.
+fn chain_of(
+    alloc: Global,
+    saved: Option<SavedState>,
+    bindings: &[Binding],
+) -> Result<Option<Chain>, AllocError>
+    ensures some { IfOk result (λ found. IfSome found (λ chain. IsSomeAnd saved (λ it. (chain ≡ it.chain)
+        × (all_of bindings.now (map (λ t. t.items) it.texts.items) ≡ true)))) }
+    ensures all { IfSome saved (λ it. all_of bindings.now (map (λ t. t.items) it.texts.items) ≡ true
+        → IfOk result (λ found. found ≡ Some it.chain)) }
+{
+    let Some(saved) = saved else {
+        return Ok(None);
+    };
+    if are_of(alloc, bindings, saved.texts.as_slice())? {
+        Ok(Some(saved.chain))
+    } else {
+        Ok(None)
+    }
+}
+
+/// The chain of a saved state with this text: that of a log, whose torn end is ignored, or of the state alone, as it
+/// was saved before version 1.3. `BadRecord`: it is no text of a state of queues whose bindings mean the same as these,
+/// in their order.
 fn resume(alloc: Global, text: &[u8], bindings: &[Binding]) -> Result<Chain, StoreError>
     ensures places { IfOk result (λ chain. length chain.places ≡ length bindings.now) }
     ensures resumed { IfOk result (IsResumed bindings.now text.now) }
-    ensures all { (saved : List (List ℕ)) (state : ChainState) → CanBeSaved saved state
-        → all_of bindings.now saved ≡ true → text.now ≡ state_text saved state
-        → IfOk result (λ chain. chain ≡ fresh state) }
+    ensures all { (first : Saved) (later : List Saved) (torn : List ℕ) → Fits (length bindings.now) first
+        → AllByRecursion (Fits (length bindings.now)) later
+        → all_of bindings.now (last_saved first later).names ≡ true → IsLogText text.now first later torn
+        → IfOk result (λ chain. chain ≡ (last_saved first later).state) }
     ensures refused { IfErr result (IsRefused bindings.now text.now) }
 {
-    let Some(saved) = read_state(alloc, text, bindings.len())? else {
-        return Err(StoreError::BadRecord);
-    };
-    if are_of(alloc, bindings, saved.texts.as_slice())? {
-        Ok(saved.chain)
-    } else {
-        Err(StoreError::BadRecord)
+    let logged = read_log(alloc, text, bindings.len())?;
+    if let Some(chain) = chain_of(alloc, logged, bindings)? {
+        return Ok(chain);
+    }
+    let alone = read_state(alloc, text, bindings.len())?;
+    match chain_of(alloc, alone, bindings)? {
+        Some(chain) => Ok(chain),
+        None => Err(StoreError::BadRecord),
     }
 }
 
@@ -54,10 +82,12 @@ pub fn start(alloc: Global, text: &Option<Vec<u8>>, setup: &ChainSetup) -> Resul
     ensures places { IfOk result (λ chain. length chain.places ≡ length setup.now.bindings.items) }
     ensures begins { text.now ≡ None → IfOk result (λ chain. chain ≡ begins setup.now.bindings.items) }
     ensures resumed { IfSome text.now (λ t. IfOk result (IsResumed setup.now.bindings.items t.items)) }
-    ensures all { (saved : List (List ℕ)) (state : ChainState) → CanBeSaved saved state
-        → all_of setup.now.bindings.items saved ≡ true
-        → IfSome text.now (λ t. t.items ≡ state_text saved state
-        → IfOk result (λ chain. chain ≡ fresh state)) }
+    ensures all { (first : Saved) (later : List Saved) (torn : List ℕ)
+        → Fits (length setup.now.bindings.items) first
+        → AllByRecursion (Fits (length setup.now.bindings.items)) later
+        → all_of setup.now.bindings.items (last_saved first later).names ≡ true
+        → IfSome text.now (λ t. IsLogText t.items first later torn
+        → IfOk result (λ chain. chain ≡ (last_saved first later).state)) }
     ensures refused { IfErr result (λ error. (error ≡ StoreError.OutOfMemory)
         ⊎ IsSomeAnd text.now (λ t. IsRefused setup.now.bindings.items t.items error)) }
 {
