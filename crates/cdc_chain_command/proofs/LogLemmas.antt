@@ -1,15 +1,17 @@
 -- The log of a chain's states: how it is read, kept and cut.
 use Rattle.std.proofs.Common.{◌≡◌, ℕ, ◌+◌, ◌<◌, ◌≤◌, ◌^◌, List, [], ◌∷◌, ◌++◌, length, map, take, Bool, Option, None, Some}
 use Rattle.std.proofs.Common.{refl, sym, ap, ap₂, ◌∙◌, subst, append-nil, arith}
-use Rattle.std.specs.Prelude.{IfSome, IsSomeAnd}
+use Rattle.std.specs.Prelude.{Err, IfOk, IfSome, IsSomeAnd, Ok, Result}
+use Rattle.std.specs.declared.alloc.AllocError.{AllocError}
 use Rattle.std.proofs.lemmas.List.{length-append, length-map, map-append}
 use Rattle.cdc_frames.specs.Frames.{IsSplit, frame, frames}
-use Rattle.cdc_frames.specs.Records.{IsText}
+use Rattle.cdc_frames.specs.Records.{IsReplayed, IsText}
 use Rattle.cdc_frames.proofs.FrameLemmas.{cuts, frames-append}
+use Rattle.cdc_frames.proofs.RecordLemmas.{record_before}
 use Rattle.cdc_streams.specs.Keeping.{AppendsText, ReplacesText, last_text}
 use Rattle.cdc_streams.proofs.KeepingLemmas.{last_of_more}
 use Rattle.cdc_chain.specs.Chains.{ChainState}
-use Rattle.cdc_chain_command.specs.Logs.{Fits, IsCut, IsTextOf, LogsCanBeCut, Saved, log_name, log_text, saved_text}
+use Rattle.cdc_chain_command.specs.Logs.{Fits, IsCut, IsRead, IsTextOf, LogsCanBeCut, Saved, log_name, log_text, saved_text}
 use Rattle.cdc_chain_command.specs.Private.Reads.{saved_of}
 use Rattle.cdc_chain_command.specs.Private.Steps.{FitsBy, HasRecords, Keeps}
 use Rattle.cdc_chain_command.specs.States.{CanBeSaved, fresh, state_text}
@@ -33,6 +35,26 @@ reads_as count text (Some it) all one fit is =
     let state = both.0 ∙ fresh_is one.state fit.fresh in
     λ i. record { names = both.1 i; state = state i }
 
+-- a log is read if its first state is, and the states after that
+pub read_whole : (count : ℕ) (text content after : List ℕ) (first : SavedState)
+    (answer : Result (Option SavedState) AllocError) → text ≡ frame log_name 0 content ++ after
+    → content ≡ saved_text (saved_of first)
+    → IfOk answer (λ read. IfSome read (λ last. (records : ℕ) × (torn : ℕ) × IsReplayed log_name (Fits count) saved_text
+    (λ before next. next) after (saved_of first) (saved_of last) records torn))
+    → IfOk answer (λ read. IfSome read (λ last. IsRead count text (saved_of last)))
+read_whole count text content after first (Err why) is first_is replays = tt
+read_whole count text content after first (Ok None) is first_is replays = tt
+read_whole count text content after first (Ok (Some last)) is first_is replays =
+    let tail = replays.2 in
+    record {
+      first = saved_of first;
+      later = tail.records;
+      torn = tail.torn;
+      text_is = record_before log_name (Fits count) saved_text 0 text content after tail.torn (saved_of first)
+          tail.records is first_is tail.bytes_are;
+      last = tail.replayed.state_is;
+    }
+
 -- ---- keeping
 
 -- the text of a log with one more state
@@ -50,12 +72,19 @@ more_text names states state number is =
     ∙ ap (λ l. frames log_name 0 texts ++ l)
     (append-nil (frame log_name (0 + length texts) text) ∙ ap (λ n. frame log_name n text) count))
 
-module _ (names : List (List ℕ)) (state : ChainState) where
+module _ (names : List (List ℕ)) (state : ChainState) (text : List ℕ) (text_is : text ≡ state_text names state) where
   abbrev Frame : ℕ → List ℕ
-  Frame number = frame log_name number (state_text names state)
+  Frame number = frame log_name number text
 
   base_is : Frame 0 ≡ frames log_name 0 (map (state_text names) (state ∷ []))
-  base_is = sym (append-nil (Frame 0))
+  base_is = ap (frame log_name 0) text_is ∙ sym (append-nil (frame log_name 0 (state_text names state)))
+
+  more_is : (states : List ChainState) (number : ℕ) → number ≡ length states
+      → frames log_name 0 (map (state_text names) states) ++ Frame number
+      ≡ frames log_name 0 (map (state_text names) (states ++ state ∷ []))
+  more_is states number is =
+      ap (λ t. frames log_name 0 (map (state_text names) states) ++ frame log_name number t) text_is
+      ∙ more_text names states state number is
 
   pub keeps_base : (old new : Option (List (List ℕ))) → ReplacesText old new (Frame 0) → Keeps names old new state
   keeps_base None new is = tt
@@ -78,7 +107,7 @@ module _ (names : List (List ℕ)) (state : ChainState) where
   keeps_record (Some before) new records number has next is = (
     last_text before ++ Frame number,
     is,
-    (has.0, ap (λ t. t ++ Frame number) has.1 ∙ more_text names has.0 state number (next ∙ sym has.2)),
+    (has.0, ap (λ t. t ++ Frame number) has.1 ∙ more_is has.0 number (next ∙ sym has.2)),
   )
 
   has_record : (old new : Option (List (List ℕ))) (records number : ℕ) → HasRecords names old records
@@ -90,7 +119,7 @@ module _ (names : List (List ℕ)) (state : ChainState) where
       subst (λ it. HasRecords names it number) (sym is) (
         has.0 ++ state ∷ [],
         last_of_more before (last_text before ++ Frame number) ∙ ap (λ t. t ++ Frame number) has.1
-            ∙ more_text names has.0 state number (next ∙ sym has.2),
+            ∙ more_is has.0 number (next ∙ sym has.2),
         omega (arith, longer, count, next),
       )
 

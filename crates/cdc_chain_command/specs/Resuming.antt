@@ -8,15 +8,20 @@ use Rattle.cdc_chain.specs.Chains.{ChainState}
 use Rattle.cdc_chain_command.specs.Logs.{Fits, IsLogText, IsRead, Saved, last_saved}
 use Rattle.cdc_chain_command.specs.States.{CanBeSaved, are_of, state_text}
 
--- a text has this state as its last one: it is that of a log, or of the state alone, as it was saved before version 1.3
-abbrev pub HasState : ℕ → List ℕ → Saved → Type 0
-HasState count text it = IsRead count text it ⊎ (text ≡ state_text it.names it.state)
+-- a chain goes on from the text of a log: that of its last state, with bindings that mean the same as these
+abbrev pub IsResumedLog : List Arguments → List ℕ → ChainState → Type 0
+IsResumedLog bindings text state = (names : List (List ℕ))
+    × IsRead (length bindings) text (record { names = names; state = state }) × (are_of bindings names ≡ true)
+    × (state.duplicates ≡ 0)
 
--- a chain goes on from a text: that of its state, with bindings that mean the same as these
-abbrev pub IsResumed : List Arguments → List ℕ → ChainState → Type 0
-IsResumed bindings text state = (names : List (List ℕ))
-    × HasState (length bindings) text (record { names = names; state = state })
+-- the same of the text of a state alone, as earlier versions saved it
+abbrev pub IsResumedText : List Arguments → List ℕ → ChainState → Type 0
+IsResumedText bindings text state = (names : List (List ℕ)) × (text ≡ state_text names state)
     × (are_of bindings names ≡ true) × (state.duplicates ≡ 0)
+
+-- a chain goes on from a text, which is either
+abbrev pub IsResumed : List Arguments → List ℕ → ChainState → Type 0
+IsResumed bindings text state = IsResumedLog bindings text state ⊎ IsResumedText bindings text state
 
 -- a text is that of no log whose last state has bindings that mean the same as these
 abbrev pub IsNoLog : List Arguments → List ℕ → Type 0
@@ -29,7 +34,11 @@ abbrev pub IsNoState : List Arguments → List ℕ → Type 0
 IsNoState bindings text = (names : List (List ℕ)) (state : ChainState) → CanBeSaved names state
     → are_of bindings names ≡ true → text ≢ state_text names state
 
+-- it is neither
+pub record IsNeither (bindings : List Arguments) (text : List ℕ) : Type 0 where
+  pub log : IsNoLog bindings text
+  pub alone : IsNoState bindings text
+
 -- a text isn't resumed because memory runs out, or because it is no such text
 abbrev pub IsRefused : List Arguments → List ℕ → StoreError → Type 0
-IsRefused bindings text error =
-    (error ≡ OutOfMemory) ⊎ ((error ≡ BadRecord) × (IsNoLog bindings text × IsNoState bindings text))
+IsRefused bindings text error = (error ≡ OutOfMemory) ⊎ ((error ≡ BadRecord) × IsNeither bindings text)

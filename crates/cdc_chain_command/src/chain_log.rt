@@ -2,11 +2,12 @@
 
 ghost use Rattle.std.specs.Prelude.{◌≡◌, ◌+◌, true, false, IfSome, OnErr, OnOk, map};
 ghost use Rattle.cdc_frames.specs.Frames.{frame};
+ghost use Rattle.cdc_streams.specs.Keeping.{AppendsText, ReplacesText};
 ghost use Rattle.cdc_chain_command.specs.Logs.{log_name};
 ghost use Rattle.cdc_chain_command.specs.Private.Steps.{FitsLog, Keeps};
 
 use crate::logs::frame_text;
-use crate::states::{ChainSetup, state_text};
+use crate::states::ChainSetup;
 use cdc_chain::Chain;
 use cdc_files::StoreError;
 use cdc_streams::{Log, LogStore};
@@ -44,6 +45,30 @@ impl<L: LogStore> ChainLog<L> {
         }
     }
 
+    /// Replaces all by a frame with this text of a state.
+    fn begin(&mut self, alloc: Global, state: &[u8]) -> Result<(), StoreError>
+        ensures saved { OnOk result (ReplacesText (L.texts self.old.log.store) (L.texts self.new.log.store)
+            (frame log_name 0 state.now)) }
+        ensures records { OnOk result (self.new.log.records ≡ 0) }
+        ensures refused { OnErr result (L.texts self.new.log.store ≡ L.texts self.old.log.store) }
+    {
+        let text = frame_text(alloc, 0, state)?;
+        self.log.save_base(text.as_slice())?;
+        self.has_begun = true;
+        Ok(())
+    }
+
+    /// Appends the frame of this number with this text of a state.
+    fn append(&mut self, alloc: Global, number: u64, state: &[u8]) -> Result<(), StoreError>
+        ensures saved { OnOk result (AppendsText (L.texts self.old.log.store) (L.texts self.new.log.store)
+            (frame log_name number state.now)) }
+        ensures records { OnOk result (self.new.log.records ≡ number) }
+        ensures refused { OnErr result (L.texts self.new.log.store ≡ L.texts self.old.log.store) }
+    {
+        let text = frame_text(alloc, number, state)?;
+        self.log.save_record(number, text.as_slice())
+    }
+
     /// Keeps a state. After an error, what was held before is held, or this too.
     pub(crate) fn keep(
         &mut self,
@@ -58,18 +83,11 @@ impl<L: LogStore> ChainLog<L> {
             → OnOk result (FitsLog L.texts (map (λ t. t.items) setup.now.texts.items) self.new) }
         ensures refused { OnErr result (L.texts self.new.log.store ≡ L.texts self.old.log.store) }
     {
-        let state = state_text(alloc, setup.texts.as_slice(), chain)?;
+        let text = setup.text_of(alloc, chain)?;
+        let state = text.as_slice();
         match self.next_frame() {
-            Some(number) => {
-                let text = frame_text(alloc, number, state.as_slice())?;
-                self.log.save_record(number, text.as_slice())
-            }
-            None => {
-                let text = frame_text(alloc, 0, state.as_slice())?;
-                self.log.save_base(text.as_slice())?;
-                self.has_begun = true;
-                Ok(())
-            }
+            Some(number) => self.append(alloc, number, state),
+            None => self.begin(alloc, state),
         }
     }
 }

@@ -3,12 +3,12 @@
 ghost use Rattle.std.specs.Prelude.{◌≡◌, ◌⊎◌, ℕ, List, Some, None, true, IfErr, IfOk, IfSome, IsSomeAnd, length, map};
 ghost use Rattle.std.specs.List.{AllByRecursion};
 ghost use Rattle.cdc_chain.specs.Chains.{begins};
-ghost use Rattle.cdc_chain_command.specs.Logs.{Fits, IsLogText, Saved, last_saved};
-ghost use Rattle.cdc_chain_command.specs.Resuming.{IsRefused, IsResumed};
+ghost use Rattle.cdc_chain_command.specs.Logs.{Fits, IsLogText, IsRead, Saved, last_saved};
+ghost use Rattle.cdc_chain_command.specs.Resuming.{IsNoState, IsRefused, IsResumed, IsResumedText};
 ghost use Rattle.cdc_chain_command.specs.States.{are_of as all_of};
 
 use crate::logs::read_log;
-use crate::reading::{SavedState, read_state};
+use crate::reading::read_state;
 use crate::states::ChainSetup;
 use cdc_bindings::is_of;
 use cdc_chain::Chain;
@@ -31,18 +31,23 @@ fn are_of(alloc: Global, bindings: &[Binding], texts: &[Vec<u8>]) -> Result<bool
     Ok(true)
 }
 
-/// The chain of a state that was read, if its bindings mean the same as these, in their order.
-fn chain_of(
+/// The chain of the log of saved states with this text, whose torn end is ignored. `None`: it is no text of a log of
+/// states of queues whose bindings mean the same as these, in their order.
+fn resume_log(
     alloc: Global,
-    saved: Option<SavedState>,
+    text: &[u8],
     bindings: &[Binding],
 ) -> Result<Option<Chain>, AllocError>
-    ensures some { IfOk result (λ found. IfSome found (λ chain. IsSomeAnd saved (λ it. (chain ≡ it.chain)
-        × (all_of bindings.now (map (λ t. t.items) it.texts.items) ≡ true)))) }
-    ensures all { IfSome saved (λ it. all_of bindings.now (map (λ t. t.items) it.texts.items) ≡ true
-        → IfOk result (λ found. found ≡ Some it.chain)) }
+    ensures places { IfOk result (λ read. IfSome read (λ chain. length chain.places ≡ length bindings.now)) }
+    ensures resumed { IfOk result (λ read. IfSome read (λ chain. (names : List (List ℕ))
+        × IsRead (length bindings.now) text.now (record { names = names; state = chain })
+        × (all_of bindings.now names ≡ true) × (chain.duplicates ≡ 0))) }
+    ensures all { (first : Saved) (later : List Saved) (torn : List ℕ) → Fits (length bindings.now) first
+        → AllByRecursion (Fits (length bindings.now)) later
+        → all_of bindings.now (last_saved first later).names ≡ true → IsLogText text.now first later torn
+        → IfOk result (λ read. read ≡ Some (last_saved first later).state) }
 {
-    let Some(saved) = saved else {
+    let Some(saved) = read_log(alloc, text, bindings.len())? else {
         return Ok(None);
     };
     if are_of(alloc, bindings, saved.texts.as_slice())? {
@@ -52,9 +57,26 @@ fn chain_of(
     }
 }
 
-/// The chain of a saved state with this text: that of a log, whose torn end is ignored, or of the state alone, as it
-/// was saved before version 1.3. `BadRecord`: it is no text of a state of queues whose bindings mean the same as these,
-/// in their order.
+/// The chain of a saved state with this text, which is no log. `BadRecord`: it is no text of a state of queues whose
+/// bindings mean the same as these, in their order.
+fn resume_text(alloc: Global, text: &[u8], bindings: &[Binding]) -> Result<Chain, StoreError>
+    ensures places { IfOk result (λ chain. length chain.places ≡ length bindings.now) }
+    ensures resumed { IfOk result (IsResumedText bindings.now text.now) }
+    ensures refused { IfErr result (λ error. (error ≡ StoreError.OutOfMemory)
+        ⊎ ((error ≡ StoreError.BadRecord) × IsNoState bindings.now text.now)) }
+{
+    let Some(saved) = read_state(alloc, text, bindings.len())? else {
+        return Err(StoreError::BadRecord);
+    };
+    if are_of(alloc, bindings, saved.texts.as_slice())? {
+        Ok(saved.chain)
+    } else {
+        Err(StoreError::BadRecord)
+    }
+}
+
+/// The chain of a saved state with this text: that of a log, or of the state alone, as earlier versions saved it.
+/// `BadRecord`: it is neither, or one of queues whose bindings don't mean the same as these, in their order.
 fn resume(alloc: Global, text: &[u8], bindings: &[Binding]) -> Result<Chain, StoreError>
     ensures places { IfOk result (λ chain. length chain.places ≡ length bindings.now) }
     ensures resumed { IfOk result (IsResumed bindings.now text.now) }
@@ -64,14 +86,10 @@ fn resume(alloc: Global, text: &[u8], bindings: &[Binding]) -> Result<Chain, Sto
         → IfOk result (λ chain. chain ≡ (last_saved first later).state) }
     ensures refused { IfErr result (IsRefused bindings.now text.now) }
 {
-    let logged = read_log(alloc, text, bindings.len())?;
-    if let Some(chain) = chain_of(alloc, logged, bindings)? {
-        return Ok(chain);
-    }
-    let alone = read_state(alloc, text, bindings.len())?;
-    match chain_of(alloc, alone, bindings)? {
+    let logged = resume_log(alloc, text, bindings)?;
+    match logged {
         Some(chain) => Ok(chain),
-        None => Err(StoreError::BadRecord),
+        None => resume_text(alloc, text, bindings),
     }
 }
 

@@ -10,6 +10,7 @@ use Rattle.cdc_chain_command.proofs.commands.take_lines.Goals as goal
 pub loop-number-init : goal.loop-number-init
 loop-number-init g c = record {
   queues = refl;
+  fits = c.requires.fits;
   goes = goes_from c.args.setup.now.bindings.items (map (λ t. t.items) c.args.setup.now.texts.items) c.args.chain.now
       (g.W.Write.contents c.args.writer.now) (g.L.LogStore.texts c.args.store.now.log.store) (g.B.Read.remaining
       c.args.reader.now)
@@ -135,6 +136,7 @@ loop-number-preserved g c =
     (string_bytes c.chain_line.new.text) (g.L.LogStore.texts c.save_if_due.new.store.log.store) so_far c.in-Ok-None.field-0-is
     (rw c.as_slice.ensures.value at c.in-Ok-None.ensures.makes) in record {
       queues = c.in-Ok-None.ensures.many ∙ c.loop-number.invariant.queues;
+      fits = c.in_default.ensures.fits;
       goes = goes_wrote c.args.setup.now.bindings.items (map (λ t. t.items) c.args.setup.now.texts.items)
           c.args.chain.now
           (g.W.Write.contents c.args.writer.now) (g.L.LogStore.texts c.args.store.now.log.store) (g.B.Read.remaining

@@ -1,4 +1,4 @@
-use Rattle.std.proofs.Common.{◌≡◌, ◌+◌, ◌<◌, ◌++◌, ap, arith, length, refl, sym}
+use Rattle.std.proofs.Common.{◌≡◌, ◌+◌, ◌<◌, ◌++◌, ap, arith, length, refl}
 use Rattle.cdc_frames.specs.Frames.{frame}
 use Rattle.cdc_frames.specs.Records.{IsFitText}
 use Rattle.cdc_frames.proofs.FrameLemmas.{content_within, none_torn}
