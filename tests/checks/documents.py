@@ -42,7 +42,7 @@ BUDGETS = [
     (810, "docs/AUDIT.md"),
     (3_600, "docs/REFERENCE.md"),
     (8_140, "docs/FORMATS.md"),
-    (5_000, "docs/PROOFS.md"),
+    (5_100, "docs/PROOFS.md"),
     (2_590, "docs/ARCHITECTURE.md"),
     (3_720, "CONTRIBUTING.md"),
     (3_740, "docs/DECISIONS.md"),

@@ -227,8 +227,8 @@ min_past a b i n is past = by_order (nat_le a b) refl
 
 -- ---- a text that isn't resumed
 
-none_some : {X : Type 0} (x : X) → (let none : Option X = None in none) ≡ Some x → ⊥
-none_some x is = cc
+none_some : {X : Type 0} (read : Option X) (x : X) → read ≡ None → read ≡ Some x → ⊥
+none_some read x none some = cc
 
 -- if no log is read, there is none
 pub no_log : (bindings : List Arguments) (text : List ℕ) (read : Option ChainState) → read ≡ None
@@ -237,7 +237,7 @@ pub no_log : (bindings : List Arguments) (text : List ℕ) (read : Option ChainS
     → IsLogText text first later torn → read ≡ Some (last_saved first later).state)
     → IsNoLog bindings text
 no_log bindings text read none all = λ first later torn fit fits are split.
-    none_some (last_saved first later).state (sym none ∙ all first later torn fit fits are split)
+    none_some read (last_saved first later).state none (all first later torn fit fits are split)
 
 -- so the text is neither that of a log nor that of a state
 pub refused_both : {T : Type 0} (bindings : List Arguments) (text : List ℕ) (result : Result T StoreError)

@@ -33,11 +33,7 @@ fn are_of(alloc: Global, bindings: &[Binding], texts: &[Vec<u8>]) -> Result<bool
 
 /// The chain of the log of saved states with this text, whose torn end is ignored. `None`: it is no text of a log of
 /// states of queues whose bindings mean the same as these, in their order.
-fn resume_log(
-    alloc: Global,
-    text: &[u8],
-    bindings: &[Binding],
-) -> Result<Option<Chain>, AllocError>
+fn resume_log(alloc: Global, text: &[u8], bindings: &[Binding]) -> Result<Option<Chain>, AllocError>
     ensures places { IfOk result (λ read. IfSome read (λ chain. length chain.places ≡ length bindings.now)) }
     ensures resumed { IfOk result (λ read. IfSome read (λ chain. (names : List (List ℕ))
         × IsRead (length bindings.now) text.now (record { names = names; state = chain })
