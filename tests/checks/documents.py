@@ -45,7 +45,7 @@ BUDGETS = [
     (5_100, "docs/PROOFS.md"),
     (2_590, "docs/ARCHITECTURE.md"),
     (3_720, "CONTRIBUTING.md"),
-    (3_740, "docs/DECISIONS.md"),
+    (3_800, "docs/DECISIONS.md"),
     (1_640, "docs/MEASURED.md"),
     (1_870, "CHANGELOG.md", "ROADMAP.md"),
     (860, "contrib/rabbitmq/README.md"),
