@@ -4,7 +4,8 @@
   tests/checks/chain.py [PROGRAM] [--streams N] [--soak]    PROGRAM: crates/cdc_app/out/cdc_app; N random streams, 2,000 by default
 
 By hand: each kind of line, each fault and status, what standard error reports, and the saved state, which other bindings refuse;
-with standard output closed the command is refused.
+with standard output closed the command is refused. Logs: each save but the first of a run appends a frame; a log that is cut anywhere
+goes on from its last whole frame.
 Random streams have duplicates, ends, lines that are ignored, and events by their bodies, in envelopes and as `messages --json` prints
 them; up to four queues take them. They are cut in two, and the second run goes on from the state of the first. What is printed has to
 be that of the model. The lines of each queue are lost, repeated and shuffled, and `follow --chained` has to report or skip each gap,
@@ -30,6 +31,7 @@ import interrupted
 import rooms
 from commands import check, run
 from follow import event, numbers, own
+from frames import frame, framed
 from model import Chain
 
 JOBS = 2  # runs at a time
@@ -149,7 +151,7 @@ def states(folder):
     options = [*options_of(both), "--state", state]
     found = run(options, text_of([own(FIRST), own(SECOND)]))
     saved = "chain-state 1 last 20 ended no\nqueue 10 all ledger=700\nqueue 0 any event_type=two_phase_posted\n"
-    check("a state", found == (0, LINES[0], "") and read(state) == saved, (found, read(state)))
+    check("a state", found == (0, LINES[0], "") and read(state) == log_of(saved), (found, read(state)))
     check("nothing is left beside a state", os.listdir(folder) == ["a.state"], os.listdir(folder))
     found = run(options, text_of([own(FIRST), own(THIRD)]))
     check("it goes on", found == (0, LINES[1], skipped(1)), found)
@@ -162,7 +164,7 @@ def states(folder):
         found = run([*options_of(others), "--state", state], text_of([END]))
         check(f"a state of other queues: {others}", found[:2] == (1, "") and "store" in found[2], found)
         check(f"it stays: {others}", read(state) == before, read(state))
-    for name, text in [*(("cut", before[:place]) for place in range(len(before))), ("more", before + "\n"), ("zero", before.replace("last ", "last 0"))]:
+    for name, text in [*(("cut", before[:place]) for place in range(len(before))), ("before", "\n" + before), ("zero", before.replace("last ", "last 0"))]:
         other = os.path.join(folder, "other.state")
         with open(other, "w", encoding="ascii") as it:
             it.write(text)
@@ -170,7 +172,67 @@ def states(folder):
         check(f"no state: {name}: {text!r}", found[:2] == (1, "") and "store" in found[2] and read(other) == text, found)
     found = run([*options_of(both), "--state", folder], b"")
     check("a state that is a folder", found[:2] == (1, "") and "store" in found[2], found)
+    with open(state, "w", encoding="ascii") as it:
+        it.write(saved)
+    found = run(options, text_of([own(SECOND), own(THIRD)]))
+    check("a state alone, as earlier versions saved it", found == (0, LINES[1], skipped(1)), found)
+    later = saved.replace("last 20", "last 30").replace("queue 10", "queue 30").replace("queue 0 any", "queue 30 any")
+    check("it is saved as a log", read(state) == log_of(later), read(state))
     os.remove(state)
+
+
+def logs(folder):
+    """The first save of a run replaces the file and each later one appends a frame. A log that is cut goes on from its last whole frame."""
+    bindings, state, other = [LEDGER, POSTED], os.path.join(folder, "a.state"), os.path.join(folder, "other.state")
+    bodies = stream_of(random.Random(5), 7)
+    stream = os.path.join(folder, "stream")
+    with open(stream, "wb") as it:
+        it.write(text_of([*(own(it) for it in bodies), END]))
+    model, wanted = Chain([0] * len(bindings)), []
+    for place, body in enumerate([*bodies, None]):
+        model.take(*((None, []) if body is None else (int(body["timestamp"]), taken_by(bindings, body))))
+        if place % 2:
+            wanted.append(state_of(bindings, model))
+    arguments = [*options_of(bindings), "--state"]
+    found = run([stream, *arguments, state, "--every", "2"], b"")
+    log = read(state)
+    # (after the last line the state is saved once more)
+    check("a frame for each save", found[0] == 0 and log == log_of(*wanted, wanted[-1]), (found, log, wanted))
+    ends = [len(log_of(*wanted[: it + 1])) for it in range(len(wanted))]
+
+    def resumed(text):
+        """The status over an empty stream after this text, and the state that is saved then."""
+        with open(other, "w", encoding="ascii") as it:
+            it.write(text)
+        status = run([*arguments, other], b"")[0]
+        return status, read(other)
+
+    for place in range(len(log)):
+        whole = sum(end <= place for end in ends)
+        after = (0, log_of(wanted[whole - 1])) if whole else (1, log[:place])
+        check(f"a log that is cut at {place}", resumed(log[:place]) == after, place)
+    two = log_of(*wanted[:2])
+    size = two.index("\n", two.index("chain-state 1 bytes")) + 1
+    wrong = two[:size] + "x" * (ends[1] - size - len(two[two.index("end 1 "):])) + two[two.index("end 1 "):]
+    for name, text, after in (
+        ("other bytes after it", two + "\0" * 40, (0, log_of(wanted[1]))),
+        ("a last frame without a state", wrong, (0, log_of(wanted[0]))),
+        ("a frame without a state before another one", wrong + log[ends[1] : ends[2]], (1, wrong + log[ends[1] : ends[2]])),
+        ("a frame with another number", log_of(wanted[0]) + log[ends[1] : ends[2]], (0, log_of(wanted[0]))),
+    ):
+        check(f"a log with {name}", resumed(text) == after, (name, resumed(text)))
+    for name in (state, other, stream):
+        os.remove(name)
+
+
+def log_of(*states):
+    """The text of a log of these states."""
+    return b"".join(frame(number, it.encode(), b"chain-state") for number, it in enumerate(states)).decode()
+
+
+def last_state(path):
+    """The last state of a log."""
+    return framed(read(path).encode(), b"chain-state")[-1].decode()
 
 
 def read(path):
@@ -248,7 +310,7 @@ def random_stream(seed):
             model.duplicates = 0
             wanted, status = chained(model, bindings, part)
             found = run(arguments, text_of(line for line, _ in part))
-            is_right = found[:2] == (status, wanted) and read(state) == state_of(bindings, model)
+            is_right = found[:2] == (status, wanted) and last_state(state) == state_of(bindings, model)
             if not is_right or (status == 0 and found[2] != skipped(model.duplicates)):
                 return f"seed {seed}: {arguments}: {found!r}, not {(status, wanted, skipped(model.duplicates))!r}; {read(state)!r}"
             printed += found[1]
@@ -368,7 +430,7 @@ def killed(folder):
 
 
 def main(arguments):
-    return commands.main(arguments, __doc__, "chain", [by_hand, states, closed, killed], random_streams, STREAMS)
+    return commands.main(arguments, __doc__, "chain", [by_hand, states, logs, closed, killed], random_streams, STREAMS)
 
 
 if __name__ == "__main__":

@@ -1,13 +1,15 @@
 //! The command `chain`: a stream in, and its queues out.
 
-ghost use Rattle.std.specs.Prelude.{◌≡◌, length};
+ghost use Rattle.std.specs.Prelude.{◌≡◌, false, length};
 
 use crate::follow_advice::{advise_on_line, unread};
 use crate::lines::{Lines, lines_of, refuse_start};
 use cdc_app_inputs::{Escaped, Stream, advise_on_failure, shown_name};
 use cdc_arguments::ChainPlan;
 use cdc_chain::{Chain, ChainStop};
-use cdc_chain_command::{CHAIN_MARK, ChainEnding, ChainSetup, NoState, chain_command, start};
+use cdc_chain_command::{
+    CHAIN_MARK, ChainEnding, ChainLog, ChainSetup, NoState, chain_command, start,
+};
 use cdc_output::ProgramFault;
 use cdc_progress::StoreError;
 use cdc_streams::{LineReader, LogFile, LogStore, StreamEnding};
@@ -34,23 +36,21 @@ pub fn run_chain<T: Threads + Wait + Copy + Send + 'static>(
         texts: binding_texts,
     };
     let Some(path) = state else {
-        return chain_in(rt, threads, file, state, &mut NoState, &None, every, &setup);
+        return chain_in(rt, threads, file, state, NoState, &None, every, &setup);
     };
     match LogFile::open(rt, path, CHAIN_MARK) {
-        Ok((mut store, text)) => {
-            chain_in(rt, threads, file, state, &mut store, &text, every, &setup)
-        }
+        Ok((store, text)) => chain_in(rt, threads, file, state, store, &text, every, &setup),
         Err(error) => refuse_state(rt, file, state, error),
     }
 }
 
 /// Chains the stream, with this store of its state, which holds this text.
-fn chain_in<T: Threads + Wait + Copy + Send + 'static, L: LogStore>(
+fn chain_in<T: Threads + Wait + Copy + Send + 'static, L: LogStore + Drop>(
     rt: &HostRuntime,
     threads: &T,
     file: &str,
     state: Option<&str>,
-    store: &mut L,
+    store: L,
     text: &Option<Vec<u8>>,
     every: u64,
     setup: &ChainSetup,
@@ -59,7 +59,8 @@ fn chain_in<T: Threads + Wait + Copy + Send + 'static, L: LogStore>(
         Ok(chain) => chain,
         Err(error) => return refuse_state(rt, file, state, error),
     };
-    let ending = chain_stream(rt, threads, file, store, every, setup, &mut chain);
+    let mut log = ChainLog::new(store);
+    let ending = chain_stream(rt, threads, file, &mut log, every, setup, &mut chain);
     advise_on_duplicates(rt, file, chain.duplicates());
     advise_on_chain(rt, file, state, chain.last(), ending);
     ending
@@ -70,18 +71,19 @@ fn chain_stream<T: Threads + Wait + Copy + Send + 'static, L: LogStore>(
     rt: &HostRuntime,
     threads: &T,
     file: &str,
-    store: &mut L,
+    log: &mut ChainLog<L>,
     every: u64,
     setup: &ChainSetup,
     chain: &mut Chain,
 ) -> ChainEnding
-    requires { length chain.old.places ≡ length setup.now.bindings.items }
+    requires queues { length chain.old.places ≡ length setup.now.bindings.items }
+    requires fresh { log.old.has_begun ≡ false }
 {
     let stream = Stream::of(rt, file);
     let may_wait = stream.may_wait();
     match lines_of(threads, rt.alloc(), stream, may_wait) {
-        Ok(Lines::Plain(mut reader)) => chain_lines(rt, &mut reader, store, every, setup, chain),
-        Ok(Lines::Ahead(mut reader)) => chain_lines(rt, &mut reader, store, every, setup, chain),
+        Ok(Lines::Plain(mut reader)) => chain_lines(rt, &mut reader, log, every, setup, chain),
+        Ok(Lines::Ahead(mut reader)) => chain_lines(rt, &mut reader, log, every, setup, chain),
         Err(fault) => {
             refuse_start(rt, fault);
             StreamEnding::Failed(ProgramFault::OutOfMemory)
@@ -93,15 +95,16 @@ fn chain_stream<T: Threads + Wait + Copy + Send + 'static, L: LogStore>(
 fn chain_lines<B: LineReader, L: LogStore>(
     rt: &HostRuntime,
     reader: &mut B,
-    store: &mut L,
+    log: &mut ChainLog<L>,
     every: u64,
     setup: &ChainSetup,
     chain: &mut Chain,
 ) -> ChainEnding
-    requires { length chain.old.places ≡ length setup.now.bindings.items }
+    requires queues { length chain.old.places ≡ length setup.now.bindings.items }
+    requires fresh { log.old.has_begun ≡ false }
 {
     let mut writer = io::writer(rt);
-    chain_command(rt.alloc(), reader, &mut writer, store, every, setup, chain)
+    chain_command(rt.alloc(), reader, &mut writer, log, every, setup, chain)
 }
 
 /// Reports why a state can't be opened or read.

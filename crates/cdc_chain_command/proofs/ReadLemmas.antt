@@ -1,7 +1,7 @@
 -- How the text of a state is read.
 use Rattle.std.proofs.Common.{◌≡◌, ◌≢◌, ℕ, zero, suc, ◌+◌, ◌<◌, ◌≤◌, ◌^◌, List, [], ◌∷◌, ◌++◌, length, take, drop, map, get_or, Bool}
 use Rattle.std.proofs.Common.{◌⊎◌, inl, inr, append-nil, true, false, codes, refl, sym, ap, ap₂, ◌∙◌, append_assoc, arith, length-append}
-use Rattle.std.specs.Prelude.{◌&&◌, min, nat_le}
+use Rattle.std.specs.Prelude.{◌&&◌, Err, IfErr, None, Ok, Option, Result, Some, min, nat_le}
 use Rattle.std.proofs.lemmas.Bool.{leb-false, leb-true}
 use Rattle.std.specs.List.{AllByRecursion, list_all}
 use Rattle.std.proofs.lemmas.List.{drop_all, drop_more, take_all, take_more}
@@ -12,6 +12,10 @@ use Rattle.cdc_chain.specs.Chains.{ChainState}
 use Rattle.cdc_chain_command.specs.declared.reading.Front.{Front}
 use Rattle.cdc_chain_command.specs.declared.reading.Row.{Row}
 use Rattle.cdc_chain_command.specs.declared.reading.Rows.{Rows}
+use Rattle.cdc_files.specs.declared.errors.StoreError.{StoreError}
+use Rattle.cdc_files.specs.declared.errors.StoreError.TheVariants.{BadRecord, OutOfMemory}
+use Rattle.cdc_chain_command.specs.Logs.{Fits, IsLogText, Saved, last_saved}
+use Rattle.cdc_chain_command.specs.Resuming.{IsNoLog, IsNoState, IsRefused}
 use Rattle.cdc_chain_command.specs.States.{CanBeSaved, are_of, fresh, heading, row, rows, state_text}
 use Rattle.cdc_chain_command.specs.Private.Reads.{ReadsFront, ReadsRow, ReadsRows}
 
@@ -220,3 +224,26 @@ min_past a b i n is past = by_order (nat_le a b) refl
     by_order : (order : Bool) → nat_le a b ≡ order → (a ≤ i) ⊎ (b ≤ i)
     by_order true le = inl (omega (arith, is, past, leb-true a b le))
     by_order false lt = inr (omega (arith, is, past, leb-false a b lt))
+
+-- ---- a text that isn't resumed
+
+none_some : {X : Type 0} (read : Option X) (x : X) → read ≡ None → read ≡ Some x → ⊥
+none_some read x none some = cc
+
+-- if no log is read, there is none
+pub no_log : (bindings : List Arguments) (text : List ℕ) (read : Option ChainState) → read ≡ None
+    → ((first : Saved) (later : List Saved) (torn : List ℕ) → Fits (length bindings) first
+    → AllByRecursion (Fits (length bindings)) later → are_of bindings (last_saved first later).names ≡ true
+    → IsLogText text first later torn → read ≡ Some (last_saved first later).state)
+    → IsNoLog bindings text
+no_log bindings text read none all = λ first later torn fit fits are split.
+    none_some read (last_saved first later).state none (all first later torn fit fits are split)
+
+-- so the text is neither that of a log nor that of a state
+pub refused_both : {T : Type 0} (bindings : List Arguments) (text : List ℕ) (result : Result T StoreError)
+    → IsNoLog bindings text
+    → IfErr result (λ error. (error ≡ OutOfMemory) ⊎ ((error ≡ BadRecord) × IsNoState bindings text))
+    → IfErr result (IsRefused bindings text)
+refused_both bindings text (Ok done) none refused = tt
+refused_both bindings text (Err why) none (inl memory) = inl memory
+refused_both bindings text (Err why) none (inr other) = inr (other.0, record { log = none; alone = other.1 })

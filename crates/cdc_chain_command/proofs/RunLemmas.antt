@@ -11,7 +11,6 @@ use Rattle.cdc_match.specs.Arguments.{Arguments}
 use Rattle.cdc_follow.specs.Lines.{lines_of}
 use Rattle.cdc_output.specs.declared.faults.ProgramFault.{ProgramFault}
 use Rattle.cdc_queue_lines.specs.Lines.{ended}
-use Rattle.cdc_streams.specs.Keeping.{ReplacesText}
 use Rattle.cdc_streams.specs.Saving.{PrintsPart}
 use Rattle.cdc_streams.specs.declared.endings.StreamEnding.{StreamEnding}
 use Rattle.cdc_streams.specs.declared.endings.StreamEnding.TheVariants.{Stopped, Failed}
@@ -25,8 +24,8 @@ use Rattle.cdc_chain.specs.Private.Steps.{GoesOn, StepMakes}
 use Rattle.cdc_chain.proofs.LawLemmas.{first_of_all}
 use Rattle.cdc_chain.proofs.LineLemmas.{chain_none}
 use Rattle.cdc_chain_command.specs.Printing.{ChainsFirst, IsPrinted, PrintsChain}
-use Rattle.cdc_chain_command.specs.Private.Steps.{AllTaken, HasFailed, HasRun, SavesState, TakesLines, Writes}
-use Rattle.cdc_chain_command.specs.States.{state_text}
+use Rattle.cdc_chain_command.specs.Private.Steps.{AllTaken, HasFailed, HasRun, Keeps, SavesState, TakesLines, Writes}
+use Rattle.cdc_chain_command.specs.Logs.{IsTextOf}
 
 -- ---- texts
 
@@ -81,9 +80,9 @@ module _ (bindings : List Arguments) (names : List (List ℕ)) (start : ChainSta
         ∙ ap (made_first made) (chain_none bindings state number) ∙ nothing_after made state stop.AtEnd;
   }
 
-  -- a text that is saved is that of a state
+  -- a text that is saved is that of a log, and this is its last state
   abbrev IsText : List ℕ → ChainState → Type 0
-  IsText text state = text ≡ state_text names state
+  IsText text state = IsTextOf names text state
 
   -- what was printed before is printed still
   more_printed : (bytes text more : List ℕ) (state : ChainState) → IsPrinted bindings start bytes text state
@@ -127,7 +126,7 @@ module _ (bindings : List Arguments) (names : List (List ℕ)) (start : ChainSta
         (holds later : Option (List (List ℕ))) → ((made : Made) → Taken made
         → ChainsFirst bindings start bytes made state)
         → RunBy Taken now before holds → Appends now new before → after ≡ []
-        → ReplacesText holds later (state_text names state) → RunBy Taken new after later
+        → Keeps names holds later state → RunBy Taken new after later
     saved_so Taken state now new before after holds later first run adds none replaces =
         let whole = run.text ++ before in record {
           made = run.made;
@@ -137,7 +136,7 @@ module _ (bindings : List Arguments) (names : List (List ℕ)) (start : ChainSta
           makes = ap (λ t. whole ++ t) none ∙ append-nil whole ∙ run.makes;
           states = run.states ++ state ∷ [];
           saved = adds_one IsText held holds later run.states state run.saved
-              (one_text holds later (state_text names state) replaces);
+              replaces;
           are = all_more (IsPrinted bindings start bytes whole) run.states state
               (all_printed bytes run.text before run.states run.are)
               (record {
@@ -147,11 +146,6 @@ module _ (bindings : List Arguments) (names : List (List ℕ)) (start : ChainSta
                 begins = run.makes ∙ sym (append-nil (lines_text run.made.lines));
               });
         }
-      where
-        one_text : (holds later : Option (List (List ℕ))) (text : List ℕ) → ReplacesText holds later text
-            → IfSome holds (λ before. (t : List ℕ) × (later ≡ Some (before ++ t ∷ [])) × (t ≡ text))
-        one_text None later text replaces = tt
-        one_text (Some texts) later text replaces = (text, replaces, refl)
 
     -- a part of the pending text was written, and nothing was saved
     pub failed : (Taken : Made → Type 0) (now new : Option (List ℕ)) (before : List ℕ)
@@ -179,14 +173,14 @@ module _ (bindings : List Arguments) (names : List (List ℕ)) (start : ChainSta
     pub ends_saved : (ending : StreamEnding ChainStop) (state : ChainState) (now new : Option (List ℕ))
         (before after : List ℕ) (holds later : Option (List (List ℕ)))
         → TakesLines bindings names start bytes old held (Ok ending) state now before holds
-        → Appends now new before → after ≡ [] → ReplacesText holds later (state_text names state)
+        → Appends now new before → after ≡ [] → Keeps names holds later state
         → PrintsChain bindings names start bytes old new held later state ending
     ends_saved (Stopped why) state now new before after holds later run adds none replaces = record {
       text = run.text ++ before;
       printed = Appends-trans old now new run.text before run.printed adds;
       states = run.states ++ state ∷ [];
       saved = adds_one IsText held holds later run.states state run.saved
-          (one_text holds later (state_text names state) replaces);
+          replaces;
       ends = (
         run.states,
         refl,
@@ -194,11 +188,6 @@ module _ (bindings : List Arguments) (names : List (List ℕ)) (start : ChainSta
         record { made = run.made; all = run.taken.0; text_is = run.makes },
       );
     }
-      where
-        one_text : (holds later : Option (List (List ℕ))) (text : List ℕ) → ReplacesText holds later text
-            → IfSome holds (λ before. (t : List ℕ) × (later ≡ Some (before ++ t ∷ [])) × (t ≡ text))
-        one_text None later text replaces = tt
-        one_text (Some texts) later text replaces = (text, replaces, refl)
     ends_saved (Failed why) state now new before after holds later run adds none replaces =
         let done = saved_so (λ made. ChainsFirst bindings start bytes made state) state now new before [] holds later
         (λ made first. first) run adds refl replaces in record {
@@ -366,7 +355,7 @@ module _ (bindings : List Arguments) (names : List (List ℕ)) (start : ChainSta
     pub goes_due : (due : Bool) (state : ChainState) (number : ℕ) (left now new : Option (List ℕ)) (before after :
         List ℕ)
         (holds later : Option (List (List ℕ))) → Goes state number left now before holds
-        → (IsTrue due → SavesState now new before after holds later (state_text names state))
+        → (IsTrue due → SavesState names now new before after holds later state)
         → (IsTrue (not due) → (new ≡ now) × (after ≡ before) × (later ≡ holds))
         → Goes state number left new after later
     goes_due true state number left now new before after holds later goes saves same =
@@ -466,7 +455,7 @@ module _ (bindings : List Arguments) (names : List (List ℕ)) (start : ChainSta
     pub ends_by : (ending : StreamEnding ChainStop) (state final : ChainState) (now new : Option (List ℕ))
         (before after : List ℕ) (holds later : Option (List (List ℕ)))
         → Takes (Ok ending) state now before holds → final ≡ state
-        → SavesState now new before after holds later (state_text names state)
+        → SavesState names now new before after holds later state
         → IfSome known (λ bytes. PrintsChain bindings names start bytes old new held later final ending)
     ends_by ending state final now new before after holds later takes same saves =
         subst (λ it. IfSome known (λ bytes. PrintsChain bindings names start bytes old new held later it ending))

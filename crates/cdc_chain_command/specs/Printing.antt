@@ -11,7 +11,7 @@ use Rattle.cdc_chain.specs.declared.streams.ChainStop.{ChainStop}
 use Rattle.cdc_chain.specs.declared.streams.ChainStop.TheVariants.{AtEnd}
 use Rattle.cdc_chain.specs.Chains.{ChainState, Made, bytes_chained, chain}
 use Rattle.cdc_chain.specs.Lines.{lines_text}
-use Rattle.cdc_chain_command.specs.States.{state_text}
+use Rattle.cdc_chain_command.specs.Logs.{IsTextOf}
 
 -- some of the first lines of a stream were chained, and came to this
 pub record ChainsFirst (bindings : List Arguments) (start : ChainState) (bytes : List ℕ) (made : Made)
@@ -55,12 +55,13 @@ Ends bindings start bytes text states final (Stopped stop) = (before : List Chai
 Ends bindings start bytes text states final (Failed why) =
     AllByRecursion (IsPrinted bindings start bytes text) states × IsPart bindings start bytes text
 
--- What was printed, and which states were saved, one after another, with these texts of the bindings.
+-- What was printed, and which states were saved, one after another, each as the last one of a log, with these texts of
+-- the bindings.
 pub record PrintsChain (bindings : List Arguments) (names : List (List ℕ)) (start : ChainState) (bytes : List ℕ)
     (old new : Option (List ℕ)) (held holds : Option (List (List ℕ))) (final : ChainState)
     (ending : StreamEnding ChainStop) : Type 0 where
   pub text : List ℕ
   pub printed : Appends old new text
   pub states : List ChainState
-  pub saved : AddsTexts (λ text state. text ≡ state_text names state) held holds states
+  pub saved : AddsTexts (IsTextOf names) held holds states
   pub ends : Ends bindings start bytes text states final ending

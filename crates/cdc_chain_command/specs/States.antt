@@ -43,18 +43,3 @@ abbrev pub are_of : List Arguments → List (List ℕ) → Bool
 are_of [] [] = true
 are_of (binding ∷ bindings) (text ∷ texts) = is_of binding text && are_of bindings texts
 are_of _ _ = false
-
--- a chain goes on from a text: that of its state, with bindings that mean the same as these
-abbrev pub IsResumed : List Arguments → List ℕ → ChainState → Type 0
-IsResumed bindings text state = (saved : List (List ℕ)) × (text ≡ state_text saved state)
-    × (are_of bindings saved ≡ true) × (state.duplicates ≡ 0)
-
--- a text is that of no state that can be saved, with bindings that mean the same as these
-abbrev pub IsNoState : List Arguments → List ℕ → Type 0
-IsNoState bindings text = (saved : List (List ℕ)) (state : ChainState) → CanBeSaved saved state
-    → are_of bindings saved ≡ true → text ≢ state_text saved state
-
--- a text isn't resumed because memory runs out, or because it is no such text
-abbrev pub IsRefused : List Arguments → List ℕ → StoreError → Type 0
-IsRefused bindings text error =
-    (error ≡ OutOfMemory) ⊎ ((error ≡ BadRecord) × IsNoState bindings text)

@@ -1,10 +1,11 @@
 //! The command `chain`: takes a stream line by line, prints the lines of the queues, and saves the places of the queues
 //! now and then.
 
-ghost use Rattle.std.specs.Prelude.{◌≡◌, IfSome, length, map, string_bytes, []};
+ghost use Rattle.std.specs.Prelude.{◌≡◌, IfSome, OnOk, false, length, map, string_bytes, []};
 ghost use Rattle.cdc_chain_command.specs.Printing.{PrintsChain};
-ghost use Rattle.cdc_chain_command.specs.Private.Steps.{TakesLines};
+ghost use Rattle.cdc_chain_command.specs.Private.Steps.{FitsLog, TakesLines};
 
+use crate::chain_log::ChainLog;
 use crate::endings::ChainEnding;
 use crate::printing::{save, save_if_due, write_if_many};
 use crate::states::ChainSetup;
@@ -23,18 +24,20 @@ fn take_lines<B: LineReader, W: Write, L: LogStore>(
     reader: &mut B,
     writer: &mut W,
     lines: &mut String,
-    store: &mut L,
+    store: &mut ChainLog<L>,
     every: u64,
     setup: &ChainSetup,
     chain: &mut Chain,
 ) -> Result<ChainEnding, ProgramFault>
     requires queues { length chain.old.places ≡ length setup.now.bindings.items }
     requires none { string_bytes lines.old ≡ [] }
+    requires fits { FitsLog L.texts (map (λ t. t.items) setup.now.texts.items) store.old }
     ensures takes { IfSome (B.remaining reader.old) (λ bytes. TakesLines setup.now.bindings.items
         (map (λ t. t.items) setup.now.texts.items) chain.old bytes
-        (W.contents writer.old) (L.texts store.old) result chain.new
-        (W.contents writer.new) (string_bytes lines.new) (L.texts store.new)) }
+        (W.contents writer.old) (L.texts store.old.log.store) result chain.new
+        (W.contents writer.new) (string_bytes lines.new) (L.texts store.new.log.store)) }
     ensures queues { length chain.new.places ≡ length chain.old.places }
+    ensures fits { OnOk result (FitsLog L.texts (map (λ t. t.items) setup.now.texts.items) store.new) }
 {
     let mut line = Vec::new(alloc);
     let mut unsaved = 0u64;
@@ -87,15 +90,16 @@ pub fn chain_command<B: LineReader, W: Write, L: LogStore>(
     alloc: Global,
     reader: &mut B,
     writer: &mut W,
-    store: &mut L,
+    store: &mut ChainLog<L>,
     every: u64,
     setup: &ChainSetup,
     chain: &mut Chain,
 ) -> ChainEnding
-    requires { length chain.old.places ≡ length setup.now.bindings.items }
+    requires queues { length chain.old.places ≡ length setup.now.bindings.items }
+    requires fresh { store.old.has_begun ≡ false }
     ensures { IfSome (B.remaining reader.old) (λ bytes. PrintsChain setup.now.bindings.items
         (map (λ t. t.items) setup.now.texts.items) chain.old bytes
-        (W.contents writer.old) (W.contents writer.new) (L.texts store.old) (L.texts store.new) chain.new result) }
+        (W.contents writer.old) (W.contents writer.new) (L.texts store.old.log.store) (L.texts store.new.log.store) chain.new result) }
 {
     let mut lines = String::new(alloc);
     let ending = match take_lines(

@@ -1,16 +1,20 @@
 //! The command `chain`: prints the lines of several queues of one stream, and saves the place of each queue.
 #![tactic(auto)]
 
+mod chain_log;
 mod commands;
 mod endings;
+mod logs;
 mod printing;
 mod reading;
 mod starts;
 mod states;
 mod stores;
 
+pub use chain_log::ChainLog;
 pub use commands::chain_command;
 pub use endings::{ChainEnding, chain_status};
+pub use logs::logs_can_be_cut;
 pub use starts::start;
 pub use states::{CHAIN_MARK, ChainSetup};
 pub use stores::NoState;

@@ -2,10 +2,10 @@
 
 ghost use Rattle.std.specs.Prelude.{◌≡◌, ◌<◌, [], IsTrue, OnErr, OnOk, length, map, not, string_bytes};
 ghost use Rattle.cdc_streams.specs.Saving.{PrintsPart, is_due as due};
-ghost use Rattle.cdc_chain_command.specs.States.{state_text as text_of};
-ghost use Rattle.cdc_chain_command.specs.Private.Steps.{SavesState, Writes};
+ghost use Rattle.cdc_chain_command.specs.Private.Steps.{FitsLog, SavesState, Writes};
 
-use crate::states::{ChainSetup, state_text};
+use crate::chain_log::ChainLog;
+use crate::states::ChainSetup;
 use cdc_chain::Chain;
 use cdc_output::ProgramFault;
 use cdc_streams::{LogStore, write_part};
@@ -55,19 +55,20 @@ pub(crate) fn save<W: Write, L: LogStore>(
     alloc: Global,
     writer: &mut W,
     lines: &mut String,
-    store: &mut L,
+    store: &mut ChainLog<L>,
     setup: &ChainSetup,
     chain: &Chain,
 ) -> Result<(), ProgramFault>
-    ensures saved { OnOk result (SavesState (W.contents writer.old) (W.contents writer.new) (string_bytes lines.old)
-        (string_bytes lines.new) (L.texts store.old) (L.texts store.new)
-        (text_of (map (λ t. t.items) setup.now.texts.items) chain.now)) }
+    requires { FitsLog L.texts (map (λ t. t.items) setup.now.texts.items) store.old }
+    ensures saved { OnOk result (SavesState (map (λ t. t.items) setup.now.texts.items) (W.contents writer.old)
+        (W.contents writer.new) (string_bytes lines.old) (string_bytes lines.new) (L.texts store.old.log.store)
+        (L.texts store.new.log.store) chain.now) }
+    ensures fits { OnOk result (FitsLog L.texts (map (λ t. t.items) setup.now.texts.items) store.new) }
     ensures err { OnErr result (PrintsPart (W.contents writer.old) (W.contents writer.new) (string_bytes lines.old)
-        × (L.texts store.new ≡ L.texts store.old)) }
+        × (L.texts store.new.log.store ≡ L.texts store.old.log.store)) }
 {
     write_lines(writer, lines)?;
-    let text = state_text(alloc, setup.texts.as_slice(), chain)?;
-    store.replace(text.as_slice())?;
+    store.keep(alloc, setup, chain)?;
     Ok(())
 }
 
@@ -76,20 +77,23 @@ pub(crate) fn save_if_due<W: Write, L: LogStore>(
     alloc: Global,
     writer: &mut W,
     lines: &mut String,
-    store: &mut L,
+    store: &mut ChainLog<L>,
     setup: &ChainSetup,
     chain: &Chain,
     every: u64,
     unsaved: &mut u64,
     waits: bool,
 ) -> Result<(), ProgramFault>
-    ensures saved { OnOk result (IsTrue (due every unsaved.old waits) → SavesState (W.contents writer.old)
-        (W.contents writer.new) (string_bytes lines.old) (string_bytes lines.new) (L.texts store.old)
-        (L.texts store.new) (text_of (map (λ t. t.items) setup.now.texts.items) chain.now)) }
+    requires { FitsLog L.texts (map (λ t. t.items) setup.now.texts.items) store.old }
+    ensures saved { OnOk result (IsTrue (due every unsaved.old waits)
+        → SavesState (map (λ t. t.items) setup.now.texts.items) (W.contents writer.old) (W.contents writer.new)
+        (string_bytes lines.old) (string_bytes lines.new) (L.texts store.old.log.store)
+        (L.texts store.new.log.store) chain.now) }
+    ensures fits { OnOk result (FitsLog L.texts (map (λ t. t.items) setup.now.texts.items) store.new) }
     ensures same { IsTrue (not (due every unsaved.old waits))
         → (writer.new ≡ writer.old) × (lines.new ≡ lines.old) × (store.new ≡ store.old) }
     ensures err { OnErr result (PrintsPart (W.contents writer.old) (W.contents writer.new) (string_bytes lines.old)
-        × (L.texts store.new ≡ L.texts store.old)) }
+        × (L.texts store.new.log.store ≡ L.texts store.old.log.store)) }
 {
     if !is_due(every, *unsaved, waits) {
         return Ok(());

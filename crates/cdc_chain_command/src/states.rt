@@ -77,3 +77,13 @@ pub(crate) fn state_text(
         Err(_) => Err(AllocError),
     }
 }
+
+impl ChainSetup {
+    /// The text of a state of its queues. The one error is that memory ran out.
+    pub(crate) fn text_of(&self, alloc: Global, chain: &Chain) -> Result<Vec<u8>, AllocError>
+        ensures { IfOk result (λ text. text.items
+            ≡ spec.state_text (map (λ t. t.items) self.now.texts.items) chain.now) }
+    {
+        state_text(alloc, self.texts.as_slice(), chain)
+    }
+}

@@ -6,6 +6,8 @@ use Rattle.cdc_chain.specs.Chains.{ChainState}
 use Rattle.cdc_chain_command.specs.declared.reading.Front.{Front}
 use Rattle.cdc_chain_command.specs.declared.reading.Row.{Row}
 use Rattle.cdc_chain_command.specs.declared.reading.Rows.{Rows}
+use Rattle.cdc_chain_command.specs.declared.reading.SavedState.{SavedState}
+use Rattle.cdc_chain_command.specs.Logs.{Saved}
 use Rattle.cdc_chain_command.specs.States.{heading, row, rows}
 
 -- if a text begins with such a heading, its parts are read
@@ -25,3 +27,11 @@ ReadsRows text count it = (bindings : List (List ℕ)) (places : List ℕ) → l
     → length places ≡ count → AllByRecursion (λ place. place < 2 ^ 64) places
     → AllByRecursion (λ binding. list_all is_in_line binding ≡ true) bindings → text ≡ rows bindings places
     → (it.places.items ≡ places) × (map (λ t. t.items) it.texts.items ≡ bindings)
+
+-- what was read
+abbrev pub saved_of : SavedState → Saved
+saved_of it = record { names = map (λ t. t.items) it.texts.items; state = it.chain }
+
+-- it has so many queues, and counts no duplicates yet
+abbrev pub IsGood : ℕ → SavedState → Type 0
+IsGood count it = (length it.chain.places ≡ count) × (it.chain.duplicates ≡ 0)
