@@ -35,19 +35,19 @@ import terms
 MOST = 300
 # How many words a document may have. Documents of one line share their words.
 BUDGETS = [
-    (700, "README.md"),
+    (780, "README.md"),
     (2_300, "docs/GUIDE.md"),
     (960, "docs/TESTING-A-CONSUMER.md"),
     (1_440, "docs/EXACTLY-ONCE.md"),
     (810, "docs/AUDIT.md"),
-    (3_600, "docs/REFERENCE.md"),
+    (3_720, "docs/REFERENCE.md"),
     (8_140, "docs/FORMATS.md"),
     (5_000, "docs/PROOFS.md"),
     (2_590, "docs/ARCHITECTURE.md"),
-    (3_720, "CONTRIBUTING.md"),
+    (3_780, "CONTRIBUTING.md"),
     (3_740, "docs/DECISIONS.md"),
-    (1_640, "docs/MEASURED.md"),
-    (1_870, "CHANGELOG.md", "ROADMAP.md"),
+    (1_710, "docs/MEASURED.md"),
+    (1_970, "CHANGELOG.md", "ROADMAP.md"),
     (860, "contrib/rabbitmq/README.md"),
     (250, "contrib/postgresql/README.md"),
 ]
