@@ -2,6 +2,7 @@
 
 use crate::failures::print_failure;
 use crate::follow_advice::{advise_on_book, advise_on_counts, advise_on_line};
+use crate::held::{Asked, advise_on_held};
 use crate::keys::{random_key, refuse_key};
 use crate::lines::{Lines, lines_of, refuse_reading};
 use crate::watched::Watched;
@@ -51,8 +52,14 @@ pub fn run_checked<T: Threads + Wait + Copy + Send + 'static>(
         Ok(key) => key,
         Err(error) => return StreamEnding::Failed(refuse_key(rt, error, form)),
     };
+    let Ok(asked) = Vec::from_slice(rt.alloc(), binding_text.as_slice()) else {
+        return refuse_checked(rt, file, book, StoreError::OutOfMemory, form);
+    };
     let (store, mut checker) = match open_checked(rt, key, book, &setup, binding, binding_text) {
         Ok(opened) => opened,
+        Err(StoreError::BadRecord) => {
+            return refuse_content(rt, book, asked.as_slice(), form);
+        }
         Err(error) => return refuse_checked(rt, file, book, error, form),
     };
     let saver = Saver::new(store, every);
@@ -62,17 +69,19 @@ pub fn run_checked<T: Threads + Wait + Copy + Send + 'static>(
     let Ok(source) = Watched::new(*rt, stream, shown_name(file), true) else {
         return refuse_checked(rt, file, book, StoreError::OutOfMemory, form);
     };
-    let ending = match lines_of(threads, rt.alloc(), source, may_wait) {
+    let (ending, line) = match lines_of(threads, rt.alloc(), source, may_wait) {
         Ok(Lines::Plain(mut reader)) => {
-            check_lines(rt, form, &mut reader, saver, &setup, &mut checker)
+            let ending = check_lines(rt, form, &mut reader, saver, &setup, &mut checker);
+            (ending, reader.into_line())
         }
         Ok(Lines::Ahead(mut reader)) => {
-            check_lines(rt, form, &mut reader, saver, &setup, &mut checker)
+            let ending = check_lines(rt, form, &mut reader, saver, &setup, &mut checker);
+            (ending, reader.into_line())
         }
         Err(fault) => return StreamEnding::Failed(refuse_reading(rt, fault, form)),
     };
     advise_on_counts(rt, file, checker.bound().counts, form);
-    advise_on_checked(rt, file, book, ending);
+    advise_on_checked(rt, file, book, ending, line.as_slice());
     ending
 }
 
@@ -158,8 +167,23 @@ fn refuse_checked(
     StreamEnding::Failed(fault)
 }
 
-/// Reports why following stopped before the end of the stream in the file of this name, whose book is in that file.
-fn advise_on_checked(rt: &HostRuntime, file: &str, book: Option<&str>, ending: CheckEnding) {
+/// Prints the fault of a book that isn't the one of this binding, and reports why on standard error.
+fn refuse_content(rt: &HostRuntime, book: Option<&str>, binding: &[u8], form: Form) -> CheckEnding {
+    let fault = ProgramFault::from(StoreError::BadRecord);
+    print_failure(rt, form, fault);
+    advise_on_held(rt, book.unwrap_or(""), Asked::Checked(binding));
+    StreamEnding::Failed(fault)
+}
+
+/// Reports why following stopped before the end of the stream in the file of this name, whose book is in that file. The
+/// line that was read last has these bytes.
+fn advise_on_checked(
+    rt: &HostRuntime,
+    file: &str,
+    book: Option<&str>,
+    ending: CheckEnding,
+    bytes: &[u8],
+) {
     let place = shown_name(file);
     let _ = match ending {
         StreamEnding::Stopped(CheckStop::AtEnd) => Ok(()),
@@ -167,7 +191,7 @@ fn advise_on_checked(rt: &HostRuntime, file: &str, book: Option<&str>, ending: C
             advise_on_refusal(rt, place, line, why)
         }
         StreamEnding::Stopped(CheckStop::BadLine(line, error)) => {
-            advise_on_line(rt, place, line, error)
+            advise_on_line(rt, place, line, error, Some(bytes))
         }
         StreamEnding::Failed(fault) => {
             advise_on_book(rt, place, book, fault);
