@@ -128,10 +128,12 @@ fn folder_of(path: &str) -> &str {
 /// Returns how many there are.
 fn read_head(rt: &HostRuntime, file: &str, head: &mut [u8]) -> usize {
     if is_in_sqlite(file) {
-        if let Ok((_, Some(text))) = open_book_file(rt, file, HashKey::Fixed, 0) {
-            let count = text.len().min(head.len());
-            head[..count].copy_from_slice(&text.as_slice()[..count]);
-            return count;
+        if let Ok((_, text)) = open_book_file(rt, file, HashKey::Fixed, 0) {
+            if let Some(text) = text {
+                let count = text.len().min(head.len());
+                head[..count].copy_from_slice(&text.as_slice()[..count]);
+                return count;
+            }
         }
     }
     let path = path_of_book(file);
