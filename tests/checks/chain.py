@@ -121,7 +121,7 @@ def rows():
     yield "the end of a queue", both, [first, line_of(7, 3, None).strip()], LINES[0] + line_of(1, 10, None) + line_of(2, 0, None), 0, ""
     yield "numbers as JSON numbers", both, [json.dumps(numbers(FIRST))], LINES[0], 0, ""
     yield "blank lines and headers", both, ["", " \t", "event_type=x", first], LINES[0], 0, ""
-    yield "a bad line", both, [first, "x", third], LINES[0], 2, ":2: not_json"
+    yield "a bad line", both, [first, "x", third], LINES[0], 2, ":2:1: not_json"
     yield "a timestamp out of range", both, [first, own(event(2**63))], LINES[0], 2, ":2: out_of_range"
     yield "a line that is too long", both, [first, " " * 65537], LINES[0], 2, "too_long"
 

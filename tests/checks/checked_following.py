@@ -260,7 +260,7 @@ def rows():
     yield 'a binding', options, LEDGERS, 0, head(2, 130) + after_end, counted(2, passed=1)
     yield 'a gap that the binding does not take', ['--binding', 'all ledger=7'], [one, three], 3, head(0, 110) + gap, counted(passed=1) + ':2: gap'
     # Lines that are none.
-    yield 'no JSON', [], [one, 'x'], 2, head(1, 110) + ONE_TWO + 'fault: line 2: not_json\n', counted(1) + ':2: not_json'
+    yield 'no JSON', [], [one, 'x'], 2, head(1, 110) + ONE_TWO + 'fault: line 2: not_json\n', counted(1) + ':2:1: not_json'
     high = follow.own(follow.event(2**63))
     yield 'a timestamp out of range', [], [one, high], 2, head(1, 110) + ONE_TWO + 'fault: line 2: out_of_range\n', counted(1) + ':2: out_of_range'
 
@@ -341,7 +341,7 @@ def books(folder):
     check('its first line', before.split(b'\n')[1].startswith(b'checked-book 1 applied '), before[:80])
     for options in (['--checked', '--binding', 'all ledger=700'], [], ['--chained']):
         found = commands.run([*options, *kept], b'')
-        check(f'a book of another kind: {options}', found[:2] == (1, 'fault: store\n') and 'it holds no book' in found[2], found)
+        check(f'a book of another kind: {options}', found[:2] == (1, 'fault: store\n') and 'is asked for: name ' in found[2], found)
         check(f'it stays: {options}', read(path) == before, read(path))
     other = os.path.join(folder, 'other.book')
     commands.run(['--book', other], text_of(PAID[:1]))

@@ -284,28 +284,28 @@ def rows():
     for timestamp in (GREATEST + 1, 2**64 - 1):
         yield f"the timestamp {timestamp}", [], lines(first, own(event(timestamp)), second), (
             ONE + "fault: line 2: out_of_range\n"
-        ), 2, ":2: out_of_range: the timestamp is above 9223372036854775807"
+        ), 2, ":2: out_of_range: timestamp is "
     yield "no end, since its member is false", [], lines('{"end":false}'), NOTHING + "fault: line 1: missing\n", 2, "missing"
     yield "blank lines and headers", [], lines("", " \t", "event_type=x", first), ONE, 0, ""
     yield "carriage returns", [], (first + "\r\n\r\n").encode(), ONE, 0, ""
     mark = b"\xef\xbb\xbf" + lines(first)
     yield "a byte order mark", [], mark, NOTHING + "fault: line 1: not_json\n", 2, "not_json"
-    yield "no JSON", [], lines(first, "{"), ONE + "fault: line 2: not_json\n", 2, ":2: not_json"
+    yield "no JSON", [], lines(first, "{"), ONE + "fault: line 2: not_json\n", 2, ":2:2: not_json"
     yield "bytes that are no text", [], b"\"\xff\"\n", NOTHING + "fault: line 1: not_json\n", 2, "not_json"
     yield "a line of zeros", [], b"\0\0\n", NOTHING + "fault: line 1: not_json\n", 2, "not_json"
     yield "no object", [], lines("7"), NOTHING + "fault: line 1: not_an_object\n", 2, "not_an_object"
     yield "a member is missing", [], lines(json.dumps(without(FIRST, "debit_account", "id"))), (
         NOTHING + "fault: line 1: missing\n"
     ), 2, ":1: missing: debit_account.id is missing"
-    yield "a wrong type", [], lines(json.dumps(with_member(FIRST, [], "ledger"))), NOTHING + "fault: line 1: wrong_type\n", 2, "wrong_type: ledger has the wrong type"
+    yield "a wrong type", [], lines(json.dumps(with_member(FIRST, [], "ledger"))), NOTHING + "fault: line 1: wrong_type\n", 2, "wrong_type: ledger is []: a whole number"
     yield "a negative number", [], lines(json.dumps(with_member(FIRST, -1, "timestamp"))), (
         NOTHING + "fault: line 1: wrong_type\n"
-    ), 2, "wrong_type: timestamp has"
+    ), 2, "wrong_type: timestamp is -1: a whole number"
     yield "a number too large", [], lines(json.dumps(with_member(FIRST, str(2**128), "transfer", "id"))), (
         NOTHING + "fault: line 1: out_of_range\n"
-    ), 2, "out_of_range: transfer.id is too large"
+    ), 2, "out_of_range: transfer.id is "
     yield "an unknown kind", [], lines(json.dumps(with_member(FIRST, "x", "type"))), NOTHING + "fault: line 1: unknown_kind\n", 2, ""
-    yield "a fault after two events", [], lines(first, second, "x"), TWO + "fault: line 3: not_json\n", 2, ":3: not_json"
+    yield "a fault after two events", [], lines(first, second, "x"), TWO + "fault: line 3: not_json\n", 2, ":3:1: not_json"
     yield "an envelope whose body is none", [], lines('{"body":7}'), NOTHING + "fault: line 1: not_an_object\n", 2, ""
     yield "a line of 65,536 bytes", [], lines(padded(FIRST, 65536)), ONE, 0, ""
     yield "a line of 65,537 bytes", [], lines(padded(FIRST, 65537)), NOTHING + "fault: line 1: too_long\n", 2, "too_long"

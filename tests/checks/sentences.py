@@ -81,15 +81,13 @@ BOOK = (
     "write_fault: the book can't be written: the file and its folder have to be writable and to have room, nobody else may "
     "change the file, and a file at its name with .new appended has to be what a save left\n"
 )
-NO_BOOK = (
-    "bad_record: it holds no book, or one that was saved with another --binding, or with --chained, --checked or --baseline where "
-    "that isn't given now, or the other way round: name its options, or another file\n"
-)
+NO_BOOK = "bad_record: it holds no book: name another file\n"
+NO_FOLDER = "write_fault: No such file or directory (os error 2)\n"
 NO_FILE = "read_fault: it is no regular file: name another one\n"
 UNOPENED = "read_fault: it can't be opened: name a file that can be read, or one that isn't there in a folder that is\n"
 TAKEN = "read_fault: it can't be read, or another program has it: let that one end, or name another file\n"
 LATE = "the broker accepted only"
-BINDING = "all or any, and up to ten pairs of a header and its value"
+BINDING = "a binding starts with all or any, as in 'all ledger=700'"
 
 
 def counts_of(place, applied=0, gaps=0):
@@ -106,7 +104,7 @@ def rows():
         ("--queue", ["messages", "one.script"], "9", "the number of a subscriber, from 1 to 8"),
         ("--repeat", ["run", "one.script"], "0:1", "a queue from 1, a colon and a position from 1, such as 1:2"),
         ("--close", ["run", "one.script"], "1", "a subscriber from 1, a colon and a number of events from 1, such as 1:2"),
-        ("--binding", ["follow", "gap.stream"], "some", f"{BINDING}, such as 'all ledger=700'"),
+        ("--binding", ["follow", "gap.stream"], "some", BINDING),
         ("--start-after", ["run", "one.script"], "x", "a timestamp in nanoseconds, from 0 to 9223372036854775807"),
         ("--lose-confirm", ["run", "one.script"], "0", "a number from 1 to 18446744073709551615"),
         ("--prefetch", ["run", "one.script"], "65", "a number from 1 to 64"),
@@ -119,7 +117,7 @@ def rows():
     for arguments in (["books", odd], ["messages", odd], ["follow", odd], ["audit", odd], ["simulate", "one.script", odd]):
         counts = counts_of(shown) if arguments[0] == "follow" else ""
         yield arguments, 1, f"{counts}{shown}: read_fault: No such file or directory (os error 2)\n"
-    yield ["follow", "gap.stream", "--book", f"none/{odd}"], 1, f"none/{shown}: store: {BOOK}"
+    yield ["follow", "gap.stream", "--book", f"none/{odd}"], 1, f"none/{shown}: store: {NO_FOLDER}"
     diagram = "this file holds something else than a diagram, which would be lost; name another one"
     yield ["simulate", "one.script", "none.steps", "--diagram=something"], 2, f"error: --diagram=something: {diagram}\n"
     yield ["messages", "one.script", "--queue", "2"], 2, "relayplum: --queue 2: the script has no such subscriber\n"
@@ -157,14 +155,14 @@ def rows():
         f"{counts_of('gap.stream', applied=1)}gap.stream:2: gap: {gap}: messages between them are missing\n"
     )
     yield ["audit", "wrong.stream"], 3, (
-        "wrong.stream:2: balances: no ledger publishes this event after those before it: one of them was lost, duplicated, "
-        "moved or changed, or this one was\n"
+        "wrong.stream:2: balances: the balances don't follow from those before: an earlier event of the account was lost, moved "
+        "or changed, or this one was\n"
     )
     follow = ["follow", "--chained", "gap.stream", "--skip-gaps", "--book"]
     yield [*follow, "."], 1, f".: store: {NO_FILE}"
     yield [*follow, "something/book"], 1, f"something/book: store: {UNOPENED}"
     yield [*follow, "/proc/self/mem"], 1, f"/proc/self/mem: store: {TAKEN}"
-    yield [*follow, "nowhere/book"], 1, f"nowhere/book: store: {BOOK}"
+    yield [*follow, "nowhere/book"], 1, f"nowhere/book: store: {NO_FOLDER}"
     yield [*follow, "something"], 1, f"something: store: {NO_BOOK}"
     tip = "\nFor random steps: 'relayplum simulate one.script --random 1'.\n"
     usage = "error: the following required arguments were not provided:\n  <STEPS>\n"

@@ -3,7 +3,7 @@
 
 use cdc_app_consume::run_consume;
 use cdc_app_inputs::{
-    EXPLAIN, Kept, Source, abort, advise, advise_on_script, advise_on_steps, hint, note,
+    EXPLAIN, Escaped, Kept, Source, abort, advise, advise_on_script, advise_on_steps, hint, note,
     open_standard, shown_name,
 };
 use cdc_app_runs::{WantedRun, run_on_threads};
@@ -347,8 +347,11 @@ fn explain(rt: &HostRuntime, text: &str) -> Ending {
     ending
 }
 
-/// Reports a usage error on standard error.
+/// Reports a usage error on standard error, without the control characters that an argument may have.
 fn refuse_arguments(rt: &HostRuntime, message: &str) -> Ending {
-    let _ = eprint!(rt; "{message}");
+    for line in message.lines() {
+        let line = Escaped(line);
+        let _ = eprintln!(rt; "{line}");
+    }
     Ending::BadWords
 }

@@ -2,8 +2,10 @@
 
 use crate::failures::print_failure;
 use crate::follow_advice::{advise_on_line, unread};
+use crate::held::{Asked, advise_on_held, unwritten};
 use crate::keys::{random_key, refuse_key};
 use crate::lines::{Lines, lines_of, refuse_reading};
+use crate::refusals::meaning_of;
 use cdc_app_inputs::{Escaped, Stream, advise_on_failure, shown_name};
 use cdc_arguments::{AuditPlan, Form};
 use cdc_audit::{AuditStop, Auditor};
@@ -43,21 +45,24 @@ pub fn run_audit<T: Threads + Wait + Copy + Send + 'static>(
     };
     let (store, mut audited) = match open_state(rt, key, state, foreign, &setup) {
         Ok(opened) => opened,
+        Err(StoreError::BadRecord) => return refuse_content(rt, state, foreign, form),
         Err(error) => return refuse_state(rt, file, state, error, form),
     };
     let saver = Saver::new(store, every);
     let stream = Stream::of(rt, file);
     let may_wait = stream.may_wait();
-    let ending = match lines_of(threads, rt.alloc(), stream, may_wait) {
+    let (ending, line) = match lines_of(threads, rt.alloc(), stream, may_wait) {
         Ok(Lines::Plain(mut reader)) => {
-            audit_lines(rt, form, &mut reader, saver, &setup, &mut audited)
+            let ending = audit_lines(rt, form, &mut reader, saver, &setup, &mut audited);
+            (ending, reader.into_line())
         }
         Ok(Lines::Ahead(mut reader)) => {
-            audit_lines(rt, form, &mut reader, saver, &setup, &mut audited)
+            let ending = audit_lines(rt, form, &mut reader, saver, &setup, &mut audited);
+            (ending, reader.into_line())
         }
         Err(fault) => return StreamEnding::Failed(refuse_reading(rt, fault, form)),
     };
-    advise_on_audit(rt, file, state, ending);
+    advise_on_audit(rt, file, state, ending, line.as_slice());
     ending
 }
 
@@ -132,21 +137,34 @@ fn refuse_state(
     StreamEnding::Failed(fault)
 }
 
-/// Reports why auditing stopped before the end of the stream in the file of this name, whose state is in that file.
-fn advise_on_audit(rt: &HostRuntime, file: &str, state: Option<&str>, ending: AuditEnding) {
+/// Prints the fault of a state that isn't the one that is asked for, and reports why on standard error.
+fn refuse_content(rt: &HostRuntime, state: Option<&str>, foreign: bool, form: Form) -> AuditEnding {
+    let fault = ProgramFault::from(StoreError::BadRecord);
+    print_failure(rt, form, fault);
+    advise_on_held(rt, state.unwrap_or(""), Asked::Audit(foreign));
+    StreamEnding::Failed(fault)
+}
+
+/// Reports why auditing stopped before the end of the stream in the file of this name, whose state is in that file. The
+/// line that was read last has these bytes.
+fn advise_on_audit(
+    rt: &HostRuntime,
+    file: &str,
+    state: Option<&str>,
+    ending: AuditEnding,
+    bytes: &[u8],
+) {
     let place = shown_name(file);
     let _ = match ending {
         StreamEnding::Stopped(AuditStop::AtEnd) => Ok(()),
         StreamEnding::Stopped(AuditStop::Refused(line, why)) => {
             let rule = why.name();
+            let meaning = meaning_of(why);
             let place = Escaped(place);
-            eprintln!(rt;
-                "{place}:{line}: {rule}: no ledger publishes this event after those before it: one of them was lost, \
-                 duplicated, moved or changed, or this one was"
-            )
+            eprintln!(rt; "{place}:{line}: {rule}: {meaning}")
         }
         StreamEnding::Stopped(AuditStop::BadLine(line, error)) => {
-            advise_on_line(rt, place, line, error)
+            advise_on_line(rt, place, line, error, Some(bytes))
         }
         StreamEnding::Failed(fault) => {
             advise_on_state(rt, place, state, fault);
@@ -159,6 +177,11 @@ fn advise_on_audit(rt: &HostRuntime, file: &str, state: Option<&str>, ending: Au
 fn advise_on_state(rt: &HostRuntime, place: &str, state: Option<&str>, fault: ProgramFault) {
     if let (Some(state), ProgramFault::Store(error)) = (state, fault) {
         let name = error.name();
+        if let Some(why) = unwritten(rt, state, error) {
+            let state = Escaped(state);
+            let _ = eprintln!(rt; "{state}: store: {name}: {why}");
+            return;
+        }
         let why = trouble(rt, state, error);
         let state = Escaped(state);
         let _ = eprintln!(rt; "{state}: store: {name}: {why}");

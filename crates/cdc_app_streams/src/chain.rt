@@ -3,6 +3,7 @@
 ghost use Rattle.std.specs.Prelude.{◌≡◌, false, length};
 
 use crate::follow_advice::{advise_on_line, unread};
+use crate::held::{Asked, advise_on_held, unwritten};
 use crate::lines::{Lines, lines_of, refuse_start};
 use cdc_app_inputs::{Escaped, Stream, advise_on_failure, shown_name};
 use cdc_arguments::ChainPlan;
@@ -60,13 +61,13 @@ fn chain_in<T: Threads + Wait + Copy + Send + 'static, L: LogStore + Drop>(
         Err(error) => return refuse_state(rt, file, state, error),
     };
     let mut log = ChainLog::new(store);
-    let ending = chain_stream(rt, threads, file, &mut log, every, setup, &mut chain);
+    let (ending, line) = chain_stream(rt, threads, file, &mut log, every, setup, &mut chain);
     advise_on_duplicates(rt, file, chain.duplicates());
-    advise_on_chain(rt, file, state, chain.last(), ending);
+    advise_on_chain(rt, file, state, chain.last(), ending, line.as_slice());
     ending
 }
 
-/// Chains the stream from where the chain is.
+/// Chains the stream from where the chain is. Returns how that ended, and the line that was read last.
 fn chain_stream<T: Threads + Wait + Copy + Send + 'static, L: LogStore>(
     rt: &HostRuntime,
     threads: &T,
@@ -75,18 +76,25 @@ fn chain_stream<T: Threads + Wait + Copy + Send + 'static, L: LogStore>(
     every: u64,
     setup: &ChainSetup,
     chain: &mut Chain,
-) -> ChainEnding
+) -> (ChainEnding, Vec<u8>)
     requires queues { length chain.old.places ≡ length setup.now.bindings.items }
     requires fresh { log.old.has_begun ≡ false }
 {
     let stream = Stream::of(rt, file);
     let may_wait = stream.may_wait();
     match lines_of(threads, rt.alloc(), stream, may_wait) {
-        Ok(Lines::Plain(mut reader)) => chain_lines(rt, &mut reader, log, every, setup, chain),
-        Ok(Lines::Ahead(mut reader)) => chain_lines(rt, &mut reader, log, every, setup, chain),
+        Ok(Lines::Plain(mut reader)) => {
+            let ending = chain_lines(rt, &mut reader, log, every, setup, chain);
+            (ending, reader.into_line())
+        }
+        Ok(Lines::Ahead(mut reader)) => {
+            let ending = chain_lines(rt, &mut reader, log, every, setup, chain);
+            (ending, reader.into_line())
+        }
         Err(fault) => {
             refuse_start(rt, fault);
-            StreamEnding::Failed(ProgramFault::OutOfMemory)
+            let ending = StreamEnding::Failed(ProgramFault::OutOfMemory);
+            (ending, Vec::new(rt.alloc()))
         }
     }
 }
@@ -115,7 +123,10 @@ fn refuse_state(
     error: StoreError,
 ) -> ChainEnding {
     let fault = ProgramFault::from(error);
-    advise_on_fault(rt, shown_name(file), state, fault);
+    match (state, error) {
+        (Some(state), StoreError::BadRecord) => advise_on_held(rt, state, Asked::Chain),
+        _ => advise_on_fault(rt, shown_name(file), state, fault),
+    }
     StreamEnding::Failed(fault)
 }
 
@@ -130,13 +141,14 @@ fn advise_on_duplicates(rt: &HostRuntime, file: &str, duplicates: u64) {
 }
 
 /// Reports why chaining stopped before the end of the stream in the file of this name, whose state is in that file,
-/// after the event of this timestamp.
+/// after the event of this timestamp. The line that was read last has these bytes.
 fn advise_on_chain(
     rt: &HostRuntime,
     file: &str,
     state: Option<&str>,
     last: u64,
     ending: ChainEnding,
+    bytes: &[u8],
 ) {
     let place = shown_name(file);
     let _ = match ending {
@@ -149,7 +161,7 @@ fn advise_on_chain(
             )
         }
         StreamEnding::Stopped(ChainStop::BadLine(line, error)) => {
-            advise_on_line(rt, place, line, error)
+            advise_on_line(rt, place, line, error, Some(bytes))
         }
         StreamEnding::Failed(fault) => {
             advise_on_fault(rt, place, state, fault);
@@ -162,6 +174,11 @@ fn advise_on_chain(
 fn advise_on_fault(rt: &HostRuntime, place: &str, state: Option<&str>, fault: ProgramFault) {
     if let (Some(state), ProgramFault::Store(error)) = (state, fault) {
         let name = error.name();
+        if let Some(why) = unwritten(rt, state, error) {
+            let state = Escaped(state);
+            let _ = eprintln!(rt; "{state}: store: {name}: {why}");
+            return;
+        }
         let why = trouble(rt, state, error);
         let state = Escaped(state);
         let _ = eprintln!(rt; "{state}: store: {name}: {why}");

@@ -2,6 +2,7 @@
 
 use crate::failures::print_failure;
 use crate::follow_advice::{advise_on_book, advise_on_counts, advise_on_line};
+use crate::held::{Asked, advise_on_held};
 use crate::keys::{random_key, refuse_key};
 use crate::lines::{Lines, lines_of, refuse_reading};
 use crate::watched::Watched;
@@ -72,6 +73,9 @@ pub fn run_checked<T: Threads + Wait + Copy + Send + 'static>(
         Ok(key) => key,
         Err(error) => return StreamEnding::Failed(refuse_key(rt, error, form)),
     };
+    let Ok(asked) = Vec::from_slice(rt.alloc(), binding_text.as_slice()) else {
+        return refuse_checked(rt, file, book, StoreError::OutOfMemory, form);
+    };
     let start = CheckStart {
         baseline,
         from_book,
@@ -86,7 +90,13 @@ pub fn run_checked<T: Threads + Wait + Copy + Send + 'static>(
         binding_text,
     ) {
         Ok(opened) => opened,
-        Err(error) => return refuse_start(rt, file, error, form),
+        Err(error) => {
+            let asked = Asked::Checked {
+                by_baseline: baseline,
+                binding: asked.as_slice(),
+            };
+            return refuse_start(rt, file, error, asked, form);
+        }
     };
     let saver = Saver::new(store, every);
     let stream = Stream::of(rt, file);
@@ -95,17 +105,19 @@ pub fn run_checked<T: Threads + Wait + Copy + Send + 'static>(
     let Ok(source) = Watched::new(*rt, stream, shown_name(file), true) else {
         return refuse_checked(rt, file, book, StoreError::OutOfMemory, form);
     };
-    let ending = match lines_of(threads, rt.alloc(), source, may_wait) {
+    let (ending, line) = match lines_of(threads, rt.alloc(), source, may_wait) {
         Ok(Lines::Plain(mut reader)) => {
-            check_lines(rt, form, &mut reader, saver, &setup, &mut checker)
+            let ending = check_lines(rt, form, &mut reader, saver, &setup, &mut checker);
+            (ending, reader.into_line())
         }
         Ok(Lines::Ahead(mut reader)) => {
-            check_lines(rt, form, &mut reader, saver, &setup, &mut checker)
+            let ending = check_lines(rt, form, &mut reader, saver, &setup, &mut checker);
+            (ending, reader.into_line())
         }
         Err(fault) => return StreamEnding::Failed(refuse_reading(rt, fault, form)),
     };
     advise_on_counts(rt, file, checker.bound().counts, form);
-    advise_on_checked(rt, file, book, ending);
+    advise_on_checked(rt, file, book, ending, line.as_slice());
     ending
 }
 
@@ -307,26 +319,55 @@ fn refuse_checked(
 }
 
 /// Prints the fault of checked following that can't begin, and reports why on standard error.
-fn refuse_start(rt: &HostRuntime, file: &str, error: StartError<'_>, form: Form) -> CheckEnding {
+fn refuse_start(
+    rt: &HostRuntime,
+    file: &str,
+    error: StartError<'_>,
+    asked: Asked<'_>,
+    form: Form,
+) -> CheckEnding {
     match error {
+        StartError::File(book, StoreError::BadRecord) => refuse_content(rt, book, asked, form),
         StartError::File(book, error) => refuse_checked(rt, file, book, error, form),
-        StartError::Elsewhere(book) => {
-            let error = StoreError::BadRecord;
-            let fault = ProgramFault::from(error);
-            print_failure(rt, form, fault);
-            let name = error.name();
-            let book = Escaped(book);
-            let _ = eprintln!(rt;
-                "{book}: store: {name}: it has another state than the book that --from-book names: leave out \
-                 --from-book to resume it, or name another file"
-            );
-            StreamEnding::Failed(fault)
-        }
+        StartError::Elsewhere(book) => refuse_elsewhere(rt, book, form),
     }
 }
 
-/// Reports why following stopped before the end of the stream in the file of this name, whose book is in that file.
-fn advise_on_checked(rt: &HostRuntime, file: &str, book: Option<&str>, ending: CheckEnding) {
+/// Prints the fault of a book that isn't the copy of another one, and reports why on standard error.
+fn refuse_elsewhere(rt: &HostRuntime, book: &str, form: Form) -> CheckEnding {
+    let error = StoreError::BadRecord;
+    let fault = ProgramFault::from(error);
+    print_failure(rt, form, fault);
+    let name = error.name();
+    let book = Escaped(book);
+    let _ = eprintln!(rt;
+        "{book}: store: {name}: it has another state than the book that --from-book names: leave out \
+         --from-book to resume it, or name another file"
+    );
+    StreamEnding::Failed(fault)
+}
+
+/// Prints the fault of a book that isn't the one that is asked for, and reports why on standard error.
+fn refuse_content(
+    rt: &HostRuntime,
+    book: Option<&str>,
+    asked: Asked<'_>,
+    form: Form,
+) -> CheckEnding {
+    let fault = ProgramFault::from(StoreError::BadRecord);
+    print_failure(rt, form, fault);
+    advise_on_held(rt, book.unwrap_or(""), asked);
+    StreamEnding::Failed(fault)
+}
+/// Reports why following stopped before the end of the stream in the file of this name, whose book is in that file. The
+/// line that was read last has these bytes.
+fn advise_on_checked(
+    rt: &HostRuntime,
+    file: &str,
+    book: Option<&str>,
+    ending: CheckEnding,
+    bytes: &[u8],
+) {
     let place = shown_name(file);
     let _ = match ending {
         StreamEnding::Stopped(CheckStop::AtEnd) => Ok(()),
@@ -334,7 +375,7 @@ fn advise_on_checked(rt: &HostRuntime, file: &str, book: Option<&str>, ending: C
             advise_on_refusal(rt, place, line, why)
         }
         StreamEnding::Stopped(CheckStop::BadLine(line, error)) => {
-            advise_on_line(rt, place, line, error)
+            advise_on_line(rt, place, line, error, Some(bytes))
         }
         StreamEnding::Failed(fault) => {
             advise_on_book(rt, place, book, fault);

@@ -1,7 +1,7 @@
 //! The flag `--expect` of `follow`: a stream in, and what comes of each of its lines out.
 
 use crate::failures::print_failure;
-use crate::follow_advice::advise_on_stream;
+use crate::follow_advice::advise_on_stop;
 use crate::keys::{random_key, refuse_key};
 use crate::lines::{Lines, lines_of, refuse_reading};
 use crate::watched::Watched;
@@ -39,16 +39,18 @@ pub fn run_expect<T: Threads + Wait + Copy + Send + 'static>(
         print_failure(rt, Form::Json, fault);
         return StreamEnding::Failed(fault);
     };
-    let ending = match lines_of(threads, rt.alloc(), source, may_wait) {
+    let (ending, line) = match lines_of(threads, rt.alloc(), source, may_wait) {
         Ok(Lines::Plain(mut reader)) => {
-            expect_lines(rt, &mut reader, rules, binding, &mut follower)
+            let ending = expect_lines(rt, &mut reader, rules, binding, &mut follower);
+            (ending, reader.into_line())
         }
         Ok(Lines::Ahead(mut reader)) => {
-            expect_lines(rt, &mut reader, rules, binding, &mut follower)
+            let ending = expect_lines(rt, &mut reader, rules, binding, &mut follower);
+            (ending, reader.into_line())
         }
         Err(fault) => return StreamEnding::Failed(refuse_reading(rt, fault, Form::Json)),
     };
-    advise_on_stream(rt, file, None, &follower, ending);
+    advise_on_stop(rt, file, None, &follower, ending, Some(line.as_slice()));
     ending
 }
 

@@ -2,7 +2,8 @@
 
 use crate::expect::run_expect;
 use crate::failures::print_failure;
-use crate::follow_advice::{advise_on_book, advise_on_counts, advise_on_place, advise_on_stream};
+use crate::follow_advice::{advise_on_book, advise_on_counts, advise_on_place, advise_on_stop};
+use crate::held::{Asked, advise_on_held};
 use crate::kept_book::{BookFile, is_in_sqlite, open_book_file};
 use crate::keys::{random_key, refuse_key};
 use crate::lines::{Lines, lines_of, refuse_reading};
@@ -79,6 +80,9 @@ pub fn run_follow<T: Threads + Wait + Copy + Send + 'static>(
     }
     let (store, follower) = match open_book(rt, key, book, busy, &setup, after) {
         Ok(opened) => opened,
+        Err(ResumeError::Store(StoreError::BadRecord)) => {
+            return refuse_content(rt, book, &setup, form);
+        }
         Err(ResumeError::Store(error)) => return refuse_book(rt, file, book, error, form),
         Err(ResumeError::Elsewhere(seen)) => return refuse_place(rt, book, seen, form),
     };
@@ -92,17 +96,26 @@ pub fn run_follow<T: Threads + Wait + Copy + Send + 'static>(
     let Ok(source) = Watched::new(*rt, stream, shown_name(file), rules.chained) else {
         return refuse_book(rt, file, book, StoreError::OutOfMemory, form);
     };
-    let ending = match lines_of(threads, rt.alloc(), source, may_wait) {
+    let (ending, line) = match lines_of(threads, rt.alloc(), source, may_wait) {
         Ok(Lines::Plain(mut reader)) => {
-            follow_lines(rt, form, &mut reader, saver, &setup, &mut followed)
+            let ending = follow_lines(rt, form, &mut reader, saver, &setup, &mut followed);
+            (ending, reader.into_line())
         }
         Ok(Lines::Ahead(mut reader)) => {
-            follow_lines(rt, form, &mut reader, saver, &setup, &mut followed)
+            let ending = follow_lines(rt, form, &mut reader, saver, &setup, &mut followed);
+            (ending, reader.into_line())
         }
         Err(fault) => return StreamEnding::Failed(refuse_reading(rt, fault, form)),
     };
     advise_on_counts(rt, file, followed.counts(), form);
-    advise_on_stream(rt, file, book, followed.follower(), ending);
+    advise_on_stop(
+        rt,
+        file,
+        book,
+        followed.follower(),
+        ending,
+        Some(line.as_slice()),
+    );
     ending
 }
 
@@ -175,6 +188,23 @@ fn refuse_book(
     let fault = ProgramFault::from(error);
     print_failure(rt, form, fault);
     advise_on_book(rt, shown_name(file), book, fault);
+    StreamEnding::Failed(fault)
+}
+
+/// Prints the fault of a book that isn't the one that is asked for, and reports why on standard error.
+fn refuse_content(
+    rt: &HostRuntime,
+    book: Option<&str>,
+    setup: &FollowSetup,
+    form: Form,
+) -> FollowEnding {
+    let fault = ProgramFault::from(StoreError::BadRecord);
+    print_failure(rt, form, fault);
+    let asked = Asked::Book {
+        is_chained: setup.rules.chained,
+        binding: setup.binding_text.as_slice(),
+    };
+    advise_on_held(rt, book.unwrap_or(""), asked);
     StreamEnding::Failed(fault)
 }
 

@@ -1,23 +1,38 @@
 //! What standard error reports of a stream that is followed.
 
+use crate::held::unwritten;
 use crate::kept_book::{is_in_sqlite, path_of_book};
 use cdc_app_inputs::{Escaped, advise_on_failure, shown_name};
 use cdc_arguments::Form;
 use cdc_follow::{Content, Counts, Entry, Follower, LineError, Stop};
 use cdc_follow_command::FollowEnding;
+use cdc_line_faults::{LineSentence, line_sentence};
 use cdc_message::{DecodeError, Field, Part};
 use cdc_output::ProgramFault;
 use cdc_progress::StoreError;
 use cdc_streams::StreamEnding;
 use std::{fs, io};
 
-/// Reports why following stopped before the end of the stream in the file of this name, whose book is in that file.
+/// Reports why following stopped before the end of the messages of this name, whose book is in that file.
 pub fn advise_on_stream(
     rt: &HostRuntime,
     file: &str,
     book: Option<&str>,
     follower: &Follower,
     ending: FollowEnding,
+) {
+    advise_on_stop(rt, file, book, follower, ending, None);
+}
+
+/// Reports why following stopped before the end of the stream in the file of this name, whose book is in that file. The
+/// line that was read last has these bytes, if they are there.
+pub fn advise_on_stop(
+    rt: &HostRuntime,
+    file: &str,
+    book: Option<&str>,
+    follower: &Follower,
+    ending: FollowEnding,
+    bytes: Option<&[u8]>,
 ) {
     let place = shown_name(file);
     let _ = match ending {
@@ -28,7 +43,9 @@ pub fn advise_on_stream(
         StreamEnding::Stopped(Stop::AfterEnd(line, entry)) => {
             advise_on_contradiction(rt, place, line, entry, follower.seen())
         }
-        StreamEnding::Stopped(Stop::BadLine(line, error)) => advise_on_line(rt, place, line, error),
+        StreamEnding::Stopped(Stop::BadLine(line, error)) => {
+            advise_on_line(rt, place, line, error, bytes)
+        }
         StreamEnding::Failed(fault) => {
             advise_on_book(rt, place, book, fault);
             Ok(())
@@ -59,6 +76,11 @@ pub fn advise_on_counts(rt: &HostRuntime, file: &str, counts: Counts, form: Form
 pub fn advise_on_book(rt: &HostRuntime, place: &str, book: Option<&str>, fault: ProgramFault) {
     if let (Some(book), ProgramFault::Store(error)) = (book, fault) {
         let name = error.name();
+        if let Some(why) = unwritten(rt, book, error) {
+            let book = Escaped(book);
+            let _ = eprintln!(rt; "{book}: store: {name}: {why}");
+            return;
+        }
         let why = trouble(rt, book, error);
         let book = Escaped(book);
         let _ = eprintln!(rt; "{book}: store: {name}: {why}");
@@ -128,8 +150,32 @@ fn advise_on_contradiction(
     }
 }
 
-/// Reports why the line of this number is no entry of a stream.
+/// Reports why the line of this number, which has these bytes, is no entry of a stream.
 pub fn advise_on_line(
+    rt: &HostRuntime,
+    place: &str,
+    line: u64,
+    error: LineError,
+    bytes: Option<&[u8]>,
+) -> io::Result<()> {
+    let Some(bytes) = bytes else {
+        return advise_on_lost_line(rt, place, line, error);
+    };
+    let name = error.name();
+    let place = Escaped(place);
+    let Ok(LineSentence { column, text }) = line_sentence(rt.alloc(), bytes, line, error) else {
+        return eprintln!(rt; "{place}:{line}: {name}: {error}");
+    };
+    let text = Escaped(text.as_str());
+    if column == 0 {
+        eprintln!(rt; "{place}:{line}: {name}: {text}")
+    } else {
+        eprintln!(rt; "{place}:{line}:{column}: {name}: {text}")
+    }
+}
+
+/// The same of a line whose bytes aren't there any more.
+fn advise_on_lost_line(
     rt: &HostRuntime,
     place: &str,
     line: u64,

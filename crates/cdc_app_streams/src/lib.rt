@@ -8,9 +8,12 @@ mod expect;
 mod failures;
 mod follow;
 mod follow_advice;
+mod held;
 mod kept_book;
 mod keys;
 mod lines;
+mod recent;
+mod refusals;
 mod sql;
 mod watched;
 

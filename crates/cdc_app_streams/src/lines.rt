@@ -1,6 +1,7 @@
 //! How the lines of a stream are read: those of a regular file directly, all others ahead, by a thread.
 
 use crate::failures::print_failure;
+use crate::recent::Recent;
 use cdc_arguments::Form;
 use cdc_output::ProgramFault;
 use cdc_read_ahead::{AheadReader, StartFault, Unknown};
@@ -13,9 +14,9 @@ use std::thread::Threads;
 /// The lines of a stream.
 pub enum Lines<S, T: Threads + Wait + Copy> {
     /// Those of a regular file, which are always there.
-    Plain(BufReader<S>),
+    Plain(Recent<BufReader<S>>),
     /// Those of a pipe or the like, which another thread reads.
-    Ahead(AheadReader<Unknown, T>),
+    Ahead(Recent<AheadReader<Unknown, T>>),
 }
 
 /// The lines of this source, which is read ahead if a read of it may have to wait.
@@ -27,10 +28,10 @@ pub fn lines_of<S: Read + Drop + Send + 'static, T: Threads + Wait + Copy + Send
 ) -> Result<Lines<S, T>, StartFault> {
     if may_wait {
         let reader = AheadReader::start(*threads, alloc, source)?;
-        return Ok(Lines::Ahead(reader));
+        return Ok(Lines::Ahead(Recent::new(alloc, reader)?));
     }
     match BufReader::with_capacity(alloc, Limits::BUFFER_BYTES, source) {
-        Ok(reader) => Ok(Lines::Plain(reader)),
+        Ok(reader) => Ok(Lines::Plain(Recent::new(alloc, reader)?)),
         Err(_) => Err(StartFault::OutOfMemory),
     }
 }

@@ -1,7 +1,7 @@
 //! The flags `--sql`, `--sql-schema` and `--events` of `follow`: a stream in, and SQL for PostgreSQL out.
 
 use crate::failures::print_failure;
-use crate::follow_advice::{advise_on_counts, advise_on_stream, unread};
+use crate::follow_advice::{advise_on_counts, advise_on_stop, unread};
 use crate::lines::{Lines, lines_of, refuse_reading};
 use crate::watched::Watched;
 use cdc_app_inputs::{Escaped, Stream, advise_on_failure, shown_name};
@@ -86,15 +86,28 @@ pub fn run_sql<T: Threads + Wait + Copy + Send + 'static>(
     let Ok(source) = Watched::new(*rt, stream, shown_name(file), setup.rules.chained) else {
         return refuse(rt, ProgramFault::OutOfMemory);
     };
-    let ending = match lines_of(threads, rt.alloc(), source, may_wait) {
-        Ok(Lines::Plain(mut reader)) => sql_lines(rt, &mut reader, saver, setup, &mut followed),
-        Ok(Lines::Ahead(mut reader)) => sql_lines(rt, &mut reader, saver, setup, &mut followed),
+    let (ending, line) = match lines_of(threads, rt.alloc(), source, may_wait) {
+        Ok(Lines::Plain(mut reader)) => {
+            let ending = sql_lines(rt, &mut reader, saver, setup, &mut followed);
+            (ending, reader.into_line())
+        }
+        Ok(Lines::Ahead(mut reader)) => {
+            let ending = sql_lines(rt, &mut reader, saver, setup, &mut followed);
+            (ending, reader.into_line())
+        }
         Err(fault) => return StreamEnding::Failed(refuse_reading(rt, fault, Form::Text)),
     };
     advise_on_counts(rt, file, followed.counts(), Form::Text);
     match ending {
         StreamEnding::Failed(ProgramFault::Store(error)) => advise_on_save(rt, error),
-        _ => advise_on_stream(rt, file, None, followed.recorded().follower(), ending),
+        _ => advise_on_stop(
+            rt,
+            file,
+            None,
+            followed.recorded().follower(),
+            ending,
+            Some(line.as_slice()),
+        ),
     }
     ending
 }

@@ -4,7 +4,7 @@ use crate::arguments::{Argument, with_arguments};
 use crate::command_line::OptionsFault;
 use crate::follow_options::{asked_every, stream_argument};
 use crate::help;
-use crate::parsing::json_flag;
+use crate::parsing::{asked_file, json_flag};
 use clap::{ArgMatches, Command};
 use std::alloc::{AllocError, Global};
 
@@ -62,7 +62,7 @@ pub fn audit_plan<'a>(
         shows_book: arguments.get_flag("book"),
         foreign: arguments.get_flag("foreign"),
         skips_duplicates: arguments.get_flag("duplicates"),
-        state: arguments.get_str("state"),
+        state: asked_file(alloc, arguments, "state")?,
         every: asked_every(alloc, arguments)?,
     })
 }

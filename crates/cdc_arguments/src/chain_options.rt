@@ -4,7 +4,7 @@ use crate::arguments::{Argument, with_arguments};
 use crate::command_line::OptionsFault;
 use crate::follow_options::{asked_binding, asked_every, joined, stream_argument};
 use crate::help;
-use crate::parsing::usage_error;
+use crate::parsing::{asked_file, usage_error};
 use cdc_match::Binding;
 use clap::{ArgMatches, Command};
 use std::alloc::{AllocError, Global};
@@ -59,7 +59,7 @@ pub fn chain_plan<'a>(
     let mut plan = ChainPlan {
         bindings: Vec::new(alloc),
         binding_texts: Vec::new(alloc),
-        state: arguments.get_str("state"),
+        state: asked_file(alloc, arguments, "state")?,
         every: asked_every(alloc, arguments)?,
     };
     if let Some(words) = arguments.get_strs("queue") {

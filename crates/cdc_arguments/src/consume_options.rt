@@ -4,7 +4,7 @@ use crate::arguments::{Argument, with_arguments};
 use crate::command_line::OptionsFault;
 use crate::follow_options::{asked_binding, asked_busy, asked_every, joined};
 use crate::help;
-use crate::parsing::{bad_value, json_flag, usage_error};
+use crate::parsing::{asked_file, bad_value, json_flag, usage_error};
 use cdc_follow::Rules;
 use cdc_match::Binding;
 use cdc_message::decimal_up_to;
@@ -170,7 +170,7 @@ fn asked_queue<'a>(alloc: Global, arguments: &ArgMatches<'a>) -> Result<&'a str,
 
 /// The book, which has to be named: what is acknowledged is what it has.
 fn asked_book<'a>(alloc: Global, arguments: &ArgMatches<'a>) -> Result<&'a str, OptionsFault> {
-    match arguments.get_str("book") {
+    match asked_file(alloc, arguments, "book")? {
         Some(name) => Ok(name),
         None => Err(usage_error(
             alloc,

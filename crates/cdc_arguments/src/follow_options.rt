@@ -1,9 +1,10 @@
 //! The arguments of the command `follow`.
 
 use crate::arguments::{Argument, with_arguments};
+use crate::bindings::binding_sentence;
 use crate::command_line::OptionsFault;
 use crate::help;
-use crate::parsing::{STANDARD_INPUT, bad_value, json_flag, usage_error};
+use crate::parsing::{STANDARD_INPUT, asked_file, bad_value, json_flag, usage_error};
 use cdc_follow::Rules;
 use cdc_match::{BindError, Binding};
 use cdc_message::decimal_up_to;
@@ -180,7 +181,7 @@ pub fn follow_plan<'a>(
         skips_gaps: arguments.get_flag("skip-gaps"),
     };
     let checks = arguments.get_flag("checked");
-    let book = arguments.get_str("book");
+    let book = asked_file(alloc, arguments, "book")?;
     if rules.skips_gaps && !rules.chained && !checks {
         return Err(usage_error(
             alloc,
@@ -278,12 +279,10 @@ pub fn asked_binding(
     match Binding::parse(alloc, parts) {
         Ok(binding) => Ok(binding),
         Err(BindError::OutOfMemory) => Err(OptionsFault::OutOfMemory),
-        Err(_) => Err(bad_value(
-            alloc,
-            name,
-            word,
-            "all or any, and up to ten pairs of a header and its value, such as 'all ledger=700'",
-        )?),
+        Err(_) => {
+            let sentence = binding_sentence(alloc, parts)?;
+            Err(bad_value(alloc, name, word, sentence.as_str())?)
+        }
     }
 }
 

@@ -3,6 +3,7 @@
 
 mod arguments;
 mod audit_options;
+mod bindings;
 mod chain_options;
 mod command_line;
 mod consume_options;

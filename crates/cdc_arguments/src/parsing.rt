@@ -343,7 +343,7 @@ fn asked_of<'a>(
         ("run", _) => Ok(Options::Run {
             file,
             plan: run_plan(alloc, arguments)?,
-            progress: arguments.get_str("progress"),
+            progress: asked_file(alloc, arguments, "progress")?,
             deliveries: asked_deliveries(alloc, arguments)?,
             diagnostics: RunDiagnostics {
                 explain: arguments.get_flag("explain"),
@@ -464,6 +464,20 @@ fn read_window(word: &str) -> Option<usize>
         None
     } else {
         Some(number as usize)
+    }
+}
+
+/// The file that the option of this name gives, if it is given. A usage error if its name is empty.
+pub fn asked_file<'a>(
+    alloc: Global,
+    arguments: &ArgMatches<'a>,
+    option: &str,
+) -> Result<Option<&'a str>, OptionsFault> {
+    match arguments.get_str(option) {
+        Some(name) if name.is_empty() || name == "sqlite:" => {
+            Err(bad_value(alloc, option, name, "the name of a file is empty")?)
+        }
+        file => Ok(file),
     }
 }
 
