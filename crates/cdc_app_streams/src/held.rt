@@ -25,9 +25,15 @@ const VERSION: &[u8] = b"1";
 #[derive(Clone, Copy)]
 pub enum Asked<'a> {
     /// A book of `follow`, of a chained stream or not, with a binding of this text.
-    Book { is_chained: bool, binding: &'a [u8] },
+    Book {
+        is_chained: bool,
+        binding: &'a [u8],
+    },
     /// A book of `follow --checked`, by baseline or not, with a binding of this text.
-    Checked { by_baseline: bool, binding: &'a [u8] },
+    Checked {
+        by_baseline: bool,
+        binding: &'a [u8],
+    },
     /// A state of `audit`, with `--foreign` or without.
     Audit(bool),
     /// A state of `chain`.
@@ -42,9 +48,15 @@ enum Held<'a> {
     /// A text of another version, which has this name.
     OtherVersion(&'a [u8]),
     /// A book of `follow`, of a chained stream or not, with a binding of this text.
-    Book { is_chained: bool, binding: &'a [u8] },
+    Book {
+        is_chained: bool,
+        binding: &'a [u8],
+    },
     /// A book of `follow --checked`, by baseline or not, with a binding of this text.
-    Checked { by_baseline: bool, binding: &'a [u8] },
+    Checked {
+        by_baseline: bool,
+        binding: &'a [u8],
+    },
     /// A state of `audit`, with `--foreign` or without.
     Audit(bool),
     /// A state of `chain`.
@@ -281,7 +293,9 @@ fn no_checked_book(held: Held<'_>, by_baseline: bool) -> &'static str {
         Held::Checked {
             by_baseline: false,
             ..
-        } if by_baseline => { "it is a book without --baseline, and one of --baseline is asked for" }
+        } if by_baseline => {
+            "it is a book without --baseline, and one of --baseline is asked for"
+        }
         Held::Book {
             is_chained: true,
             ..
