@@ -38,7 +38,7 @@ _relayplum() {
             audit) words='--book --foreign --duplicates --state --every --json -h --help' ;;
             chain) words='--queue --state --every -h --help' ;;
             consume)
-                words='--queue --book --chained --binding --vhost --user --password-file --prefetch --heartbeat --every --busy --limit'
+                words='--queue --book --chained --park --binding --vhost --user --password-file --prefetch --heartbeat --every --busy --limit'
                 words+=' --report --json -h --help'
                 ;;
         esac

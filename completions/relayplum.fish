@@ -57,6 +57,7 @@ complete -c relayplum -n '__fish_seen_subcommand_from chain' -l every -x -d 'Sav
 complete -c relayplum -n '__fish_seen_subcommand_from consume' -l queue -x -d 'Consume this queue, which has to exist'
 complete -c relayplum -n '__fish_seen_subcommand_from consume' -l book -r -d 'Save the book in this file, or sqlite:FILE, and resume from it'
 complete -c relayplum -n '__fish_seen_subcommand_from consume' -l chained -d 'Apply an event only if it follows the last one of its queue'
+complete -c relayplum -n '__fish_seen_subcommand_from consume' -l park -d 'Reject a message that is no event and go on after it'
 complete -c relayplum -n '__fish_seen_subcommand_from consume' -l binding -x -d 'Apply only the events that match this binding'
 complete -c relayplum -n '__fish_seen_subcommand_from consume' -l vhost -x -d 'Use this virtual host'
 complete -c relayplum -n '__fish_seen_subcommand_from consume' -l user -x -d 'Log in as this user'

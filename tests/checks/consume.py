@@ -30,6 +30,7 @@ sys.dont_write_bytecode = True
 sys.path += [os.path.join(os.path.dirname(os.path.realpath(__file__)), "..", it) for it in ("common", "checks", "faults")]
 import amqp
 import commands
+import consuming
 import ending
 import interrupted
 import rooms
@@ -540,15 +541,39 @@ def mutations(count):
             folder = fresh(room, str(number))
             is_whole = number % 2 == 0
             text = (reordered if is_whole else mutated)(rng, server)
-            done = consume(folder, text, "--chained", "--every", str(rng.randint(1, 3)))
+            parks = number % 3 == 0
+            done = consume(folder, text, "--chained", "--every", str(rng.randint(1, 3)), *(["--park"] if parks else []))
             check(f"mutation {number}: a status", done.status in (0, 1, 2, 3) and done.reported("status") == str(done.status), done)
             last = (done.acknowledged() if done.frames() else None) or [0]
-            check(f"mutation {number}: acknowledged is saved", last[-1] <= taken_by_book(folder, done), (last, done))
+            rejected = (done.rejected() if done.frames() else None) or []
+            before = sum(it < last[-1] for it in rejected)
+            check(f"mutation {number}: acknowledged is saved", last[-1] - before <= taken_by_book(folder, done), (last, done))
+            check(f"mutation {number}: what is rejected is not acknowledged", not set(last) & set(rejected), (last, rejected))
+            compare(f"mutation {number}", text, parks, done, last[-1])
             if is_whole:
                 check(f"mutation {number}: a prefix", book_of(folder, "--chained") in BOOKS, (book_of(folder, "--chained"), done))
                 done = consume(folder, server, "--chained")
                 check(f"mutation {number}: the whole", book_of(folder, "--chained") == BOOKS[5], done)
             shutil.rmtree(folder)
+
+
+# What each body of the queue is: the timestamp of its event.
+KNOWN = {body: 10 * at for at, (body, _, _) in enumerate(QUEUE[:5], 1)}
+
+
+def compare(name, text, parks, done, last):
+    """Compares a run with the model, unless that doesn't know a body."""
+    try:
+        wanted = consuming.outcome(text, KNOWN, parks=parks)
+    except consuming.Unknown:
+        return
+    found = {"status": done.status, "code": int(done.reported("code")), "tag": int(done.reported("tag")),
+             "applied": int(done.reported("applied")), "duplicates": int(done.reported("duplicates")),
+             "rejected": (done.rejected() if done.frames() else None) or []}
+    check(f"{name}: the model", found == {it: wanted[it] for it in found}, (wanted, done))
+    check(f"{name}: the model has taken what is acknowledged", last <= wanted["taken"], (last, wanted))
+    if wanted["status"] == 0 and not wanted["tag"]:
+        check(f"{name}: all that was taken is acknowledged", last == wanted["taken"], (last, wanted))
 
 
 def taken_by_book(folder, done):

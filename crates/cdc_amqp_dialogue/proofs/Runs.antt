@@ -31,7 +31,7 @@ use Rattle.cdc_amqp_dialogue.specs.Dialogues.{Converses, GoesOnWith, IsCause, Wr
 use Rattle.cdc_amqp_dialogue.specs.Laws.{AreSettled, IsSettled, IsSound, MayBeNext}
 use Rattle.cdc_amqp_dialogue.specs.Serving.{IsFaultOf, SavesLast, Serves, ServesBy, TakesBy, text_of, unread_failure}
 use Rattle.cdc_amqp_dialogue.specs.Steps.{ClosesBy, FailsBy, IsPlain, KeepsIt, KeepsNothing, SavesBy, StandsStill}
-use Rattle.cdc_amqp_dialogue.specs.Steps.{WritesPart, is_save_due, is_write_failure}
+use Rattle.cdc_amqp_dialogue.specs.Steps.{WritesPart, is_due, is_save_due, is_write_failure}
 use Rattle.cdc_amqp_dialogue.specs.Taking.{Plan, follower_after, taking_after}
 use Rattle.cdc_amqp_dialogue.specs.Worlds.{Step, Looks, Comes, Saves, Acknowledges, Closes, World, acknowledges}
 use Rattle.cdc_amqp_dialogue.specs.Worlds.{answers_of, begins, bytes_of, came, comes, closes, end_after, follower_of}
@@ -117,7 +117,8 @@ pub record Place (K D R : Type 0) : Type 0 where
   pub keeper : K
 
 -- by these bytes and answers of the reader, in this world, it is here
-pub record Is {K D S R : Type 0} (plan : Plan S R) (HasKept : K → List S → Type 0) (Stands : K → S → Type 0)
+pub record Is {K D S R : Type 0} (plan : Plan S R) (HasKept : K → K → List S → Type 0) (first : K)
+    (Stands : K → S → Type 0)
     (HasAnswered : D → List Bool → Type 0) (known : Option (List ℕ)) (p : Place K D R) (bytes : List ℕ)
     (answers : List Bool) (w : World S R) : Type 0 where
   pub came : Consumes known p.left bytes
@@ -127,23 +128,23 @@ pub record Is {K D S R : Type 0} (plan : Plan S R) (HasKept : K → List S → T
   pub taken_is : p.taken ≡ w.taken
   pub saved_is : p.saved ≡ w.saved
   pub follows : Stands p.keeper (follower_of plan w)
-  pub kept : HasKept p.keeper w.kept
+  pub kept : HasKept first p.keeper w.kept
 
 -- by some steps, with what was written
 pub record Goes {K D S R : Type 0} (settings : Settings) (plan : Plan S R) (every : ℕ)
-    (HasKept : K → List S → Type 0) (Stands : K → S → Type 0) (HasAnswered : D → List Bool → Type 0)
+    (HasKept : K → K → List S → Type 0) (first : K) (Stands : K → S → Type 0) (HasAnswered : D → List Bool → Type 0)
     (known writer : Option (List ℕ)) (p : Place K D R) : Type 0 where
   pub steps : List Step
   pub wrote : Appends writer p.written (text_sent (run settings plan begins steps))
-  pub is : Is plan HasKept Stands HasAnswered known p (bytes_of steps) (looks_of steps) (run settings plan begins steps)
+  pub is : Is plan HasKept first Stands HasAnswered known p (bytes_of steps) (looks_of steps) (run settings plan begins steps)
   pub settled : AreSettled settings plan every begins steps
   pub acknowledged : (run settings plan begins steps).acknowledged ≡ (run settings plan begins steps).saved
 
 -- and the reader's last answer was this one
 pub record Looked {K D S R : Type 0} (settings : Settings) (plan : Plan S R) (every : ℕ)
-    (HasKept : K → List S → Type 0) (Stands : K → S → Type 0) (HasAnswered : D → List Bool → Type 0)
+    (HasKept : K → K → List S → Type 0) (first : K) (Stands : K → S → Type 0) (HasAnswered : D → List Bool → Type 0)
     (known writer : Option (List ℕ)) (p : Place K D R) (answer : Bool) : Type 0 where
-  pub goes : Goes settings plan every HasKept Stands HasAnswered known writer p
+  pub goes : Goes settings plan every HasKept first Stands HasAnswered known writer p
   pub waiting : (run settings plan begins goes.steps).waiting ≡ answer
 
 -- known bytes begin with those that were read
@@ -202,12 +203,44 @@ not_due every taken saved false true false is more none le =
     (λ once. absurd cc, (let few : taken - saved < every = grind (arith, nat_tests) in omega (arith, few, le)))
 
 -- after a save that is made if it is due
-pub due_by : (every taken saved : ℕ) (at_once due : Bool) → due ≡ is_save_due every taken saved at_once
-    → saved ≤ taken
+due_by : (every taken saved : ℕ) (at_once due : Bool) → due ≡ is_due every taken saved at_once → saved ≤ taken
     → (at_once ≡ true → cond due taken saved ≡ taken) × (taken ≤ cond due taken saved + (every - 1))
 due_by every taken saved at_once true due le = (λ _. refl, omega arith)
 due_by every taken saved at_once false due le =
     not_due every taken saved at_once (ltb saved taken) (leb every (taken - saved)) refl refl due le
+
+-- what holds of such a save if the consumer closes, and if no whole frame is waiting
+pub record IsDone (every taken after : ℕ) (closes waiting : Bool) : Type 0 where
+  pub waits : waiting ≡ false → after ≡ taken
+  pub closing : closes ≡ true → after ≡ taken
+  pub paced : taken ≤ after + (every - 1)
+
+if_closes : (closes waiting : Bool) → closes ≡ true → (closes || not waiting) ≡ true
+if_closes true waiting is = refl
+if_closes false waiting is = absurd cc
+
+if_waits : (closes waiting : Bool) → waiting ≡ false → (closes || not waiting) ≡ true
+if_waits true waiting is = refl
+if_waits false false is = refl
+if_waits false true is = absurd cc
+
+pub done_by : {every taken saved after : ℕ} {closes waiting due : Bool}
+    {done : Bool} → due ≡ is_save_due every taken saved closes waiting → saved ≤ taken → done ≡ due
+    → after ≡ cond done taken saved → IsDone every taken after closes waiting
+done_by {every} {taken} {saved} {after} {closes} {waiting} {due} {done} is le was after_was =
+    let after_is : after ≡ cond due taken saved = after_was ∙ ap (λ (b : Bool). cond b taken saved) was in
+    let by = due_by every taken saved (closes || not waiting) due is le in
+    record {
+      waits = λ none. after_is ∙ by.0 (if_waits closes waiting none);
+      closing = λ so. after_is ∙ by.0 (if_closes closes waiting so);
+      paced = subst (λ (n : ℕ). taken ≤ n + (every - 1)) (sym after_is) by.1;
+    }
+
+-- a save is made if it is due
+pub was_due : {Kept Same : Type 0} {tag : ℕ} {old new : Option (List ℕ)} {due : Bool} (done : Bool)
+    → SavesBy Kept Same due tag old new (Ok done) → done ≡ due
+was_due true step = sym step.0
+was_due false step = sym step.0
 
 -- a save that is due is of something
 some_by : (every taken saved : ℕ) (at_once some : Bool) → ltb saved taken ≡ some
@@ -215,10 +248,10 @@ some_by : (every taken saved : ℕ) (at_once some : Bool) → ltb saved taken �
 some_by every taken saved at_once true is due = grind (arith, nat_tests)
 some_by every taken saved at_once false is due = absurd cc
 
-pub due_some : (every taken saved : ℕ) (at_once due : Bool) → due ≡ is_save_due every taken saved at_once
-    → due ≡ true → 0 < taken
-due_some every taken saved at_once due due_is is =
-    some_by every taken saved at_once (ltb saved taken) refl (sym is ∙ due_is)
+pub due_some : {every taken saved : ℕ} {closes waiting due : Bool}
+    → due ≡ is_save_due every taken saved closes waiting → due ≡ true → 0 < taken
+due_some {every} {taken} {saved} {closes} {waiting} {due} due_is is =
+    some_by every taken saved (closes || not waiting) (ltb saved taken) refl (sym is ∙ due_is)
 
 -- ---- saving
 
@@ -253,6 +286,13 @@ no_bytes ms m none = bytes_more ms m ∙ ap (λ (l : List ℕ). bytes_of ms ++ l
 no_looks : (ms : List Step) (m : Step) → its_answer m ≡ [] → looks_of (ms ++ m ∷ []) ≡ looks_of ms
 no_looks ms m none = looks_more ms m ∙ ap (λ (l : List Bool). looks_of ms ++ l) none ∙ append-nil (looks_of ms)
 
+-- the two steps of a save may be next
+settled_saved : {S R : Type 0} (settings : Settings) (plan : Plan S R) (every : ℕ) (ms : List Step) → AreSettled settings plan every begins ms
+    → AreSettled settings plan every begins ((ms ++ Saves ∷ []) ++ Acknowledges ∷ [])
+settled_saved settings plan every ms settled =
+    settled_more settings plan every begins (ms ++ Saves ∷ []) Acknowledges
+    (settled_more settings plan every begins ms Saves settled tt) tt
+
 saved_bytes : (ms : List Step) → bytes_of ((ms ++ Saves ∷ []) ++ Acknowledges ∷ []) ≡ bytes_of ms
 saved_bytes ms = no_bytes (ms ++ Saves ∷ []) Acknowledges refl ∙ no_bytes ms Saves refl
 
@@ -284,8 +324,8 @@ module _ {K D S R : Type 0} (settings : Settings) (plan : Plan S R) (H : K → K
   -- the place after a save
   is_saved : (p : Place K D R) (keeper : K) (written : Option (List ℕ)) (bytes : List ℕ) (answers : List Bool)
       (w : World S R) → StandsStill Stands p.keeper keeper → KeepsIt H Stands p.keeper keeper
-      → Is plan (H first) Stands A known p bytes answers w
-      → Is plan (H first) Stands A known (record p { keeper = keeper; written = written; saved = p.taken }) bytes
+      → Is plan H first Stands A known p bytes answers w
+      → Is plan H first Stands A known (record p { keeper = keeper; written = written; saved = p.taken }) bytes
       answers (saved_world plan w)
   is_saved p keeper written bytes answers w stands keeps is = record {
     came = is.came;
@@ -299,8 +339,8 @@ module _ {K D S R : Type 0} (settings : Settings) (plan : Plan S R) (H : K → K
   }
 
   is_closing : (p : Place K D R) (state : State) (written : Option (List ℕ)) (bytes : List ℕ) (answers : List Bool)
-      (w : World S R) → state ≡ closing p.state → Is plan (H first) Stands A known p bytes answers w
-      → Is plan (H first) Stands A known (record p { state = state; written = written }) bytes answers (closes w)
+      (w : World S R) → state ≡ closing p.state → Is plan H first Stands A known p bytes answers w
+      → Is plan H first Stands A known (record p { state = state; written = written }) bytes answers (closes w)
   is_closing p state written bytes answers w state_is is = record {
     came = is.came;
     answered = is.answered;
@@ -338,9 +378,9 @@ module _ {K D S R : Type 0} (settings : Settings) (plan : Plan S R) (H : K → K
       (after : Option (Refusal R)) (taken : ℕ) (keeper : K) (ms : List Step) (f : Parts) (done : Done)
       (taking : Taking R) → Consumes p.left rest (frame f) → ((answers : List Bool) → A p.reader answers
       → A reader answers) → KeepsNothing H p.keeper keeper → taken ≡ taken_after p.taken new.delivered taking
-      → Is plan (H first) Stands A known p (bytes_of ms) (looks_of ms) (run settings plan begins ms)
+      → Is plan H first Stands A known p (bytes_of ms) (looks_of ms) (run settings plan begins ms)
       → Serves settings plan.rules plan.parks f p.state new p.stop after (Stands p.keeper) (Stands keeper) done taking
-      → Is plan (H first) Stands A known (record p {
+      → Is plan H first Stands A known (record p {
         left = rest;
         reader = reader;
         written = written;
@@ -380,22 +420,22 @@ module _ {K D S R : Type 0} {settings : Settings} {plan : Plan S R} {every : ℕ
   -- some steps lead to this world
   goes_at : (p : Place K D R) (ms : List Step) (bytes : List ℕ) (answers : List Bool) (w : World S R)
       → bytes_of ms ≡ bytes → looks_of ms ≡ answers → run settings plan begins ms ≡ w
-      → Is plan (H first) Stands A known p bytes answers w → Appends writer p.written (text_sent w)
+      → Is plan H first Stands A known p bytes answers w → Appends writer p.written (text_sent w)
       → AreSettled settings plan every begins ms → w.acknowledged ≡ w.saved
-      → Goes settings plan every (H first) Stands A known writer p
+      → Goes settings plan every H first Stands A known writer p
   goes_at p ms bytes answers w bytes_are answers_are world_is is wrote settled acknowledged = record {
     steps = ms;
     wrote = subst (λ (v : World S R). Appends writer p.written (text_sent v)) (sym world_is) wrote;
-    is = subst (Is plan (H first) Stands A known p (bytes_of ms) (looks_of ms)) (sym world_is)
-        (subst (λ (b : List ℕ). Is plan (H first) Stands A known p b (looks_of ms) w) (sym bytes_are)
-        (subst (λ (l : List Bool). Is plan (H first) Stands A known p bytes l w) (sym answers_are) is));
+    is = subst (Is plan H first Stands A known p (bytes_of ms) (looks_of ms)) (sym world_is)
+        (subst (λ (b : List ℕ). Is plan H first Stands A known p b (looks_of ms) w) (sym bytes_are)
+        (subst (λ (l : List Bool). Is plan H first Stands A known p bytes l w) (sym answers_are) is));
     settled = settled;
     acknowledged = subst (λ (v : World S R). v.acknowledged ≡ v.saved) (sym world_is) acknowledged;
   }
 
   -- consuming ends
   ends : (p : Place K D R) (result : Result End ConsumeFailure) (ms : List Step)
-      → Is plan (H first) Stands A known p (bytes_of ms) (looks_of ms) (run settings plan begins ms)
+      → Is plan H first Stands A known p (bytes_of ms) (looks_of ms) (run settings plan begins ms)
       → AreSettled settings plan every begins ms
       → Writes writer p.written (text_sent (run settings plan begins ms)) result
       → IsCause settings known (bytes_of ms) (run settings plan begins ms) result
@@ -415,27 +455,32 @@ module _ {K D S R : Type 0} {settings : Settings} {plan : Plan S R} {every : ℕ
   -- some steps lead to this world, in which consuming ends
   ends_at : (p : Place K D R) (result : Result End ConsumeFailure) (ms : List Step) (bytes : List ℕ)
       (answers : List Bool) (w : World S R) → bytes_of ms ≡ bytes → looks_of ms ≡ answers
-      → run settings plan begins ms ≡ w → Is plan (H first) Stands A known p bytes answers w
+      → run settings plan begins ms ≡ w → Is plan H first Stands A known p bytes answers w
       → AreSettled settings plan every begins ms → Writes writer p.written (text_sent w) result
       → IsCause settings known bytes w result
       → Converses settings plan every (H first) Stands A known writer p.written p.reader p.keeper p.stop result
   ends_at p result ms bytes answers w bytes_are answers_are world_is is settled wrote cause =
       ends p result ms
-      (subst (Is plan (H first) Stands A known p (bytes_of ms) (looks_of ms)) (sym world_is)
-      (subst (λ (b : List ℕ). Is plan (H first) Stands A known p b (looks_of ms) w) (sym bytes_are)
-      (subst (λ (l : List Bool). Is plan (H first) Stands A known p bytes l w) (sym answers_are) is)))
+      (subst (Is plan H first Stands A known p (bytes_of ms) (looks_of ms)) (sym world_is)
+      (subst (λ (b : List ℕ). Is plan H first Stands A known p b (looks_of ms) w) (sym bytes_are)
+      (subst (λ (l : List Bool). Is plan H first Stands A known p bytes l w) (sym answers_are) is)))
       settled
       (subst (λ (v : World S R). Writes writer p.written (text_sent v) result) (sym world_is) wrote)
       (subst (λ (v : World S R). IsCause settings known (bytes_of ms) v result) (sym world_is)
       (subst (λ (b : List ℕ). IsCause settings known b w result) (sym bytes_are) cause))
 
+  -- what is saved was taken
+  pub saved_le : {p : Place K D R} → Goes settings plan every H first Stands A known writer p → p.saved ≤ p.taken
+  saved_le goes =
+      omega (arith, (runs_are_sound settings plan goes.steps).saved, goes.is.saved_is, goes.is.taken_is)
+
   -- ---- the reader is asked
 
-  pub goes_looked : {p : Place K D R} (rest : Option (List ℕ)) (reader : D) (answer : Bool) → rest ≡ p.left
+  pub goes_looked : {p : Place K D R} {rest : Option (List ℕ)} {reader : D} {answer : Bool} → rest ≡ p.left
       → ((answers : List Bool) → A p.reader answers → A reader (answers ++ answer ∷ []))
-      → Goes settings plan every (H first) Stands A known writer p
-      → Looked settings plan every (H first) Stands A known writer (record p { left = rest; reader = reader }) answer
-  goes_looked {p} rest reader answer same answers goes =
+      → Goes settings plan every H first Stands A known writer p
+      → Looked settings plan every H first Stands A known writer (record p { left = rest; reader = reader }) answer
+  goes_looked {p} {rest} {reader} {answer} same answers goes =
       let w = run settings plan begins goes.steps in
       let next = run_more settings plan begins goes.steps (Looks answer) in
       record {
@@ -461,7 +506,7 @@ module _ {K D S R : Type 0} {settings : Settings} {plan : Plan S R} {every : ℕ
   unchanged : {p : Place K D R} (keeper : K) (written : Option (List ℕ)) (why : ConsumeFailure)
       → StandsStill Stands p.keeper keeper → written ≡ p.written → KeepsNothing H p.keeper keeper
       → is_write_failure why ≡ false
-      → (goes : Goes settings plan every (H first) Stands A known writer p)
+      → (goes : Goes settings plan every H first Stands A known writer p)
       → IsCause settings known (bytes_of goes.steps) (run settings plan begins goes.steps) (Err why)
       → Converses settings plan every (H first) Stands A known writer written p.reader keeper p.stop (Err why)
   unchanged {p} keeper written why stands is keeps none goes cause =
@@ -484,27 +529,20 @@ module _ {K D S R : Type 0} {settings : Settings} {plan : Plan S R} {every : ℕ
 
   -- ---- saving
 
-  -- the two steps of a save may be next
-  settled_saved : (ms : List Step) → AreSettled settings plan every begins ms
-      → AreSettled settings plan every begins ((ms ++ Saves ∷ []) ++ Acknowledges ∷ [])
-  settled_saved ms settled =
-      settled_more settings plan every begins (ms ++ Saves ∷ []) Acknowledges
-      (settled_more settings plan every begins ms Saves settled tt) tt
-
   pub goes_saved : {p : Place K D R} {answer : Bool} {keeper : K} {written : Option (List ℕ)} {saved : ℕ}
-      {due done : Bool} → Looked settings plan every (H first) Stands A known writer p answer
-      → StandsStill Stands p.keeper keeper → (due ≡ true → 0 < p.taken) → saved ≡ cond due p.taken p.saved
+      {due done : Bool} → Looked settings plan every H first Stands A known writer p answer
+      → StandsStill Stands p.keeper keeper → (due ≡ true → 0 < p.taken) → saved ≡ cond done p.taken p.saved
       → SavesBy (KeepsIt H Stands p.keeper keeper) (KeepsNothing H p.keeper keeper) due p.taken p.written written
       (Ok done)
-      → Looked settings plan every (H first) Stands A known writer
+      → Looked settings plan every H first Stands A known writer
       (record p { keeper = keeper; written = written; saved = saved }) answer
   goes_saved {p} {answer} {keeper} {written} {saved} {due} {true} looked stands some saved_is step =
       let goes = looked.goes in
       let w = run settings plan begins goes.steps in
       let more : 0 < w.taken = omega (arith, some step.0, goes.is.taken_is) in
-      let after : saved ≡ p.taken = saved_is ∙ ap (λ (b : Bool). cond b p.taken p.saved) step.0 in
+      let after : saved ≡ p.taken = saved_is in
       let world = saved_run settings plan goes.steps more in
-      subst (λ (n : ℕ). Looked settings plan every (H first) Stands A known writer
+      subst (λ (n : ℕ). Looked settings plan every H first Stands A known writer
       (record p { keeper = keeper; written = written; saved = n }) answer) (sym after)
       (record {
         goes = goes_at (record p { keeper = keeper; written = written; saved = p.taken })
@@ -514,13 +552,13 @@ module _ {K D S R : Type 0} {settings : Settings} {plan : Plan S R} {every : ℕ
             (subst (Appends writer written) (sym (one_more w (sent.Ack w.taken)
             ∙ ap (λ (n : ℕ). text_sent w ++ frame_of (sent.Ack n)) (sym goes.is.taken_is)))
             (Appends-trans writer p.written written (text_sent w) (frame_of (sent.Ack p.taken)) goes.wrote step.2))
-            (settled_saved goes.steps goes.settled) refl;
+            (settled_saved settings plan every goes.steps goes.settled) refl;
         waiting = ap (λ (v : World S R). v.waiting) world ∙ looked.waiting;
       })
   goes_saved {p} {answer} {keeper} {written} {saved} {due} {false} looked stands some saved_is step =
       let goes = looked.goes in
       let w = run settings plan begins goes.steps in
-      let after : saved ≡ p.saved = saved_is ∙ ap (λ (b : Bool). cond b p.taken p.saved) step.0 in
+      let after : saved ≡ p.saved = saved_is in
       record {
         goes = record {
           steps = goes.steps;
@@ -544,7 +582,7 @@ module _ {K D S R : Type 0} {settings : Settings} {plan : Plan S R} {every : ℕ
   -- saving failed: in a write, when all is saved, or before
   save_fails : {p : Place K D R} {answer : Bool} {keeper : K} {written : Option (List ℕ)} {due : Bool}
       (why : ConsumeFailure) (b : Bool) → is_write_failure why ≡ b
-      → (looked : Looked settings plan every (H first) Stands A known writer p answer)
+      → (looked : Looked settings plan every H first Stands A known writer p answer)
       → StandsStill Stands p.keeper keeper → (due ≡ true → 0 < p.taken) → IsPlain why
       → FailsBy b ((due ≡ true) × KeepsIt H Stands p.keeper keeper
       × WritesPart p.written written (frame_of (sent.Ack p.taken)))
@@ -558,7 +596,7 @@ module _ {K D S R : Type 0} {settings : Settings} {plan : Plan S R} {every : ℕ
       ((goes.steps ++ Saves ∷ []) ++ Acknowledges ∷ []) (bytes_of goes.steps) (looks_of goes.steps)
       (saved_world plan w) (saved_bytes goes.steps) (saved_looks goes.steps) (saved_run settings plan goes.steps more)
       (is_saved settings plan H Stands A known first p keeper written (bytes_of goes.steps) (looks_of goes.steps) w stands step.1 goes.is)
-      (settled_saved goes.steps goes.settled)
+      (settled_saved settings plan every goes.steps goes.settled)
       (writes_part writer written (text_sent (saved_world plan w)) why fails
       (subst (WritesPart writer written) (sym (one_more w (sent.Ack w.taken)
       ∙ ap (λ (n : ℕ). text_sent w ++ frame_of (sent.Ack n)) (sym goes.is.taken_is)))
@@ -569,7 +607,7 @@ module _ {K D S R : Type 0} {settings : Settings} {plan : Plan S R} {every : ℕ
       (plain_cause settings known (bytes_of looked.goes.steps) (run settings plan begins looked.goes.steps) why plain)
 
   pub save_failed : {p : Place K D R} {answer : Bool} {keeper : K} {written : Option (List ℕ)} {due : Bool}
-      (why : ConsumeFailure) → Looked settings plan every (H first) Stands A known writer p answer
+      (why : ConsumeFailure) → Looked settings plan every H first Stands A known writer p answer
       → StandsStill Stands p.keeper keeper → (due ≡ true → 0 < p.taken) → IsPlain why
       → SavesBy (KeepsIt H Stands p.keeper keeper) (KeepsNothing H p.keeper keeper) due p.taken p.written written
       (Err why)
@@ -581,7 +619,7 @@ module _ {K D S R : Type 0} {settings : Settings} {plan : Plan S R} {every : ℕ
 
   -- it may close if all is saved
   settled_closed : {p : Place K D R} → p.saved ≡ p.taken
-      → (goes : Goes settings plan every (H first) Stands A known writer p)
+      → (goes : Goes settings plan every H first Stands A known writer p)
       → AreSettled settings plan every begins (goes.steps ++ Closes ∷ [])
   settled_closed complete goes =
       settled_more settings plan every begins goes.steps Closes goes.settled
@@ -591,9 +629,9 @@ module _ {K D S R : Type 0} {settings : Settings} {plan : Plan S R} {every : ℕ
       })
 
   pub goes_closed : {p : Place K D R} {answer : Bool} {state : State} {written : Option (List ℕ)} {due done : Bool}
-      → Looked settings plan every (H first) Stands A known writer p answer → (due ≡ true → p.saved ≡ p.taken)
+      → Looked settings plan every H first Stands A known writer p answer → (due ≡ true → p.saved ≡ p.taken)
       → ClosesBy due p.state state p.written written (Ok done)
-      → Looked settings plan every (H first) Stands A known writer (record p { state = state; written = written })
+      → Looked settings plan every H first Stands A known writer (record p { state = state; written = written })
       answer
   goes_closed {p} {answer} {state} {written} {due} {true} looked complete step =
       let goes = looked.goes in
@@ -634,7 +672,7 @@ module _ {K D S R : Type 0} {settings : Settings} {plan : Plan S R} {every : ℕ
 
   close_fails : {p : Place K D R} {answer : Bool} {state : State} {written : Option (List ℕ)} {due : Bool}
       (why : ConsumeFailure) (b : Bool) → is_write_failure why ≡ b
-      → (looked : Looked settings plan every (H first) Stands A known writer p answer)
+      → (looked : Looked settings plan every H first Stands A known writer p answer)
       → (due ≡ true → p.saved ≡ p.taken) → IsPlain why
       → FailsBy b ((due ≡ true) × (state ≡ closing p.state) × WritesPart p.written written (frame_of sent.Cancel))
       (written ≡ p.written)
@@ -656,7 +694,7 @@ module _ {K D S R : Type 0} {settings : Settings} {plan : Plan S R} {every : ℕ
       (plain_cause settings known (bytes_of looked.goes.steps) (run settings plan begins looked.goes.steps) why plain)
 
   pub close_failed : {p : Place K D R} {answer : Bool} {state : State} {written : Option (List ℕ)} {due : Bool}
-      (why : ConsumeFailure) → Looked settings plan every (H first) Stands A known writer p answer
+      (why : ConsumeFailure) → Looked settings plan every H first Stands A known writer p answer
       → (due ≡ true → p.saved ≡ p.taken) → IsPlain why → ClosesBy due p.state state p.written written (Err why)
       → Converses settings plan every (H first) Stands A known writer written p.reader p.keeper p.stop (Err why)
   close_failed why looked complete plain step =
@@ -666,7 +704,7 @@ module _ {K D S R : Type 0} {settings : Settings} {plan : Plan S R} {every : ℕ
 
   -- a frame may be next
   settled_came : {p : Place K D R} {answer : Bool} (f : Parts)
-      → (looked : Looked settings plan every (H first) Stands A known writer p answer)
+      → (looked : Looked settings plan every H first Stands A known writer p answer)
       → (answer ≡ false → p.saved ≡ p.taken) → p.taken ≤ p.saved + (every - 1)
       → AreSettled settings plan every begins (looked.goes.steps ++ Comes f ∷ [])
   settled_came f looked waits paced =
@@ -681,13 +719,13 @@ module _ {K D S R : Type 0} {settings : Settings} {plan : Plan S R} {every : ℕ
   -- what a frame that is served leads to
   pub goes_served : {p : Place K D R} {answer : Bool} {rest : Option (List ℕ)} {reader : D} {written : Option (List ℕ)}
       {new : State} {after : Option (Refusal R)} {taken : ℕ} {keeper : K} {f : Parts} {served : Served R}
-      → Looked settings plan every (H first) Stands A known writer p answer → (answer ≡ false → p.saved ≡ p.taken)
+      → Looked settings plan every H first Stands A known writer p answer → (answer ≡ false → p.saved ≡ p.taken)
       → p.taken ≤ p.saved + (every - 1) → Consumes p.left rest (frame f)
       → ((answers : List Bool) → A p.reader answers → A reader answers) → KeepsNothing H p.keeper keeper
       → taken ≡ taken_after p.taken new.delivered served.taking
       → ServesBy settings plan.rules plan.parks f p.state new p.stop after (Stands p.keeper) (Stands keeper) p.written
       written (Ok served)
-      → (goes : Goes settings plan every (H first) Stands A known writer (record p {
+      → (goes : Goes settings plan every H first Stands A known writer (record p {
         left = rest;
         reader = reader;
         written = written;
@@ -727,7 +765,7 @@ module _ {K D S R : Type 0} {settings : Settings} {plan : Plan S R} {every : ℕ
 
   serve_fails : {p : Place K D R} {answer : Bool} {rest : Option (List ℕ)} {reader : D} {written : Option (List ℕ)}
       {new : State} {after : Option (Refusal R)} {keeper : K} {f : Parts} (why : ConsumeFailure) (b : Bool)
-      → is_write_failure why ≡ b → (looked : Looked settings plan every (H first) Stands A known writer p answer)
+      → is_write_failure why ≡ b → (looked : Looked settings plan every H first Stands A known writer p answer)
       → (answer ≡ false → p.saved ≡ p.taken) → p.taken ≤ p.saved + (every - 1) → Consumes p.left rest (frame f)
       → ((answers : List Bool) → A p.reader answers → A reader answers) → KeepsNothing H p.keeper keeper
       → FailsBy b ((done : Done) × (taking : Taking R)
@@ -785,7 +823,7 @@ module _ {K D S R : Type 0} {settings : Settings} {plan : Plan S R} {every : ℕ
 
   pub serve_failed : {p : Place K D R} {answer : Bool} {rest : Option (List ℕ)} {reader : D}
       {written : Option (List ℕ)} {new : State} {after : Option (Refusal R)} {keeper : K} {f : Parts}
-      (why : ConsumeFailure) → Looked settings plan every (H first) Stands A known writer p answer
+      (why : ConsumeFailure) → Looked settings plan every H first Stands A known writer p answer
       → (answer ≡ false → p.saved ≡ p.taken) → p.taken ≤ p.saved + (every - 1) → Consumes p.left rest (frame f)
       → ((answers : List Bool) → A p.reader answers → A reader answers) → KeepsNothing H p.keeper keeper
       → ServesBy settings plan.rules plan.parks f p.state new p.stop after (Stands p.keeper) (Stands keeper) p.written
@@ -799,7 +837,7 @@ module _ {K D S R : Type 0} {settings : Settings} {plan : Plan S R} {every : ℕ
   pub starts : (left written : Option (List ℕ)) (reader : D) (stop : Option (Refusal R)) (state : State)
       → state ≡ machine.begins → known ≡ left → stop ≡ None → Stands first plan.start → H first first []
       → A reader [] → Appends writer written PROTOCOL.now
-      → Goes settings plan every (H first) Stands A known writer (record {
+      → Goes settings plan every H first Stands A known writer (record {
         left = left;
         reader = reader;
         written = written;
@@ -861,12 +899,12 @@ module _ {K D S R : Type 0} {settings : Settings} {plan : Plan S R} {every : ℕ
       (write_cause settings known [] (begins {S = S} {R = R}) why step.0)
 
   -- a failure after which nothing more happened, though the reader may have read
-  pub fails : {p : Place K D R} (reader : D) (why : ConsumeFailure) → is_write_failure why ≡ false
+  pub fails : {p : Place K D R} {reader : D} (why : ConsumeFailure) → is_write_failure why ≡ false
       → ((answers : List Bool) → A p.reader answers → A reader answers)
-      → (goes : Goes settings plan every (H first) Stands A known writer p)
+      → (goes : Goes settings plan every H first Stands A known writer p)
       → IsCause settings known (bytes_of goes.steps) (run settings plan begins goes.steps) (Err why)
       → Converses settings plan every (H first) Stands A known writer p.written reader p.keeper p.stop (Err why)
-  fails {p} reader why none answers goes cause =
+  fails {p} {reader} why none answers goes cause =
       let w = run settings plan begins goes.steps in
       ends (record p { reader = reader }) (Err why) goes.steps
       (record {
@@ -882,36 +920,36 @@ module _ {K D S R : Type 0} {settings : Settings} {plan : Plan S R} {every : ℕ
       goes.settled (writes_all writer p.written (text_sent w) why none goes.wrote) cause
 
   -- no frame was read
-  read_fails_at : {p : Place K D R} (reader : D) (T : Type 0) (error : ReadFrameError)
+  read_fails_at : {p : Place K D R} {reader : D} (T : Type 0) (error : ReadFrameError)
       → ((answers : List Bool) → A p.reader answers → A reader answers)
-      → Goes settings plan every (H first) Stands A known writer p
+      → Goes settings plan every H first Stands A known writer p
       → IsFault {T = T} (payload_limit p.state) p.left (Err error)
       → Converses settings plan every (H first) Stands A known writer p.written reader p.keeper p.stop
       (Err (unread_failure error))
-  read_fails_at {p} reader T (read.Read why) answers goes fault = fails reader (failure.Read why) refl answers goes tt
-  read_fails_at {p} reader T (read.Fault why) answers goes fault =
-      fails reader (failure.Frame why) refl answers goes
+  read_fails_at {p} {reader} T (read.Read why) answers goes fault = fails (failure.Read why) refl answers goes tt
+  read_fails_at {p} {reader} T (read.Fault why) answers goes fault =
+      fails (failure.Frame why) refl answers goes
       (subst (λ (s : State). GoesOnWith known (bytes_of goes.steps)
       (λ rest. frame_at (payload_limit s) rest ≡ Err why)) goes.is.state_is
       (goes_on_with known p.left (bytes_of goes.steps) (λ rest. frame_at (payload_limit p.state) rest ≡ Err why)
       goes.is.came fault))
-  read_fails_at {p} reader T read.OutOfMemory answers goes fault =
-      fails reader failure.OutOfMemory refl answers goes tt
+  read_fails_at {p} {reader} T read.OutOfMemory answers goes fault =
+      fails failure.OutOfMemory refl answers goes tt
 
-  pub read_fails : {p : Place K D R} {answer : Bool} (reader : D) (T : Type 0) (limit : ℕ) (error : ReadFrameError)
+  pub read_fails : {p : Place K D R} {answer : Bool} {reader : D} (T : Type 0) (limit : ℕ) (error : ReadFrameError)
       → limit ≡ payload_limit p.state → ((answers : List Bool) → A p.reader answers → A reader answers)
-      → Looked settings plan every (H first) Stands A known writer p answer
+      → Looked settings plan every H first Stands A known writer p answer
       → IsFault {T = T} limit p.left (Err error)
       → Converses settings plan every (H first) Stands A known writer p.written reader p.keeper p.stop
       (Err (unread_failure error))
-  read_fails {p} reader T limit error same answers looked fault =
-      read_fails_at reader T error answers looked.goes
+  read_fails {p} T limit error same answers looked fault =
+      read_fails_at T error answers looked.goes
       (subst (λ (n : ℕ). IsFault {T = T} n p.left (Err error)) same fault)
 
   -- the server ended it, and the follower was saved if that was due
   pub ends_last : {p : Place K D R} {keeper : K} {end : End} {due : Bool} (result : Result End ConsumeFailure)
       → StandsStill Stands p.keeper keeper
-      → (goes : Goes settings plan every (H first) Stands A known writer p)
+      → (goes : Goes settings plan every H first Stands A known writer p)
       → (run settings plan begins goes.steps).end ≡ Some end
       → SavesLast (KeepsIt H Stands p.keeper keeper) (KeepsNothing H p.keeper keeper) due end result
       → Converses settings plan every (H first) Stands A known writer p.written p.reader keeper p.stop result

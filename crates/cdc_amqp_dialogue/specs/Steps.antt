@@ -1,6 +1,6 @@
 -- What single steps write, and give to the store. Except for `is_write_failure` and `WritesPart`, cited by private
 -- contracts alone.
-use Rattle.std.specs.Prelude.{◌≡◌, ℕ, ◌-◌, List, [], ◌∷◌, ◌++◌, take, Bool, true, false, ◌&&◌, ◌||◌, nat_lt, nat_le}
+use Rattle.std.specs.Prelude.{◌≡◌, ℕ, ◌-◌, List, [], ◌∷◌, ◌++◌, take, Bool, true, false, ◌&&◌, ◌||◌, not, nat_lt, nat_le}
 use Rattle.std.specs.Prelude.{Option, Some, None, Result, Ok, Err}
 use Rattle.std.specs.Io.KnownBytes.{Appends}
 use Rattle.cdc_amqp_methods.specs.declared.requests.Request.{Request}
@@ -72,8 +72,12 @@ ClosesBy due state after old new (Err why) = FailsBy (is_write_failure why)
     ((due ≡ true) × (after ≡ closing state) × WritesPart old new (frame_of sent.Cancel)) (new ≡ old)
 
 -- a save is due: something is unsaved, and it is to be saved at once, or there are so many unsaved deliveries
-abbrev pub is_save_due : ℕ → ℕ → ℕ → Bool → Bool
-is_save_due every taken saved at_once = nat_lt saved taken && (at_once || nat_le every (taken - saved))
+abbrev pub is_due : ℕ → ℕ → ℕ → Bool → Bool
+is_due every taken saved at_once = nat_lt saved taken && (at_once || nat_le every (taken - saved))
+
+-- it is to be saved at once if the consumer closes, or no whole frame is waiting
+abbrev pub is_save_due : ℕ → ℕ → ℕ → Bool → Bool → Bool
+is_save_due every taken saved closes waiting = is_due every taken saved (closes || not waiting)
 
 -- the texts of a request fit their fields, if there is one
 abbrev pub FitsOption : Option Request → Type 0

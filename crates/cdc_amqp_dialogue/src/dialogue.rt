@@ -1,6 +1,6 @@
 //! Consuming a queue.
 
-ghost use Rattle.std.specs.Prelude.{◌≡◌, ◌++◌, ◌∷◌, [], Bool, List, None, IfErr, IfOk, IfSome, OnOk};
+ghost use Rattle.std.specs.Prelude.{◌≡◌, ◌++◌, ◌∷◌, [], Bool, List, None, IfOk, if◌then◌else◌};
 ghost use Rattle.std.specs.Io.KnownBytes.{Consumes};
 ghost use Rattle.cdc_amqp_frames.specs.Frames.{frame, view};
 ghost use Rattle.cdc_amqp_frames.specs.Reading.{IsFault};
@@ -122,10 +122,21 @@ fn taken_after<R: Copy>(taken: u64, delivered: u64, taking: Taking<R>) -> u64
 }
 
 /// Whether to save before the next frame is read.
-fn is_save_due(every: u64, taken: u64, saved: u64, at_once: bool) -> bool
-    ensures { result ≡ save_is_due every taken saved at_once }
+fn is_save_due(every: u64, taken: u64, saved: u64, closes: bool, is_waiting: bool) -> bool
+    ensures { result ≡ save_is_due every taken saved closes is_waiting }
 {
-    taken > saved && (at_once || taken - saved >= every)
+    taken > saved && (closes || !is_waiting || taken - saved >= every)
+}
+
+/// The tag of the last delivery that is saved, after a save, if there was one.
+fn saved_after(taken: u64, saved: u64, was_saved: bool) -> u64
+    ensures { result ≡ (if was_saved then taken else saved) }
+{
+    if was_saved {
+        taken
+    } else {
+        saved
+    }
 }
 
 /// Serves a frame. The one failure after which it is served is that of a write.
@@ -227,13 +238,12 @@ pub fn consume<R: FrameReader, W: Write, K: Keeper>(
     let mut closing = false;
     for _ in 0..u64::MAX {
         let is_waiting = reader.has_frame();
-        let stops = stop.is_some() || keeper.has_ended() || consumer.delivered() >= pace.limit;
+        let count = consumer.delivered();
+        let stops = stop.is_some() || keeper.has_ended() || count >= pace.limit;
         let closes = !closing && stops && consumer.awaits_delivery();
-        let is_due = is_save_due(pace.every, taken, saved, closes || !is_waiting);
-        save_if_due(alloc, is_due, taken, setup, keeper, writer)?;
-        if is_due {
-            saved = taken;
-        }
+        let is_due = is_save_due(pace.every, taken, saved, closes, is_waiting);
+        let was_saved = save_if_due(alloc, is_due, taken, setup, keeper, writer)?;
+        saved = saved_after(taken, saved, was_saved);
         let was_closed = close_if_due(alloc, closes, &mut consumer, writer)?;
         closing = closing || was_closed;
         let frame = match reader.next_frame(alloc, consumer.payload_limit()) {
@@ -243,7 +253,8 @@ pub fn consume<R: FrameReader, W: Write, K: Keeper>(
         let served = serve(
             alloc, settings, setup, pace.parks, &frame, &mut consumer, stop, keeper, writer,
         )?;
-        taken = taken_after(taken, consumer.delivered(), served.taking);
+        let delivered = consumer.delivered();
+        taken = taken_after(taken, delivered, served.taking);
         if let Outcome::Ended(end) = served.outcome {
             return save_last(alloc, taken > saved, end, &frame.payload, setup, keeper);
         }
