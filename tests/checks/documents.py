@@ -40,7 +40,7 @@ BUDGETS = [
     (960, "docs/TESTING-A-CONSUMER.md"),
     (1_440, "docs/EXACTLY-ONCE.md"),
     (810, "docs/AUDIT.md"),
-    (3_600, "docs/REFERENCE.md"),
+    (3_650, "docs/REFERENCE.md"),
     (8_140, "docs/FORMATS.md"),
     (5_000, "docs/PROOFS.md"),
     (2_590, "docs/ARCHITECTURE.md"),

@@ -236,21 +236,15 @@ done_by {every} {taken} {saved} {after} {closes} {waiting} {due} {done} is le wa
       paced = subst (λ (n : ℕ). taken ≤ n + (every - 1)) (sym after_is) by.1;
     }
 
--- a save is made if it is due
-pub was_due : {Kept Same : Type 0} {tag : ℕ} {old new : Option (List ℕ)} {due : Bool} (done : Bool)
-    → SavesBy Kept Same due tag old new (Ok done) → done ≡ due
-was_due true step = sym step.0
-was_due false step = sym step.0
-
 -- a save that is due is of something
 some_by : (every taken saved : ℕ) (at_once some : Bool) → ltb saved taken ≡ some
     → true ≡ (some && (at_once || leb every (taken - saved))) → 0 < taken
 some_by every taken saved at_once true is due = grind (arith, nat_tests)
 some_by every taken saved at_once false is due = absurd cc
 
-pub due_some : {every taken saved : ℕ} {closes waiting due : Bool}
+pub due_some : (every taken saved : ℕ) (closes waiting due : Bool)
     → due ≡ is_save_due every taken saved closes waiting → due ≡ true → 0 < taken
-due_some {every} {taken} {saved} {closes} {waiting} {due} due_is is =
+due_some every taken saved closes waiting due due_is is =
     some_by every taken saved (closes || not waiting) (ltb saved taken) refl (sym is ∙ due_is)
 
 -- ---- saving
@@ -480,6 +474,7 @@ module _ {K D S R : Type 0} {settings : Settings} {plan : Plan S R} {every : ℕ
       → ((answers : List Bool) → A p.reader answers → A reader (answers ++ answer ∷ []))
       → Goes settings plan every H first Stands A known writer p
       → Looked settings plan every H first Stands A known writer (record p { left = rest; reader = reader }) answer
+  unfolding goes_at
   goes_looked {p} {rest} {reader} {answer} same answers goes =
       let w = run settings plan begins goes.steps in
       let next = run_more settings plan begins goes.steps (Looks answer) in
@@ -530,13 +525,14 @@ module _ {K D S R : Type 0} {settings : Settings} {plan : Plan S R} {every : ℕ
   -- ---- saving
 
   pub goes_saved : {p : Place K D R} {answer : Bool} {keeper : K} {written : Option (List ℕ)} {saved : ℕ}
-      {due done : Bool} → Looked settings plan every H first Stands A known writer p answer
+      {due : Bool} (done : Bool) → Looked settings plan every H first Stands A known writer p answer
       → StandsStill Stands p.keeper keeper → (due ≡ true → 0 < p.taken) → saved ≡ cond done p.taken p.saved
       → SavesBy (KeepsIt H Stands p.keeper keeper) (KeepsNothing H p.keeper keeper) due p.taken p.written written
       (Ok done)
       → Looked settings plan every H first Stands A known writer
       (record p { keeper = keeper; written = written; saved = saved }) answer
-  goes_saved {p} {answer} {keeper} {written} {saved} {due} {true} looked stands some saved_is step =
+  unfolding goes_at
+  goes_saved {p} {answer} {keeper} {written} {saved} {due} true looked stands some saved_is step =
       let goes = looked.goes in
       let w = run settings plan begins goes.steps in
       let more : 0 < w.taken = omega (arith, some step.0, goes.is.taken_is) in
@@ -555,7 +551,7 @@ module _ {K D S R : Type 0} {settings : Settings} {plan : Plan S R} {every : ℕ
             (settled_saved settings plan every goes.steps goes.settled) refl;
         waiting = ap (λ (v : World S R). v.waiting) world ∙ looked.waiting;
       })
-  goes_saved {p} {answer} {keeper} {written} {saved} {due} {false} looked stands some saved_is step =
+  goes_saved {p} {answer} {keeper} {written} {saved} {due} false looked stands some saved_is step =
       let goes = looked.goes in
       let w = run settings plan begins goes.steps in
       let after : saved ≡ p.saved = saved_is in
@@ -628,12 +624,14 @@ module _ {K D S R : Type 0} {settings : Settings} {plan : Plan S R} {every : ℕ
         saved = sym goes.is.saved_is ∙ complete ∙ goes.is.taken_is;
       })
 
-  pub goes_closed : {p : Place K D R} {answer : Bool} {state : State} {written : Option (List ℕ)} {due done : Bool}
+  pub goes_closed : {p : Place K D R} {answer : Bool} {state : State} {written : Option (List ℕ)} {due : Bool}
+      (done : Bool)
       → Looked settings plan every H first Stands A known writer p answer → (due ≡ true → p.saved ≡ p.taken)
       → ClosesBy due p.state state p.written written (Ok done)
       → Looked settings plan every H first Stands A known writer (record p { state = state; written = written })
       answer
-  goes_closed {p} {answer} {state} {written} {due} {true} looked complete step =
+  unfolding goes_at
+  goes_closed {p} {answer} {state} {written} {due} true looked complete step =
       let goes = looked.goes in
       let w = run settings plan begins goes.steps in
       let world = run_more settings plan begins goes.steps Closes in
@@ -647,7 +645,7 @@ module _ {K D S R : Type 0} {settings : Settings} {plan : Plan S R} {every : ℕ
             (settled_closed (complete step.0) goes) goes.acknowledged;
         waiting = ap (λ (v : World S R). v.waiting) world ∙ looked.waiting;
       }
-  goes_closed {p} {answer} {state} {written} {due} {false} looked complete step =
+  goes_closed {p} {answer} {state} {written} {due} false looked complete step =
       let goes = looked.goes in
       let w = run settings plan begins goes.steps in
       record {
@@ -670,14 +668,14 @@ module _ {K D S R : Type 0} {settings : Settings} {plan : Plan S R} {every : ℕ
         waiting = looked.waiting;
       }
 
-  close_fails : {p : Place K D R} {answer : Bool} {state : State} {written : Option (List ℕ)} {due : Bool}
+  close_fails : {p : Place K D R} {answer : Bool} (state : State) {written : Option (List ℕ)} {due : Bool}
       (why : ConsumeFailure) (b : Bool) → is_write_failure why ≡ b
       → (looked : Looked settings plan every H first Stands A known writer p answer)
       → (due ≡ true → p.saved ≡ p.taken) → IsPlain why
       → FailsBy b ((due ≡ true) × (state ≡ closing p.state) × WritesPart p.written written (frame_of sent.Cancel))
       (written ≡ p.written)
       → Converses settings plan every (H first) Stands A known writer written p.reader p.keeper p.stop (Err why)
-  close_fails {p} {answer} {state} {written} {due} why true fails looked complete plain step =
+  close_fails {p} {answer} state {written} {due} why true fails looked complete plain step =
       let goes = looked.goes in
       let w = run settings plan begins goes.steps in
       ends_at (record p { state = state; written = written }) (Err why) (goes.steps ++ Closes ∷ [])
@@ -689,16 +687,16 @@ module _ {K D S R : Type 0} {settings : Settings} {plan : Plan S R} {every : ℕ
       (subst (WritesPart writer written) (sym (one_more w sent.Cancel))
       (part_after (text_sent w) (frame_of sent.Cancel) writer p.written written goes.wrote step.2)))
       (write_cause settings known (bytes_of goes.steps) (closes w) why fails)
-  close_fails {p} {answer} {state} {written} {due} why false fails looked complete plain step =
+  close_fails {p} {answer} state {written} {due} why false fails looked complete plain step =
       unchanged p.keeper written why (λ _ stands. stands) step (λ _ _ kept. kept) fails looked.goes
       (plain_cause settings known (bytes_of looked.goes.steps) (run settings plan begins looked.goes.steps) why plain)
 
-  pub close_failed : {p : Place K D R} {answer : Bool} {state : State} {written : Option (List ℕ)} {due : Bool}
+  pub close_failed : {p : Place K D R} {answer : Bool} (state : State) {written : Option (List ℕ)} {due : Bool}
       (why : ConsumeFailure) → Looked settings plan every H first Stands A known writer p answer
       → (due ≡ true → p.saved ≡ p.taken) → IsPlain why → ClosesBy due p.state state p.written written (Err why)
       → Converses settings plan every (H first) Stands A known writer written p.reader p.keeper p.stop (Err why)
-  close_failed why looked complete plain step =
-      close_fails why (is_write_failure why) refl looked complete plain step
+  close_failed state why looked complete plain step =
+      close_fails state why (is_write_failure why) refl looked complete plain step
 
   -- ---- a frame
 
@@ -735,6 +733,7 @@ module _ {K D S R : Type 0} {settings : Settings} {plan : Plan S R} {every : ℕ
         keeper = keeper;
       }))
       × ((end : End) → served.outcome ≡ Ended end → (run settings plan begins goes.steps).end ≡ Some end)
+  unfolding goes_at
   goes_served {p} {answer} {rest} {reader} {written} {new} {after} {taken} {keeper} {f} {served} looked waits paced reads
       answers keeps counts step =
       let goes = looked.goes in
@@ -763,8 +762,8 @@ module _ {K D S R : Type 0} {settings : Settings} {plan : Plan S R} {every : ℕ
         λ end is. ap (λ (v : World S R). v.end) world ∙ end_came w t served.taking served.outcome end step.1 is,
       )
 
-  serve_fails : {p : Place K D R} {answer : Bool} {rest : Option (List ℕ)} {reader : D} {written : Option (List ℕ)}
-      {new : State} {after : Option (Refusal R)} {keeper : K} {f : Parts} (why : ConsumeFailure) (b : Bool)
+  serve_fails : {p : Place K D R} {answer : Bool} {reader : D} {written : Option (List ℕ)} {after : Option (Refusal R)}
+      {keeper : K} (rest : Option (List ℕ)) (new : State) (f : Parts) (why : ConsumeFailure) (b : Bool)
       → is_write_failure why ≡ b → (looked : Looked settings plan every H first Stands A known writer p answer)
       → (answer ≡ false → p.saved ≡ p.taken) → p.taken ≤ p.saved + (every - 1) → Consumes p.left rest (frame f)
       → ((answers : List Bool) → A p.reader answers → A reader answers) → KeepsNothing H p.keeper keeper
@@ -773,7 +772,7 @@ module _ {K D S R : Type 0} {settings : Settings} {plan : Plan S R} {every : ℕ
       × WritesPart p.written written (text_of done taking))
       ((after ≡ p.stop) × StandsStill Stands p.keeper keeper × (written ≡ p.written) × IsFaultOf settings f p.state why)
       → Converses settings plan every (H first) Stands A known writer written reader keeper after (Err why)
-  serve_fails {p} {answer} {rest} {reader} {written} {new} {after} {keeper} {f} why true fails looked waits paced reads
+  serve_fails {p} {answer} {reader} {written} {after} {keeper} rest new f why true fails looked waits paced reads
       answers keeps step =
       let goes = looked.goes in
       let w = run settings plan begins goes.steps in
@@ -801,7 +800,7 @@ module _ {K D S R : Type 0} {settings : Settings} {plan : Plan S R} {every : ℕ
       (subst (WritesPart writer written) (sym (sent_more w (answers_of done taking)))
       (part_after (text_sent w) (text_of done taking) writer p.written written goes.wrote step.3)))
       (write_cause settings known (bytes_of goes.steps ++ frame f) (came w t taking) why fails)
-  serve_fails {p} {answer} {rest} {reader} {written} {new} {after} {keeper} {f} why false fails looked waits paced reads
+  serve_fails {p} {answer} {reader} {written} {after} {keeper} rest new f why false fails looked waits paced reads
       answers keeps step =
       let goes = looked.goes in
       let w = run settings plan begins goes.steps in
@@ -821,16 +820,16 @@ module _ {K D S R : Type 0} {settings : Settings} {plan : Plan S R} {every : ℕ
       (subst (λ (o : Option (List ℕ)). Appends writer o (text_sent w)) (sym step.2) goes.wrote))
       (fault_cause settings known p.left rest p.state f (bytes_of goes.steps) w why goes.is.state_is goes.is.came reads step.3)
 
-  pub serve_failed : {p : Place K D R} {answer : Bool} {rest : Option (List ℕ)} {reader : D}
-      {written : Option (List ℕ)} {new : State} {after : Option (Refusal R)} {keeper : K} {f : Parts}
+  pub serve_failed : {p : Place K D R} {answer : Bool} {reader : D} {written : Option (List ℕ)}
+      {after : Option (Refusal R)} {keeper : K} (rest : Option (List ℕ)) (new : State) (f : Parts)
       (why : ConsumeFailure) → Looked settings plan every H first Stands A known writer p answer
       → (answer ≡ false → p.saved ≡ p.taken) → p.taken ≤ p.saved + (every - 1) → Consumes p.left rest (frame f)
       → ((answers : List Bool) → A p.reader answers → A reader answers) → KeepsNothing H p.keeper keeper
       → ServesBy settings plan.rules plan.parks f p.state new p.stop after (Stands p.keeper) (Stands keeper) p.written
       written (Err why)
       → Converses settings plan every (H first) Stands A known writer written reader keeper after (Err why)
-  serve_failed why looked waits paced reads answers keeps step =
-      serve_fails why (is_write_failure why) refl looked waits paced reads answers keeps step
+  serve_failed rest new f why looked waits paced reads answers keeps step =
+      serve_fails rest new f why (is_write_failure why) refl looked waits paced reads answers keeps step
 
   -- ---- the start and the end
 
@@ -864,39 +863,6 @@ module _ {K D S R : Type 0} {settings : Settings} {plan : Plan S R} {every : ℕ
     settled = tt;
     acknowledged = refl;
   }
-
-  -- a failed write of the protocol header
-  pub start_fails : (left written : Option (List ℕ)) (reader : D) (stop : Option (Refusal R)) (state : State)
-      (why : ConsumeFailure) → state ≡ machine.begins → known ≡ left → stop ≡ None → Stands first plan.start
-      → H first first [] → A reader [] → (is_write_failure why ≡ true) × WritesPart writer written PROTOCOL.now
-      → Converses settings plan every (H first) Stands A known writer written reader first stop (Err why)
-  unfolding run bytes_of looks_of AreSettled entries_of
-  start_fails left written reader stop state why state_is same none stands kept answered step =
-      ends (record {
-        left = left;
-        reader = reader;
-        written = written;
-        state = state;
-        stop = stop;
-        taken = 0;
-        saved = 0;
-        keeper = first;
-      })
-      (Err why) []
-      (record {
-        came = subst (λ (o : Option (List ℕ)). Consumes known o []) same (Consumes-nil known);
-        answered = answered;
-        state_is = state_is;
-        stop_is = none;
-        taken_is = refl;
-        saved_is = refl;
-        follows = stands;
-        kept = kept;
-      })
-      tt
-      (writes_part writer written (PROTOCOL.now ++ []) why step.0
-      (subst (WritesPart writer written) (sym (append-nil PROTOCOL.now)) step.1))
-      (write_cause settings known [] (begins {S = S} {R = R}) why step.0)
 
   -- a failure after which nothing more happened, though the reader may have read
   pub fails : {p : Place K D R} {reader : D} (why : ConsumeFailure) → is_write_failure why ≡ false
@@ -947,13 +913,13 @@ module _ {K D S R : Type 0} {settings : Settings} {plan : Plan S R} {every : ℕ
       (subst (λ (n : ℕ). IsFault {T = T} n p.left (Err error)) same fault)
 
   -- the server ended it, and the follower was saved if that was due
-  pub ends_last : {p : Place K D R} {keeper : K} {end : End} {due : Bool} (result : Result End ConsumeFailure)
+  pub ends_last : {p : Place K D R} {keeper : K} {end : End} (due : Bool) (result : Result End ConsumeFailure)
       → StandsStill Stands p.keeper keeper
       → (goes : Goes settings plan every H first Stands A known writer p)
       → (run settings plan begins goes.steps).end ≡ Some end
       → SavesLast (KeepsIt H Stands p.keeper keeper) (KeepsNothing H p.keeper keeper) due end result
       → Converses settings plan every (H first) Stands A known writer p.written p.reader keeper p.stop result
-  ends_last {p} {keeper} {end} {true} (Ok how) stands goes ended step =
+  ends_last {p} {keeper} {end} true (Ok how) stands goes ended step =
       let w = run settings plan begins goes.steps in
       ends_at (record p { keeper = keeper; saved = p.taken }) (Ok how) (goes.steps ++ Saves ∷ [])
       (bytes_of goes.steps) (looks_of goes.steps) (saves plan w) (no_bytes goes.steps Saves refl)
@@ -970,7 +936,7 @@ module _ {K D S R : Type 0} {settings : Settings} {plan : Plan S R} {every : ℕ
       })
       (settled_more settings plan every begins goes.steps Saves goes.settled tt)
       goes.wrote (ended ∙ ap Some (sym step.0))
-  ends_last {p} {keeper} {end} {false} (Ok how) stands goes ended step =
+  ends_last {p} {keeper} {end} false (Ok how) stands goes ended step =
       let w = run settings plan begins goes.steps in
       ends (record p { keeper = keeper }) (Ok how) goes.steps
       (record {
@@ -984,10 +950,45 @@ module _ {K D S R : Type 0} {settings : Settings} {plan : Plan S R} {every : ℕ
         kept = step.1 first w.kept goes.is.kept;
       })
       goes.settled goes.wrote (ended ∙ ap Some (sym step.0))
-  ends_last {p} {keeper} {end} {due} (Err (failure.Store why)) stands goes ended given =
+  ends_last {p} {keeper} {end} due (Err (failure.Store why)) stands goes ended given =
       unchanged keeper p.written (failure.Store why) stands refl given refl goes tt
-  ends_last (Err (failure.Read why)) stands goes ended given = absurd given
-  ends_last (Err (failure.Frame why)) stands goes ended given = absurd given
-  ends_last (Err (failure.Fault why)) stands goes ended given = absurd given
-  ends_last (Err (failure.Write why)) stands goes ended given = absurd given
-  ends_last (Err failure.OutOfMemory) stands goes ended given = absurd given
+  ends_last due (Err (failure.Read why)) stands goes ended given = absurd given
+  ends_last due (Err (failure.Frame why)) stands goes ended given = absurd given
+  ends_last due (Err (failure.Fault why)) stands goes ended given = absurd given
+  ends_last due (Err (failure.Write why)) stands goes ended given = absurd given
+  ends_last due (Err failure.OutOfMemory) stands goes ended given = absurd given
+
+module _ {K D S R : Type 0} {settings : Settings} {plan : Plan S R} {every : ℕ} (H : K → K → List S → Type 0)
+    {Stands : K → S → Type 0} {A : D → List Bool → Type 0} {known writer : Option (List ℕ)} {first : K} where
+  -- a failed write of the protocol header
+  pub start_fails : (left written : Option (List ℕ)) (reader : D) (stop : Option (Refusal R)) (state : State)
+      (why : ConsumeFailure) → state ≡ machine.begins → known ≡ left → stop ≡ None → Stands first plan.start
+      → H first first [] → A reader [] → (is_write_failure why ≡ true) × WritesPart writer written PROTOCOL.now
+      → Converses settings plan every (H first) Stands A known writer written reader first stop (Err why)
+  unfolding run bytes_of looks_of AreSettled entries_of
+  start_fails left written reader stop state why state_is same none stands kept answered step =
+      ends {H = H} (record {
+        left = left;
+        reader = reader;
+        written = written;
+        state = state;
+        stop = stop;
+        taken = 0;
+        saved = 0;
+        keeper = first;
+      })
+      (Err why) []
+      (record {
+        came = subst (λ (o : Option (List ℕ)). Consumes known o []) same (Consumes-nil known);
+        answered = answered;
+        state_is = state_is;
+        stop_is = none;
+        taken_is = refl;
+        saved_is = refl;
+        follows = stands;
+        kept = kept;
+      })
+      tt
+      (writes_part writer written (PROTOCOL.now ++ []) why step.0
+      (subst (WritesPart writer written) (sym (append-nil PROTOCOL.now)) step.1))
+      (write_cause settings known [] (begins {S = S} {R = R}) why step.0)

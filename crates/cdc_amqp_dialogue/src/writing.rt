@@ -103,6 +103,7 @@ pub(crate) fn save_if_due<W: Write, K: Keeper>(
     ensures saved { SavesBy (KeepsIt (K.has_kept setup.now) (K.stands setup.now) keeper.old keeper.new)
         (KeepsNothing (K.has_kept setup.now) keeper.old keeper.new) is_due tag
         (W.contents writer.old) (W.contents writer.new) result }
+    ensures done { IfOk result (λ was_saved. was_saved ≡ is_due) }
     ensures plain { IfErr result IsPlain }
 {
     if !is_due {
