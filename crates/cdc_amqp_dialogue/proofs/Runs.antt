@@ -741,8 +741,7 @@ module _ {K D S R : Type 0} {settings : Settings} {plan : Plan S R} {every : ℕ
       let done = step.0 in
       let t : Turn = record { state = new; done = done } in
       let world = run_more settings plan begins goes.steps (Comes f)
-      ∙ world_after settings plan H Stands A known first p w f new after keeper done served.taking goes.is.state_is goes.is.stop_is goes.is.follows step.2 in
-      (
+      ∙ world_after settings plan H Stands A known first p w f new after keeper done served.taking goes.is.state_is goes.is.stop_is goes.is.follows step.2 in (
         goes_at (record p {
           left = rest;
           reader = reader;
@@ -752,13 +751,13 @@ module _ {K D S R : Type 0} {settings : Settings} {plan : Plan S R} {every : ℕ
           taken = taken;
           keeper = keeper;
         })
-        (goes.steps ++ Comes f ∷ []) (bytes_of goes.steps ++ frame f) (looks_of goes.steps) (came w t served.taking)
-        (bytes_more goes.steps (Comes f)) (no_looks goes.steps (Comes f) refl) world
-        (is_served settings plan H Stands A known first p rest reader written new after taken keeper goes.steps f done served.taking reads answers keeps
-        counts goes.is step.2)
-        (subst (Appends writer written) (sym (sent_more w (answers_of done served.taking)))
-        (Appends-trans writer p.written written (text_sent w) (text_of done served.taking) goes.wrote step.3))
-        (settled_came f looked waits paced) goes.acknowledged,
+            (goes.steps ++ Comes f ∷ []) (bytes_of goes.steps ++ frame f) (looks_of goes.steps) (came w t served.taking)
+            (bytes_more goes.steps (Comes f)) (no_looks goes.steps (Comes f) refl) world
+            (is_served settings plan H Stands A known first p rest reader written new after taken keeper goes.steps f done served.taking reads answers keeps
+            counts goes.is step.2)
+            (subst (Appends writer written) (sym (sent_more w (answers_of done served.taking)))
+            (Appends-trans writer p.written written (text_sent w) (text_of done served.taking) goes.wrote step.3))
+            (settled_came f looked waits paced) goes.acknowledged,
         λ end is. ap (λ (v : World S R). v.end) world ∙ end_came w t served.taking served.outcome end step.1 is,
       )
 

@@ -486,9 +486,10 @@ acknowledges_by plan w false is sound =
       saved_last = sound.saved_last;
       kept = sound.kept;
       acknowledged = all_both (IsAllowed plan.rules.chained w.deliveries w.saved) w.sent (sent.Ack w.saved ∷ [])
-          sound.acknowledged
-          ((positive w.saved is, omega arith, carried plan.rules.chained w.deliveries w.saved is sound.saved_last),
-          tt);
+          sound.acknowledged (
+            (positive w.saved is, omega arith, carried plan.rules.chained w.deliveries w.saved is sound.saved_last),
+            tt,
+          );
     }
 
 closes_sound : {S R : Type 0} (plan : Plan S R) (w : World S R) → IsSound plan w → IsSound plan (closes w)

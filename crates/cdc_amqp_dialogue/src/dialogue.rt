@@ -132,11 +132,7 @@ fn is_save_due(every: u64, taken: u64, saved: u64, closes: bool, is_waiting: boo
 fn saved_after(taken: u64, saved: u64, was_saved: bool) -> u64
     ensures { result ≡ (if was_saved then taken else saved) }
 {
-    if was_saved {
-        taken
-    } else {
-        saved
-    }
+    if was_saved { taken } else { saved }
 }
 
 /// Serves a frame. The one failure after which it is served is that of a write.
@@ -163,15 +159,7 @@ fn serve<W: Write, K: Keeper>(
         Err(error) => return Err(untaken(error)),
     };
     let mut out = frames_of(alloc, &done.first, &done.second)?;
-    let taking = take_if_delivered(
-        alloc,
-        setup,
-        parks,
-        *stop,
-        done.outcome,
-        consumer,
-        keeper,
-    )?;
+    let taking = take_if_delivered(alloc, setup, parks, *stop, done.outcome, consumer, keeper)?;
     push_rejection(alloc, &mut out, taking)?;
     note_stop(stop, taking);
     let outcome = done.outcome;
@@ -251,7 +239,15 @@ pub fn consume<R: FrameReader, W: Write, K: Keeper>(
             Err(error) => return Err(unread(error)),
         };
         let served = serve(
-            alloc, settings, setup, pace.parks, &frame, &mut consumer, stop, keeper, writer,
+            alloc,
+            settings,
+            setup,
+            pace.parks,
+            &frame,
+            &mut consumer,
+            stop,
+            keeper,
+            writer,
         )?;
         let delivered = consumer.delivered();
         taken = taken_after(taken, delivered, served.taking);

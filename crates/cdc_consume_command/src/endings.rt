@@ -98,11 +98,7 @@ fn reason(
 }
 
 // The name of the reason for which following stopped.
-fn stop_reason(
-    reason: Reason<Stop>,
-    how: Result<End, ConsumeFailure>,
-    ended: bool,
-) -> &'static str
+fn stop_reason(reason: Reason<Stop>, how: Result<End, ConsumeFailure>, ended: bool) -> &'static str
     ensures { result.now ≡ spec.stop_reason reason how ended }
 {
     match reason {

@@ -152,12 +152,7 @@ impl<K: Keeps<StreamFollower>> Keeper for KeptFollower<K> {
         entry: &Entry,
     ) -> Result<Option<Stop>, AllocError> {
         let following = self.followed.take_entry(setup, entry)?;
-        Ok(stop_for(
-            following,
-            setup.rules.skips_gaps,
-            consumer.tag(),
-            *entry,
-        ))
+        Ok(stop_for(following, setup.rules.skips_gaps, consumer.tag(), *entry))
     }
 
     fn note_parked(&mut self, _consumer: &Consumer, _error: LineError) {

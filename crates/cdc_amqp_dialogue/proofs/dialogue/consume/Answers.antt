@@ -83,7 +83,7 @@ loop-preserved g c = record {
       let saved = goes_saved _ looked c.in_ok-was_saved.ensures.follower (due_some _ _ _ _ _ _ c.is_save_due-is_due.ensures)
       c.saved_after-saved.ensures c.in_ok-was_saved.ensures.saved in
       let done = done_by c.is_save_due-is_due.ensures (saved_le goes) c.in_ok-was_saved.ensures.done
-    c.saved_after-saved.ensures in
+      c.saved_after-saved.ensures in
       let closed = goes_closed _ saved done.closing c.in_ok-was_closed.ensures.closed in
       (goes_served closed done.waits done.paced c.in-Ok.ensures.frame (c.in-Ok.ensures.answered c.args.reader.now)
       c.in_ok-served.ensures.kept
