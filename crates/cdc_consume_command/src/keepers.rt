@@ -145,6 +145,7 @@ impl<K: Keeps<StreamFollower>> Keeper for KeptFollower<K> {
         self.is_ended()
     }
 
+    #[tactic(auto, using(crate::proofs::KeeperLemmas::after_by))]
     fn take(
         &mut self,
         setup: &FollowSetup,
