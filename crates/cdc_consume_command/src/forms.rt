@@ -31,7 +31,7 @@ pub trait ConsumeForm {
         counts: Counts,
         seen: u64,
     ) -> Result<Vec<u8>, AllocError>
-        ensures { IfOk result (λ text. text.items ≡ reports_end outcome counts seen) };
+        ensures { IfOk result (λ text. text.items ≡ reports_end outcome.entry counts seen) };
 
     /// The report before the end. `seen`: the timestamp of the last event seen, in nanoseconds.
     fn progress(&self, alloc: Global, counts: Counts, seen: u64) -> Result<Vec<u8>, AllocError>
@@ -78,7 +78,7 @@ fn yes_no(flag: bool) -> &'static str
 
 /// Adds the lines of how the command ended.
 fn push_ending(text: &mut Vec<u8>, outcome: Outcome<'_>) -> Result<(), AllocError>
-    ensures { OnOk result (text.new.items ≡ text.old.items ++ ending_text outcome) }
+    ensures { OnOk result (text.new.items ≡ text.old.items ++ ending_text outcome.entry) }
 {
     push_named(text, "status ", outcome.status)?;
     push(text, "\nreason ")?;
@@ -91,14 +91,15 @@ fn push_ending(text: &mut Vec<u8>, outcome: Outcome<'_>) -> Result<(), AllocErro
 
 /// Adds the lines of the delivery at which following stopped.
 fn push_delivery(text: &mut Vec<u8>, outcome: Outcome<'_>) -> Result<(), AllocError>
-    ensures { OnOk result (text.new.items ≡ text.old.items ++ delivery_text outcome) }
+    ensures { OnOk result (text.new.items ≡ text.old.items ++ delivery_text outcome.entry) }
 {
     push_named(text, "tag ", outcome.tag)?;
     push(text, "\nredelivered ")?;
     push(text, yes_no(outcome.redelivered))?;
     push_named(text, "\ndelivery_count ", outcome.delivery_count)?;
     push_named(text, "\nparked ", outcome.parked)?;
-    push(text, "\n")
+    push(text, "\n")?;
+    Ok(())
 }
 
 /// Adds the lines of the counts.
@@ -156,7 +157,7 @@ fn push_end(
     seen: u64,
 ) -> Result<(), AllocError>
     ensures { OnOk result (lines.new.text.items
-        ≡ lines.old.text.items ++ json_line (end_value outcome counts seen)) }
+        ≡ lines.old.text.items ++ json_line (end_value outcome.entry counts seen)) }
 {
     lines.push(
         alloc,
