@@ -84,29 +84,25 @@ fn advise_on_delivery(rt: &HostRuntime, queue: &str, outcome: Outcome<'_>) {
         ..
     } = outcome;
     let _ = if redelivered {
-        eprintln!(rt;
-            "{queue}: delivery {tag}: redelivered (x-delivery-count {delivery_count}): it stopped a consumer before"
-        )
+        eprintln!(rt; "{queue}: delivery {tag}: redelivered (x-delivery-count {delivery_count})")
     } else {
         eprintln!(rt; "{queue}: delivery {tag}: delivered for the first time")
     };
 }
 
-/// Reports how the server ended the connection, with its own text.
+/// Reports how the server ended the connection, and its own text if there is one.
 fn advise_on_end(rt: &HostRuntime, queue: &str, end: End, text: &str) {
     let queue = Escaped(queue);
     let _ = match end {
         End::Finished => Ok(()),
         End::Closed(code) => {
             let meaning = meaning_of(code);
-            eprintln!(rt;
-                "{queue}: closed: the server closed the connection: {code}, {meaning}: {text}"
-            )
+            eprintln!(rt; "{queue}: closed: the server closed the connection: {code}, {meaning}")
         }
         End::ChannelClosed(code) => {
             let meaning = meaning_of(code);
             eprintln!(rt;
-                "{queue}: channel_closed: the server closed the channel: {code}, {meaning}: {text}"
+                "{queue}: channel_closed: the server closed the channel: {code}, {meaning}"
             )
         }
         End::Canceled => {
@@ -115,6 +111,9 @@ fn advise_on_end(rt: &HostRuntime, queue: &str, end: End, text: &str) {
             )
         }
     };
+    if !text.is_empty() {
+        let _ = eprintln!(rt; "{queue}: the server's text: {text}");
+    }
 }
 
 /// What a reply code of the server means.

@@ -1,6 +1,6 @@
 //! A follower of a stream with its store, as consuming a queue needs it.
 
-ghost use Rattle.std.specs.Prelude.{◌≡◌, None};
+ghost use Rattle.std.specs.Prelude.{◌≡◌, [], None};
 ghost use Rattle.cdc_follow.specs.Following.{stops_at as stops_following};
 ghost use Rattle.cdc_follow.specs.Stops.{stop_by as why_it_stops};
 ghost use Rattle.cdc_consume_command.specs.Kept.{follower_of, stop_for as stop_if};
@@ -26,10 +26,12 @@ pub struct KeptFollower<K> {
 }
 
 impl<K> KeptFollower<K> {
-    /// This follower, and its store.
+    /// This follower, and its store. Nothing is parked yet, and the server hasn't closed.
     pub fn new(alloc: Global, followed: StreamFollower, store: K) -> KeptFollower<K>
         ensures followed { result.followed ≡ followed }
         ensures store { result.store ≡ store }
+        ensures parked { result.parked ≡ 0 }
+        ensures close_text { result.close_text.items ≡ [] }
     {
         KeptFollower {
             followed,
