@@ -30,6 +30,7 @@ sys.dont_write_bytecode = True
 sys.path += [os.path.join(os.path.dirname(os.path.realpath(__file__)), "..", it) for it in ("common", "checks", "faults")]
 import amqp
 import commands
+import consuming
 import ending
 import interrupted
 import rooms
@@ -105,6 +106,11 @@ class Done:
         acks = [it[2] for it in self.frames() or () if amqp.method_of(it) == amqp.ACK]
         return [struct.unpack(">Q", it[4:12])[0] if it[12:] == b"\1" else None for it in acks]
 
+    def rejected(self):
+        """The tags of the deliveries that are rejected, none of which may be queued again."""
+        rejections = [it[2] for it in self.frames() or () if amqp.method_of(it) == amqp.REJECT]
+        return [struct.unpack(">Q", it[4:12])[0] if it[12:] == b"\0" else None for it in rejections]
+
     def reported(self, name):
         return dict(it.split(" ", 1) for it in self.report.splitlines()).get(name)
 
@@ -176,8 +182,8 @@ def whole(room):
     acks = done.acknowledged()
     check("acknowledgements rise to the last tag", acks and acks == sorted(set(acks)) and acks[-1] == 6, acks)
     check("the last acknowledgement precedes the close", done.methods(())[-3:] == [amqp.ACK, amqp.CANCEL, amqp.CLOSE], done)
-    check("the report of a whole queue", done.report == "status 0\nreason end\ncode 0\ntag 0\napplied 5\nduplicates 0\n"
-          "passed 0\ngaps_skipped 0\nseen 50\n", done.report)
+    check("the report of a whole queue", done.report == "status 0\nreason end\ncode 0\ntext \ntag 0\nredelivered no\n"
+          "delivery_count 0\nparked 0\napplied 5\nduplicates 0\npassed 0\ngaps_skipped 0\nseen 50\n", done.report)
     check("the book of a whole queue", book_of(folder, "--chained") == BOOKS[5], book_of(folder, "--chained"))
     frames = done.frames()
     check("the credentials", ("\0guest\0" + PASSWORD).encode() in frames[0][2], frames[0])
@@ -248,6 +254,56 @@ def stops(room):
     check("after the end nothing is taken", done.status == 0 and not done.acknowledged(), done)
 
 
+# What is no event: a body, its headers and its type.
+BAD = ((b'{"timestamp":', {"previous": "0"}, None), (b"", {"previous": "0"}, None), (b" " * 65537, {"previous": "0"}, None),
+       (own(event(2**63)).encode(), {"previous": "0"}, None), (QUEUE[0][0], {"previous": "x"}, None),
+       (QUEUE[0][0], {"previous": str(2**64)}, None), (b"[1]", {}, None))
+
+
+def parks(room):
+    """Messages that are no event: with --park each is rejected, and all others are taken; without it the first one is named."""
+    random_of = random.Random(5)
+    for case in range(40 if commands.is_long else 8):
+        places = sorted(random_of.sample(range(7), random_of.randint(1, 6)))
+        messages, bad_tags = [], []
+        for at in range(7):
+            if at in places:
+                messages.append(random_of.choice(BAD))
+                bad_tags.append(len(messages))
+            messages += QUEUE[at:at + 1]
+        folder = fresh(room, f"parked {case}")
+        every = random_of.choice(("1", "2", "1000"))
+        done = consume(folder, setup() + delivered(messages) + GOODBYE, "--chained", "--park", "--every", every)
+        end = messages.index(QUEUE[5]) + 1
+        wanted = [it for it in bad_tags if it < end]
+        check(f"parked {case}: status, applied, parked", (done.status, done.reported("applied"), done.reported("parked"))
+              == (0, "5", str(len(wanted))), done)
+        check(f"parked {case}: just these are rejected", done.rejected() == wanted, (done.rejected(), wanted))
+        acks = done.acknowledged()
+        check(f"parked {case}: no acknowledgement names one", acks[-1:] == [end] and not set(acks) & set(bad_tags), acks)
+        check(f"parked {case}: the book", book_of(folder, "--chained") == BOOKS[5], book_of(folder, "--chained"))
+    folder = fresh(room, "all parked")
+    done = consume(folder, setup() + delivered(BAD) + GOODBYE, "--chained", "--park", "--limit", str(len(BAD)))
+    check("all are parked", (done.status, done.reported("reason"), done.rejected(), done.acknowledged())
+          == (0, "limit", list(range(1, len(BAD) + 1)), []), done)
+    folder = fresh(room, "parked of a chained queue")
+    done = consume(folder, setup() + delivered([QUEUE[0], BAD[0], *QUEUE[2:]]) + GOODBYE, "--chained", "--park")
+    found = done.status, done.reported("reason"), done.reported("tag"), done.rejected(), (done.acknowledged() or [0])[-1]
+    check("an event that is parked shows as a gap", found == (3, "gap", "3", [2], 1), done)
+    for name, again, headers, said in (
+        ("first", False, {}, "delivered for the first time"),
+        ("again", True, {}, "redelivered (x-delivery-count 0)"),
+        ("third", True, {"x-delivery-count": 2}, "redelivered (x-delivery-count 2)"),
+    ):
+        folder = fresh(room, f"redelivery {name}")
+        bad = amqp.deliver(3, BAD[0][0], {"previous": "20", **headers}, redelivered=again)
+        done = consume(folder, setup() + delivered(QUEUE[:2]) + bad + GOODBYE, "--chained")
+        found = done.status, done.reported("redelivered"), done.reported("delivery_count"), done.reported("tag")
+        wanted = 2, "yes" if again else "no", str(headers.get("x-delivery-count", 0)), "3"
+        check(f"redelivery {name}: the report", found == wanted, done)
+        check(f"redelivery {name}: standard error", f"q: delivery 3: {said}" in done.errors, done.errors)
+
+
 def servers(room):
     """How servers end connections, or break the protocol."""
     start = setup()
@@ -269,6 +325,8 @@ def servers(room):
     for name, server, status, reason, code in cases:
         folder = fresh(room, name)
         done = consume(folder, server, "--chained")
+        text = {"320": "CONNECTION_FORCED - stop", "406": "PRECONDITION_FAILED"}.get(code, "")
+        check(f"{name}: the server's text", done.reported("text") == text and text in done.errors, done)
         found = done.status, done.reported("reason"), done.reported("code"), done.reported("applied")
         check(f"{name}: status, reason, code, applied", found == (status, reason, code, "2"), done)
         acks = done.acknowledged() if done.frames() else []
@@ -328,9 +386,11 @@ def options(room):
     check("a book of a chained queue", (done.status, done.reported("reason"), done.sent) == (2, "bad_record", b""), done)
     folder = fresh(room, "json")
     done = consume(folder, setup() + delivered(QUEUE) + GOODBYE, "--chained", "--json")
-    wanted = ('{"kind":"consumed","status":0,"reason":"end","code":0,"tag":0,"applied":5,"duplicates":0,"passed":0,'
-              '"gaps_skipped":0,"seen":"50"}\n')
-    check("--json", done.report == wanted and done.errors == wanted, done)
+    wanted = ('{"kind":"consumed","status":0,"reason":"end","code":0,"text":"","tag":0,"redelivered":false,"delivery_count":0,'
+              '"parked":0,"applied":5,"duplicates":0,"passed":0,"gaps_skipped":0,"seen":"50"}\n')
+    check("--json", done.report == wanted and done.errors.splitlines(True)[-1:] == [wanted], done)
+    progress = [json.loads(it) for it in done.errors.splitlines()[:-1]]
+    check("--json: each other line is of the progress", all(it["kind"] == "consuming" for it in progress), done.errors)
     folder = fresh(room, "rows")
     arguments = ["consume", "--queue", "q", "--chained", "--book", f"sqlite:{folder}/rows"]
     done = subprocess.run([commands.program, *arguments], input=setup() + delivered(QUEUE) + GOODBYE, capture_output=True,
@@ -481,15 +541,39 @@ def mutations(count):
             folder = fresh(room, str(number))
             is_whole = number % 2 == 0
             text = (reordered if is_whole else mutated)(rng, server)
-            done = consume(folder, text, "--chained", "--every", str(rng.randint(1, 3)))
+            parks = number % 3 == 0
+            done = consume(folder, text, "--chained", "--every", str(rng.randint(1, 3)), *(["--park"] if parks else []))
             check(f"mutation {number}: a status", done.status in (0, 1, 2, 3) and done.reported("status") == str(done.status), done)
             last = (done.acknowledged() if done.frames() else None) or [0]
-            check(f"mutation {number}: acknowledged is saved", last[-1] <= taken_by_book(folder, done), (last, done))
+            rejected = (done.rejected() if done.frames() else None) or []
+            before = sum(it < last[-1] for it in rejected)
+            check(f"mutation {number}: acknowledged is saved", last[-1] - before <= taken_by_book(folder, done), (last, done))
+            check(f"mutation {number}: what is rejected is not acknowledged", not set(last) & set(rejected), (last, rejected))
+            compare(f"mutation {number}", text, parks, done, last[-1])
             if is_whole:
                 check(f"mutation {number}: a prefix", book_of(folder, "--chained") in BOOKS, (book_of(folder, "--chained"), done))
                 done = consume(folder, server, "--chained")
                 check(f"mutation {number}: the whole", book_of(folder, "--chained") == BOOKS[5], done)
             shutil.rmtree(folder)
+
+
+# What each body of the queue is: the timestamp of its event.
+KNOWN = {body: 10 * at for at, (body, _, _) in enumerate(QUEUE[:5], 1)}
+
+
+def compare(name, text, parks, done, last):
+    """Compares a run with the model, unless that doesn't know a body."""
+    try:
+        wanted = consuming.outcome(text, KNOWN, parks=parks)
+    except consuming.Unknown:
+        return
+    found = {"status": done.status, "code": int(done.reported("code")), "tag": int(done.reported("tag")),
+             "applied": int(done.reported("applied")), "duplicates": int(done.reported("duplicates")),
+             "rejected": (done.rejected() if done.frames() else None) or []}
+    check(f"{name}: the model", found == {it: wanted[it] for it in found}, (wanted, done))
+    check(f"{name}: the model has taken what is acknowledged", last <= wanted["taken"], (last, wanted))
+    if wanted["status"] == 0 and not wanted["tag"]:
+        check(f"{name}: all that was taken is acknowledged", last == wanted["taken"], (last, wanted))
 
 
 def taken_by_book(folder, done):
@@ -663,7 +747,8 @@ def main(arguments):
         commands.begin(arguments[0], "consume")
         within(arguments[arguments.index("--in") + 1])
         return commands.ended()
-    return commands.main(arguments, __doc__, "consume", (whole, frames, stops, servers, options, transcripts, killed, rabbitmq), mutations, STREAMS)
+    return commands.main(arguments, __doc__, "consume", (whole, frames, stops, parks, servers, options, transcripts, killed, rabbitmq),
+                         mutations, STREAMS)
 
 
 if __name__ == "__main__":

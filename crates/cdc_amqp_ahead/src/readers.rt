@@ -9,7 +9,7 @@ ghost use Rattle.cdc_amqp_ahead.specs.Readers.{held_by, left_of};
 use crate::held::Held;
 use cdc_amqp_consumer::FRAME_MAX;
 use cdc_amqp_dialogue::FrameReader;
-use cdc_amqp_frames::{FrameFault, first_frame};
+use cdc_amqp_frames::{Frame, FrameFault, ReadFrameError, first_frame, read_frame};
 use cdc_read_ahead::{BLOCK_BYTES, Blocks, Ending, Known, Piece, StartFault};
 use std::alloc::Global;
 use std::io::{ErrorKind, Read};
@@ -139,6 +139,8 @@ impl<O: Known, R: Threads + Wait + Copy> Read for FramesAhead<O, R> {
 }
 
 impl<O: Known, R: Threads + Wait + Copy> FrameReader for FramesAhead<O, R> {
+    ghost has_answered = { λ _ _ _. Unit {0} };
+
     fn has_frame(&mut self) -> bool {
         for _ in 0..u64::MAX {
             if !self.take_ready() {
@@ -147,4 +149,10 @@ impl<O: Known, R: Threads + Wait + Copy> FrameReader for FramesAhead<O, R> {
         }
         self.is_ready()
     }
+
+    fn next_frame(&mut self, alloc: Global, limit: u32) -> Result<Frame, ReadFrameError> {
+        read_frame(alloc, self, limit)
+    }
+
+    ghost has_answered_none = { λ _. tt };
 }

@@ -1,3 +1,4 @@
+pub mod Entries
 pub mod Fitting
 pub mod Runs
 pub mod Sound

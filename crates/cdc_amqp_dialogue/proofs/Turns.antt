@@ -1,7 +1,8 @@
 -- What each turn of a consumer keeps.
 use Rattle.std.proofs.Common.{◌≡◌, ℕ, ◌+◌, Bool, true, false, cond, eqb, ltb, length, List, Option, Some, None}
 use Rattle.std.proofs.Common.{Result, Ok, Err, refl, sym, ap, subst, ◌∙◌, arith}
-use Rattle.std.specs.Prelude.{◌-◌, ◌++◌, []}
+use Rattle.std.specs.Prelude.{◌-◌, ◌++◌, [], ◌∷◌}
+use Rattle.std.proofs.Common.{length-append}
 use Rattle.std.proofs.lemmas.Bool.{eqb-true}
 use Rattle.cdc_amqp_frames.specs.declared.frames.FrameKind.{FrameKind}
 use Rattle.cdc_amqp_frames.specs.declared.frames.FrameKind.TheVariants as kind
@@ -26,13 +27,17 @@ use Rattle.cdc_amqp_consumer.specs.Machine.{State, Turn, SettingsFit, setup_turn
 use Rattle.cdc_amqp_consumer.specs.Machine.{body_turn, canceled_turn, closed_turn, method_turn, response_turn, received}
 use Rattle.cdc_amqp_consumer.specs.Machine.{channel_of, frame_max_after, kept}
 use Rattle.cdc_amqp_dialogue.specs.Laws.{IsReady, is_under_way}
+use Rattle.cdc_amqp_dialogue.specs.Deliveries.{Delivery}
 use Rattle.cdc_amqp_dialogue.specs.Steps.{FitsOption}
+use Rattle.cdc_amqp_dialogue.specs.Taking.{delivery_of}
+use Rattle.cdc_amqp_dialogue.specs.Worlds.{deliveries_after}
 
--- a request is no acknowledgement
-abbrev pub NoAck : Option Request → Type 0
-NoAck None = Unit {0}
-NoAck (Some (sent.Ack tag)) = ⊥
-NoAck (Some _) = Unit {0}
+-- a request neither acknowledges nor rejects a delivery
+abbrev pub IsNeutral : Option Request → Type 0
+IsNeutral None = Unit {0}
+IsNeutral (Some (sent.Ack tag)) = ⊥
+IsNeutral (Some (sent.Reject tag)) = ⊥
+IsNeutral (Some _) = Unit {0}
 
 -- how many deliveries are completed by this
 abbrev pub completes : Outcome → ℕ
@@ -40,12 +45,19 @@ completes Delivered = 1
 completes GoesOn = 0
 completes (Ended end) = 0
 
+-- the tag of a complete delivery is the number of deliveries
+abbrev pub IsTagged : Outcome → State → Type 0
+IsTagged Delivered s = s.tag ≡ s.delivered
+IsTagged GoesOn s = Unit {0}
+IsTagged (Ended end) s = Unit {0}
+
 -- what holds after a turn of a consumer with so many deliveries
 pub record IsKept (count : ℕ) (t : Turn) : Type 0 where
-  pub first : NoAck t.done.first
-  pub second : NoAck t.done.second
+  pub first : IsNeutral t.done.first
+  pub second : IsNeutral t.done.second
   pub counted : t.state.delivered ≡ count + completes t.done.outcome
   pub ready : IsReady t.state
+  pub tagged : IsTagged t.done.outcome t.state
 
 abbrev pub Keeps : ℕ → Result Turn ConsumeFault → Type 0
 Keeps count (Ok t) = IsKept count t
@@ -61,8 +73,8 @@ keeps_if count false x y f h = h refl
 
 -- a reply acknowledges nothing, and no delivery is under way after it
 pub record IsPlain (r : Reply) : Type 0 where
-  pub first : NoAck r.first
-  pub second : NoAck r.second
+  pub first : IsNeutral r.first
+  pub second : IsNeutral r.second
   pub phase : is_under_way r.phase ≡ false
 
 abbrev ArePlain : Option Reply → Type 0
@@ -88,6 +100,7 @@ setup_keeps s (Some r) plain = record {
   second = plain.second;
   counted = omega arith;
   ready = λ under. absurd (let clash : false ≡ true = sym plain.phase ∙ under in cc);
+  tagged = tt;
 }
 
 -- ---- deliveries
@@ -95,14 +108,14 @@ setup_keeps s (Some r) plain = record {
 -- a turn that changes nothing and sends nothing
 same_keeps : (s : State) → IsReady s
     → IsKept s.delivered (record { state = s; done = record { outcome = GoesOn; first = None; second = None } })
-same_keeps s ready = record { first = tt; second = tt; counted = omega arith; ready = ready }
+same_keeps s ready = record { first = tt; second = tt; counted = omega arith; ready = ready; tagged = tt }
 
 delivery_keeps : (s : State) (p : Phase) (tag : ℕ) (redelivered : Bool) → IsReady s
     → Keeps s.delivered (delivery_turn s p tag redelivered)
 unfolding delivery_turn
 delivery_keeps s phase.Delivery tag redelivered ready =
     keeps_if s.delivered (eqb tag (s.delivered + 1)) _ _
-    (λ is. record { first = tt; second = tt; counted = omega arith; ready = λ _. eqb-true _ _ is })
+    (λ is. record { first = tt; second = tt; counted = omega arith; ready = λ _. eqb-true _ _ is; tagged = tt })
     (λ _. tt)
 delivery_keeps s phase.CancelOk tag redelivered ready = same_keeps s ready
 delivery_keeps s phase.CloseOk tag redelivered ready = same_keeps s ready
@@ -112,8 +125,8 @@ filled_keeps : (s : State) → s.tag ≡ s.delivered + 1 → Keeps s.delivered (
 unfolding filled
 filled_keeps s next =
     keeps_if s.delivered (eqb s.left 0) _ _
-    (λ _. record { first = tt; second = tt; counted = next; ready = λ under. absurd cc })
-    (λ _. record { first = tt; second = tt; counted = omega arith; ready = λ _. next })
+    (λ _. record { first = tt; second = tt; counted = next; ready = λ under. absurd cc; tagged = refl })
+    (λ _. record { first = tt; second = tt; counted = omega arith; ready = λ _. next; tagged = tt })
 
 header_keeps : (s : State) (p : Phase) (h : Option Header) → IsReady s
     → (is_under_way p ≡ true → s.tag ≡ s.delivered + 1) → Keeps s.delivered (header_turn s p h)
@@ -142,14 +155,14 @@ body_keeps s _ payload ready under = tt
 canceled_keeps : (s : State) (p : Phase) → Keeps s.delivered (canceled_turn s p)
 unfolding canceled_turn
 canceled_keeps s phase.CancelOk =
-    record { first = tt; second = tt; counted = omega arith; ready = λ under. absurd cc }
+    record { first = tt; second = tt; counted = omega arith; ready = λ under. absurd cc; tagged = tt }
 canceled_keeps s _ = tt
 
 -- the end of a connection
-ended_keeps : (s : State) (end : End) (first second : Option Request) → NoAck first → NoAck second → IsReady s
+ended_keeps : (s : State) (end : End) (first second : Option Request) → IsNeutral first → IsNeutral second → IsReady s
     → IsKept s.delivered (record { state = s; done = record { outcome = Ended end; first = first; second = second } })
 ended_keeps s end first second one other ready =
-    record { first = one; second = other; counted = omega arith; ready = ready }
+    record { first = one; second = other; counted = omega arith; ready = ready; tagged = tt }
 
 closed_keeps : (s : State) (p : Phase) → IsReady s → Keeps s.delivered (closed_turn s p)
 unfolding closed_turn
@@ -188,4 +201,11 @@ turn_keeps settings s kind.Body channel payload ready =
     keeps_if s.delivered (eqb channel 1) _ _ (λ _. body_keeps s s.phase payload ready ready) (λ _. tt)
 turn_keeps settings s kind.Heartbeat channel payload ready =
     keeps_if s.delivered (eqb channel 0) _ _
-    (λ _. record { first = tt; second = tt; counted = omega arith; ready = ready }) (λ _. tt)
+    (λ _. record { first = tt; second = tt; counted = omega arith; ready = ready; tagged = tt }) (λ _. tt)
+
+-- each completed delivery is one more
+pub length_after : (ds : List Delivery) (o : Outcome) (s : State)
+    → length (deliveries_after ds o s) ≡ length ds + completes o
+length_after ds Delivered s = omega (arith, length-append ds (delivery_of s ∷ []))
+length_after ds GoesOn s = omega arith
+length_after ds (Ended end) s = omega arith

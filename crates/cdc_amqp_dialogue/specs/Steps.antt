@@ -1,12 +1,12 @@
 -- What single steps write, and give to the store. Except for `is_write_failure` and `WritesPart`, cited by private
 -- contracts alone.
-use Rattle.std.specs.Prelude.{◌≡◌, ℕ, List, [], ◌∷◌, ◌++◌, take, Bool, true, false, Option, Some, None, Result, Ok, Err}
+use Rattle.std.specs.Prelude.{◌≡◌, ℕ, ◌-◌, List, [], ◌∷◌, ◌++◌, take, Bool, true, false, ◌&&◌, ◌||◌, not, nat_lt, nat_le}
+use Rattle.std.specs.Prelude.{Option, Some, None, Result, Ok, Err}
 use Rattle.std.specs.Io.KnownBytes.{Appends}
 use Rattle.cdc_amqp_methods.specs.declared.requests.Request.{Request}
 use Rattle.cdc_amqp_methods.specs.declared.requests.Request.TheVariants as sent
 use Rattle.cdc_amqp_methods.specs.Requests.{Fits, frame_of}
 use Rattle.cdc_amqp_consumer.specs.Machine.{State, closing}
-use Rattle.cdc_follow.specs.Following.{FollowState}
 use Rattle.cdc_amqp_dialogue.specs.declared.errors.ConsumeFailure.{ConsumeFailure}
 use Rattle.cdc_amqp_dialogue.specs.declared.errors.ConsumeFailure.TheVariants.{Read, Frame, Fault, Store, Write}
 use Rattle.cdc_amqp_dialogue.specs.declared.errors.ConsumeFailure.TheVariants.{OutOfMemory}
@@ -38,10 +38,18 @@ abbrev pub Sends : {T : Type 0} → Option (List ℕ) → Option (List ℕ) → 
 Sends old new text (Ok done) = Appends old new text
 Sends old new text (Err why) = (is_write_failure why ≡ true) × WritesPart old new text
 
--- one came from the other, and meanwhile the store was given these as well
-abbrev pub IsGiven : {K : Type 0} → (K → K → List FollowState → Type 0) → K → K → List FollowState → Type 0
-IsGiven HasKept old new more =
-    (first : _) (states : List FollowState) → HasKept first old states → HasKept first new (states ++ more)
+-- one came from the other, and meanwhile the store was given nothing more
+abbrev pub KeepsNothing : {K S : Type 0} → (K → K → List S → Type 0) → K → K → Type 0
+KeepsNothing {K} {S} HasKept old new = (first : K) (states : List S) → HasKept first old states → HasKept first new states
+
+-- and meanwhile it was given the follower for which one stands
+abbrev pub KeepsIt : {K S : Type 0} → (K → K → List S → Type 0) → (K → S → Type 0) → K → K → Type 0
+KeepsIt {K} {S} HasKept Stands old new = (first : K) (states : List S) (state : S) → Stands old state
+    → HasKept first old states → HasKept first new (states ++ state ∷ [])
+
+-- the one stands for what the other stood for
+abbrev pub StandsStill : {K S : Type 0} → (K → S → Type 0) → K → K → Type 0
+StandsStill {K} {S} Stands old new = (state : S) → Stands old state → Stands new state
 
 -- a failed step did all but write, or nothing at all
 abbrev pub FailsBy : Bool → Type 0 → Type 0 → Type 0
@@ -49,20 +57,27 @@ FailsBy true Done Same = Done
 FailsBy false Done Same = Same
 
 -- the follower is saved, and then acknowledged by this tag, if it is due
-abbrev pub SavesBy : (List FollowState → Type 0) → Bool → ℕ → FollowState → Option (List ℕ) → Option (List ℕ)
-    → Result Bool ConsumeFailure → Type 0
-SavesBy Given due tag follower old new (Ok true) =
-    (due ≡ true) × Given (follower ∷ []) × Appends old new (frame_of (sent.Ack tag))
-SavesBy Given due tag follower old new (Ok false) = Given [] × (new ≡ old)
-SavesBy Given due tag follower old new (Err why) = FailsBy (is_write_failure why)
-    ((due ≡ true) × Given (follower ∷ []) × WritesPart old new (frame_of (sent.Ack tag))) (Given [] × (new ≡ old))
+abbrev pub SavesBy : Type 0 → Type 0 → Bool → ℕ → Option (List ℕ) → Option (List ℕ) → Result Bool ConsumeFailure → Type 0
+SavesBy Kept Same due tag old new (Ok true) = (due ≡ true) × Kept × Appends old new (frame_of (sent.Ack tag))
+SavesBy Kept Same due tag old new (Ok false) = (due ≡ false) × Same × (new ≡ old)
+SavesBy Kept Same due tag old new (Err why) = FailsBy (is_write_failure why)
+    ((due ≡ true) × Kept × WritesPart old new (frame_of (sent.Ack tag))) (Same × (new ≡ old))
 
--- the consumer begins to close, or nothing happens
-abbrev pub ClosesBy : State → State → Option (List ℕ) → Option (List ℕ) → Result Bool ConsumeFailure → Type 0
-ClosesBy state after old new (Ok true) = (after ≡ closing state) × Appends old new (frame_of sent.Cancel)
-ClosesBy state after old new (Ok false) = (after ≡ state) × (new ≡ old)
-ClosesBy state after old new (Err why) = FailsBy (is_write_failure why)
-    ((after ≡ closing state) × WritesPart old new (frame_of sent.Cancel)) (new ≡ old)
+-- the consumer begins to close, if it is due
+abbrev pub ClosesBy : Bool → State → State → Option (List ℕ) → Option (List ℕ) → Result Bool ConsumeFailure → Type 0
+ClosesBy due state after old new (Ok true) =
+    (due ≡ true) × (after ≡ closing state) × Appends old new (frame_of sent.Cancel)
+ClosesBy due state after old new (Ok false) = (after ≡ state) × (new ≡ old)
+ClosesBy due state after old new (Err why) = FailsBy (is_write_failure why)
+    ((due ≡ true) × (after ≡ closing state) × WritesPart old new (frame_of sent.Cancel)) (new ≡ old)
+
+-- a save is due: something is unsaved, and it is to be saved at once, or there are so many unsaved deliveries
+abbrev pub is_due : ℕ → ℕ → ℕ → Bool → Bool
+is_due every taken saved at_once = nat_lt saved taken && (at_once || nat_le every (taken - saved))
+
+-- it is to be saved at once if the consumer closes, or no whole frame is waiting
+abbrev pub is_save_due : ℕ → ℕ → ℕ → Bool → Bool → Bool
+is_save_due every taken saved closes waiting = is_due every taken saved (closes || not waiting)
 
 -- the texts of a request fit their fields, if there is one
 abbrev pub FitsOption : Option Request → Type 0

@@ -12,6 +12,7 @@ use cdc_amqp_frames::{u32_at, u64_at};
 use cdc_amqp_methods::{Field, find_field};
 use cdc_follow::{Content, Entry, LineError, read_entry};
 use cdc_message::{DecodeError, decimal_up_to, is_decimal};
+use cdc_types::Limits;
 use std::alloc::Global;
 
 // The number that a decimal text represents.
@@ -143,6 +144,39 @@ fn plain_entry(alloc: Global, message_type: &[u8], content: &[u8]) -> Result<Ent
     content_entry(alloc, false, content)
 }
 
+// The entry that a message carries, whatever its timestamp is.
+#[tactic(auto, unfolding(crate::specs::Deliveries::any_entry))]
+fn any_entry(
+    alloc: Global,
+    chained: bool,
+    headers: &[u8],
+    message_type: &[u8],
+    content: &[u8],
+) -> Result<Entry, LineError>
+    ensures { GivesUnlessMemory result (spec.any_entry chained
+        (record { headers = headers.now; message_type = message_type.now; content = content.now })) }
+{
+    if !chained {
+        return plain_entry(alloc, message_type, content);
+    }
+    match header_previous(headers) {
+        Ok(previous) => chained_entry(alloc, previous, message_type, content),
+        Err(error) => Err(error),
+    }
+}
+
+// The entry, unless it is an event that is later than a ledger's greatest timestamp.
+fn in_range(entry: Entry) -> Result<Entry, LineError>
+    ensures { result ≡ spec.in_range entry }
+{
+    match &entry.content {
+        Content::Event(event) if event.timestamp > Limits::TIMESTAMP => {
+            Err(LineError::TimestampOutOfRange)
+        }
+        _ => Ok(entry),
+    }
+}
+
 /// The entry that a message carries, by its properties `headers` and `type` and its content. In a chained queue the
 /// predecessor is the header `previous`, or the member of the content if there is no such header. A message of the type
 /// `end` is the end-of-stream marker.
@@ -157,11 +191,18 @@ pub fn delivery_entry(
     ensures { GivesUnlessMemory result (spec.delivery_entry chained
         (record { headers = headers.now; message_type = message_type.now; content = content.now })) }
 {
-    if !chained {
-        return plain_entry(alloc, message_type, content);
-    }
-    match header_previous(headers) {
-        Ok(previous) => chained_entry(alloc, previous, message_type, content),
+    match any_entry(alloc, chained, headers, message_type, content) {
+        Ok(entry) => in_range(entry),
         Err(error) => Err(error),
+    }
+}
+
+/// How often a message was delivered before, by the header `x-delivery-count` of a quorum queue, if it has that.
+pub fn delivery_count(headers: &[u8]) -> Option<u64>
+    ensures { result ≡ spec.delivery_count headers.now }
+{
+    match find_field(b"x-delivery-count", headers) {
+        Some(Some(field)) => field_number(field).ok(),
+        Some(None) | None => None,
     }
 }

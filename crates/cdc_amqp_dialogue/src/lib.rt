@@ -10,8 +10,8 @@ pub mod laws;
 mod taking;
 mod writing;
 
-pub use deliveries::delivery_entry;
+pub use deliveries::{delivery_count, delivery_entry};
 pub use dialogue::{FrameReader, PROTOCOL, Pace, consume};
 pub use errors::ConsumeFailure;
 pub use keepers::Keeper;
-pub use taking::Taking;
+pub use taking::{Reason, Refusal, Taking};

@@ -1,13 +1,16 @@
 //! Writing requests to the server.
 
-ghost use Rattle.std.specs.Prelude.{◌≡◌, ◌++◌, IfErr, IfOk, OnOk};
+ghost use Rattle.std.specs.Prelude.{◌≡◌, ◌++◌, IfErr, IfOk, OnErr, OnOk};
 ghost use Rattle.std.specs.List.{flat_map};
 ghost use Rattle.std.specs.Option.{option_to_list};
 ghost use Rattle.cdc_amqp_methods.specs.Requests.{frame_of};
-ghost use Rattle.cdc_amqp_dialogue.specs.Steps.{ClosesBy, FitsOption, IsGiven, IsPlain, SavesBy, Sends};
+ghost use Rattle.cdc_amqp_dialogue.specs.Steps.{ClosesBy, FitsOption, IsPlain, KeepsIt, KeepsNothing, SavesBy};
+ghost use Rattle.cdc_amqp_dialogue.specs.Steps.{Sends, StandsStill};
+ghost use Rattle.cdc_amqp_dialogue.specs.Worlds.{IsParked, rejections_of};
 
 use crate::errors::ConsumeFailure;
 use crate::keepers::Keeper;
+use crate::taking::Taking;
 use cdc_amqp_consumer::Consumer;
 use cdc_amqp_methods::{Request, push_request};
 use std::alloc::{AllocError, Global};
@@ -70,6 +73,21 @@ pub(crate) fn frames_of(
     Ok(out)
 }
 
+/// Appends the frame that rejects a delivery, if it is parked.
+pub(crate) fn push_rejection<R: Copy>(
+    alloc: Global,
+    out: &mut Vec<u8>,
+    taking: Taking<R>,
+) -> Result<(), AllocError>
+    ensures pushed { OnOk result (out.new.items ≡ out.old.items ++ flat_map frame_of (rejections_of taking)) }
+    ensures err { OnErr result (IsParked taking) }
+{
+    match taking {
+        Taking::Parked(tag, _) => push_request(alloc, out, &Request::Reject { tag }),
+        Taking::Taken(_) | Taking::Refused(_) | Taking::Ignored => Ok(()),
+    }
+}
+
 /// Saves the follower, and then acknowledges all deliveries up to this tag, if that is due. Returns whether it was.
 pub(crate) fn save_if_due<W: Write, K: Keeper>(
     alloc: Global,
@@ -80,10 +98,12 @@ pub(crate) fn save_if_due<W: Write, K: Keeper>(
     writer: &mut W,
 ) -> Result<bool, ConsumeFailure>
     requires fits { K.fits setup.now keeper.old }
-    ensures follower { K.follower keeper.new ≡ K.follower keeper.old }
+    ensures follower { StandsStill (K.stands setup.now) keeper.old keeper.new }
     ensures fits { OnOk result (K.fits setup.now keeper.new) }
-    ensures saved { SavesBy (IsGiven (K.has_kept setup.now) keeper.old keeper.new) is_due tag (K.follower keeper.old)
+    ensures saved { SavesBy (KeepsIt (K.has_kept setup.now) (K.stands setup.now) keeper.old keeper.new)
+        (KeepsNothing (K.has_kept setup.now) keeper.old keeper.new) is_due tag
         (W.contents writer.old) (W.contents writer.new) result }
+    ensures done { IfOk result (λ was_saved. was_saved ≡ is_due) }
     ensures plain { IfErr result IsPlain }
 {
     if !is_due {
@@ -108,7 +128,7 @@ pub(crate) fn close_if_due<W: Write>(
     writer: &mut W,
 ) -> Result<bool, ConsumeFailure>
     ensures plain { IfErr result IsPlain }
-    ensures closed { ClosesBy consumer.old consumer.new (W.contents writer.old) (W.contents writer.new) result }
+    ensures closed { ClosesBy is_due consumer.old consumer.new (W.contents writer.old) (W.contents writer.new) result }
 {
     if !is_due {
         return Ok(false);

@@ -8,7 +8,7 @@ use Rattle.cdc_amqp_frames.specs.declared.frames.FrameKind.TheVariants as kind
 use Rattle.cdc_amqp_methods.specs.declared.requests.TheConstants.{CONSUMER_TAG, PROPERTIES}
 use Rattle.cdc_amqp_methods.specs.declared.requests.Request.{Request}
 use Rattle.cdc_amqp_methods.specs.declared.requests.Request.TheVariants.{StartOk, TuneOk, Open, ChannelOpen, Qos}
-use Rattle.cdc_amqp_methods.specs.declared.requests.Request.TheVariants.{Declare, Consume, Ack, Cancel, Close, CloseOk}
+use Rattle.cdc_amqp_methods.specs.declared.requests.Request.TheVariants.{Declare, Consume, Ack, Reject, Cancel, Close, CloseOk}
 use Rattle.cdc_amqp_methods.specs.declared.requests.Request.TheVariants.{ChannelCloseOk, Heartbeat}
 
 -- the numbers of class and method
@@ -49,6 +49,10 @@ consume queue = ids 60 20 ++ (0 ∷ 0 ∷ (short queue ++ (short CONSUMER_TAG.no
 abbrev pub ack : ℕ → List ℕ
 ack tag = ids 60 80 ++ (to_be_bytes w64 tag ++ 1 ∷ [])
 
+-- the delivery tag, and no flag: the message isn't queued again
+abbrev pub reject : ℕ → List ℕ
+reject tag = ids 60 90 ++ (to_be_bytes w64 tag ++ 0 ∷ [])
+
 -- the consumer tag, and an answer is wanted
 abbrev pub cancel : List ℕ
 cancel = ids 60 30 ++ (short CONSUMER_TAG.now ++ 0 ∷ [])
@@ -66,6 +70,7 @@ payload_of (Qos prefetch) = qos prefetch
 payload_of (Declare queue) = declare queue.now
 payload_of (Consume queue) = consume queue.now
 payload_of (Ack tag) = ack tag
+payload_of (Reject tag) = reject tag
 payload_of Cancel = cancel
 payload_of Close = close
 payload_of CloseOk = ids 10 51

@@ -61,6 +61,12 @@ pub enum Request<'a> {
         /// The delivery tag.
         tag: u64,
     },
+    /// `basic.reject` of the delivery with this tag, which isn't queued again: the queue's dead-letter exchange gets the
+    /// message, if it has one.
+    Reject {
+        /// The delivery tag.
+        tag: u64,
+    },
     /// `basic.cancel` of the consumer.
     Cancel,
     /// `connection.close`, with no fault.
@@ -187,6 +193,16 @@ fn push_ack(out: &mut Vec<u8>, tag: u64) -> Result<(), AllocError>
     Ok(())
 }
 
+fn push_reject(out: &mut Vec<u8>, tag: u64) -> Result<(), AllocError>
+    ensures { OnOk result (out.new.items ≡ out.old.items ++ spec.reject tag) }
+{
+    push_ids(out, 60, 90)?;
+    let tag = tag.to_be_bytes();
+    out.extend_from_slice(&tag)?;
+    out.extend_from_slice(&[0])?;
+    Ok(())
+}
+
 fn push_cancel(out: &mut Vec<u8>) -> Result<(), AllocError>
     ensures { OnOk result (out.new.items ≡ out.old.items ++ spec.cancel) }
 {
@@ -228,6 +244,7 @@ fn push_payload(out: &mut Vec<u8>, request: &Request<'_>) -> Result<(), AllocErr
         Request::Declare { queue } => push_declare(out, queue),
         Request::Consume { queue } => push_consume(out, queue),
         Request::Ack { tag } => push_ack(out, tag),
+        Request::Reject { tag } => push_reject(out, tag),
         Request::Cancel => push_cancel(out),
         Request::Close => push_close(out),
         Request::CloseOk => push_ids(out, 10, 51),
@@ -252,6 +269,7 @@ fn channel_of(request: &Request<'_>) -> u16
         | Request::Declare { .. }
         | Request::Consume { .. }
         | Request::Ack { .. }
+        | Request::Reject { .. }
         | Request::Cancel
         | Request::ChannelCloseOk => 1,
     }

@@ -2,22 +2,23 @@
 
 use crate::reports::Report;
 use cdc_amqp_consumer::End;
-use cdc_amqp_dialogue::ConsumeFailure;
+use cdc_amqp_dialogue::{ConsumeFailure, Reason};
 use cdc_amqp_frames::FrameFault;
 use cdc_app_inputs::Escaped;
 use cdc_app_streams::advise_on_stream;
 use cdc_consume_command::{ConsumeEnding, Outcome};
-use cdc_follow::{Counts, Follower};
+use cdc_follow::{Counts, Follower, Stop};
 use cdc_output::ProgramFault;
 use cdc_streams::StreamEnding;
 use std::io::Write;
+use std::str;
 
 /// Reports what came of the deliveries of this queue: in JSON the whole report.
 pub fn advise_on_counts(
     rt: &HostRuntime,
     queue: &str,
     report: &Report<'_>,
-    outcome: Outcome,
+    outcome: Outcome<'_>,
     counts: Counts,
     seen: u64,
 ) {
@@ -35,6 +36,18 @@ pub fn advise_on_counts(
         ..
     } = counts;
     let _ = eprintln!(rt; "{queue}: applied {applied}, duplicates {duplicates}, passed {passed}");
+    let parked = outcome.parked;
+    if parked != 0 {
+        let _ = eprintln!(rt; "{queue}: parked {parked}: messages that are no event were rejected");
+    }
+}
+
+/// A text that came from the server, or nothing if it isn't UTF-8 or has control characters.
+pub fn shown_text(bytes: &[u8]) -> &str {
+    match str::from_utf8(bytes) {
+        Ok(text) if !text.chars().any(|c| c.is_control()) => text,
+        _ => "",
+    }
 }
 
 /// Reports why consuming this queue ended, unless it was at the end of the stream or at the limit. A place in the queue
@@ -45,18 +58,40 @@ pub fn advise_on_ending(
     book: &str,
     follower: &Follower,
     ending: ConsumeEnding,
+    outcome: Outcome<'_>,
 ) {
-    if let Some(stop) = ending.stop {
+    if let Some(refusal) = ending.stop {
+        let stop = match refusal.reason {
+            Reason::BadMessage(error) => Stop::BadLine(refusal.tag, error),
+            Reason::Stopped(stop) => stop,
+        };
         advise_on_stream(rt, queue, Some(book), follower, StreamEnding::Stopped(stop));
+        advise_on_delivery(rt, queue, outcome);
     }
     match ending.how {
-        Ok(end) => advise_on_end(rt, queue, end),
+        Ok(end) => advise_on_end(rt, queue, end, outcome.text),
         Err(failure) => advise_on_failure(rt, queue, book, follower, failure),
     }
 }
 
-/// Reports how the server ended the connection.
-fn advise_on_end(rt: &HostRuntime, queue: &str, end: End) {
+/// Reports which delivery following stopped at, and whether its message was delivered before.
+fn advise_on_delivery(rt: &HostRuntime, queue: &str, outcome: Outcome<'_>) {
+    let queue = Escaped(queue);
+    let Outcome {
+        tag,
+        redelivered,
+        delivery_count,
+        ..
+    } = outcome;
+    let _ = if redelivered {
+        eprintln!(rt; "{queue}: delivery {tag}: redelivered (x-delivery-count {delivery_count})")
+    } else {
+        eprintln!(rt; "{queue}: delivery {tag}: delivered for the first time")
+    };
+}
+
+/// Reports how the server ended the connection, and its own text if there is one.
+fn advise_on_end(rt: &HostRuntime, queue: &str, end: End, text: &str) {
     let queue = Escaped(queue);
     let _ = match end {
         End::Finished => Ok(()),
@@ -76,6 +111,9 @@ fn advise_on_end(rt: &HostRuntime, queue: &str, end: End) {
             )
         }
     };
+    if !text.is_empty() {
+        let _ = eprintln!(rt; "{queue}: the server's text: {text}");
+    }
 }
 
 /// What a reply code of the server means.

@@ -2,7 +2,7 @@
 
 ghost use Rattle.cdc_amqp_consumer.specs.Machine.{SettingsFit};
 
-use crate::advice::{advise_on_counts, advise_on_ending};
+use crate::advice::{advise_on_counts, advise_on_ending, shown_text};
 use crate::credentials::{BAD_CREDENTIALS, NO_MEMORY, NOT_READ, Refusal, password};
 use crate::reports::{Report, ReportingStore};
 use crate::settings::fitting;
@@ -73,6 +73,7 @@ fn consume_with<T: Threads + Wait + Copy + Send + 'static>(
         busy,
         every,
         limit,
+        parks,
         ..
     } = plan;
     let setup = FollowSetup {
@@ -101,16 +102,24 @@ fn consume_with<T: Threads + Wait + Copy + Send + 'static>(
     if is_in_sqlite(book) {
         followed.keep_details(rt.alloc(), key);
     }
-    let mut kept = KeptFollower::new(followed, ReportingStore::new(store, report));
-    let pace = Pace { every, limit };
+    let mut kept = KeptFollower::new(
+        rt.alloc(),
+        followed,
+        ReportingStore::new(store, report, queue),
+    );
+    let pace = Pace {
+        every,
+        limit,
+        parks,
+    };
     let Some(ending) = converse(rt, threads, settings, pace, &setup, &mut kept) else {
         return refuse(&report, NO_MEMORY);
     };
-    let outcome = ending.outcome();
+    let outcome = ending.outcome(kept.parked(), shown_text(kept.close_text()));
     let seen = kept.follower().seen();
     report.end(outcome, kept.counts(), seen);
     advise_on_counts(rt, queue, &report, outcome, kept.counts(), seen);
-    advise_on_ending(rt, queue, book, kept.follower(), ending);
+    advise_on_ending(rt, queue, book, kept.follower(), ending, outcome);
     outcome.status
 }
 
@@ -176,6 +185,10 @@ fn refuse(report: &Report<'_>, why: Refusal) -> u8 {
         reason,
         code: 0,
         tag: 0,
+        redelivered: false,
+        delivery_count: 0,
+        parked: 0,
+        text: "",
     };
     report.end(outcome, Counts::none(), NO_PLACE);
     status

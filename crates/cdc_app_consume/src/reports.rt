@@ -9,6 +9,7 @@ use cdc_follow_command::{FollowSetup, StreamFollower};
 use cdc_output::{Json, Text};
 use cdc_streams::Keeps;
 use std::alloc::{AllocError, Global};
+use std::io::Write;
 use std::time::Instant;
 use std::{fs, io};
 
@@ -42,7 +43,7 @@ impl<'a> Report<'a> {
     }
 
     /// Reports the end.
-    pub fn end(&self, outcome: Outcome, counts: Counts, seen: u64) {
+    pub fn end(&self, outcome: Outcome<'_>, counts: Counts, seen: u64) {
         if self.path.is_some() {
             self.put(self.end_text(outcome, counts, seen));
         }
@@ -51,7 +52,7 @@ impl<'a> Report<'a> {
     /// The text of the report at the end.
     pub fn end_text(
         &self,
-        outcome: Outcome,
+        outcome: Outcome<'_>,
         counts: Counts,
         seen: u64,
     ) -> Result<Vec<u8>, AllocError> {
@@ -62,8 +63,9 @@ impl<'a> Report<'a> {
         }
     }
 
-    /// Reports the progress, unless that was done less than a second ago.
-    pub fn progress(&mut self, counts: Counts, seen: u64) {
+    /// Reports the progress of this queue, in the file and on standard error, unless that was done less than a second
+    /// ago.
+    pub fn progress(&mut self, queue: &str, counts: Counts, seen: u64) {
         if self.path.is_none() || !self.is_due() {
             return;
         }
@@ -73,7 +75,28 @@ impl<'a> Report<'a> {
             Form::Text => Text.progress(alloc, counts, seen),
             Form::Json => Json.progress(alloc, counts, seen),
         };
+        if self.is_json() {
+            if let Ok(text) = &text {
+                let _ = self.rt.stderr().write_all(text.as_slice());
+            }
+        } else {
+            self.advise(queue, counts, seen);
+        }
         self.put(text);
+    }
+
+    /// Reports the progress on standard error.
+    fn advise(&self, queue: &str, counts: Counts, seen: u64) {
+        let queue = Escaped(queue);
+        let Counts {
+            applied,
+            duplicates,
+            passed,
+            ..
+        } = counts;
+        let _ = eprintln!(self.rt;
+            "{queue}: saved: applied {applied}, duplicates {duplicates}, passed {passed}, seen {seen}"
+        );
     }
 
     /// Whether a second has gone by since the last report.
@@ -116,12 +139,17 @@ fn replace(rt: &HostRuntime, path: &str, text: &[u8]) -> io::Result<()> {
 pub struct ReportingStore<'a, K> {
     store: K,
     report: Report<'a>,
+    queue: &'a str,
 }
 
 impl<'a, K> ReportingStore<'a, K> {
-    /// This store, with this report.
-    pub fn new(store: K, report: Report<'a>) -> ReportingStore<'a, K> {
-        ReportingStore { store, report }
+    /// This store, with this report of this queue.
+    pub fn new(store: K, report: Report<'a>, queue: &'a str) -> ReportingStore<'a, K> {
+        ReportingStore {
+            store,
+            report,
+            queue,
+        }
     }
 }
 
@@ -138,7 +166,7 @@ impl<'a, K: Keeps<StreamFollower>> Keeps<StreamFollower> for ReportingStore<'a, 
     ) -> Result<(), StoreError> {
         self.store.keep(setup, alloc, consumer)?;
         self.report
-            .progress(consumer.counts(), consumer.follower().seen());
+            .progress(self.queue, consumer.counts(), consumer.follower().seen());
         Ok(())
     }
 

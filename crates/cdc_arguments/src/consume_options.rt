@@ -47,6 +47,8 @@ pub struct ConsumePlan<'a> {
     pub every: u64,
     /// After how many deliveries consuming ends.
     pub limit: u64,
+    /// Whether a message that is no event is rejected, and consuming goes on.
+    pub parks: bool,
     /// How many deliveries may be unacknowledged.
     pub prefetch: u16,
     /// How many seconds lie between heartbeats; 0 for none.
@@ -74,6 +76,10 @@ pub fn consume_arguments<'a>(alloc: Global) -> Result<Command<'a>, AllocError> {
             Argument::flag(
                 "chained",
                 "Apply an event only if it follows the last one of its queue, by its header or member previous",
+            ),
+            Argument::flag(
+                "park",
+                "Reject a message that is no event, for a dead-letter exchange, and go on after it",
             ),
             Argument::option(
                 "binding",
@@ -145,6 +151,7 @@ pub fn consume_plan<'a>(
         busy: asked_busy(alloc, arguments)?,
         every: asked_every(alloc, arguments)?,
         limit: asked_limit(alloc, arguments)?,
+        parks: arguments.get_flag("park"),
         prefetch: asked_prefetch(alloc, arguments)?,
         heartbeat: asked_heartbeat(alloc, arguments)?,
         report: arguments.get_str("report"),

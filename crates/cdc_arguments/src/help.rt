@@ -233,13 +233,16 @@ and is acknowledged, and what it lacks is applied.
 
 The command ends at the end of the stream, after the N deliveries of --limit, at a message that is no event, at a gap, at
 a message that contradicts the end, or when the connection ends. A message at which it ends is not acknowledged, and
-neither is any after it.
+neither is any after it. Standard error names its delivery tag, whether it was delivered before, how often if the queue
+counts that, and the reason. With --park, a message that is no event is rejected instead, and isn't queued again: the
+queue's dead-letter exchange gets it, if there is one. The report counts such messages. Of a chained queue, one that is
+rejected was none of its events, or the next event shows a gap.
 
 The password is the first line of the file that --password-file names, or the value of the variable RELAYPLUM_PASSWORD.
 
-With --report, that file is replaced at the end, and at most once a second as the book is saved. It has the status, the
-reason, the server's reply code, the tag of the delivery at which the command stopped, the counts, and the timestamp of
-the last event seen.
+With --report, that file is replaced at the end, and at most once a second as the book is saved; then standard error has
+a line of the counts. The file has the status, the reason, the code and the text with which the server closed, the tag of
+the delivery at which the command stopped and its redelivery, the counts, and the timestamp of the last event seen.
 
 Examples:
   socat TCP:rabbit:5672 EXEC:'relayplum consume --queue relayplum.1 --chained --book ann.book --user ann

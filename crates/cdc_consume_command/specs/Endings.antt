@@ -1,10 +1,14 @@
 -- How consuming a queue ends: the exit status, and what is reported of it.
-use Rattle.std.specs.Prelude.{◌≡◌, ℕ, List, codes, Bool, ◌||◌, ◌==◌, if◌then◌else◌, Option, Some, None, Result, Ok, Err}
+use Rattle.std.specs.Prelude.{◌≡◌, ℕ, List, codes, Bool, false, ◌||◌, ◌==◌, if◌then◌else◌, Option, Some, None, Result, Ok, Err}
+use Rattle.std.specs.Option.{unwrap_or}
 use Rattle.cdc_amqp_consumer.specs.declared.consumer.End.{End}
 use Rattle.cdc_amqp_consumer.specs.declared.consumer.End.TheVariants.{Closed, ChannelClosed, Canceled, Finished}
 use Rattle.cdc_amqp_dialogue.specs.declared.errors.ConsumeFailure.{ConsumeFailure}
 use Rattle.cdc_amqp_dialogue.specs.declared.errors.ConsumeFailure.TheVariants.{Read, Frame, Fault, Store, Write}
 use Rattle.cdc_amqp_dialogue.specs.declared.errors.ConsumeFailure.TheVariants.{OutOfMemory}
+use Rattle.cdc_amqp_dialogue.specs.declared.taking.Reason.{Reason}
+use Rattle.cdc_amqp_dialogue.specs.declared.taking.Reason.TheVariants.{BadMessage, Stopped}
+use Rattle.cdc_amqp_dialogue.specs.declared.taking.Refusal.{Refusal}
 use Rattle.cdc_amqp_frames.specs.declared.errors.FrameFault.TheVariants.{Incomplete}
 use Rattle.cdc_follow.specs.LineErrors.{line_error_name}
 use Rattle.cdc_follow.specs.declared.streams.Stop.{Stop}
@@ -29,11 +33,15 @@ end_status (Err why) = 1
 
 -- 0 at the end-of-stream marker or the limit; 1 after a failure that may pass; 2 if the server refuses what is asked
 -- for, or a message is no event; 3 at a gap or at what contradicts the end
-abbrev pub status_by : Option Stop → Result End ConsumeFailure → ℕ
-status_by (Some (Gap tag entry)) how = 3
-status_by (Some (AfterEnd tag entry)) how = 3
-status_by (Some (BadLine tag error)) how = 2
-status_by (Some AtEnd) how = end_status how
+abbrev pub reason_status : Reason Stop → Result End ConsumeFailure → ℕ
+reason_status (BadMessage error) how = 2
+reason_status (Stopped (Gap tag entry)) how = 3
+reason_status (Stopped (AfterEnd tag entry)) how = 3
+reason_status (Stopped (BadLine tag error)) how = 2
+reason_status (Stopped AtEnd) how = end_status how
+
+abbrev pub status_by : Option (Refusal Stop) → Result End ConsumeFailure → ℕ
+status_by (Some refusal) how = reason_status refusal.reason how
 status_by None how = end_status how
 
 -- the name of a failure
@@ -55,11 +63,15 @@ end_reason (Ok Canceled) ended = codes "canceled"
 end_reason (Err why) ended = failure_reason why
 
 -- the name of the reason
-abbrev pub reason_by : Option Stop → Result End ConsumeFailure → Bool → List ℕ
-reason_by (Some (Gap tag entry)) how ended = codes "gap"
-reason_by (Some (AfterEnd tag entry)) how ended = codes "after_end"
-reason_by (Some (BadLine tag error)) how ended = line_error_name error
-reason_by (Some AtEnd) how ended = end_reason how ended
+abbrev pub stop_reason : Reason Stop → Result End ConsumeFailure → Bool → List ℕ
+stop_reason (BadMessage error) how ended = line_error_name error
+stop_reason (Stopped (Gap tag entry)) how ended = codes "gap"
+stop_reason (Stopped (AfterEnd tag entry)) how ended = codes "after_end"
+stop_reason (Stopped (BadLine tag error)) how ended = line_error_name error
+stop_reason (Stopped AtEnd) how ended = end_reason how ended
+
+abbrev pub reason_by : Option (Refusal Stop) → Result End ConsumeFailure → Bool → List ℕ
+reason_by (Some refusal) how ended = stop_reason refusal.reason how ended
 reason_by None how ended = end_reason how ended
 
 -- the reply code with which the server closed the connection or the channel
@@ -71,16 +83,26 @@ code_by (Ok Finished) = 0
 code_by (Err why) = 0
 
 -- the tag of the delivery at which following stopped
-abbrev pub tag_by : Option Stop → ℕ
-tag_by (Some (Gap tag entry)) = tag
-tag_by (Some (AfterEnd tag entry)) = tag
-tag_by (Some (BadLine tag error)) = tag
-tag_by (Some AtEnd) = 0
+abbrev pub tag_by : Option (Refusal Stop) → ℕ
+tag_by (Some refusal) = refusal.tag
 tag_by None = 0
 
+-- whether that message was delivered before, and how often; 0 if its queue doesn't count that
+abbrev pub is_redelivered : Option (Refusal Stop) → Bool
+is_redelivered (Some refusal) = refusal.redelivered
+is_redelivered None = false
+
+abbrev pub count_by : Option (Refusal Stop) → ℕ
+count_by (Some refusal) = unwrap_or refusal.delivery_count 0
+count_by None = 0
+
 -- what is reported of how the command ended
-pub record IsOutcome (outcome : Outcome) (ending : ConsumeEnding) : Type 0 where
+pub record IsOutcome (outcome : Outcome) (ending : ConsumeEnding) (parked : ℕ) (text : List ℕ) : Type 0 where
   pub status : outcome.status ≡ status_by ending.stop ending.how
   pub reason : outcome.reason.now ≡ reason_by ending.stop ending.how ending.ended
   pub code : outcome.code ≡ code_by ending.how
   pub tag : outcome.tag ≡ tag_by ending.stop
+  pub redelivered : outcome.redelivered ≡ is_redelivered ending.stop
+  pub delivery_count : outcome.delivery_count ≡ count_by ending.stop
+  pub parked_is : outcome.parked ≡ parked
+  pub text_is : outcome.text.now ≡ text

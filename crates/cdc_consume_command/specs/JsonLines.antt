@@ -1,6 +1,6 @@
 -- What `consume` reports as JSON.
 use Rattle.std.specs.Prelude.{ℕ, List, codes}
-use Rattle.serde_json.specs.Data.{Data, Members, string, no_members, member}
+use Rattle.serde_json.specs.Data.{Data, Members, boolean, string, no_members, member}
 use Rattle.cdc_output.specs.Values.{narrow, wide}
 use Rattle.cdc_output.specs.Lines.{json_line, line_of}
 use Rattle.cdc_follow.specs.declared.counts.Counts.{Counts}
@@ -23,8 +23,12 @@ end_value it counts seen =
     member (codes "status") (narrow it.status) (
     member (codes "reason") (string it.reason.now) (
     member (codes "code") (narrow it.code) (
-    member (codes "tag") (narrow it.tag)
-    (count_members counts seen)))))
+    member (codes "text") (string it.text.now) (
+    member (codes "tag") (narrow it.tag) (
+    member (codes "redelivered") (boolean it.redelivered) (
+    member (codes "delivery_count") (narrow it.delivery_count) (
+    member (codes "parked") (narrow it.parked)
+    (count_members counts seen)))))))))
 
 abbrev pub end_lines : Outcome → Counts → ℕ → List ℕ
 end_lines it counts seen = json_line (end_value it counts seen)

@@ -1,6 +1,12 @@
 -- A follower with its store.
-use Rattle.std.specs.Prelude.{◌≡◌, List, map}
-use Rattle.cdc_follow.specs.Following.{FollowState}
+use Rattle.std.specs.Prelude.{◌≡◌, ℕ, List, map, Bool, if◌then◌else◌, Option, Some, None}
+use Rattle.cdc_amqp_dialogue.specs.Taking.{EntryRules}
+use Rattle.cdc_follow.specs.declared.entries.Entry.{Entry}
+use Rattle.cdc_follow.specs.declared.follower.Following.{Following}
+use Rattle.cdc_follow.specs.declared.streams.Stop.{Stop}
+use Rattle.cdc_follow.specs.Following.{FollowState, next_follow, outcome_of, stops_at}
+use Rattle.cdc_follow.specs.Stops.{stop_by}
+use Rattle.cdc_follow_command.specs.declared.followers.FollowSetup.{FollowSetup}
 use Rattle.cdc_follow_command.specs.declared.followers.Followed.{Followed}
 use Rattle.cdc_consume_command.specs.declared.keepers.KeptFollower.{KeptFollower}
 
@@ -14,3 +20,16 @@ abbrev pub HasKeptFollowers : {K : Type 0} → (K → K → List Followed → Ty
     → List FollowState → Type 0
 HasKeptFollowers Kept old new states =
     (given : List Followed) × (map (λ (it : Followed). it.follower) given ≡ states) × Kept old.store new.store given
+
+-- why following stops at the entry of the delivery with this tag, of which this becomes, if it does
+abbrev pub stop_for : Bool → ℕ → Entry → Following → Option Stop
+stop_for skips tag entry outcome =
+    if stops_at skips outcome then Some (stop_by outcome (record { line = tag; entry = entry })) else None
+
+-- how the entries of a queue are followed
+abbrev pub rules_of : FollowSetup → EntryRules FollowState Stop
+rules_of setup = record {
+  chained = setup.rules.chained;
+  next = next_follow setup.binding;
+  stop = λ state entry tag. stop_for setup.rules.skips_gaps tag entry (outcome_of setup.binding state entry);
+}

@@ -5,7 +5,7 @@ ghost use Rattle.cdc_consume_command.specs.Endings as spec;
 ghost use Rattle.cdc_consume_command.specs.Endings.{IsOutcome};
 
 use cdc_amqp_consumer::End;
-use cdc_amqp_dialogue::ConsumeFailure;
+use cdc_amqp_dialogue::{ConsumeFailure, Reason, Refusal};
 use cdc_amqp_frames::FrameFault;
 use cdc_follow::Stop;
 
@@ -14,15 +14,15 @@ use cdc_follow::Stop;
 pub struct ConsumeEnding {
     /// How the connection ended, or why it failed.
     pub how: Result<End, ConsumeFailure>,
-    /// Why following stopped, if it did; its line is the delivery tag.
-    pub stop: Option<Stop>,
+    /// The delivery at which following stopped, if it did, and why.
+    pub stop: Option<Refusal<Stop>>,
     /// Whether the follower has taken the end-of-stream marker.
     pub ended: bool,
 }
 
 /// What is reported of how the command ended.
 #[derive(Clone, Copy)]
-pub struct Outcome {
+pub struct Outcome<'a> {
     /// The exit status.
     pub status: u8,
     /// The name of the reason.
@@ -31,44 +31,82 @@ pub struct Outcome {
     pub code: u16,
     /// The tag of the delivery at which following stopped; 0 if it didn't.
     pub tag: u64,
+    /// Whether that message was delivered before.
+    pub redelivered: bool,
+    /// How often it was delivered before; 0 if its queue doesn't count that.
+    pub delivery_count: u64,
+    /// How many messages were parked.
+    pub parked: u64,
+    /// The text with which the server closed the connection or the channel, or nothing.
+    pub text: &'a str,
 }
 
 impl ConsumeEnding {
     /// What is reported of it. The status is 0 after the end-of-stream marker or the limit; 1 after a failure that may
     /// pass, so the program is to be started again; 2 if the server refuses the user, the virtual host or the queue, or
-    /// a message is no event; 3 at a gap, or at a message that contradicts the end.
-    pub fn outcome(self) -> Outcome
-        ensures { IsOutcome result self }
+    /// a message is no event; 3 at a gap, or at a message that contradicts the end. `parked`: how many messages were
+    /// parked. `text`: the text with which the server closed the connection or the channel, or nothing.
+    pub fn outcome<'a>(self, parked: u64, text: &'a str) -> Outcome<'a>
+        ensures { IsOutcome result self parked text.now }
     {
         Outcome {
             status: status(self.stop, self.how),
             reason: reason(self.stop, self.how, self.ended),
             code: code(self.how),
             tag: tag(self.stop),
+            redelivered: is_redelivered(self.stop),
+            delivery_count: delivery_count(self.stop),
+            parked,
+            text,
         }
     }
 }
 
 // The exit status.
-fn status(stop: Option<Stop>, how: Result<End, ConsumeFailure>) -> u8
+fn status(stop: Option<Refusal<Stop>>, how: Result<End, ConsumeFailure>) -> u8
     ensures { result ≡ spec.status_by stop how }
 {
     match stop {
-        Some(Stop::Gap(..)) | Some(Stop::AfterEnd(..)) => 3,
-        Some(Stop::BadLine(..)) => 2,
-        Some(Stop::AtEnd) | None => end_status(how),
+        Some(refusal) => reason_status(refusal.reason, how),
+        None => end_status(how),
+    }
+}
+
+// The exit status, if following stopped for this reason.
+fn reason_status(reason: Reason<Stop>, how: Result<End, ConsumeFailure>) -> u8
+    ensures { result ≡ spec.reason_status reason how }
+{
+    match reason {
+        Reason::BadMessage(_) | Reason::Stopped(Stop::BadLine(..)) => 2,
+        Reason::Stopped(Stop::Gap(..)) | Reason::Stopped(Stop::AfterEnd(..)) => 3,
+        Reason::Stopped(Stop::AtEnd) => end_status(how),
     }
 }
 
 // The name of the reason.
-fn reason(stop: Option<Stop>, how: Result<End, ConsumeFailure>, ended: bool) -> &'static str
+fn reason(
+    stop: Option<Refusal<Stop>>,
+    how: Result<End, ConsumeFailure>,
+    ended: bool,
+) -> &'static str
     ensures { result.now ≡ spec.reason_by stop how ended }
 {
     match stop {
-        Some(Stop::Gap(..)) => "gap",
-        Some(Stop::AfterEnd(..)) => "after_end",
-        Some(Stop::BadLine(_, error)) => error.name(),
-        Some(Stop::AtEnd) | None => end_reason(how, ended),
+        Some(refusal) => stop_reason(refusal.reason, how, ended),
+        None => end_reason(how, ended),
+    }
+}
+
+// The name of the reason for which following stopped.
+fn stop_reason(reason: Reason<Stop>, how: Result<End, ConsumeFailure>, ended: bool) -> &'static str
+    ensures { result.now ≡ spec.stop_reason reason how ended }
+{
+    match reason {
+        Reason::BadMessage(error) => error.name(),
+        Reason::Stopped(Stop::BadLine(_, error)) => error.name(),
+        Reason::Stopped(Stop::Gap(..)) => "gap",
+        Reason::Stopped(Stop::AfterEnd(..)) => "after_end",
+        Reason::Stopped(Stop::AtEnd) => end_reason(how, ended),
     }
 }
 
@@ -83,12 +121,32 @@ fn code(how: Result<End, ConsumeFailure>) -> u16
 }
 
 // The tag of the delivery at which following stopped; 0 if it didn't.
-fn tag(stop: Option<Stop>) -> u64
+fn tag(stop: Option<Refusal<Stop>>) -> u64
     ensures { result ≡ spec.tag_by stop }
 {
     match stop {
-        Some(Stop::Gap(tag, _)) | Some(Stop::AfterEnd(tag, _)) | Some(Stop::BadLine(tag, _)) => tag,
-        Some(Stop::AtEnd) | None => 0,
+        Some(refusal) => refusal.tag,
+        None => 0,
+    }
+}
+
+// Whether the message at which following stopped was delivered before.
+fn is_redelivered(stop: Option<Refusal<Stop>>) -> bool
+    ensures { result ≡ spec.is_redelivered stop }
+{
+    match stop {
+        Some(refusal) => refusal.redelivered,
+        None => false,
+    }
+}
+
+// How often it was; 0 if its queue doesn't count that.
+fn delivery_count(stop: Option<Refusal<Stop>>) -> u64
+    ensures { result ≡ spec.count_by stop }
+{
+    match stop {
+        Some(refusal) => refusal.delivery_count.unwrap_or(0),
+        None => 0,
     }
 }
 

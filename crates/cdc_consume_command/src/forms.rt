@@ -4,12 +4,12 @@ ghost use Rattle.std.specs.Prelude.{◌≡◌, ◌++◌, ℕ, List, IfOk, OnOk};
 ghost use Rattle.cdc_follow.specs.declared.counts.Counts.{Counts as LineCounts};
 ghost use Rattle.cdc_consume_command.specs.declared.endings.Outcome.{Outcome as Reported};
 ghost use Rattle.cdc_consume_command.specs.JsonLines.{end_value, progress_value};
-ghost use Rattle.cdc_consume_command.specs.Texts.{counts_text, outcome_text, place_text};
+ghost use Rattle.cdc_consume_command.specs.Texts.{counts_text, delivery_text, ending_text, place_text, yes_or_no};
 ghost use Rattle.cdc_output.specs.Lines.{json_line};
 
 use crate::endings::Outcome;
 use cdc_follow::Counts;
-use cdc_output::Field::{self, Number, Wide};
+use cdc_output::Field::{self, Flag, Number, Wide};
 use cdc_output::{Json, Lines, Member, Text, push, push_named};
 use std::alloc::{AllocError, Global};
 
@@ -27,11 +27,11 @@ pub trait ConsumeForm {
     fn end(
         &self,
         alloc: Global,
-        outcome: Outcome,
+        outcome: Outcome<'_>,
         counts: Counts,
         seen: u64,
     ) -> Result<Vec<u8>, AllocError>
-        ensures { IfOk result (λ text. text.items ≡ reports_end outcome counts seen) };
+        ensures { IfOk result (λ text. text.items ≡ reports_end outcome.entry counts seen) };
 
     /// The report before the end. `seen`: the timestamp of the last event seen, in nanoseconds.
     fn progress(&self, alloc: Global, counts: Counts, seen: u64) -> Result<Vec<u8>, AllocError>
@@ -48,12 +48,13 @@ impl ConsumeForm for Text {
     fn end(
         &self,
         alloc: Global,
-        outcome: Outcome,
+        outcome: Outcome<'_>,
         counts: Counts,
         seen: u64,
     ) -> Result<Vec<u8>, AllocError> {
         let mut text = Vec::new(alloc);
-        push_outcome(&mut text, outcome)?;
+        push_ending(&mut text, outcome)?;
+        push_delivery(&mut text, outcome)?;
         push_counts(&mut text, counts)?;
         push_place(&mut text, seen)?;
         Ok(text)
@@ -68,16 +69,37 @@ impl ConsumeForm for Text {
     }
 }
 
+/// The word of a flag.
+fn yes_no(flag: bool) -> &'static str
+    ensures { result.now ≡ yes_or_no flag }
+{
+    if flag { "yes" } else { "no" }
+}
+
 /// Adds the lines of how the command ended.
-fn push_outcome(text: &mut Vec<u8>, outcome: Outcome) -> Result<(), AllocError>
-    ensures { OnOk result (text.new.items ≡ text.old.items ++ outcome_text outcome) }
+fn push_ending(text: &mut Vec<u8>, outcome: Outcome<'_>) -> Result<(), AllocError>
+    ensures { OnOk result (text.new.items ≡ text.old.items ++ ending_text outcome.entry) }
 {
     push_named(text, "status ", outcome.status)?;
     push(text, "\nreason ")?;
     push(text, outcome.reason)?;
     push_named(text, "\ncode ", outcome.code)?;
-    push_named(text, "\ntag ", outcome.tag)?;
+    push(text, "\ntext ")?;
+    push(text, outcome.text)?;
     push(text, "\n")
+}
+
+/// Adds the lines of the delivery at which following stopped.
+fn push_delivery(text: &mut Vec<u8>, outcome: Outcome<'_>) -> Result<(), AllocError>
+    ensures { OnOk result (text.new.items ≡ text.old.items ++ delivery_text outcome.entry) }
+{
+    push_named(text, "tag ", outcome.tag)?;
+    push(text, "\nredelivered ")?;
+    push(text, yes_no(outcome.redelivered))?;
+    push_named(text, "\ndelivery_count ", outcome.delivery_count)?;
+    push_named(text, "\nparked ", outcome.parked)?;
+    push(text, "\n")?;
+    Ok(())
 }
 
 /// Adds the lines of the counts.
@@ -110,7 +132,7 @@ impl ConsumeForm for Json {
     fn end(
         &self,
         alloc: Global,
-        outcome: Outcome,
+        outcome: Outcome<'_>,
         counts: Counts,
         seen: u64,
     ) -> Result<Vec<u8>, AllocError> {
@@ -130,12 +152,12 @@ impl ConsumeForm for Json {
 fn push_end(
     alloc: Global,
     lines: &mut Lines,
-    outcome: Outcome,
+    outcome: Outcome<'_>,
     counts: Counts,
     seen: u64,
 ) -> Result<(), AllocError>
     ensures { OnOk result (lines.new.text.items
-        ≡ lines.old.text.items ++ json_line (end_value outcome counts seen)) }
+        ≡ lines.old.text.items ++ json_line (end_value outcome.entry counts seen)) }
 {
     lines.push(
         alloc,
@@ -144,7 +166,11 @@ fn push_end(
             Member("status", Number(outcome.status as u64)),
             Member("reason", Field::Text(outcome.reason)),
             Member("code", Number(outcome.code as u64)),
+            Member("text", Field::Text(outcome.text)),
             Member("tag", Number(outcome.tag)),
+            Member("redelivered", Flag(outcome.redelivered)),
+            Member("delivery_count", Number(outcome.delivery_count)),
+            Member("parked", Number(outcome.parked)),
             Member("applied", Number(counts.applied)),
             Member("duplicates", Number(counts.duplicates)),
             Member("passed", Number(counts.passed)),
