@@ -24,7 +24,7 @@ use Rattle.cdc_sql.specs.declared.rows.Recent.{Recent}
 use Rattle.cdc_output.specs.declared.faults.ProgramFault.{ProgramFault}
 use Rattle.cdc_streams.specs.Saving.{PrintsBy, PrintsPart, is_write_fault}
 use Rattle.cdc_sql_book.specs.Books.{GrowsFrom, HasPrinted, IsRest, IsSavesOf, Leads, Prints}
-use Rattle.cdc_sql_book.specs.Private.Printing.{Continues, Fits, IsRefused}
+use Rattle.cdc_sql_book.specs.Private.Printing.{Continues, Fits, IsNext, IsRefused, SaveText, next_place}
 use Rattle.cdc_sql_book.specs.Recording.{IsRecordedSince, RecordedState, Taking, events_taken, follow_taken, step_taken}
 use Rattle.cdc_sql_book.specs.declared.books.SqlBook.{SqlBook}
 
@@ -245,6 +245,24 @@ module _ (setup : FollowSetup) (keeps : Bool) (name : List ℕ) (start place : P
             later_held from (is ∙ ap (λ b. cond b start place) more.0) same_save known
             (fits.later (or_saved (printed == 0) now.is_saved either more.0))
       ]
+
+-- the text of what a follower has kept continues what its book has printed
+pub book_held : {W : Type 0} (contents : W → Option (List ℕ)) (setup : FollowSetup) (book : SqlBook W)
+    (recorded now : RecordedState) (from to : Place) (recent : Recent) → recorded ≡ now → IsNext book recorded
+    → from ≡ next_place book → to ≡ place_of recorded.follower → recent.rows.entries ≡ recorded.rows
+    → option_map (λ kept. kept.items) recent.events ≡ recorded.events → is_plain setup.binding_text.items ≡ true
+    → Fits setup book.keeps_events book.name.text.items book.start book.place book.printed (contents book.writer)
+    now
+    → IfSome (contents book.writer) (λ bytes. Held setup book.keeps_events book.name.text.items book.start book.printed
+    bytes (SaveText setup book (save_between from to recent)) now.follower)
+book_held contents setup book recorded now from to recent same next is at rows events plain fits =
+    held setup book.keeps_events book.name.text.items book.start book.place book.printed (contents book.writer) now
+    (save_between from to recent) fits (ap (λ (r : RecordedState). (book.printed == 0) || r.is_saved) (sym same) ∙ next.saved) plain from is
+    (ap (λ (r : RecordedState). r.base) (sym same) ∙ next.base ∙ sym is)
+    (as_save recent now book.keeps_events from to (rows ∙ ap (λ (r : RecordedState). r.rows) same)
+    (events ∙ ap (λ (r : RecordedState). r.events) same)
+    (next.events ∙ ap (λ (r : RecordedState). is_some r.events) same)
+    (at ∙ ap (λ (r : RecordedState). place_of r.follower) same))
 
 -- what fits after a save of this follower
 pub fits_after : (setup : FollowSetup) (keeps : Bool) (name : List ℕ) (start place : Place) (printed later : ℕ)
