@@ -25,8 +25,8 @@ pub fn saves_make_tables()
     ensures { SavesMakeTables }
 {}
 
-/// Does nothing. A follower of a chained queue that resumes at the place of the tables of a prefix makes of them, by its
-/// saves, its own tables, which are those of a prefix.
+/// Does nothing. A follower of a chained queue that resumes at the place of the tables of a prefix makes of them, by
+/// its saves, its own tables, which are those of a prefix.
 pub fn saves_keep_a_prefix()
     ensures { SavesKeepAPrefix }
 {}

@@ -123,9 +123,9 @@ fn push_commit(text: &mut Vec<u8>, name: &SchemaName, ended: bool) -> Result<(),
 
 /// The text of the save of a follower that went from the place `before` to the place `after`. `recent` has what it has
 /// applied meanwhile. `binding` is the text of its binding, which has to be plain. The transaction moves the row of the
-/// table `book` from the one place to the other, and fails if the row isn't as it was left; then it puts the rows of the
-/// accounts, and adds the events. What follows it prints `saved T`, and `ended T` once the end was received, both from
-/// the row. The one error is that memory ran out.
+/// table `book` from the one place to the other, and fails if the row isn't as it was left; then it puts the rows of
+/// the accounts, and adds the events. What follows it prints `saved T`, and `ended T` once the end was received, both
+/// from the row. The one error is that memory ran out.
 pub fn transaction_text(
     alloc: Global,
     name: &SchemaName,

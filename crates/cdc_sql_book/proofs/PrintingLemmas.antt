@@ -23,8 +23,8 @@ use Rattle.cdc_sql.specs.declared.rows.AccountRow.{AccountRow}
 use Rattle.cdc_sql.specs.declared.rows.Recent.{Recent}
 use Rattle.cdc_output.specs.declared.faults.ProgramFault.{ProgramFault}
 use Rattle.cdc_streams.specs.Saving.{PrintsBy, PrintsPart, is_write_fault}
-use Rattle.cdc_sql_book.specs.Books.{GrowsFrom, HasPrinted, IsRest, IsSavesOf, Leads, Prints}
-use Rattle.cdc_sql_book.specs.Private.Printing.{Continues, Fits, IsRefused}
+use Rattle.cdc_sql_book.specs.Books.{AreSavesOf, GrowsFrom, HasPrinted, IsRest, IsSavesOf, Leads, Prints}
+use Rattle.cdc_sql_book.specs.Private.Printing.{Continues, Fits, IsNext, IsRefused, SaveText, next_place}
 use Rattle.cdc_sql_book.specs.Recording.{IsRecordedSince, RecordedState, Taking, events_taken, follow_taken, step_taken}
 use Rattle.cdc_sql_book.specs.declared.books.SqlBook.{SqlBook}
 
@@ -123,7 +123,8 @@ module _ (setup : FollowSetup) (keeps : Bool) (name : List ℕ) (start : Place) 
   next_save text place past taken saves at =
       let step = step_taken past taken in
       let to : place_after start saves.steps ≡ place =
-      ap (λ p. place_after p saves.steps) (sym saves.begins) ∙ place_led saves.begun past saves.steps saves.leads ∙ at in
+      ap (λ p. place_after p saves.steps) (sym saves.begins)
+      ∙ place_led saves.begun past saves.steps saves.leads ∙ at in
       record {
         begun = saves.begun;
         steps = saves.steps ++ step ∷ [];
@@ -246,22 +247,42 @@ module _ (setup : FollowSetup) (keeps : Bool) (name : List ℕ) (start place : P
             (fits.later (or_saved (printed == 0) now.is_saved either more.0))
       ]
 
+-- the text of what a follower has kept continues what its book has printed
+pub book_held : {W : Type 0} (contents : W → Option (List ℕ)) (setup : FollowSetup) (book : SqlBook W)
+    (recorded now : RecordedState) (from to : Place) (recent : Recent) → recorded ≡ now → IsNext book recorded
+    → from ≡ next_place book → to ≡ place_of recorded.follower → recent.rows.entries ≡ recorded.rows
+    → option_map (λ kept. kept.items) recent.events ≡ recorded.events → is_plain setup.binding_text.items ≡ true
+    → Fits setup book.keeps_events book.name.text.items book.start book.place book.printed (contents book.writer)
+    now
+    → IfSome (contents book.writer) (λ bytes. Held setup book.keeps_events book.name.text.items book.start book.printed
+    bytes (SaveText setup book (save_between from to recent)) now.follower)
+book_held contents setup book recorded now from to recent same next is at rows events plain fits =
+    held setup book.keeps_events book.name.text.items book.start book.place book.printed (contents book.writer) now
+    (save_between from to recent) fits
+    (ap (λ (r : RecordedState). (book.printed == 0) || r.is_saved) (sym same) ∙ next.saved) plain from is
+    (ap (λ (r : RecordedState). r.base) (sym same) ∙ next.base ∙ sym is)
+    (as_save recent now book.keeps_events from to (rows ∙ ap (λ (r : RecordedState). r.rows) same)
+    (events ∙ ap (λ (r : RecordedState). r.events) same)
+    (next.events ∙ ap (λ (r : RecordedState). is_some r.events) same)
+    (at ∙ ap (λ (r : RecordedState). place_of r.follower) same))
+
 -- what fits after a save of this follower
 pub fits_after : (setup : FollowSetup) (keeps : Bool) (name : List ℕ) (start place : Place) (printed later : ℕ)
     (old new : Option (List ℕ)) (more : List ℕ) (state : FollowState) (next : RecordedState)
     → (old ≡ None → new ≡ None) → Appends old new more → later ≡ printed + length more → place ≡ place_of state
     → IfSome old (λ bytes. Held setup keeps name start printed bytes more state)
     → IsRecordedSince state next → Fits setup keeps name start place later new next
-fits_after setup keeps name start place printed later None new more state next steady appends long at held since = record {
-  first = (state, since);
-  later = λ _. subst (λ k. IfSome k (λ bytes. Continues setup keeps name start place later bytes next))
-      (sym (steady refl)) tt;
-}
-fits_after setup keeps name start place printed later (Some bytes) new more state next steady appends long at held since =
+fits_after setup keeps name start place printed later None new more state next steady appends long at held since =
+    record {
+      first = (state, since);
+      later = λ _. subst (λ k. IfSome k (λ bytes. Continues setup keeps name start place later bytes next))
+          (sym (steady refl)) tt;
+    }
+fits_after setup keeps name start place printed later (Some was) new more state next steady appends long at held since =
     record {
       first = (state, since);
       later = λ _. subst (λ k. IfSome k (λ all. Continues setup keeps name start place later all next))
-          (sym (appended bytes more new appends)) (record {
+          (sym (appended was more new appends)) (record {
             before = held.before;
             text = held.text ++ more;
             past = state;
@@ -300,9 +321,9 @@ module _ {W : Type 0} (contents : W → Option (List ℕ)) (setup : FollowSetup)
         now_is = now_is ∙ ap (λ b. b ++ more) are ∙ append_assoc before prints.text more
             ∙ ap (λ t. before ++ t) (sym (append-nil (prints.text ++ more)));
         count = long ∙ ap (λ n. n + length more) prints.count ∙ sym (length-append prints.text more);
-        grows = grows_more (λ t s. IsSavesOf setup first.keeps_events first.name.text.items first.start t s.follower) [] prints.text more
+        grows = grows_more (AreSavesOf setup first.keeps_events first.name.text.items first.start) [] prints.text more
             states it
-            (subst (λ t. IsSavesOf setup first.keeps_events first.name.text.items first.start (t ++ more) it.follower) text
+            (subst (λ t. AreSavesOf setup first.keeps_events first.name.text.items first.start (t ++ more) it) text
             held.saves)
             prints.grows;
         rest = subst (λ t. IsRest setup first.name.text.items t []) (sym (same ∙ not_torn)) refl;
