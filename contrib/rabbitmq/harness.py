@@ -163,7 +163,7 @@ class Stream:
 
     def consumer(self, place, *arguments, log=None, book=None):
         book = book or self.book(place)
-        return self.start(log or f'consume-{place}', 'consume.py', place, '--program', self.program, '--book', book, '--every', 20, *arguments)
+        return self.start(log or f'take-{place}', 'take.py', place, '--program', self.program, '--book', book, '--every', 20, *arguments)
 
     def book(self, place):
         return self.room / f'book-{place}'
@@ -184,10 +184,10 @@ class Stream:
     def applied(self, place):
         """How many events the book on the disk has."""
         try:
-            found = APPLIED.findall(self.book(place).read_text())
+            found = APPLIED.search(self.book(place).read_text())
         except FileNotFoundError:
             return 0
-        return int(found[-1]) if found else 0
+        return int(found[1]) if found else 0
 
     def ends(self, actor, status, pattern):
         """An actor has to end with this status, and to report this."""

@@ -114,6 +114,10 @@ class Done:
     def reported(self, name):
         return dict(it.split(" ", 1) for it in self.report.splitlines()).get(name)
 
+    def number(self, name):
+        """A number of the report; -1 if it has none of this name."""
+        return int(self.reported(name) or -1)
+
     def __repr__(self):
         return repr((self.status, self.report, self.errors[-300:], self.methods(())))
 
@@ -567,8 +571,8 @@ def compare(name, text, parks, done, last):
         wanted = consuming.outcome(text, KNOWN, parks=parks)
     except consuming.Unknown:
         return
-    found = {"status": done.status, "code": int(done.reported("code")), "tag": int(done.reported("tag")),
-             "applied": int(done.reported("applied")), "duplicates": int(done.reported("duplicates")),
+    found = {"status": done.status, "code": done.number("code"), "tag": done.number("tag"),
+             "applied": done.number("applied"), "duplicates": done.number("duplicates"),
              "rejected": (done.rejected() if done.frames() else None) or []}
     check(f"{name}: the model", found == {it: wanted[it] for it in found}, (wanted, done))
     check(f"{name}: the model has taken what is acknowledged", last <= wanted["taken"], (last, wanted))
@@ -578,7 +582,7 @@ def compare(name, text, parks, done, last):
 
 def taken_by_book(folder, done):
     """How many deliveries the saved book has: events, duplicates, and the end."""
-    return taken_by(f"{folder}/book") + int(done.reported("duplicates"))
+    return taken_by(f"{folder}/book") + done.number("duplicates")
 
 
 def taken_by(book):
