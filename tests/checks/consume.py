@@ -9,7 +9,7 @@ at places. Mutated: bytes of such a stream are changed, left out or doubled, or 
 swapped. Whatever comes, no tag is acknowledged above the number of deliveries that the saved book has. Where the deliveries are the
 queue's, the book is a prefix of it, and a run over the whole queue completes it. Killed: a run ends at
 each open, read, write, sync and rename, or that or an allocation is refused; what is acknowledged is saved, and a run over the whole
-queue completes the book. RabbitMQ: a node of its own, reached through socat; a whole queue, a gap, kill -9 and redelivery, heartbeats, a queue that is deleted, what a server refuses.
+queue completes the book. RabbitMQ: a node of its own, reached through socat; a whole queue, parked messages, a gap, kill -9 and redelivery, heartbeats, a queue that is deleted, what a server refuses.
 
 Killed needs a C compiler, `cc`. The part with RabbitMQ needs `socat` and `rabbitmq-server`; without them it is named as not tried. The last line is `consume: N
 passed, M failed`; the status is 1 where one failed.
@@ -679,7 +679,8 @@ def within(room):
     """The checks against the node that BROKER_URLS names."""
     port = int(os.environ["BROKER_URLS"].split()[0].rsplit(":", 1)[1].split("/")[0])
     client = amqp.Client("127.0.0.1", port)
-    client.declare("q")
+    client.declare("dead")
+    client.declare("q", dead_letters="dead")
     for it in QUEUE:
         client.publish("q", *it)
     folder = fresh(room, "real")
@@ -687,6 +688,13 @@ def within(room):
     wait_for(lambda: client.declare("q", passive=True) == 0)
     check("RabbitMQ: the queue is empty", client.declare("q", passive=True) == 0, client.declare("q", passive=True))
     check("RabbitMQ: the book", book_of(folder, "--chained") == BOOKS[5], book_of(folder, "--chained"))
+    for it in [BAD[0], QUEUE[0], BAD[1], *QUEUE[1:5], BAD[4], QUEUE[5]]:
+        client.publish("q", *it)
+    folder = fresh(room, "parked")
+    ended_as(socat(port, folder, "--chained", "--park", "--every", "1"), folder, "messages that are parked", 0, "end", applied=5, parked=3)
+    wait_for(lambda: client.declare("q", passive=True) == 0 and client.declare("dead", passive=True) == 3)
+    left = client.declare("q", passive=True), client.declare("dead", passive=True)
+    check("RabbitMQ: what is parked is dead-lettered, and nothing is left", left == (0, 3), left)
     for it in [*QUEUE[:2], *QUEUE[3:]]:
         client.publish("q", *it)
     folder = fresh(room, "gap")

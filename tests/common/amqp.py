@@ -116,10 +116,11 @@ class Client:
         self.socket.sendall(method(1, which, arguments))
         return self.wait(answer)
 
-    def declare(self, queue, passive=False):
-        """Declares a durable queue, and returns how many messages are ready in it."""
+    def declare(self, queue, passive=False, dead_letters=None):
+        """Declares a durable queue, and returns how many messages are ready in it. `dead_letters`: the queue of those that are rejected."""
         bits = 1 if passive else 2
-        answer = self.ask(DECLARE, b"\0\0" + short(queue) + bytes([bits]) + table({}), DECLARE_OK)
+        found = {} if dead_letters is None else {"x-dead-letter-exchange": "", "x-dead-letter-routing-key": dead_letters}
+        answer = self.ask(DECLARE, b"\0\0" + short(queue) + bytes([bits]) + table(found), DECLARE_OK)
         return struct.unpack(">I", answer[1 + answer[0]:5 + answer[0]])[0]
 
     def delete(self, queue):
