@@ -87,7 +87,7 @@ done
 
 # README: what two consumers make of the deliveries, the line that counts them, what is proved.
 clone README
-sed -n '/^market=/,/^```$/p' "$top/README.md" | sed '$d' >shown.sh
+sed -n '/^\.\/relayplum simulate /,/^```$/p' "$top/README.md" | sed '$d' >shown.sh
 shown=$(sed -n '/^"delivery":2/,/^```$/p' "$top/README.md" | sed '$d')
 [ "$shown" != '' ] && [ "$shown" == "$(bash shown.sh 2>said)" ] || wrong 'README: the second delivery'
 line=$(sed -n 's/.*`\(subscriber 1 applied [0-9 of]*deliveries\)`.*/\1/p' "$top/README.md")

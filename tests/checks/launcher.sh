@@ -418,17 +418,19 @@ rm -f "$program.stamps"
 call sh -c './link books x >&-'
 lacks 'a program that is compared, standard output closed: no traceback' Traceback "$err"
 
-# --install puts the program, the man page, the completions and try-consumer in their places.
+# --install puts the program, the man page, the completions, the units and try-consumer in their places.
 mkdir -p "$room/top/completions" "$room/top/examples"
 for file in docs/relayplum.1 completions/relayplum.bash completions/_relayplum completions/relayplum.fish \
     examples/boundaries.script; do
     echo "$file" >"$room/top/$file"
 done
 cp -r "$here/tools/try-consumer" "$here/tools/trying" "$room/top/tools/"
+cp -r "$here/contrib" "$room/top/"
 call ./link --install "$room/usr/local"
 check '--install: status' 0 "$status"
 check '--install: the program' 'run with books x' "$("$room/usr/local/bin/relayplum" books x)"
-check '--install: each file' "$(printf '%s\n' bin/relayplum bin/try-consumer share/bash-completion/completions/relayplum \
+check '--install: each file' "$(printf '%s\n' bin/relayplum bin/try-consumer $(cd "$here/contrib/systemd" && printf 'lib/systemd/system/%s\n' *) \
+    share/bash-completion/completions/relayplum \
     share/fish/vendor_completions.d/relayplum.fish share/man/man1/relayplum.1 share/relayplum/boundaries.script \
     $(cd "$here/tools" && ls trying/*.py | sed 's,^,share/relayplum/,') share/zsh/site-functions/_relayplum)" \
     "$(cd "$room/usr/local" && find . -type f | sed 's/..//' | LC_ALL=C sort)"

@@ -6,14 +6,17 @@ import subprocess
 # Where each command comes from that a machine may lack.
 SOURCES = {
     "cc": "Debian package gcc",
+    "dpkg-deb": "Debian package dpkg",
     "git": "Debian package git",
     "java": "Debian package default-jdk-headless",
     "javac": "Debian package default-jdk-headless",
     "jq": "Debian package jq",
+    "lintian": "Debian package lintian",
     "node": "Debian package nodejs",
     "python3": "Debian package python3",
     "rt": "part of the Rattle toolchain",
     "setpriv": "Debian package util-linux",
+    "systemd-analyze": "Debian package systemd",
     "valgrind": "Debian package valgrind",
 }
 

@@ -1,4 +1,4 @@
-"""Installs the program with its man page, its completions and try-consumer."""
+"""Installs the program with its man page, its completions, its units and try-consumer."""
 import os
 import shutil
 
@@ -15,12 +15,16 @@ FILES = {
 }
 # The parts of try-consumer, and their place.
 PARTS, PARTS_TO = "tools/trying", "share/relayplum/trying"
+# The units of systemd, and their place.
+UNITS, UNITS_TO = "contrib/systemd", "lib/systemd/system"
 
 
 def files_of(program):
     """Returns where each file goes, the program first."""
     parts = sorted(it for it in os.listdir(f"{program.top}/{PARTS}") if it.endswith(".py"))
+    units = sorted(it for it in os.listdir(f"{program.top}/{UNITS}") if it.endswith((".service", ".timer")))
     files = {**FILES, **{f"{PARTS}/{it}": f"{PARTS_TO}/{it}" for it in parts}}
+    files.update({f"{UNITS}/{it}": f"{UNITS_TO}/{it}" for it in units})
     return {program.path: "bin/relayplum", **{f"{program.top}/{it}": place for it, place in files.items()}}
 
 
