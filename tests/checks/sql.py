@@ -13,7 +13,7 @@ is wrong, nothing is lost that was reported as saved, and the next follower goes
 same of a program that is killed while it follows a pipe into psql. Rivals: of followers that start at one row, one saves at a time, and
 the tables are those of a prefix of the queue. Stale: a follower that was stopped and wakes up after another one has saved changes
 nothing. Cuts: a save's text that is cut off at any byte is committed or changes nothing. Numbers: the greatest value in every column.
-Names: a schema whose name is a reserved word. Supervisor: contrib/postgresql/supervise.py prints what is saved, and ends both.
+Names: a schema whose name is a reserved word. Closed: standard descriptors. Supervisor: contrib/postgresql/supervise.py prints what is saved, and ends both.
 
 The last line is `sql: N passed, M failed`; the status is 1 if one failed.
 """
@@ -208,6 +208,11 @@ def is_prefix(server, name, lines):
     return server.accounts(name) == expected(lines, resumed(server.at(name)).seen)
 
 
+def last_saved(printed):
+    """The last timestamp that was reported as saved; 0 if none was."""
+    return max([int(it.split()[1]) for it in printed.decode().split("\n")[:-1] if it.startswith("saved ")], default=0)
+
+
 # ---------------------------------------------------------------------------------------------------------------------
 # What the program prints.
 
@@ -307,6 +312,31 @@ def refused(program):
         check("no position", (status, text) == (1, "") and "bad_record" in said, (status, text, said))
     status, text, said = called(program, ["--chained", "--sql", "bank", "--resume", "/nonexistent"], lines)
     check("no file", (status, text) == (1, "") and "read_fault" in said, (status, text, said))
+
+
+def closed(program):
+    """With standard descriptors closed, the text is the same, or none if standard output is closed, and no message gets into a file."""
+    lines = [*follow.stream_of(12), follow.chained(5, follow.event(10**6))]  # (standard error reports the gap at the last line)
+    at = position(0, 0, 0, False) + "\n"
+    wanted = "".join([PREAMBLE, *texts_of("bank", at, lines, 5)])
+    for numbers in ((), (0,), (1,), (2,), (0, 1), (0, 2), (1, 2), (0, 1, 2)):
+        with tempfile.TemporaryDirectory() as folder:
+            paths = {it: os.path.join(folder, it) for it in ("at", "stream", "out", "err")}
+            for name, text in (("at", at), ("stream", "".join(f"{it}\n" for it in lines))):
+                with open(paths[name], "w") as file:
+                    file.write(text)
+            arguments = ["--chained", "--sql", "bank", "--resume", paths["at"], "--every", "5", paths["stream"]]
+            with open(paths["out"], "wb") as out, open(paths["err"], "wb") as err:
+                close = lambda given=numbers: [os.close(it) for it in given]
+                done = subprocess.run([program, "follow", *arguments], stdin=subprocess.DEVNULL, stdout=out, stderr=err, preexec_fn=close, check=False)
+            found = {}
+            for name, path in paths.items():
+                with open(path) as file:
+                    found[name] = file.read()
+            check(f"{numbers} closed: the status", done.returncode == 3, done)
+            check(f"{numbers} closed: the text", found["out"] == ("" if 1 in numbers else wanted), found["out"][:500])
+            check(f"{numbers} closed: a message", ("gap" in found["err"]) == (2 not in numbers), found["err"])
+            check(f"{numbers} closed: the files", found["at"] == at and found["stream"].count("\n") == len(lines), found)
 
 
 # ---------------------------------------------------------------------------------------------------------------------
@@ -431,9 +461,9 @@ class Tried:
                 child.stdin.write(text[until:].encode())
         with contextlib.suppress(BrokenPipeError):
             child.stdin.close()
-        printed = child.stdout.read().decode().split("\n")[:-1]
+        printed = child.stdout.read()
         child.wait(SECONDS)
-        return max([int(it.split()[1]) for it in printed if it.startswith("saved ")], default=0)
+        return last_saved(printed)
 
     def pipes(self, count, rng):
         """Kills of a program that follows a pipe into psql, or of that psql."""
@@ -463,11 +493,11 @@ class Tried:
             program.stdin.write("".join(f"{it}\n" for it in lines).encode())
         with contextlib.suppress(BrokenPipeError):
             program.stdin.close()
-        said = client.stdout.read().decode().split("\n")[:-1]
+        printed = client.stdout.read()
         client.stdout.close()
         program.wait(SECONDS)
         client.wait(SECONDS)
-        return max([int(it.split()[1]) for it in said if it.startswith("saved ")], default=0)
+        return last_saved(printed)
 
     def supervised(self):
         """The supervisor over a whole stream, over duplicates, and over a psql that ends."""
@@ -542,6 +572,7 @@ def main(arguments):
     if not options.model:
         printed(options.program)
         refused(options.program)
+        closed(options.program)
     if tools() is None:
         print("sql: not tried: the saves on a server, since there is no PostgreSQL (Debian package postgresql)")
         return commands.ended("sql")
