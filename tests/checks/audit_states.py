@@ -1,8 +1,8 @@
 """The states that `audit --state` saves: their text, going on from them, and those that are killed and refused while they are saved.
 
 Part of audit.py. By hand: the text of a state with every kind of line. Logs: each save but the first appends the lines since the
-one before; a log that is cut anywhere is read up to its last whole frame. Cut: each stream of the rows by hand is cut at each line,
-audited up to there with a state, and then from there on; it has to come to what the whole stream comes to. Files that are no
+one before; a log that is cut anywhere is read up to its last whole frame. Cut: each stream of the rows by hand is cut at each line, a
+long one at some, audited up to there with a state, and then from there on; it has to come to what the whole stream comes to. Files that are no
 state are refused, and stay. Duplicates: a state doesn't have the lines that were skipped, and a stream may be delivered again from its first
 event to an audit that is resumed. Killed: the program ends at each open, read, write, sync and rename of a stream with a state, and is
 started again with the lines after the last one that was reported as saved, or that the state has; it has to come to the state of a
@@ -13,6 +13,7 @@ import concurrent.futures
 import fcntl
 import json
 import os
+import random
 import re
 import sys
 
@@ -26,6 +27,7 @@ from frames import frame, framed
 from piped import Piped
 
 JOBS = 2  # runs at a time
+MOST_CUTS, DRAWN_CUTS = 100, 20  # a stream with more lines is cut at so many drawn ones
 STORE = (1, "fault: store\n")
 
 
@@ -177,10 +179,20 @@ def logs(folder):
     os.remove(state)
 
 
+def places_in(stream):
+    """Where a stream is cut: at each line. Of a long one, each run of which takes long: at its first and last lines, and at lines
+    drawn by its length."""
+    count = len(stream)
+    if count <= MOST_CUTS:
+        return range(count + 1)
+    drawn = random.Random(count).sample(range(count), DRAWN_CUTS)
+    return sorted({0, 1, 2, count - 2, count - 1, count, *drawn})
+
+
 def cut(row):
     """What is wrong with a stream that is cut at some line and goes on."""
     number, folder, arguments, name, stream, printed, status = row
-    for place in range(len(stream) + 1):
+    for place in places_in(stream):
         state = os.path.join(folder, f"{number}.{place}")
         first = run([*arguments, "--state", state, "--every", "1"], text_of(stream[:place]))
         then = run([*arguments, "--state", state, "--every", "1", "--book"], text_of(stream[place:]))
@@ -198,7 +210,7 @@ def cut(row):
 
 
 def cuts(folder):
-    """Each stream of the rows by hand is cut at each line."""
+    """Each stream of the rows by hand is cut."""
     rows = [(folder, [], *row) for row in audit.rows()]
     rows += [(folder, ["--foreign"], *row) for row in audit.rows_of_another_ledger()]
     with concurrent.futures.ThreadPoolExecutor(JOBS) as pool:
