@@ -30,6 +30,7 @@ sys.dont_write_bytecode = True
 sys.path += [os.path.join(os.path.dirname(os.path.realpath(__file__)), "..", it) for it in ("common", "checks", "faults")]
 import amqp
 import commands
+import consuming
 import ending
 import interrupted
 import rooms
@@ -485,11 +486,29 @@ def mutations(count):
             check(f"mutation {number}: a status", done.status in (0, 1, 2, 3) and done.reported("status") == str(done.status), done)
             last = (done.acknowledged() if done.frames() else None) or [0]
             check(f"mutation {number}: acknowledged is saved", last[-1] <= taken_by_book(folder, done), (last, done))
+            compare(f"mutation {number}", text, done, last[-1])
             if is_whole:
                 check(f"mutation {number}: a prefix", book_of(folder, "--chained") in BOOKS, (book_of(folder, "--chained"), done))
                 done = consume(folder, server, "--chained")
                 check(f"mutation {number}: the whole", book_of(folder, "--chained") == BOOKS[5], done)
             shutil.rmtree(folder)
+
+
+# What each body of the queue is: the timestamp of its event.
+KNOWN = {body: 10 * at for at, (body, _, _) in enumerate(QUEUE[:5], 1)}
+
+
+def compare(name, text, done, last):
+    """Compares a run with the model, unless that doesn't know a body."""
+    try:
+        wanted = consuming.outcome(text, KNOWN)
+    except consuming.Unknown:
+        return
+    found = {it: done.status if it == "status" else int(done.reported(it)) for it in ("status", "code", "tag", "applied", "duplicates")}
+    check(f"{name}: the model", found == {it: wanted[it] for it in found}, (wanted, done))
+    check(f"{name}: what is acknowledged is taken", last <= wanted["taken"], (last, wanted))
+    if wanted["status"] == 0:
+        check(f"{name}: all that is taken is acknowledged", last == wanted["taken"], (last, wanted))
 
 
 def taken_by_book(folder, done):
