@@ -53,6 +53,7 @@ BUDGETS = [
     (1_030, "contrib/rabbitmq/README.md"),
     (300, "contrib/postgresql/README.md"),
     (260, "SECURITY.md"),
+    (300, "drafts/README.md"),
     (120, ".github/ISSUE_TEMPLATE/problem.md"),
 ]
 FIRST = "README.md"

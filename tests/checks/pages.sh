@@ -130,5 +130,13 @@ if ! made=$("$top/tools/pages"); then
     printf '%s\n' "$made"
 fi
 
+# The drawing of the crates, which tools/layers makes of crates.txt.
+! $writes || "$top/tools/layers"
+checks=$((checks + 1))
+if ! "$top/tools/layers" --check; then
+    failed=$((failed + 1))
+    printf "failed: docs/pictures/crates.svg is not what tools/layers makes of crates.txt\n"
+fi
+
 echo "pages: $checks checks, $failed failed"
 [ "$failed" == 0 ]
