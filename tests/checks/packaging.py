@@ -222,7 +222,7 @@ def main(arguments):
         for part in (units, following, auditing, package):
             part(checks)
     if checks.left_out:
-        print(f"packaging: not tried: {'; '.join(f'{what}: {why}' for why, what in checks.left_out.items())}")
+        print(f"packaging: left out: {'; '.join(f'{what}: {why}' for why, what in checks.left_out.items())}")
     print(f"packaging: {checks.passed} passed, {checks.failed} failed")
     return 1 if checks.failed else 0
 
