@@ -37,7 +37,7 @@ MORE = 3.0  # per cent, of what a further transfer costs, for each doubling
 EXPONENT = 1.03  # of the instructions: a hash table that doubles between two sizes adds up to 0.021; n log n would be 1.12
 # Instructions of the program that LLVM makes, and of the one that Rattle's own compiler makes, as it does of records.
 FULL = {"books": (20_500, 29_500), "messages": (17_000, 24_500)}  # for each transfer of a full script
-FURTHER = (5_000, 7_500)  # for each transfer and each subscriber beyond the first
+FURTHER = (5_670, 7_500)  # for each transfer and each subscriber beyond the first
 # Megabytes that `books` of a full script may hold at once: 14 and 15 were measured, of which the code of the program takes 2 and
 # 3; with each event kept to the end it was 27. What a system gives in larger pages adds some.
 PEAK = (16, 17)
