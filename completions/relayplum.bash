@@ -42,8 +42,8 @@ _relayplum() {
                 words+=' --start-after --progress --deliveries --expect --explain --trace --json -h --help'
                 ;;
             follow)
-                words='--chained --checked --skip-gaps --binding --after --book --every --busy --expect --sql'
-                words+=' --resume --sql-schema --json -h --help'
+                words='--chained --checked --baseline --from-book --skip-gaps --binding --after --book --every'
+                words+=' --busy --expect --sql --resume --sql-schema --events --json -h --help'
                 ;;
             audit)
                 words='--book --foreign --duplicates --state --every --json -h --help'
@@ -52,8 +52,8 @@ _relayplum() {
                 words='--queue --state --every -h --help'
                 ;;
             consume)
-                words='--queue --book --chained --binding --vhost --user --password-file --prefetch --heartbeat'
-                words+=' --every --busy --limit --report --json -h --help'
+                words='--queue --book --chained --park --binding --vhost --user --password-file --prefetch'
+                words+=' --heartbeat --every --busy --limit --report --json -h --help'
                 ;;
         esac
     fi

@@ -36,6 +36,8 @@ complete -c relayplum -n '__fish_seen_subcommand_from run' -l progress -r -d "Sa
 complete -c relayplum -n '__fish_seen_subcommand_from run' -l trace -d 'Print on standard error what was lost or sent again, and what each subscriber received'
 complete -c relayplum -n '__fish_seen_subcommand_from follow' -l chained -d 'Apply an event only if it follows the last one of its queue, by its member previous'
 complete -c relayplum -n '__fish_seen_subcommand_from follow' -l checked -d 'Apply an event only if the balances that it shows follow from the events applied before'
+complete -c relayplum -n '__fish_seen_subcommand_from follow' -l baseline -d 'Take the first event of each account as it is, so that the stream may begin anywhere'
+complete -c relayplum -n '__fish_seen_subcommand_from follow' -l from-book -r -d 'Begin a new book as a copy of the checked book in FILE'
 complete -c relayplum -n '__fish_seen_subcommand_from follow' -l skip-gaps -d 'Skip an event that does not follow the last one, and go on'
 complete -c relayplum -n '__fish_seen_subcommand_from follow consume' -l binding -x -d "Apply only the events that match this binding, such as 'all ledger=700'"
 complete -c relayplum -n '__fish_seen_subcommand_from follow' -l after -x -d 'Begin a new book after the event with this timestamp, in nanoseconds'
@@ -46,6 +48,7 @@ complete -c relayplum -n '__fish_seen_subcommand_from follow' -l expect -d 'Prin
 complete -c relayplum -n '__fish_seen_subcommand_from follow' -l sql -x -d 'Print each save as SQL for PostgreSQL, with the tables of schema NAME, instead of the book'
 complete -c relayplum -n '__fish_seen_subcommand_from follow' -l resume -r -d 'Begin at the position in FILE, as the table book has it'
 complete -c relayplum -n '__fish_seen_subcommand_from follow' -l sql-schema -x -d 'Print the SQL that makes the tables in schema NAME, and read no stream'
+complete -c relayplum -n '__fish_seen_subcommand_from follow' -l events -d 'Keep the events that are applied in a table, too'
 complete -c relayplum -n '__fish_seen_subcommand_from audit' -l book -d 'Print the last balances of each account'
 complete -c relayplum -n '__fish_seen_subcommand_from audit' -l foreign -d "Accept flags that this ledger doesn't have"
 complete -c relayplum -n '__fish_seen_subcommand_from audit' -l duplicates -d "Skip and count events that aren't later than the last accepted one"
@@ -55,6 +58,7 @@ complete -c relayplum -n '__fish_seen_subcommand_from chain' -l queue -x -d "Pri
 complete -c relayplum -n '__fish_seen_subcommand_from consume' -l queue -x -d 'Consume this queue, which has to exist'
 complete -c relayplum -n '__fish_seen_subcommand_from consume' -l book -r -d 'Save the book in this file, or sqlite:FILE, and resume from it'
 complete -c relayplum -n '__fish_seen_subcommand_from consume' -l chained -d 'Apply an event only if it follows the last one of its queue, by its header or member previous'
+complete -c relayplum -n '__fish_seen_subcommand_from consume' -l park -d 'Reject a message that is no event, for a dead-letter exchange, and go on after it'
 complete -c relayplum -n '__fish_seen_subcommand_from consume' -l vhost -x -d 'Use this virtual host'
 complete -c relayplum -n '__fish_seen_subcommand_from consume' -l user -x -d 'Log in as this user'
 complete -c relayplum -n '__fish_seen_subcommand_from consume' -l password-file -r -d 'Read the password from this file, up to its first line feed'
