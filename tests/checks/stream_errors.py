@@ -112,6 +112,9 @@ STREAMS = [
      "most"),
 ]
 
+# What an audit refuses by a rule, where the other commands have a line that is no event.
+BY_RULE = {"a timestamp of 2^63": "1: timestamps: no ledger gives such a timestamp: it was changed"}
+
 
 def streams(checks):
     """Each stream in a file, and through a pipe; the other commands report the same."""
@@ -125,7 +128,8 @@ def streams(checks):
         if not flags:
             for arguments in (["audit"], ["follow", "--checked"], ["chain", "--queue", "all"], ["follow", "--expect"]):
                 errors = checks.run([*arguments, "stream"])[2].splitlines()
-                checks.same(f"{what}: {' '.join(arguments)}", f"stream:{sentence}", errors[-1] if errors else "")
+                wanted = BY_RULE.get(what, sentence) if arguments == ["audit"] else sentence
+                checks.same(f"{what}: {' '.join(arguments)}", f"stream:{wanted}", errors[-1] if errors else "")
 
 
 # How a book or a state is made, the command that can't use it, and what standard error reports.
