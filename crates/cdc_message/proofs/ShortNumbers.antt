@@ -1,11 +1,13 @@
 -- Digits that are read one by one.
-use Rattle.std.proofs.Common.{◌≡◌, ◌≤◌, ◌<◌, ◌+◌, ◌*◌, ◌-◌, ◌/◌, ◌%◌, ◌^◌, ◌∷◌, ◌++◌, ◌&&◌, ◌∙◌, ℕ, List, [], length, get_or, take, true, ap, sym, refl, suc, append-nil, append_assoc, arith, rules}
+use Rattle.std.proofs.Common.{◌≡◌, ◌≤◌, ◌<◌, ◌+◌, ◌*◌, ◌-◌, ◌/◌, ◌%◌, ◌^◌, ◌∷◌, ◌++◌, ◌&&◌, ◌∙◌, ℕ, List, [], drop, length, get_or, take, true, ap, sym, subst, refl, suc, append-nil, append_assoc, arith, rules}
 use Rattle.std.proofs.lemmas.Bool.Decides.{nat_tests}
+use Rattle.std.proofs.Math.Seq.{take-length}
 use Rattle.std.proofs.Math.Nat.{pow-le-pow_right, pow-suc}
 use Rattle.std.proofs.lemmas.Fmt.{decimal_digit, decimal_step_wide}
 use Rattle.std.proofs.lemmas.Int.Digits.{digits_value_push}
-use Rattle.std.proofs.lemmas.List.{get_or-take, take_more}
+use Rattle.std.proofs.lemmas.List.{get_or-drop, get_or-take, length-drop, take_more}
 use Rattle.std.proofs.lemmas.List.Folds.{list_all-append}
+use Rattle.std.proofs.lemmas.Nat.{pow-add}
 use Rattle.std.proofs.lemmas.Str.{digit_value_digit}
 use Rattle.std.proofs.lemmas.Str.Parse.{digit_from_value, digits_value_short}
 use Rattle.std.specs.Char.{digit_value, is_ascii_digit}
@@ -13,7 +15,7 @@ use Rattle.std.specs.Fmt.{decimal}
 use Rattle.std.specs.Int.{IsInRange}
 use Rattle.std.specs.List.{list_all}
 use Rattle.std.specs.Str.Parse.{AllDigits, digits_value, digits_value_after}
-use Rattle.cdc_message.specs.Digits.{AreDigits}
+use Rattle.cdc_message.specs.Digits.{AreDigits, FourMore}
 use Rattle.cdc_message.proofs.DecimalTexts.{own_digits}
 
 -- none were read yet
@@ -54,6 +56,43 @@ more text count number d reads within is digit =
           ∙ digits_value_push 10 (take count text) (get_or text count 0) ∙ sum);
     }
 
+-- a text from a place on, as a slice has it
+pub rest_is : (text : List ℕ) (count : ℕ) → drop count text ≡ take (length text - count) (drop count text)
+rest_is text count =
+    sym (ap (λ k. take k (drop count text)) (sym (length-drop count text)) ∙ take-length (drop count text))
+
+-- four digits more are read
+pub four_more : (text : List ℕ) (p q r s : ℕ) → 4 ≤ length text → is_ascii_digit (get_or text 0 0) ≡ true
+    → is_ascii_digit (get_or text 1 0) ≡ true → is_ascii_digit (get_or text 2 0) ≡ true
+    → is_ascii_digit (get_or text 3 0) ≡ true → p ≡ get_or text 0 0 - 48 → q ≡ get_or text 1 0 - 48
+    → r ≡ get_or text 2 0 - 48 → s ≡ get_or text 3 0 - 48 → FourMore text ((p * 10 + q) * 100 + (r * 10 + s))
+four_more text p q r s room is_a is_b is_c is_d is_p is_q is_r is_s all count number rest reads =
+    let lengths : length all - count ≡ length text = sym (length-drop count all) ∙ ap length rest in
+    let there : (k : ℕ) → get_or text k 0 ≡ get_or all (count + k) 0 =
+    λ (k : ℕ). ap (λ t. get_or t k 0) (sym rest) ∙ get_or-drop count all k 0 in
+    let none : count + 0 ≡ count = omega arith in
+    let two : count + 2 ≡ count + 1 + 1 = omega arith in
+    let three : count + 3 ≡ count + 1 + 1 + 1 = omega arith in
+    let four : count + 1 + 1 + 1 + 1 ≡ count + 4 = omega arith in
+    let a : ℕ = get_or text 0 0 in
+    let b : ℕ = get_or text 1 0 in
+    let c : ℕ = get_or text 2 0 in
+    let d : ℕ = get_or text 3 0 in
+    let read_1 : AreDigits all (count + 1) (number * 10 + (a - 48)) =
+    more all count number a reads (omega (arith, lengths, room)) (there 0 ∙ ap (λ k. get_or all k 0) none) is_a in
+    let read_2 : AreDigits all (count + 1 + 1) ((number * 10 + (a - 48)) * 10 + (b - 48)) =
+    more all (count + 1) _ b read_1 (omega (arith, lengths, room)) (there 1) is_b in
+    let read_3 : AreDigits all (count + 1 + 1 + 1) (((number * 10 + (a - 48)) * 10 + (b - 48)) * 10 + (c - 48)) =
+    more all (count + 1 + 1) _ c read_2 (omega (arith, lengths, room)) (there 2 ∙ ap (λ k. get_or all k 0) two) is_c in
+    let read_4 : AreDigits all (count + 1 + 1 + 1 + 1)
+    ((((number * 10 + (a - 48)) * 10 + (b - 48)) * 10 + (c - 48)) * 10 + (d - 48)) =
+    more all (count + 1 + 1 + 1) _ d read_3 (omega (arith, lengths, room))
+    (there 3 ∙ ap (λ k. get_or all k 0) three) is_d in
+    let sum : (((number * 10 + (a - 48)) * 10 + (b - 48)) * 10 + (c - 48)) * 10 + (d - 48)
+    ≡ number * 10000 + ((p * 10 + q) * 100 + (r * 10 + s)) = omega (arith, is_p, is_q, is_r, is_s) in
+    subst (λ (k : ℕ). AreDigits all k (number * 10000 + ((p * 10 + q) * 100 + (r * 10 + s)))) four
+    (subst (λ (n : ℕ). AreDigits all (count + 1 + 1 + 1 + 1) n) sum read_4)
+
 -- ---- digits after the first 19
 
 -- a digit more takes ten times the scale
@@ -61,6 +100,18 @@ pub scaled : (count : ℕ) → 19 ≤ count → 10 ^ (count - 19) * 10 ≡ 10 ^ 
 scaled count past =
     let next : suc (count - 19) ≡ count + 1 - 19 = omega (arith, past) in
     sym (pow-suc 10 (count - 19)) ∙ ap (λ k. 10 ^ k) next
+
+-- four digits more take ten thousand times the scale
+pub scaled_by_four : (count : ℕ) → 19 ≤ count → 10 ^ (count - 19) * 10000 ≡ 10 ^ (count + 4 - 19)
+scaled_by_four count past =
+    let next : count - 19 + 4 ≡ count + 4 - 19 = omega (arith, past) in
+    sym (pow-add 10 (count - 19) 4) ∙ ap (λ k. 10 ^ k) next
+
+-- which fits into 64 bits for up to 15 digits
+pub scale_fits_four : (count : ℕ) → 19 ≤ count → count ≤ 34 → 10 ^ (count - 19) ≤ 10 ^ 15
+scale_fits_four count past few =
+    let less : count - 19 ≤ 15 = omega (arith, past, few) in
+    pow-le-pow_right (omega arith) less
 
 -- which fits into 64 bits for up to 18 digits
 pub scale_fits : (count : ℕ) → 19 ≤ count → count ≤ 37 → 10 ^ (count - 19) ≤ 10 ^ 18
@@ -71,6 +122,11 @@ scale_fits count past few =
 -- both parts with a digit more
 pub joined : (high low scale d : ℕ) → (high * scale + low) * 10 + d ≡ high * (scale * 10) + (low * 10 + d)
 joined high low scale d = omega arith
+
+-- both parts with four digits more
+pub joined_by_four : (high low scale four : ℕ)
+    → (high * scale + low) * 10000 + four ≡ high * (scale * 10000) + (low * 10000 + four)
+joined_by_four high low scale four = omega arith
 
 -- ---- what digits are printed as
 

@@ -6,7 +6,7 @@ ghost use Rattle.std.specs.Char.{is_ascii_digit};
 ghost use Rattle.std.specs.List.{list_all, take_while};
 ghost use Rattle.std.specs.Str.Parse.{digits_value};
 ghost use Rattle.cdc_message.specs.Decimals as spec;
-ghost use Rattle.cdc_message.specs.Digits.{AreDigits};
+ghost use Rattle.cdc_message.specs.Digits.{AreDigits, FourMore};
 ghost use Rattle.cdc_message.specs.OwnBodies.{begins_with_digit};
 
 fn has_digits_alone(text: &[u8]) -> bool
@@ -88,6 +88,45 @@ const FIRST: usize = 19;
 // How many digits always fit into 128 bits.
 const MOST: usize = 38;
 
+// How many digits are read at once, and ten to the power of that.
+const GROUP: usize = 4;
+
+const GROUP_SCALE: u64 = 10_000;
+
+// The number that the first four bytes of a text represent. `None` if they aren't four digits.
+#[inline(always)]
+fn four_digits(text: &[u8]) -> Option<u64>
+    ensures reads { IfSome result (FourMore text.now) }
+    ensures small { IfSome result (λ four. four < GROUP_SCALE) }
+{
+    match text {
+        [one, two, three, four, ..]
+            if one.is_ascii_digit()
+                && two.is_ascii_digit()
+                && three.is_ascii_digit()
+                && four.is_ascii_digit() => {
+            let front = u64::from(*one - b'0') * 10 + u64::from(*two - b'0');
+            let back = u64::from(*three - b'0') * 10 + u64::from(*four - b'0');
+            Some(front * 100 + back)
+        }
+        _ => None,
+    }
+}
+
+// The number of one digit with which a text begins. `None` if it doesn't, or if another digit follows.
+#[inline(always)]
+fn one_digit(text: &[u8]) -> Option<u128>
+    ensures reads { IfSome result (AreDigits text.now 1) }
+    ensures whole { IfSome result (λ digit. begins_with_digit (drop 1 text.now) ≡ false) }
+{
+    match text {
+        [digit, next, ..] if digit.is_ascii_digit() && !next.is_ascii_digit() => {
+            Some(u128::from(*digit - b'0'))
+        }
+        _ => None,
+    }
+}
+
 // The first digits of a text, at most 19: the number that they represent, and how many they are.
 fn first_digits(text: &[u8]) -> (u64, usize)
     ensures reads { AreDigits text.now result.1 result.0 }
@@ -96,6 +135,13 @@ fn first_digits(text: &[u8]) -> (u64, usize)
 {
     let mut number = 0;
     let mut count = 0;
+    'groups: while count <= FIRST - GROUP {
+        let Some(group) = four_digits(&text[count..]) else {
+            break;
+        };
+        number = number * GROUP_SCALE + group;
+        count += GROUP;
+    }
     while count < FIRST && count < text.len() && text[count].is_ascii_digit() {
         number = number * 10 + u64::from(text[count] - b'0');
         count += 1;
@@ -114,6 +160,14 @@ fn more_digits(text: &[u8], high: u64) -> Option<(u128, usize)>
     let mut low: u64 = 0;
     let mut scale: u64 = 1;
     let mut count = FIRST;
+    'groups: while count <= MOST - GROUP {
+        let Some(group) = four_digits(&text[count..]) else {
+            break;
+        };
+        low = low * GROUP_SCALE + group;
+        scale *= GROUP_SCALE;
+        count += GROUP;
+    }
     while count < text.len() && text[count].is_ascii_digit() {
         if count == MOST {
             return None;
@@ -135,6 +189,9 @@ pub(crate) fn front_number(text: &[u8]) -> Option<(u128, usize)>
     ensures fits { IfSome result (λ found. found.0 < 10 ^ MOST) }
     ensures whole { IfSome result (λ found. begins_with_digit (drop found.1 text.now) ≡ false) }
 {
+    if let Some(digit) = one_digit(text) {
+        return Some((digit, 1));
+    }
     let (number, count) = first_digits(text);
     if count == 0 || (count > 1 && text[0] == b'0') {
         return None;

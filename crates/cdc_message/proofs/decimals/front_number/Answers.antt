@@ -1,9 +1,19 @@
-use Rattle.std.proofs.Common.{◌≡◌, ◌≤◌, ◌<◌, ◌^◌, ◌∙◌, Option, None, Some, IfSome, ap, decimal, get_or, length, List, ℕ, take, arith}
+use Rattle.std.proofs.Common.{◌≡◌, ◌≤◌, ◌<◌, ◌^◌, ◌∙◌, Option, None, Some, IfSome, ap, decimal, get_or, length, List, ℕ, refl, take, arith}
 use Rattle.std.proofs.lemmas.Bool.Decides.{nat_tests}
 use Rattle.cdc_message.specs.Digits.{AreDigits}
 use Rattle.cdc_message.proofs.ShortNumbers.{below, printed}
 use Rattle.cdc_message.proofs.decimals.front_number.Goals as goal
 use Rattle.cdc_message.proofs.decimals.front_number.Goals.{then-count-gt1, else-count-gt1}
+
+-- one digit
+pub returns-in-Some-clause-digits : goal.returns-in-Some-clause-digits
+returns-in-Some-clause-digits c = (
+  c.in-Some.ensures.reads.within,
+  printed c.args.text.now 1 c.in-Some.digit c.in-Some.ensures.reads (omega arith) (omega arith) (λ _. refl),
+)
+
+pub returns-in-Some-clause-fits : goal.returns-in-Some-clause-fits
+returns-in-Some-clause-fits c = below c.args.text.now 1 c.in-Some.digit 38 c.in-Some.ensures.reads (omega arith)
 
 pub returns-then-count-lt-FIRST-clause-digits : goal.returns-then-count-lt-FIRST-clause-digits
 returns-then-count-lt-FIRST-clause-digits c =
