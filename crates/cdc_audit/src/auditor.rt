@@ -1,7 +1,7 @@
 //! An auditor: it accepts each event of a stream that follows from the events before it, and refuses the first other
 //! one.
 
-ghost use Rattle.std.specs.Prelude.{◌≡◌, ◌≤◌, ◌<◌, ◌^◌, ◌+◌, ◌==◌, ◌&&◌, is_none, ℕ, true, false, nat_eq, unwrap_or, Some, None, IsSome, IfOk, OnErr};
+ghost use Rattle.std.specs.Prelude.{◌≡◌, ◌≤◌, ◌<◌, ◌^◌, ◌+◌, ◌==◌, ◌&&◌, is_none, is_some, ℕ, true, false, nat_eq, unwrap_or, Some, None, IsSome, IfOk, OnErr};
 ghost use Rattle.std.specs.Prelude.{List, if◌then◌else◌};
 ghost use Rattle.cdc_types.specs.declared.events.Event as event;
 ghost use Rattle.indexmap.specs.IndexMap.{insert_entry, spare};
@@ -11,6 +11,7 @@ ghost use Rattle.cdc_subscriber.specs.Book.{balances_in};
 ghost use Rattle.cdc_subscriber.specs.Steps.{next_state};
 ghost use Rattle.cdc_audit.specs.Audits.{AuditState, begins, entry_refusal, event_refusal, next_audit, with_event};
 ghost use Rattle.cdc_audit.specs.Apart as apart;
+ghost use Rattle.cdc_audit.specs.Apart.{times_known};
 ghost use Rattle.cdc_audit.specs.Rooms as rooms;
 ghost use Rattle.cdc_audit.specs.Checks as spec;
 ghost use Rattle.cdc_audit.specs.Standing as standing;
@@ -281,12 +282,12 @@ impl Auditor {
         self.fields.get(&account).copied()
     }
 
-    /// What else has the timestamp of an account.
-    fn times_of(&self, account: &EventAccount) -> Times
+    /// What else has the timestamp of an account, of which an earlier event showed these fields.
+    fn times_of(&self, shown: Option<FixedFields>, account: &EventAccount) -> Times
         ensures { AreInOrder self.now.times
-            → result ≡ standing.times_of_account self.now account.now }
+            → result ≡ times_known (is_some shown) self.now.times self.now.fields account.now.timestamp }
     {
-        if self.fields_of(account.id).is_some() {
+        if shown.is_some() {
             Times {
                 of_event: false,
                 of_account: None,
@@ -324,6 +325,8 @@ impl Auditor {
             → result ≡ standing.facts_of self.now result.first event.now }
         ensures first { IsFirst (standing.open_under self.now.open_ones) result.first }
     {
+        let debit_fields = self.fields_of(event.debit_account.id);
+        let credit_fields = self.fields_of(event.credit_account.id);
         Facts {
             last: self.subscriber.last(),
             linked: self.chain > 0,
@@ -332,10 +335,10 @@ impl Auditor {
             own: self.stored_if(stores(event.kind), event.transfer.id),
             settled: self.stored_if(settles(event.kind), settled_id(event)),
             open_one: self.open_if(settles(event.kind), settled_id(event)),
-            debit_fields: self.fields_of(event.debit_account.id),
-            credit_fields: self.fields_of(event.credit_account.id),
-            debit_times: self.times_of(&event.debit_account),
-            credit_times: self.times_of(&event.credit_account),
+            debit_fields,
+            credit_fields,
+            debit_times: self.times_of(debit_fields, &event.debit_account),
+            credit_times: self.times_of(credit_fields, &event.credit_account),
             debited: self.balances(event.debit_account.id),
             credited: self.balances(event.credit_account.id),
             room: self.room(event),
