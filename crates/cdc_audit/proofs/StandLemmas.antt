@@ -432,6 +432,12 @@ facts_same last last2 linked linked2 first expired expired2 own own2 settled set
       room = b i;
     }
 
+-- accounts that are known stay as they are
+pub known_stay : (fields : List (ℕ × FixedFields)) (e : Event)
+    → is_some (fields_under fields e.debit_account.id) ≡ true
+    → is_some (fields_under fields e.credit_account.id) ≡ true → with_accounts fields e ≡ fields
+known_stay fields e debit credit = rw (debit, credit)
+
 -- ---- an auditor of which nothing changed
 
 -- what holds of an error

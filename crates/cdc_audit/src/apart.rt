@@ -1,6 +1,6 @@
 //! The rules on the timestamps at which accounts were created: each belongs to one account, and to no event.
 
-ghost use Rattle.std.specs.Prelude.{◌≡◌, ◌==◌, ◌≤◌, ◌++◌, ◌∷◌, ◌+◌, [], ℕ, List, vec_len, IfOk, OnOk, OnErr, Some, None, nat_eq, if◌then◌else◌};
+ghost use Rattle.std.specs.Prelude.{◌≡◌, ◌==◌, ◌≤◌, ◌++◌, ◌∷◌, ◌+◌, [], ℕ, List, vec_len, true, IfOk, OnOk, OnErr, Some, None, nat_eq, if◌then◌else◌};
 ghost use Rattle.std.specs.Map.{lookup};
 ghost use Rattle.std.specs.Option.{option_or};
 ghost use Rattle.std.specs.Vec.{vec_capacity};
@@ -152,13 +152,16 @@ fn keep_account(
 }
 
 /// Keeps both accounts of an accepted event, by their ids and by the timestamps at which they were created; of the
-/// linked ones the timestamps alone, too.
+/// linked ones the timestamps alone, too. There is nothing to do if both are known.
 pub(crate) fn keep_accounts(
     fields: &mut KeyedMap<u128, FixedFields>,
     created: &mut KeyedMap<u64, u128>,
     links: &mut KeyedMap<u64, u128>,
     event: &Event,
+    known: bool,
 )
+    requires known { known ≡ true
+        → standing.with_accounts fields.old.entries event.now ≡ fields.old.entries }
     requires fields_fit { 2 ≤ spare fields.old }
     requires created_fit { 2 ≤ spare created.old }
     requires links_fit { 2 ≤ spare links.old }
@@ -168,6 +171,9 @@ pub(crate) fn keep_accounts(
     ensures linked { IsLinkIndex links.old.entries fields.old.entries
         → IsLinkIndex links.new.entries fields.new.entries }
 {
+    if known {
+        return;
+    }
     keep_account(fields, created, links, event.ledger, &event.debit_account);
     keep_account(fields, created, links, event.ledger, &event.credit_account);
 }

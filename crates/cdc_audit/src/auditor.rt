@@ -324,6 +324,10 @@ impl Auditor {
         ensures facts { AreInOrder self.now.times
             → result ≡ standing.facts_of self.now result.first event.now }
         ensures first { IsFirst (standing.open_under self.now.open_ones) result.first }
+        ensures debit { result.debit_fields
+            ≡ standing.fields_under self.now.fields event.now.debit_account.id }
+        ensures credit { result.credit_fields
+            ≡ standing.fields_under self.now.fields event.now.credit_account.id }
     {
         let debit_fields = self.fields_of(event.debit_account.id);
         let credit_fields = self.fields_of(event.credit_account.id);
@@ -349,6 +353,9 @@ impl Auditor {
     fn link_at(&self, timestamp: u64) -> Option<u128>
         ensures { result ≡ apart.account_at (rooms.links_of self.now.fields) timestamp }
     {
+        if self.links.is_empty() {
+            return None;
+        }
         self.links.get(&timestamp).copied()
     }
 
@@ -464,7 +471,13 @@ impl Auditor {
         }
         keep(&mut self.transfers, event, released(&facts, event));
         remove_settled(&mut self.open_ones, event);
-        keep_accounts(&mut self.fields, &mut self.created, &mut self.links, event);
+        keep_accounts(
+            &mut self.fields,
+            &mut self.created,
+            &mut self.links,
+            event,
+            shows_both(&facts),
+        );
         keep_time(&mut self.times, event.timestamp);
         self.chain = next_chain(self.chain, event);
         self.expired = expiry_or(self.expired, event);
@@ -503,6 +516,13 @@ fn keep(transfers: &mut KeyedMap<u128, Stored>, event: &Event, amount: u128)
     if settles(event.kind) {
         put(transfers, settled_id(event), Stored::Settled(amount));
     }
+}
+
+/// Whether earlier events showed both accounts of an event.
+fn shows_both(facts: &Facts) -> bool
+    ensures { result ≡ (is_some facts.now.debit_fields && is_some facts.now.credit_fields) }
+{
+    facts.debit_fields.is_some() && facts.credit_fields.is_some()
 }
 
 /// Keeps an event that stores a pending transfer, and returns whether it was added.

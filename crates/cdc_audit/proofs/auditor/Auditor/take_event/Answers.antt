@@ -1,6 +1,6 @@
-use Rattle.cdc_audit.proofs.Words.{AuditorState, Facts, IsLinkIndex, IsTimeIndex, None, [], ap, expiry_or, first_line, lines, next_chain, next_state, released, subst, sym, with_accounts, with_held, with_own, with_settled, without_settled, ◌++◌, ◌∙◌, ◌∷◌}
+use Rattle.cdc_audit.proofs.Words.{AuditorState, Facts, IsLinkIndex, IsTimeIndex, None, [], and_parts, ap, expiry_or, fields_under, first_line, is_some, lines, next_chain, next_state, released, subst, sym, with_accounts, with_held, with_own, with_settled, without_settled, ◌++◌, ◌≡◌, ◌∙◌, ◌∷◌}
 use Rattle.cdc_message.specs.declared.items.Item.TheVariants as item
-use Rattle.cdc_audit.proofs.StandLemmas.{accepts, answers, auditor_same, if_error, times_ordered, unless_error}
+use Rattle.cdc_audit.proofs.StandLemmas.{accepts, answers, auditor_same, if_error, known_stay, times_ordered, unless_error}
 use Rattle.cdc_audit.proofs.auditor.Auditor.take_event.Goals as goal
 
 pub returns-in-Some-clause-answer : goal.returns-in-Some-clause-answer
@@ -58,6 +58,20 @@ returns-clause-accepted c = λ state stands _.
     (c.next_chain-self-inside.ensures ∙ ap (λ (a : AuditorState). next_chain a.chain e) c.self.view_is)
     (c.expiry_or-self-inside.ensures ∙ ap (λ (a : AuditorState). expiry_or a.expired e) c.self.view_is)
     (ap (λ (a : AuditorState). a.foreign) c.self.view_is) stands
+
+-- both accounts are known
+pub keep_accounts-requires-clause-known : goal.keep_accounts-requires-clause-known
+keep_accounts-requires-clause-known c = λ known.
+    let e = c.args.event.now in
+    let facts = c.facts-facts.result in
+    let both = and_parts (is_some facts.debit_fields) (is_some facts.credit_fields) (sym c.shows_both.ensures ∙ known) in
+    let kept : c.reserve-2.new.self.entries ≡ c.args.self.now.fields =
+    c.in_ok-reserve-2.ensures.entries ∙ ap (λ (a : AuditorState). a.fields) c.self.view_is in
+    known_stay c.reserve-2.new.self.entries e
+    (ap (λ fs. is_some (fields_under fs e.debit_account.id)) kept
+    ∙ sym (ap is_some c.facts-facts.ensures.debit) ∙ both.0)
+    (ap (λ fs. is_some (fields_under fs e.credit_account.id)) kept
+    ∙ sym (ap is_some c.facts-facts.ensures.credit) ∙ both.1)
 
 pub invariant_of-self-2 : goal.invariant_of-self-2
 invariant_of-self-2 c = (
