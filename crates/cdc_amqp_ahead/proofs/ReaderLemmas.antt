@@ -1,6 +1,7 @@
 -- A reader over blocks: what is left of the bytes stays the same while blocks are received.
-use Rattle.std.proofs.Common.{◌≡◌, ◌<◌, ℕ, List, [], ◌++◌, Option, None, Some, length, drop}
-use Rattle.std.proofs.Common.{refl, sym, ap, ◌∙◌, append_assoc, append-nil, arith, length-append}
+use Rattle.std.proofs.Common.{◌≡◌, ◌<◌, ℕ, List, [], ◌∷◌, ◌++◌, Bool, Option, None, Some, Result, Ok, Err, length, drop}
+use Rattle.std.proofs.Common.{refl, sym, subst, ap, ◌∙◌, append_assoc, append-nil, arith, length-append}
+use Rattle.std.specs.Prelude.{IfOk}
 use Rattle.std.specs.Io.KnownBytes.{Consumes, IsAtEnd, Keeps, prepend_known}
 use Rattle.std.proofs.KnownBytes.{starts_with_rest}
 use Rattle.std.proofs.Math.Seq.{drop-append_seam, drop-length}
@@ -9,6 +10,11 @@ use Rattle.cdc_read_ahead.specs.declared.pieces.Piece.TheVariants.{Block, Last}
 use Rattle.cdc_read_ahead.specs.declared.pieces.Ending.TheVariants.{AtEnd}
 use Rattle.cdc_read_ahead.specs.Pieces.{Answers, MayFollow, Received, bytes_of}
 use Rattle.cdc_read_ahead.specs.Readers.{unreceived}
+use Rattle.cdc_amqp_frames.specs.Frames.{Parts, frame, view}
+use Rattle.cdc_amqp_frames.specs.declared.errors.ReadFrameError.{ReadFrameError}
+use Rattle.cdc_amqp_frames.specs.declared.frames.Frame.{Frame}
+use Rattle.cdc_amqp_dialogue.specs.Worlds.{Sight, Asked, Gave}
+use Rattle.cdc_amqp_ahead.specs.Readers.{WasSeen, is_ready_in}
 
 -- what a receive takes of what was not received
 takes : (known : Option (List ℕ)) (before : List ℕ) (piece : Piece) → MayFollow known before piece
@@ -76,3 +82,35 @@ at_last (Some all) old new held answers none =
     answers.1 ∙ sym (append-nil old.bytes) ∙ sym (ap (λ (it : Received). it.bytes) answers.0) in
     ap (λ (l : List ℕ). l ++ drop (length new.bytes) all) none
     ∙ ap (drop (length new.bytes)) whole ∙ drop-length new.bytes
+
+module _ (known : Option (List ℕ)) where
+  -- a reader that was seen so is asked, and answers right
+  pub seen_asked : (left : Option (List ℕ)) (sights : List Sight) (now new : Option (List ℕ)) (held : List ℕ)
+      (received : Received) (answer : Bool) → prepend_known held (unreceived known received.bytes) ≡ new → new ≡ now
+      → answer ≡ is_ready_in held received → WasSeen known left sights now
+      → WasSeen known left (sights ++ Asked answer ∷ []) new
+  seen_asked left [] now new held received answer has same right seen =
+      (held, received, has ∙ same ∙ seen, right, same ∙ seen)
+  seen_asked left (Asked other ∷ later) now new held received answer has same right seen =
+      (seen.0, seen.1, seen.2, seen.3, seen_asked left later now new held received answer has same right seen.4)
+  seen_asked left (Gave f ∷ later) now new held received answer has same right seen =
+      (seen.0, seen.1, seen_asked seen.0 later now new held received answer has same right seen.2)
+
+  -- it gives the next frame
+  pub seen_gave : (left : Option (List ℕ)) (sights : List Sight) (now rest : Option (List ℕ)) (f : Parts)
+      → Consumes now rest (frame f) → WasSeen known left sights now
+      → WasSeen known left (sights ++ Gave f ∷ []) rest
+  seen_gave left [] now rest f reads seen =
+      (rest, subst (λ (o : Option (List ℕ)). Consumes o rest (frame f)) seen reads, refl)
+  seen_gave left (Asked other ∷ later) now rest f reads seen =
+      (seen.0, seen.1, seen.2, seen.3, seen_gave left later now rest f reads seen.4)
+  seen_gave left (Gave g ∷ later) now rest f reads seen =
+      (seen.0, seen.1, seen_gave seen.0 later now rest f reads seen.2)
+
+  -- the same of a frame that may not be read
+  pub gives : {D : Type 0} (left : D → Option (List ℕ)) (old new : Option (List ℕ)) (read : Result Frame ReadFrameError)
+      → IfOk read (λ it. Consumes old new (frame (view it)))
+      → IfOk read (λ it. (first : D) (sights : List Sight) → WasSeen known (left first) sights old
+      → WasSeen known (left first) (sights ++ Gave (view it) ∷ []) new)
+  gives left old new (Ok it) reads = λ first sights seen. seen_gave (left first) sights old new (view it) reads seen
+  gives left old new (Err error) reads = tt

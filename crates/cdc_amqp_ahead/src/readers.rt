@@ -4,7 +4,7 @@ ghost use Rattle.std.specs.Prelude.{◌≡◌, ◌⊎◌, IfErr, IfOk, OnOk, Som
 ghost use Rattle.std.specs.Io.KnownBytes.{IsAtEnd};
 ghost use Rattle.std.specs.IoError.{error_kind};
 ghost use Rattle.cdc_read_ahead.specs.Pieces.{AnswersIfSome, AreBytesOf};
-ghost use Rattle.cdc_amqp_ahead.specs.Readers.{held_by, left_of};
+ghost use Rattle.cdc_amqp_ahead.specs.Readers.{frame_is_ready, has_frame_in, held_by, left_of};
 
 use crate::held::Held;
 use cdc_amqp_consumer::FRAME_MAX;
@@ -54,6 +54,17 @@ fn next_soon<O: Known, R: Threads + Wait>(rt: &R, blocks: &mut Blocks<O>) -> Opt
     blocks.next_ready(rt)
 }
 
+/// Whether these bytes begin with a whole frame, or with bytes that begin none.
+fn begins_frame(bytes: &[u8]) -> bool
+    ensures { result ≡ has_frame_in bytes.now }
+{
+    match first_frame(FRAME_MAX, bytes) {
+        Ok(_) => true,
+        Err(FrameFault::Incomplete) => false,
+        Err(FrameFault::UnknownKind) | Err(FrameFault::TooLong) | Err(FrameFault::NoEnd) => true,
+    }
+}
+
 impl<O: Known, R: Threads + Wait + Copy> FramesAhead<O, R> {
     /// Starts a thread that reads ahead of this. What is left of it is what the thread's reader gives.
     pub fn start<T: Read + Drop + Send + 'static>(
@@ -75,13 +86,11 @@ impl<O: Known, R: Threads + Wait + Copy> FramesAhead<O, R> {
         })
     }
 
-    /// Whether what was received begins with a whole frame, or with bytes that don't begin a frame.
-    fn is_ready(&self) -> bool {
-        match first_frame(FRAME_MAX, self.held.unread()) {
-            Ok(_) => true,
-            Err(FrameFault::Incomplete) => self.blocks.ending().is_some(),
-            Err(_) => true,
-        }
+    /// Whether the next frame can be had of what was received, or what is wrong with it, or the end.
+    fn is_ready(&self) -> bool
+        ensures { result ≡ frame_is_ready self.now }
+    {
+        begins_frame(self.held.unread()) || self.blocks.ending().is_some()
     }
 
     /// Takes the next block if the next frame needs it and it is ready. Returns whether it did.
@@ -100,6 +109,17 @@ impl<O: Known, R: Threads + Wait + Copy> FramesAhead<O, R> {
                 true
             }
             Some(Piece::Last(_)) | None => false,
+        }
+    }
+
+    /// Takes blocks as long as the next frame needs another one and it is ready.
+    fn take_needed(&mut self)
+        ensures { left_of O.bytes self.new ≡ left_of O.bytes self.old }
+    {
+        for _ in 0..u64::MAX {
+            if !self.take_ready() {
+                return;
+            }
         }
     }
 
@@ -139,14 +159,15 @@ impl<O: Known, R: Threads + Wait + Copy> Read for FramesAhead<O, R> {
 }
 
 impl<O: Known, R: Threads + Wait + Copy> FrameReader for FramesAhead<O, R> {
-    ghost has_answered = { λ _ _ _. Unit {0} };
+    ghost use Rattle.std.specs.Prelude.{◌≡◌, refl};
+    ghost use Rattle.cdc_amqp_ahead.specs.Readers.{WasSeen, frame_is_ready, left_of};
+
+    ghost has_answered = { λ first now sights. WasSeen O.bytes (left_of O.bytes first) sights (left_of O.bytes now) };
+
+    ghost is_right = { λ reader answer. answer ≡ frame_is_ready reader };
 
     fn has_frame(&mut self) -> bool {
-        for _ in 0..u64::MAX {
-            if !self.take_ready() {
-                return self.is_ready();
-            }
-        }
+        self.take_needed();
         self.is_ready()
     }
 
@@ -154,5 +175,5 @@ impl<O: Known, R: Threads + Wait + Copy> FrameReader for FramesAhead<O, R> {
         read_frame(alloc, self, limit)
     }
 
-    ghost has_answered_none = { λ _. tt };
+    ghost has_answered_none = { λ _. refl };
 }

@@ -1,10 +1,9 @@
 -- The entries of deliveries, and the tags of those that carry none.
-use Rattle.std.proofs.Common.{◌≡◌, ℕ, ◌+◌, ◌≤◌, List, [], ◌∷◌, ◌++◌, length, take, Bool, Result, Ok, Err, refl, sym, ap}
-use Rattle.std.proofs.Common.{◌∙◌, arith, append_assoc, append-nil, length-append}
+use Rattle.std.proofs.Common.{◌≡◌, ℕ, ◌+◌, ◌≤◌, List, [], ◌∷◌, ◌++◌, length, take, Bool, Ok, refl, sym, ap}
+use Rattle.std.proofs.Common.{◌∙◌, arith, append_assoc, append-nil}
 use Rattle.std.proofs.lemmas.List.{take-append-le, take_all}
 use Rattle.cdc_amqp_methods.specs.declared.requests.Request.{Request}
 use Rattle.cdc_follow.specs.declared.entries.Entry.{Entry}
-use Rattle.cdc_follow.specs.declared.errors.LineError.{LineError}
 use Rattle.cdc_amqp_dialogue.specs.Deliveries.{Delivery, bad_tag, bad_tags, delivery_entry, entries_of, entry_list}
 use Rattle.cdc_amqp_dialogue.specs.Laws.{Carries, rejected_tag, rejected_tags}
 

@@ -1,6 +1,6 @@
 -- What a consumer sends fits its fields.
 use Rattle.std.proofs.Common.{◌≡◌, ℕ, ◌+◌, Bool, true, false, cond, eqb, ltb, length, List, Option, Some, None}
-use Rattle.std.proofs.Common.{Result, Ok, Err, refl, subst}
+use Rattle.std.proofs.Common.{Result, Ok, Err, subst}
 use Rattle.std.specs.Prelude.{◌-◌, ◌++◌, []}
 use Rattle.cdc_amqp_frames.specs.declared.frames.FrameKind.{FrameKind}
 use Rattle.cdc_amqp_frames.specs.declared.frames.FrameKind.TheVariants as kind

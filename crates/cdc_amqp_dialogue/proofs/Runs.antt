@@ -1,5 +1,5 @@
 -- Each step of consuming, as steps.
-use Rattle.std.proofs.Common.{◌≡◌, ℕ, ◌+◌, ◌≤◌, ◌<◌, List, [], ◌∷◌, ◌++◌, length, take, Bool, true, false, cond, eqb}
+use Rattle.std.proofs.Common.{◌≡◌, ℕ, ◌+◌, ◌≤◌, ◌<◌, List, [], ◌∷◌, ◌++◌, length, take, Bool, true, false, cond}
 use Rattle.std.proofs.Common.{ltb, leb}
 use Rattle.std.proofs.Common.{Option, Some, None, Result, Ok, Err, refl, sym, ap, subst, ◌∙◌, arith, append_assoc}
 use Rattle.std.proofs.Common.{append-nil}
@@ -22,20 +22,20 @@ use Rattle.cdc_amqp_methods.specs.declared.requests.Request.TheVariants as sent
 use Rattle.cdc_amqp_consumer.specs.declared.consumer.Done.{Done}
 use Rattle.cdc_amqp_consumer.specs.declared.consumer.End.{End}
 use Rattle.cdc_amqp_consumer.specs.declared.consumer.Outcome.{Outcome}
-use Rattle.cdc_amqp_consumer.specs.declared.consumer.Outcome.TheVariants.{GoesOn, Delivered, Ended}
+use Rattle.cdc_amqp_consumer.specs.declared.consumer.Outcome.TheVariants.{Ended}
 use Rattle.cdc_amqp_consumer.specs.declared.replies.Settings.{Settings}
 use Rattle.cdc_amqp_consumer.specs.Machine as machine
 use Rattle.cdc_amqp_consumer.specs.Machine.{State, Turn, closing, payload_limit, received}
 use Rattle.cdc_amqp_dialogue.specs.Deliveries.{entries_of}
 use Rattle.cdc_amqp_dialogue.specs.Dialogues.{Converses, GoesOnWith, IsCause, Writes, WritesBy}
-use Rattle.cdc_amqp_dialogue.specs.Laws.{AreSettled, IsSettled, IsSound, MayBeNext}
+use Rattle.cdc_amqp_dialogue.specs.Laws.{AreSettled, MayBeNext}
 use Rattle.cdc_amqp_dialogue.specs.Serving.{IsFaultOf, SavesLast, Serves, ServesBy, TakesBy, text_of, unread_failure}
 use Rattle.cdc_amqp_dialogue.specs.Steps.{ClosesBy, FailsBy, IsPlain, KeepsIt, KeepsNothing, SavesBy, StandsStill}
 use Rattle.cdc_amqp_dialogue.specs.Steps.{WritesPart, is_due, is_save_due, is_write_failure}
-use Rattle.cdc_amqp_dialogue.specs.Taking.{Plan, follower_after, taking_after}
+use Rattle.cdc_amqp_dialogue.specs.Taking.{Plan, taking_after}
 use Rattle.cdc_amqp_dialogue.specs.Worlds.{Step, Looks, Comes, Saves, Acknowledges, Closes, World, acknowledges}
 use Rattle.cdc_amqp_dialogue.specs.Worlds.{answers_of, begins, bytes_of, came, comes, closes, end_after, follower_of}
-use Rattle.cdc_amqp_dialogue.specs.Worlds.{happens, its_answer, its_bytes, looks_of, requests_of, run, saves, stop_after}
+use Rattle.cdc_amqp_dialogue.specs.Worlds.{Asked, Gave, Sight, happens, its_bytes, its_sight, run, saves, sights_of, stop_after}
 use Rattle.cdc_amqp_dialogue.specs.Worlds.{taken_after}
 use Rattle.cdc_amqp_dialogue.specs.declared.dialogue.Served.{Served}
 use Rattle.cdc_amqp_dialogue.specs.declared.dialogue.TheConstants.{PROTOCOL}
@@ -89,12 +89,12 @@ bytes_more (x ∷ ms) m =
     ap (λ (l : List ℕ). its_bytes x ++ l) (bytes_more ms m)
     ∙ sym (append_assoc (its_bytes x) (bytes_of ms) (its_bytes m))
 
-looks_more : (ms : List Step) (m : Step) → looks_of (ms ++ m ∷ []) ≡ looks_of ms ++ its_answer m
-unfolding looks_of
-looks_more [] m = append-nil (its_answer m)
-looks_more (x ∷ ms) m =
-    ap (λ (l : List Bool). its_answer x ++ l) (looks_more ms m)
-    ∙ sym (append_assoc (its_answer x) (looks_of ms) (its_answer m))
+sights_more : (ms : List Step) (m : Step) → sights_of (ms ++ m ∷ []) ≡ sights_of ms ++ its_sight m
+unfolding sights_of
+sights_more [] m = append-nil (its_sight m)
+sights_more (x ∷ ms) m =
+    ap (λ (l : List Sight). its_sight x ++ l) (sights_more ms m)
+    ∙ sym (append_assoc (its_sight x) (sights_of ms) (its_sight m))
 
 settled_more : {S R : Type 0} (settings : Settings) (plan : Plan S R) (every : ℕ) (w : World S R) (ms : List Step)
     (m : Step) → AreSettled settings plan every w ms → MayBeNext every (run settings plan w ms) m
@@ -116,11 +116,11 @@ pub record Place (K D R : Type 0) : Type 0 where
   pub saved : ℕ
   pub keeper : K
 
--- by these bytes and answers of the reader, in this world, it is here
+-- by these bytes and sights of the reader, in this world, it is here
 pub record Is {K D S R : Type 0} (plan : Plan S R) (HasKept : K → K → List S → Type 0) (first : K)
     (Stands : K → S → Type 0)
-    (HasAnswered : D → List Bool → Type 0) (known : Option (List ℕ)) (p : Place K D R) (bytes : List ℕ)
-    (answers : List Bool) (w : World S R) : Type 0 where
+    (HasAnswered : D → List Sight → Type 0) (known : Option (List ℕ)) (p : Place K D R) (bytes : List ℕ)
+    (answers : List Sight) (w : World S R) : Type 0 where
   pub came : Consumes known p.left bytes
   pub answered : HasAnswered p.reader answers
   pub state_is : p.state ≡ w.state
@@ -132,17 +132,17 @@ pub record Is {K D S R : Type 0} (plan : Plan S R) (HasKept : K → K → List S
 
 -- by some steps, with what was written
 pub record Goes {K D S R : Type 0} (settings : Settings) (plan : Plan S R) (every : ℕ)
-    (HasKept : K → K → List S → Type 0) (first : K) (Stands : K → S → Type 0) (HasAnswered : D → List Bool → Type 0)
+    (HasKept : K → K → List S → Type 0) (first : K) (Stands : K → S → Type 0) (HasAnswered : D → List Sight → Type 0)
     (known writer : Option (List ℕ)) (p : Place K D R) : Type 0 where
   pub steps : List Step
   pub wrote : Appends writer p.written (text_sent (run settings plan begins steps))
-  pub is : Is plan HasKept first Stands HasAnswered known p (bytes_of steps) (looks_of steps) (run settings plan begins steps)
+  pub is : Is plan HasKept first Stands HasAnswered known p (bytes_of steps) (sights_of steps) (run settings plan begins steps)
   pub settled : AreSettled settings plan every begins steps
   pub acknowledged : (run settings plan begins steps).acknowledged ≡ (run settings plan begins steps).saved
 
 -- and the reader's last answer was this one
 pub record Looked {K D S R : Type 0} (settings : Settings) (plan : Plan S R) (every : ℕ)
-    (HasKept : K → K → List S → Type 0) (first : K) (Stands : K → S → Type 0) (HasAnswered : D → List Bool → Type 0)
+    (HasKept : K → K → List S → Type 0) (first : K) (Stands : K → S → Type 0) (HasAnswered : D → List Sight → Type 0)
     (known writer : Option (List ℕ)) (p : Place K D R) (answer : Bool) : Type 0 where
   pub goes : Goes settings plan every HasKept first Stands HasAnswered known writer p
   pub waiting : (run settings plan begins goes.steps).waiting ≡ answer
@@ -277,8 +277,8 @@ saved_run settings plan ms some =
 no_bytes : (ms : List Step) (m : Step) → its_bytes m ≡ [] → bytes_of (ms ++ m ∷ []) ≡ bytes_of ms
 no_bytes ms m none = bytes_more ms m ∙ ap (λ (l : List ℕ). bytes_of ms ++ l) none ∙ append-nil (bytes_of ms)
 
-no_looks : (ms : List Step) (m : Step) → its_answer m ≡ [] → looks_of (ms ++ m ∷ []) ≡ looks_of ms
-no_looks ms m none = looks_more ms m ∙ ap (λ (l : List Bool). looks_of ms ++ l) none ∙ append-nil (looks_of ms)
+no_sights : (ms : List Step) (m : Step) → its_sight m ≡ [] → sights_of (ms ++ m ∷ []) ≡ sights_of ms
+no_sights ms m none = sights_more ms m ∙ ap (λ (l : List Sight). sights_of ms ++ l) none ∙ append-nil (sights_of ms)
 
 -- the two steps of a save may be next
 settled_saved : {S R : Type 0} (settings : Settings) (plan : Plan S R) (every : ℕ) (ms : List Step) → AreSettled settings plan every begins ms
@@ -290,8 +290,8 @@ settled_saved settings plan every ms settled =
 saved_bytes : (ms : List Step) → bytes_of ((ms ++ Saves ∷ []) ++ Acknowledges ∷ []) ≡ bytes_of ms
 saved_bytes ms = no_bytes (ms ++ Saves ∷ []) Acknowledges refl ∙ no_bytes ms Saves refl
 
-saved_looks : (ms : List Step) → looks_of ((ms ++ Saves ∷ []) ++ Acknowledges ∷ []) ≡ looks_of ms
-saved_looks ms = no_looks (ms ++ Saves ∷ []) Acknowledges refl ∙ no_looks ms Saves refl
+saved_sights : (ms : List Step) → sights_of ((ms ++ Saves ∷ []) ++ Acknowledges ∷ []) ≡ sights_of ms
+saved_sights ms = no_sights (ms ++ Saves ∷ []) Acknowledges refl ∙ no_sights ms Saves refl
 
 -- the server ended it by this frame
 end_came : {S R : Type 0} (w : World S R) (t : Turn) (taking : Taking R) (outcome : Outcome) (end : End)
@@ -314,9 +314,9 @@ fault_cause settings known left rest old f text w (failure.Write why) is begun r
 fault_cause settings known left rest old f text w failure.OutOfMemory is begun reads fault_is = tt
 
 module _ {K D S R : Type 0} (settings : Settings) (plan : Plan S R) (H : K → K → List S → Type 0)
-    (Stands : K → S → Type 0) (A : D → List Bool → Type 0) (known : Option (List ℕ)) (first : K) where
+    (Stands : K → S → Type 0) (A : D → List Sight → Type 0) (known : Option (List ℕ)) (first : K) where
   -- the place after a save
-  is_saved : (p : Place K D R) (keeper : K) (written : Option (List ℕ)) (bytes : List ℕ) (answers : List Bool)
+  is_saved : (p : Place K D R) (keeper : K) (written : Option (List ℕ)) (bytes : List ℕ) (answers : List Sight)
       (w : World S R) → StandsStill Stands p.keeper keeper → KeepsIt H Stands p.keeper keeper
       → Is plan H first Stands A known p bytes answers w
       → Is plan H first Stands A known (record p { keeper = keeper; written = written; saved = p.taken }) bytes
@@ -332,7 +332,7 @@ module _ {K D S R : Type 0} (settings : Settings) (plan : Plan S R) (H : K → K
     kept = keeps first w.kept (follower_of plan w) is.follows is.kept;
   }
 
-  is_closing : (p : Place K D R) (state : State) (written : Option (List ℕ)) (bytes : List ℕ) (answers : List Bool)
+  is_closing : (p : Place K D R) (state : State) (written : Option (List ℕ)) (bytes : List ℕ) (answers : List Sight)
       (w : World S R) → state ≡ closing p.state → Is plan H first Stands A known p bytes answers w
       → Is plan H first Stands A known (record p { state = state; written = written }) bytes answers (closes w)
   is_closing p state written bytes answers w state_is is = record {
@@ -370,9 +370,9 @@ module _ {K D S R : Type 0} (settings : Settings) (plan : Plan S R) (H : K → K
 
   is_served : (p : Place K D R) (rest : Option (List ℕ)) (reader : D) (written : Option (List ℕ)) (new : State)
       (after : Option (Refusal R)) (taken : ℕ) (keeper : K) (ms : List Step) (f : Parts) (done : Done)
-      (taking : Taking R) → Consumes p.left rest (frame f) → ((answers : List Bool) → A p.reader answers
-      → A reader answers) → KeepsNothing H p.keeper keeper → taken ≡ taken_after p.taken new.delivered taking
-      → Is plan H first Stands A known p (bytes_of ms) (looks_of ms) (run settings plan begins ms)
+      (taking : Taking R) → Consumes p.left rest (frame f) → ((answers : List Sight) → A p.reader answers
+      → A reader (answers ++ Gave f ∷ [])) → KeepsNothing H p.keeper keeper → taken ≡ taken_after p.taken new.delivered taking
+      → Is plan H first Stands A known p (bytes_of ms) (sights_of ms) (run settings plan begins ms)
       → Serves settings plan.rules plan.parks f p.state new p.stop after (Stands p.keeper) (Stands keeper) done taking
       → Is plan H first Stands A known (record p {
         left = rest;
@@ -382,7 +382,7 @@ module _ {K D S R : Type 0} (settings : Settings) (plan : Plan S R) (H : K → K
         stop = after;
         taken = taken;
         keeper = keeper;
-      }) (bytes_of ms ++ frame f) (looks_of ms)
+      }) (bytes_of ms ++ frame f) (sights_of ms ++ Gave f ∷ [])
       (came (run settings plan begins ms) (record { state = new; done = done }) taking)
   is_served p rest reader written new after taken keeper ms f done taking reads answers keeps counts is step =
       let w = run settings plan begins ms in
@@ -396,7 +396,7 @@ module _ {K D S R : Type 0} (settings : Settings) (plan : Plan S R) (H : K → K
       let becomes = becomes_so p w new done keeper taking is.stop_is is.follows step.becomes in
       record {
         came = Consumes-trans known p.left rest (bytes_of ms) (frame f) is.came reads;
-        answered = answers (looks_of ms) is.answered;
+        answered = answers (sights_of ms) is.answered;
         state_is = refl;
         stop_is = step.stops ∙ ap (λ (s : Option (Refusal R)). stop_after s taking) is.stop_is;
         taken_is = counts ∙ ap (λ (n : ℕ). taken_after n new.delivered taking) is.taken_is;
@@ -410,30 +410,30 @@ module _ {K D S R : Type 0} (settings : Settings) (plan : Plan S R) (H : K → K
       }
 
 module _ {K D S R : Type 0} {settings : Settings} {plan : Plan S R} {every : ℕ} {H : K → K → List S → Type 0}
-    {Stands : K → S → Type 0} {A : D → List Bool → Type 0} {known writer : Option (List ℕ)} {first : K} where
+    {Stands : K → S → Type 0} {A : D → List Sight → Type 0} {known writer : Option (List ℕ)} {first : K} where
   -- some steps lead to this world
-  goes_at : (p : Place K D R) (ms : List Step) (bytes : List ℕ) (answers : List Bool) (w : World S R)
-      → bytes_of ms ≡ bytes → looks_of ms ≡ answers → run settings plan begins ms ≡ w
+  goes_at : (p : Place K D R) (ms : List Step) (bytes : List ℕ) (answers : List Sight) (w : World S R)
+      → bytes_of ms ≡ bytes → sights_of ms ≡ answers → run settings plan begins ms ≡ w
       → Is plan H first Stands A known p bytes answers w → Appends writer p.written (text_sent w)
       → AreSettled settings plan every begins ms → w.acknowledged ≡ w.saved
       → Goes settings plan every H first Stands A known writer p
   goes_at p ms bytes answers w bytes_are answers_are world_is is wrote settled acknowledged = record {
     steps = ms;
     wrote = subst (λ (v : World S R). Appends writer p.written (text_sent v)) (sym world_is) wrote;
-    is = subst (Is plan H first Stands A known p (bytes_of ms) (looks_of ms)) (sym world_is)
-        (subst (λ (b : List ℕ). Is plan H first Stands A known p b (looks_of ms) w) (sym bytes_are)
-        (subst (λ (l : List Bool). Is plan H first Stands A known p bytes l w) (sym answers_are) is));
+    is = subst (Is plan H first Stands A known p (bytes_of ms) (sights_of ms)) (sym world_is)
+        (subst (λ (b : List ℕ). Is plan H first Stands A known p b (sights_of ms) w) (sym bytes_are)
+        (subst (λ (l : List Sight). Is plan H first Stands A known p bytes l w) (sym answers_are) is));
     settled = settled;
     acknowledged = subst (λ (v : World S R). v.acknowledged ≡ v.saved) (sym world_is) acknowledged;
   }
 
   -- consuming ends
   ends : (p : Place K D R) (result : Result End ConsumeFailure) (ms : List Step)
-      → Is plan H first Stands A known p (bytes_of ms) (looks_of ms) (run settings plan begins ms)
+      → Is plan H first Stands A known p (bytes_of ms) (sights_of ms) (run settings plan begins ms)
       → AreSettled settings plan every begins ms
       → Writes writer p.written (text_sent (run settings plan begins ms)) result
       → IsCause settings known (bytes_of ms) (run settings plan begins ms) result
-      → Converses settings plan every (H first) Stands A known writer p.written p.reader p.keeper p.stop result
+      → Converses settings plan every (H first) Stands A known writer p.written p.keeper p.stop result
   ends p result ms is settled wrote cause = record {
     steps = ms;
     came = begins_with known p.left (bytes_of ms) is.came;
@@ -441,23 +441,23 @@ module _ {K D S R : Type 0} {settings : Settings} {plan : Plan S R} {every : ℕ
     follows = is.follows;
     stops = is.stop_is;
     kept = is.kept;
-    answered = is.answered;
+    answered = (p.reader, is.answered);
     settled = settled;
     cause = cause;
   }
 
   -- some steps lead to this world, in which consuming ends
   ends_at : (p : Place K D R) (result : Result End ConsumeFailure) (ms : List Step) (bytes : List ℕ)
-      (answers : List Bool) (w : World S R) → bytes_of ms ≡ bytes → looks_of ms ≡ answers
+      (answers : List Sight) (w : World S R) → bytes_of ms ≡ bytes → sights_of ms ≡ answers
       → run settings plan begins ms ≡ w → Is plan H first Stands A known p bytes answers w
       → AreSettled settings plan every begins ms → Writes writer p.written (text_sent w) result
       → IsCause settings known bytes w result
-      → Converses settings plan every (H first) Stands A known writer p.written p.reader p.keeper p.stop result
+      → Converses settings plan every (H first) Stands A known writer p.written p.keeper p.stop result
   ends_at p result ms bytes answers w bytes_are answers_are world_is is settled wrote cause =
       ends p result ms
-      (subst (Is plan H first Stands A known p (bytes_of ms) (looks_of ms)) (sym world_is)
-      (subst (λ (b : List ℕ). Is plan H first Stands A known p b (looks_of ms) w) (sym bytes_are)
-      (subst (λ (l : List Bool). Is plan H first Stands A known p bytes l w) (sym answers_are) is)))
+      (subst (Is plan H first Stands A known p (bytes_of ms) (sights_of ms)) (sym world_is)
+      (subst (λ (b : List ℕ). Is plan H first Stands A known p b (sights_of ms) w) (sym bytes_are)
+      (subst (λ (l : List Sight). Is plan H first Stands A known p bytes l w) (sym answers_are) is)))
       settled
       (subst (λ (v : World S R). Writes writer p.written (text_sent v) result) (sym world_is) wrote)
       (subst (λ (v : World S R). IsCause settings known (bytes_of ms) v result) (sym world_is)
@@ -471,7 +471,7 @@ module _ {K D S R : Type 0} {settings : Settings} {plan : Plan S R} {every : ℕ
   -- ---- the reader is asked
 
   pub goes_looked : {p : Place K D R} {rest : Option (List ℕ)} {reader : D} {answer : Bool} → rest ≡ p.left
-      → ((answers : List Bool) → A p.reader answers → A reader (answers ++ answer ∷ []))
+      → ((answers : List Sight) → A p.reader answers → A reader (answers ++ Asked answer ∷ []))
       → Goes settings plan every H first Stands A known writer p
       → Looked settings plan every H first Stands A known writer (record p { left = rest; reader = reader }) answer
   unfolding goes_at
@@ -480,11 +480,11 @@ module _ {K D S R : Type 0} {settings : Settings} {plan : Plan S R} {every : ℕ
       let next = run_more settings plan begins goes.steps (Looks answer) in
       record {
         goes = goes_at (record p { left = rest; reader = reader }) (goes.steps ++ Looks answer ∷ [])
-            (bytes_of goes.steps) (looks_of goes.steps ++ answer ∷ []) (record w { waiting = answer })
-            (no_bytes goes.steps (Looks answer) refl) (looks_more goes.steps (Looks answer)) next
+            (bytes_of goes.steps) (sights_of goes.steps ++ Asked answer ∷ []) (record w { waiting = answer })
+            (no_bytes goes.steps (Looks answer) refl) (sights_more goes.steps (Looks answer)) next
             (record {
               came = subst (λ (o : Option (List ℕ)). Consumes known o (bytes_of goes.steps)) (sym same) goes.is.came;
-              answered = answers (looks_of goes.steps) goes.is.answered;
+              answered = answers (sights_of goes.steps) goes.is.answered;
               state_is = goes.is.state_is;
               stop_is = goes.is.stop_is;
               taken_is = goes.is.taken_is;
@@ -503,7 +503,7 @@ module _ {K D S R : Type 0} {settings : Settings} {plan : Plan S R} {every : ℕ
       → is_write_failure why ≡ false
       → (goes : Goes settings plan every H first Stands A known writer p)
       → IsCause settings known (bytes_of goes.steps) (run settings plan begins goes.steps) (Err why)
-      → Converses settings plan every (H first) Stands A known writer written p.reader keeper p.stop (Err why)
+      → Converses settings plan every (H first) Stands A known writer written keeper p.stop (Err why)
   unchanged {p} keeper written why stands is keeps none goes cause =
       let w = run settings plan begins goes.steps in
       ends (record p { keeper = keeper; written = written }) (Err why) goes.steps
@@ -542,9 +542,9 @@ module _ {K D S R : Type 0} {settings : Settings} {plan : Plan S R} {every : ℕ
       (record p { keeper = keeper; written = written; saved = n }) answer) (sym after)
       (record {
         goes = goes_at (record p { keeper = keeper; written = written; saved = p.taken })
-            ((goes.steps ++ Saves ∷ []) ++ Acknowledges ∷ []) (bytes_of goes.steps) (looks_of goes.steps)
-            (saved_world plan w) (saved_bytes goes.steps) (saved_looks goes.steps) world
-            (is_saved settings plan H Stands A known first p keeper written (bytes_of goes.steps) (looks_of goes.steps) w stands step.1 goes.is)
+            ((goes.steps ++ Saves ∷ []) ++ Acknowledges ∷ []) (bytes_of goes.steps) (sights_of goes.steps)
+            (saved_world plan w) (saved_bytes goes.steps) (saved_sights goes.steps) world
+            (is_saved settings plan H Stands A known first p keeper written (bytes_of goes.steps) (sights_of goes.steps) w stands step.1 goes.is)
             (subst (Appends writer written) (sym (one_more w (sent.Ack w.taken)
             ∙ ap (λ (n : ℕ). text_sent w ++ frame_of (sent.Ack n)) (sym goes.is.taken_is)))
             (Appends-trans writer p.written written (text_sent w) (frame_of (sent.Ack p.taken)) goes.wrote step.2))
@@ -583,15 +583,15 @@ module _ {K D S R : Type 0} {settings : Settings} {plan : Plan S R} {every : ℕ
       → FailsBy b ((due ≡ true) × KeepsIt H Stands p.keeper keeper
       × WritesPart p.written written (frame_of (sent.Ack p.taken)))
       (KeepsNothing H p.keeper keeper × (written ≡ p.written))
-      → Converses settings plan every (H first) Stands A known writer written p.reader keeper p.stop (Err why)
+      → Converses settings plan every (H first) Stands A known writer written keeper p.stop (Err why)
   save_fails {p} {answer} {keeper} {written} {due} why true fails looked stands some plain step =
       let goes = looked.goes in
       let w = run settings plan begins goes.steps in
       let more : 0 < w.taken = omega (arith, some step.0, goes.is.taken_is) in
       ends_at (record p { keeper = keeper; written = written; saved = p.taken }) (Err why)
-      ((goes.steps ++ Saves ∷ []) ++ Acknowledges ∷ []) (bytes_of goes.steps) (looks_of goes.steps)
-      (saved_world plan w) (saved_bytes goes.steps) (saved_looks goes.steps) (saved_run settings plan goes.steps more)
-      (is_saved settings plan H Stands A known first p keeper written (bytes_of goes.steps) (looks_of goes.steps) w stands step.1 goes.is)
+      ((goes.steps ++ Saves ∷ []) ++ Acknowledges ∷ []) (bytes_of goes.steps) (sights_of goes.steps)
+      (saved_world plan w) (saved_bytes goes.steps) (saved_sights goes.steps) (saved_run settings plan goes.steps more)
+      (is_saved settings plan H Stands A known first p keeper written (bytes_of goes.steps) (sights_of goes.steps) w stands step.1 goes.is)
       (settled_saved settings plan every goes.steps goes.settled)
       (writes_part writer written (text_sent (saved_world plan w)) why fails
       (subst (WritesPart writer written) (sym (one_more w (sent.Ack w.taken)
@@ -607,7 +607,7 @@ module _ {K D S R : Type 0} {settings : Settings} {plan : Plan S R} {every : ℕ
       → StandsStill Stands p.keeper keeper → (due ≡ true → 0 < p.taken) → IsPlain why
       → SavesBy (KeepsIt H Stands p.keeper keeper) (KeepsNothing H p.keeper keeper) due p.taken p.written written
       (Err why)
-      → Converses settings plan every (H first) Stands A known writer written p.reader keeper p.stop (Err why)
+      → Converses settings plan every (H first) Stands A known writer written keeper p.stop (Err why)
   save_failed why looked stands some plain step =
       save_fails why (is_write_failure why) refl looked stands some plain step
 
@@ -637,9 +637,9 @@ module _ {K D S R : Type 0} {settings : Settings} {plan : Plan S R} {every : ℕ
       let world = run_more settings plan begins goes.steps Closes in
       record {
         goes = goes_at (record p { state = state; written = written }) (goes.steps ++ Closes ∷ [])
-            (bytes_of goes.steps) (looks_of goes.steps) (closes w) (no_bytes goes.steps Closes refl)
-            (no_looks goes.steps Closes refl) world
-            (is_closing settings plan H Stands A known first p state written (bytes_of goes.steps) (looks_of goes.steps) w step.1 goes.is)
+            (bytes_of goes.steps) (sights_of goes.steps) (closes w) (no_bytes goes.steps Closes refl)
+            (no_sights goes.steps Closes refl) world
+            (is_closing settings plan H Stands A known first p state written (bytes_of goes.steps) (sights_of goes.steps) w step.1 goes.is)
             (subst (Appends writer written) (sym (one_more w sent.Cancel))
             (Appends-trans writer p.written written (text_sent w) (frame_of sent.Cancel) goes.wrote step.2))
             (settled_closed (complete step.0) goes) goes.acknowledged;
@@ -674,14 +674,14 @@ module _ {K D S R : Type 0} {settings : Settings} {plan : Plan S R} {every : ℕ
       → (due ≡ true → p.saved ≡ p.taken) → IsPlain why
       → FailsBy b ((due ≡ true) × (state ≡ closing p.state) × WritesPart p.written written (frame_of sent.Cancel))
       (written ≡ p.written)
-      → Converses settings plan every (H first) Stands A known writer written p.reader p.keeper p.stop (Err why)
+      → Converses settings plan every (H first) Stands A known writer written p.keeper p.stop (Err why)
   close_fails {p} {answer} state {written} {due} why true fails looked complete plain step =
       let goes = looked.goes in
       let w = run settings plan begins goes.steps in
       ends_at (record p { state = state; written = written }) (Err why) (goes.steps ++ Closes ∷ [])
-      (bytes_of goes.steps) (looks_of goes.steps) (closes w) (no_bytes goes.steps Closes refl)
-      (no_looks goes.steps Closes refl) (run_more settings plan begins goes.steps Closes)
-      (is_closing settings plan H Stands A known first p state written (bytes_of goes.steps) (looks_of goes.steps) w step.1 goes.is)
+      (bytes_of goes.steps) (sights_of goes.steps) (closes w) (no_bytes goes.steps Closes refl)
+      (no_sights goes.steps Closes refl) (run_more settings plan begins goes.steps Closes)
+      (is_closing settings plan H Stands A known first p state written (bytes_of goes.steps) (sights_of goes.steps) w step.1 goes.is)
       (settled_closed (complete step.0) goes)
       (writes_part writer written (text_sent (closes w)) why fails
       (subst (WritesPart writer written) (sym (one_more w sent.Cancel))
@@ -694,7 +694,7 @@ module _ {K D S R : Type 0} {settings : Settings} {plan : Plan S R} {every : ℕ
   pub close_failed : {p : Place K D R} {answer : Bool} (state : State) {written : Option (List ℕ)} {due : Bool}
       (why : ConsumeFailure) → Looked settings plan every H first Stands A known writer p answer
       → (due ≡ true → p.saved ≡ p.taken) → IsPlain why → ClosesBy due p.state state p.written written (Err why)
-      → Converses settings plan every (H first) Stands A known writer written p.reader p.keeper p.stop (Err why)
+      → Converses settings plan every (H first) Stands A known writer written p.keeper p.stop (Err why)
   close_failed state why looked complete plain step =
       close_fails state why (is_write_failure why) refl looked complete plain step
 
@@ -719,7 +719,7 @@ module _ {K D S R : Type 0} {settings : Settings} {plan : Plan S R} {every : ℕ
       {new : State} {after : Option (Refusal R)} {taken : ℕ} {keeper : K} {f : Parts} {served : Served R}
       → Looked settings plan every H first Stands A known writer p answer → (answer ≡ false → p.saved ≡ p.taken)
       → p.taken ≤ p.saved + (every - 1) → Consumes p.left rest (frame f)
-      → ((answers : List Bool) → A p.reader answers → A reader answers) → KeepsNothing H p.keeper keeper
+      → ((answers : List Sight) → A p.reader answers → A reader (answers ++ Gave f ∷ [])) → KeepsNothing H p.keeper keeper
       → taken ≡ taken_after p.taken new.delivered served.taking
       → ServesBy settings plan.rules plan.parks f p.state new p.stop after (Stands p.keeper) (Stands keeper) p.written
       written (Ok served)
@@ -751,8 +751,8 @@ module _ {K D S R : Type 0} {settings : Settings} {plan : Plan S R} {every : ℕ
           taken = taken;
           keeper = keeper;
         })
-            (goes.steps ++ Comes f ∷ []) (bytes_of goes.steps ++ frame f) (looks_of goes.steps) (came w t served.taking)
-            (bytes_more goes.steps (Comes f)) (no_looks goes.steps (Comes f) refl) world
+            (goes.steps ++ Comes f ∷ []) (bytes_of goes.steps ++ frame f) (sights_of goes.steps ++ Gave f ∷ [])
+            (came w t served.taking) (bytes_more goes.steps (Comes f)) (sights_more goes.steps (Comes f)) world
             (is_served settings plan H Stands A known first p rest reader written new after taken keeper goes.steps f done served.taking reads answers keeps
             counts goes.is step.2)
             (subst (Appends writer written) (sym (sent_more w (answers_of done served.taking)))
@@ -765,12 +765,12 @@ module _ {K D S R : Type 0} {settings : Settings} {plan : Plan S R} {every : ℕ
       {keeper : K} (rest : Option (List ℕ)) (new : State) (f : Parts) (why : ConsumeFailure) (b : Bool)
       → is_write_failure why ≡ b → (looked : Looked settings plan every H first Stands A known writer p answer)
       → (answer ≡ false → p.saved ≡ p.taken) → p.taken ≤ p.saved + (every - 1) → Consumes p.left rest (frame f)
-      → ((answers : List Bool) → A p.reader answers → A reader answers) → KeepsNothing H p.keeper keeper
+      → ((answers : List Sight) → A p.reader answers → A reader (answers ++ Gave f ∷ [])) → KeepsNothing H p.keeper keeper
       → FailsBy b ((done : Done) × (taking : Taking R)
       × Serves settings plan.rules plan.parks f p.state new p.stop after (Stands p.keeper) (Stands keeper) done taking
       × WritesPart p.written written (text_of done taking))
       ((after ≡ p.stop) × StandsStill Stands p.keeper keeper × (written ≡ p.written) × IsFaultOf settings f p.state why)
-      → Converses settings plan every (H first) Stands A known writer written reader keeper after (Err why)
+      → Converses settings plan every (H first) Stands A known writer written keeper after (Err why)
   serve_fails {p} {answer} {reader} {written} {after} {keeper} rest new f why true fails looked waits paced reads
       answers keeps step =
       let goes = looked.goes in
@@ -788,8 +788,8 @@ module _ {K D S R : Type 0} {settings : Settings} {plan : Plan S R} {every : ℕ
         taken = taken;
         keeper = keeper;
       })
-      (Err why) (goes.steps ++ Comes f ∷ []) (bytes_of goes.steps ++ frame f) (looks_of goes.steps) (came w t taking)
-      (bytes_more goes.steps (Comes f)) (no_looks goes.steps (Comes f) refl)
+      (Err why) (goes.steps ++ Comes f ∷ []) (bytes_of goes.steps ++ frame f) (sights_of goes.steps ++ Gave f ∷ [])
+      (came w t taking) (bytes_more goes.steps (Comes f)) (sights_more goes.steps (Comes f))
       (run_more settings plan begins goes.steps (Comes f)
       ∙ world_after settings plan H Stands A known first p w f new after keeper done taking goes.is.state_is goes.is.stop_is goes.is.follows step.2)
       (is_served settings plan H Stands A known first p rest reader written new after taken keeper goes.steps f done taking reads answers keeps refl goes.is
@@ -803,10 +803,10 @@ module _ {K D S R : Type 0} {settings : Settings} {plan : Plan S R} {every : ℕ
       answers keeps step =
       let goes = looked.goes in
       let w = run settings plan begins goes.steps in
-      ends (record p { written = written; reader = reader; stop = after; keeper = keeper }) (Err why) goes.steps
+      ends (record p { written = written; stop = after; keeper = keeper }) (Err why) goes.steps
       (record {
         came = goes.is.came;
-        answered = answers (looks_of goes.steps) goes.is.answered;
+        answered = goes.is.answered;
         state_is = goes.is.state_is;
         stop_is = step.0 ∙ goes.is.stop_is;
         taken_is = goes.is.taken_is;
@@ -823,10 +823,10 @@ module _ {K D S R : Type 0} {settings : Settings} {plan : Plan S R} {every : ℕ
       {after : Option (Refusal R)} {keeper : K} (rest : Option (List ℕ)) (new : State) (f : Parts)
       (why : ConsumeFailure) → Looked settings plan every H first Stands A known writer p answer
       → (answer ≡ false → p.saved ≡ p.taken) → p.taken ≤ p.saved + (every - 1) → Consumes p.left rest (frame f)
-      → ((answers : List Bool) → A p.reader answers → A reader answers) → KeepsNothing H p.keeper keeper
+      → ((answers : List Sight) → A p.reader answers → A reader (answers ++ Gave f ∷ [])) → KeepsNothing H p.keeper keeper
       → ServesBy settings plan.rules plan.parks f p.state new p.stop after (Stands p.keeper) (Stands keeper) p.written
       written (Err why)
-      → Converses settings plan every (H first) Stands A known writer written reader keeper after (Err why)
+      → Converses settings plan every (H first) Stands A known writer written keeper after (Err why)
   serve_failed rest new f why looked waits paced reads answers keeps step =
       serve_fails rest new f why (is_write_failure why) refl looked waits paced reads answers keeps step
 
@@ -845,7 +845,7 @@ module _ {K D S R : Type 0} {settings : Settings} {plan : Plan S R} {every : ℕ
         saved = 0;
         keeper = first;
       })
-  unfolding run bytes_of looks_of AreSettled entries_of
+  unfolding run bytes_of sights_of AreSettled entries_of
   starts left written reader stop state state_is same none stands kept answered wrote = record {
     steps = [];
     wrote = subst (Appends writer written) (sym (append-nil PROTOCOL.now)) wrote;
@@ -863,52 +863,38 @@ module _ {K D S R : Type 0} {settings : Settings} {plan : Plan S R} {every : ℕ
     acknowledged = refl;
   }
 
-  -- a failure after which nothing more happened, though the reader may have read
-  pub fails : {p : Place K D R} {reader : D} (why : ConsumeFailure) → is_write_failure why ≡ false
-      → ((answers : List Bool) → A p.reader answers → A reader answers)
+  -- a failure after which nothing more happened
+  pub fails : {p : Place K D R} (why : ConsumeFailure) → is_write_failure why ≡ false
       → (goes : Goes settings plan every H first Stands A known writer p)
       → IsCause settings known (bytes_of goes.steps) (run settings plan begins goes.steps) (Err why)
-      → Converses settings plan every (H first) Stands A known writer p.written reader p.keeper p.stop (Err why)
-  fails {p} {reader} why none answers goes cause =
+      → Converses settings plan every (H first) Stands A known writer p.written p.keeper p.stop (Err why)
+  fails {p} why none goes cause =
       let w = run settings plan begins goes.steps in
-      ends (record p { reader = reader }) (Err why) goes.steps
-      (record {
-        came = goes.is.came;
-        answered = answers (looks_of goes.steps) goes.is.answered;
-        state_is = goes.is.state_is;
-        stop_is = goes.is.stop_is;
-        taken_is = goes.is.taken_is;
-        saved_is = goes.is.saved_is;
-        follows = goes.is.follows;
-        kept = goes.is.kept;
-      })
-      goes.settled (writes_all writer p.written (text_sent w) why none goes.wrote) cause
+      ends p (Err why) goes.steps goes.is goes.settled (writes_all writer p.written (text_sent w) why none goes.wrote) cause
 
   -- no frame was read
-  read_fails_at : {p : Place K D R} {reader : D} (T : Type 0) (error : ReadFrameError)
-      → ((answers : List Bool) → A p.reader answers → A reader answers)
+  read_fails_at : {p : Place K D R} (T : Type 0) (error : ReadFrameError)
       → Goes settings plan every H first Stands A known writer p
       → IsFault {T = T} (payload_limit p.state) p.left (Err error)
-      → Converses settings plan every (H first) Stands A known writer p.written reader p.keeper p.stop
+      → Converses settings plan every (H first) Stands A known writer p.written p.keeper p.stop
       (Err (unread_failure error))
-  read_fails_at {p} {reader} T (read.Read why) answers goes fault = fails (failure.Read why) refl answers goes tt
-  read_fails_at {p} {reader} T (read.Fault why) answers goes fault =
-      fails (failure.Frame why) refl answers goes
+  read_fails_at {p} T (read.Read why) goes fault = fails (failure.Read why) refl goes tt
+  read_fails_at {p} T (read.Fault why) goes fault =
+      fails (failure.Frame why) refl goes
       (subst (λ (s : State). GoesOnWith known (bytes_of goes.steps)
       (λ rest. frame_at (payload_limit s) rest ≡ Err why)) goes.is.state_is
       (goes_on_with known p.left (bytes_of goes.steps) (λ rest. frame_at (payload_limit p.state) rest ≡ Err why)
       goes.is.came fault))
-  read_fails_at {p} {reader} T read.OutOfMemory answers goes fault =
-      fails failure.OutOfMemory refl answers goes tt
+  read_fails_at {p} T read.OutOfMemory goes fault = fails failure.OutOfMemory refl goes tt
 
-  pub read_fails : {p : Place K D R} {answer : Bool} {reader : D} (T : Type 0) (limit : ℕ) (error : ReadFrameError)
-      → limit ≡ payload_limit p.state → ((answers : List Bool) → A p.reader answers → A reader answers)
+  pub read_fails : {p : Place K D R} {answer : Bool} (T : Type 0) (limit : ℕ) (error : ReadFrameError)
+      → limit ≡ payload_limit p.state
       → Looked settings plan every H first Stands A known writer p answer
       → IsFault {T = T} limit p.left (Err error)
-      → Converses settings plan every (H first) Stands A known writer p.written reader p.keeper p.stop
+      → Converses settings plan every (H first) Stands A known writer p.written p.keeper p.stop
       (Err (unread_failure error))
-  read_fails {p} T limit error same answers looked fault =
-      read_fails_at T error answers looked.goes
+  read_fails {p} T limit error same looked fault =
+      read_fails_at T error looked.goes
       (subst (λ (n : ℕ). IsFault {T = T} n p.left (Err error)) same fault)
 
   -- the server ended it, and the follower was saved if that was due
@@ -917,12 +903,12 @@ module _ {K D S R : Type 0} {settings : Settings} {plan : Plan S R} {every : ℕ
       → (goes : Goes settings plan every H first Stands A known writer p)
       → (run settings plan begins goes.steps).end ≡ Some end
       → SavesLast (KeepsIt H Stands p.keeper keeper) (KeepsNothing H p.keeper keeper) due end result
-      → Converses settings plan every (H first) Stands A known writer p.written p.reader keeper p.stop result
+      → Converses settings plan every (H first) Stands A known writer p.written keeper p.stop result
   ends_last {p} {keeper} {end} true (Ok how) stands goes ended step =
       let w = run settings plan begins goes.steps in
       ends_at (record p { keeper = keeper; saved = p.taken }) (Ok how) (goes.steps ++ Saves ∷ [])
-      (bytes_of goes.steps) (looks_of goes.steps) (saves plan w) (no_bytes goes.steps Saves refl)
-      (no_looks goes.steps Saves refl) (run_more settings plan begins goes.steps Saves)
+      (bytes_of goes.steps) (sights_of goes.steps) (saves plan w) (no_bytes goes.steps Saves refl)
+      (no_sights goes.steps Saves refl) (run_more settings plan begins goes.steps Saves)
       (record {
         came = goes.is.came;
         answered = goes.is.answered;
@@ -958,13 +944,13 @@ module _ {K D S R : Type 0} {settings : Settings} {plan : Plan S R} {every : ℕ
   ends_last due (Err failure.OutOfMemory) stands goes ended given = absurd given
 
 module _ {K D S R : Type 0} {settings : Settings} {plan : Plan S R} {every : ℕ} (H : K → K → List S → Type 0)
-    {Stands : K → S → Type 0} {A : D → List Bool → Type 0} {known writer : Option (List ℕ)} {first : K} where
+    {Stands : K → S → Type 0} {A : D → List Sight → Type 0} {known writer : Option (List ℕ)} {first : K} where
   -- a failed write of the protocol header
   pub start_fails : (left written : Option (List ℕ)) (reader : D) (stop : Option (Refusal R)) (state : State)
       (why : ConsumeFailure) → state ≡ machine.begins → known ≡ left → stop ≡ None → Stands first plan.start
       → H first first [] → A reader [] → (is_write_failure why ≡ true) × WritesPart writer written PROTOCOL.now
-      → Converses settings plan every (H first) Stands A known writer written reader first stop (Err why)
-  unfolding run bytes_of looks_of AreSettled entries_of
+      → Converses settings plan every (H first) Stands A known writer written first stop (Err why)
+  unfolding run bytes_of sights_of AreSettled entries_of
   start_fails left written reader stop state why state_is same none stands kept answered step =
       ends {H = H} (record {
         left = left;

@@ -1,12 +1,11 @@
 -- What holds whatever happens.
 use Rattle.std.proofs.Common.{◌≡◌, ◌⊎◌, ℕ, zero, suc, ◌+◌, ◌≤◌, List, [], ◌∷◌, ◌++◌, length, take, Bool, true, false, cond}
-use Rattle.std.proofs.Common.{eqb, fold}
+use Rattle.std.proofs.Common.{eqb}
 use Rattle.std.proofs.Common.{Option, Some, None, Result, Ok, Err, refl, sym, ap, subst, ◌∙◌, arith, length-append}
 use Rattle.std.proofs.Common.{inl, inr, append-nil}
 use Rattle.std.specs.List.{AllByRecursion}
 use Rattle.std.specs.Option.{option_to_list}
 use Rattle.std.proofs.lemmas.List.Sums.{fold-append}
-use Rattle.cdc_amqp_frames.specs.Frames.{Parts}
 use Rattle.cdc_amqp_methods.specs.declared.requests.Request.{Request}
 use Rattle.cdc_amqp_methods.specs.declared.requests.Request.TheVariants as sent
 use Rattle.cdc_amqp_consumer.specs.declared.consumer.Done.{Done}
@@ -19,14 +18,13 @@ use Rattle.cdc_follow.specs.declared.entries.Entry.{Entry}
 use Rattle.cdc_follow.specs.declared.errors.LineError.{LineError}
 use Rattle.cdc_follow.specs.Entries.{Read}
 use Rattle.cdc_amqp_dialogue.specs.Deliveries.{Delivery, bad_tag, bad_tags, delivery_entry, entries_of, entry_list}
-use Rattle.cdc_amqp_dialogue.specs.Laws.{Carries, IsAllowed, IsKept, IsReady, IsSound, rejected_tag, rejected_tags}
-use Rattle.cdc_amqp_dialogue.specs.Taking.{EntryRules, Plan, bad_taking, delivery_of, follow_entries, follower_after}
+use Rattle.cdc_amqp_dialogue.specs.Laws.{Carries, IsAllowed, IsKept, IsSound, rejected_tag, rejected_tags}
+use Rattle.cdc_amqp_dialogue.specs.Taking.{EntryRules, Plan, delivery_of, follow_entries, follower_after}
 use Rattle.cdc_amqp_dialogue.specs.Taking.{refusal_of, taking_after, taking_by, taking_of, taking_of_read}
 use Rattle.cdc_amqp_dialogue.specs.Worlds.{Step, Comes, Saves, Acknowledges, Closes, Looks, World, begins, came, comes}
-use Rattle.cdc_amqp_dialogue.specs.Worlds.{acknowledges, answers_of, closes, deliveries_after, follower_of, happens}
+use Rattle.cdc_amqp_dialogue.specs.Worlds.{answers_of, closes, deliveries_after, follower_of, happens}
 use Rattle.cdc_amqp_dialogue.specs.Worlds.{handled_after, rejections_of, requests_of, run, saves, stop_after}
 use Rattle.cdc_amqp_dialogue.specs.Worlds.{taken_after}
-use Rattle.cdc_amqp_dialogue.specs.declared.taking.Reason.{Reason}
 use Rattle.cdc_amqp_dialogue.specs.declared.taking.Reason.TheVariants.{BadMessage}
 use Rattle.cdc_amqp_dialogue.specs.declared.taking.Refusal.{Refusal}
 use Rattle.cdc_amqp_dialogue.specs.declared.taking.Taking.{Taking}

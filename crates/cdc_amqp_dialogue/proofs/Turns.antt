@@ -1,6 +1,6 @@
 -- What each turn of a consumer keeps.
 use Rattle.std.proofs.Common.{◌≡◌, ℕ, ◌+◌, Bool, true, false, cond, eqb, ltb, length, List, Option, Some, None}
-use Rattle.std.proofs.Common.{Result, Ok, Err, refl, sym, ap, subst, ◌∙◌, arith}
+use Rattle.std.proofs.Common.{Result, Ok, Err, refl, sym, ◌∙◌, arith}
 use Rattle.std.specs.Prelude.{◌-◌, ◌++◌, [], ◌∷◌}
 use Rattle.std.proofs.Common.{length-append}
 use Rattle.std.proofs.lemmas.Bool.{eqb-true}
@@ -17,18 +17,16 @@ use Rattle.cdc_amqp_consumer.specs.declared.consumer.End.TheVariants.{Closed, Ch
 use Rattle.cdc_amqp_consumer.specs.declared.consumer.Outcome.{Outcome}
 use Rattle.cdc_amqp_consumer.specs.declared.consumer.Outcome.TheVariants.{GoesOn, Delivered, Ended}
 use Rattle.cdc_amqp_consumer.specs.declared.errors.ConsumeFault.{ConsumeFault}
-use Rattle.cdc_amqp_consumer.specs.declared.errors.ConsumeFault.TheVariants.{WrongChannel}
 use Rattle.cdc_amqp_consumer.specs.declared.replies.Phase.{Phase}
 use Rattle.cdc_amqp_consumer.specs.declared.replies.Phase.TheVariants as phase
 use Rattle.cdc_amqp_consumer.specs.declared.replies.Reply.{Reply}
 use Rattle.cdc_amqp_consumer.specs.declared.replies.Settings.{Settings}
 use Rattle.cdc_amqp_consumer.specs.Replies.{reply_to}
-use Rattle.cdc_amqp_consumer.specs.Machine.{State, Turn, SettingsFit, setup_turn, delivery_turn, filled, header_turn}
+use Rattle.cdc_amqp_consumer.specs.Machine.{State, Turn, setup_turn, delivery_turn, filled, header_turn}
 use Rattle.cdc_amqp_consumer.specs.Machine.{body_turn, canceled_turn, closed_turn, method_turn, response_turn, received}
-use Rattle.cdc_amqp_consumer.specs.Machine.{channel_of, frame_max_after, kept}
+use Rattle.cdc_amqp_consumer.specs.Machine.{channel_of, kept}
 use Rattle.cdc_amqp_dialogue.specs.Laws.{IsReady, is_under_way}
 use Rattle.cdc_amqp_dialogue.specs.Deliveries.{Delivery}
-use Rattle.cdc_amqp_dialogue.specs.Steps.{FitsOption}
 use Rattle.cdc_amqp_dialogue.specs.Taking.{delivery_of}
 use Rattle.cdc_amqp_dialogue.specs.Worlds.{deliveries_after}
 

@@ -1,7 +1,7 @@
 -- Deliveries, and the entries that they carry.
 use Rattle.std.specs.Prelude.{ℕ, ◌+◌, List, [], ◌∷◌, ◌++◌, Bool, true, false, not, codes, nat_lt, ◌==◌}
 use Rattle.std.specs.Prelude.{if◌then◌else◌}
-use Rattle.std.specs.Prelude.{Option, Some, None, Result, Ok, Err}
+use Rattle.std.specs.Prelude.{Option, Some, None, Ok, Err}
 use Rattle.std.specs.Int.{w32, w64}
 use Rattle.std.specs.Str.{bytes_eq}
 use Rattle.cdc_amqp_frames.specs.Fields.{number_at}
@@ -12,7 +12,6 @@ use Rattle.cdc_message.specs.declared.errors.DecodeError.TheVariants.{NotJson}
 use Rattle.cdc_follow.specs.declared.entries.Content.{Content}
 use Rattle.cdc_follow.specs.declared.entries.Content.TheVariants.{Event, End}
 use Rattle.cdc_follow.specs.declared.entries.Entry.{Entry}
-use Rattle.cdc_follow.specs.declared.errors.LineError.{LineError}
 use Rattle.cdc_follow.specs.declared.errors.LineError.TheVariants.{Decode, PreviousMissing, PreviousWrongType}
 use Rattle.cdc_follow.specs.declared.errors.LineError.TheVariants.{TimestampOutOfRange}
 use Rattle.cdc_follow.specs.Entries.{Read, ◌>>=◌, line_entry, up_to_64}

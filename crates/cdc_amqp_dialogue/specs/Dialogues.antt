@@ -1,5 +1,5 @@
 -- Consuming a queue over a reader and a writer whose bytes are known.
-use Rattle.std.specs.Prelude.{◌≡◌, ℕ, List, [], ◌∷◌, ◌++◌, Bool, true, false, Option, Some, IfSome, Result, Ok, Err}
+use Rattle.std.specs.Prelude.{◌≡◌, ℕ, List, ◌++◌, Bool, true, false, Option, Some, IfSome, Result, Ok, Err}
 use Rattle.std.specs.List.{flat_map}
 use Rattle.std.specs.Io.KnownBytes.{Appends}
 use Rattle.cdc_amqp_frames.specs.Frames.{Parts, frame, frame_at}
@@ -15,7 +15,7 @@ use Rattle.cdc_amqp_dialogue.specs.declared.taking.Refusal.{Refusal}
 use Rattle.cdc_amqp_dialogue.specs.Laws.{AreSettled}
 use Rattle.cdc_amqp_dialogue.specs.Steps.{WritesPart, is_write_failure}
 use Rattle.cdc_amqp_dialogue.specs.Taking.{Plan}
-use Rattle.cdc_amqp_dialogue.specs.Worlds.{Step, World, begins, bytes_of, follower_of, looks_of, run}
+use Rattle.cdc_amqp_dialogue.specs.Worlds.{Sight, Step, World, begins, bytes_of, follower_of, run, sights_of}
 
 -- known bytes begin with a text, after which the rest has this property
 abbrev pub GoesOnWith : Option (List ℕ) → List ℕ → (List ℕ → Type 0) → Type 0
@@ -48,12 +48,12 @@ IsCause settings known text w (Err OutOfMemory) = Unit {0}
 -- Whatever the server's bytes are, there are steps such that they begin with the frames that come. What was written
 -- is the protocol header and the requests of these steps, in order, or a part of that if a write failed. The follower
 -- stands for the fold over the entries of the deliveries of these frames, in order, up to the first at which following
--- stops, for this reason. The store was given the followers of these steps. The reader was asked and answered as these
--- steps have it, and each step was next when it may be: before a frame is awaited, what was taken is saved, and what is
--- saved is acknowledged.
+-- stops, for this reason. The store was given the followers of these steps. The reader, as it was before a read that
+-- failed, answered and gave frames as these steps have it, and each step was next when it may be: before a frame is
+-- awaited, what was taken is saved, and what is saved is acknowledged.
 pub record Converses {K D S R : Type 0} (settings : Settings) (plan : Plan S R) (every : ℕ)
-    (HasKept : K → List S → Type 0) (Stands : K → S → Type 0) (HasAnswered : D → List Bool → Type 0)
-    (known writer written : Option (List ℕ)) (reader : D) (keeper : K) (stop : Option (Refusal R))
+    (HasKept : K → List S → Type 0) (Stands : K → S → Type 0) (HasAnswered : D → List Sight → Type 0)
+    (known writer written : Option (List ℕ)) (keeper : K) (stop : Option (Refusal R))
     (result : Result End ConsumeFailure) : Type 0 where
   pub steps : List Step
   pub came : GoesOnWith known (bytes_of steps) (λ rest. Unit {0})
@@ -62,6 +62,6 @@ pub record Converses {K D S R : Type 0} (settings : Settings) (plan : Plan S R) 
   pub follows : Stands keeper (follower_of plan (run settings plan begins steps))
   pub stops : stop ≡ (run settings plan begins steps).stop
   pub kept : HasKept keeper (run settings plan begins steps).kept
-  pub answered : HasAnswered reader (looks_of steps)
+  pub answered : (reader : D) × HasAnswered reader (sights_of steps)
   pub settled : AreSettled settings plan every begins steps
   pub cause : IsCause settings known (bytes_of steps) (run settings plan begins steps) result

@@ -1,6 +1,6 @@
 -- What is acknowledged is saved, what is rejected is no entry, and what is taken is saved and acknowledged.
 use Rattle.std.specs.Prelude.{◌≡◌, ◌⊎◌, ◌≤◌, ◌+◌, ◌-◌, ℕ, List, [], ◌∷◌, ◌++◌, take, Bool, true, false, length}
-use Rattle.std.specs.Prelude.{Option, None, Ok}
+use Rattle.std.specs.Prelude.{None, Ok}
 use Rattle.std.specs.List.{AllByRecursion}
 use Rattle.cdc_amqp_methods.specs.declared.requests.Request.{Request}
 use Rattle.cdc_amqp_methods.specs.declared.requests.Request.TheVariants.{Ack, Reject}

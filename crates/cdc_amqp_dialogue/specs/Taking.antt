@@ -1,5 +1,5 @@
 -- What becomes of a delivery: the follower takes its entry, or stops at it, or it is parked.
-use Rattle.std.specs.Prelude.{ℕ, List, Bool, fold, if◌then◌else◌, Option, Some, None, Result, Ok, Err}
+use Rattle.std.specs.Prelude.{ℕ, List, Bool, fold, if◌then◌else◌, Option, Some, None, Ok, Err}
 use Rattle.cdc_amqp_consumer.specs.declared.consumer.Outcome.{Outcome}
 use Rattle.cdc_amqp_consumer.specs.declared.consumer.Outcome.TheVariants.{GoesOn, Delivered, Ended}
 use Rattle.cdc_amqp_consumer.specs.Machine.{State}

@@ -1,5 +1,5 @@
 -- What happens while a queue is consumed, one step after another.
-use Rattle.std.specs.Prelude.{ℕ, List, [], ◌∷◌, ◌++◌, ◌==◌, Bool, false, length, take, if◌then◌else◌, Option, Some, None}
+use Rattle.std.specs.Prelude.{ℕ, List, [], ◌∷◌, ◌++◌, ◌==◌, Bool, false, take, if◌then◌else◌, Option, Some, None}
 use Rattle.std.specs.Prelude.{Result, Ok, Err}
 use Rattle.std.specs.Option.{option_to_list}
 use Rattle.cdc_amqp_frames.specs.Frames.{Parts, frame}
@@ -174,14 +174,19 @@ unfoldable pub bytes_of : List Step → List ℕ
 bytes_of [] = []
 bytes_of (step ∷ steps) = its_bytes step ++ bytes_of steps
 
--- what the reader answers, in order
-abbrev pub its_answer : Step → List Bool
-its_answer (Looks waiting) = waiting ∷ []
-its_answer (Comes f) = []
-its_answer Saves = []
-its_answer Acknowledges = []
-its_answer Closes = []
+-- What is seen of a reader of frames: it is asked whether a whole frame is waiting, and answers so; or it gives a frame.
+pub data Sight : Type 0 where
+  Asked : (waiting : Bool) → Sight
+  Gave : (arrival : Parts) → Sight
 
-unfoldable pub looks_of : List Step → List Bool
-looks_of [] = []
-looks_of (step ∷ steps) = its_answer step ++ looks_of steps
+-- what is seen of the reader, in order
+abbrev pub its_sight : Step → List Sight
+its_sight (Looks waiting) = Asked waiting ∷ []
+its_sight (Comes f) = Gave f ∷ []
+its_sight Saves = []
+its_sight Acknowledges = []
+its_sight Closes = []
+
+unfoldable pub sights_of : List Step → List Sight
+sights_of [] = []
+sights_of (step ∷ steps) = its_sight step ++ sights_of steps

@@ -9,7 +9,8 @@ ghost use Rattle.cdc_amqp_dialogue.specs.Dialogues.{Converses};
 ghost use Rattle.cdc_amqp_dialogue.specs.Serving.{SavesLast, ServesBy};
 ghost use Rattle.cdc_amqp_dialogue.specs.Serving.{unread_failure, untaken_failure};
 ghost use Rattle.cdc_amqp_dialogue.specs.Steps.{KeepsIt, KeepsNothing, StandsStill, is_save_due as save_is_due};
-ghost use Rattle.cdc_amqp_dialogue.specs.Worlds.{stop_after as why_after, taken_after as count_after};
+ghost use Rattle.cdc_amqp_dialogue.specs.Worlds.{Asked, Gave, Sight, stop_after as why_after};
+ghost use Rattle.cdc_amqp_dialogue.specs.Worlds.{taken_after as count_after};
 
 use crate::errors::ConsumeFailure;
 use crate::keepers::Keeper;
@@ -26,23 +27,27 @@ pub const PROTOCOL: &[u8] = b"AMQP\x00\x00\x09\x01";
 
 /// A reader of frames that knows whether a whole one can be read without waiting.
 pub trait FrameReader: Read {
-    /// The second came from the first, and meanwhile it answered so whether a whole frame was waiting, one time after
-    /// another.
-    ghost has_answered: { Self → Self → List Bool → Type 0 };
+    /// The second came from the first, and meanwhile it answered so whether a whole frame was waiting, and gave these
+    /// frames, one after another.
+    ghost has_answered: { Self → Self → List Sight → Type 0 };
+
+    /// This answer is right for what it has received.
+    ghost is_right: { Self → Bool → Type 0 };
 
     /// Whether a whole frame can be read without waiting. What is left to read stays the same.
     fn has_frame(&mut self) -> bool
+        ensures right { is_right self.new result }
         ensures left { Self.remaining self.new ≡ Self.remaining self.old }
-        ensures answered { (first : Self) (answers : List Bool) → has_answered first self.old answers
-            → has_answered first self.new (answers ++ result ∷ []) };
+        ensures answered { (first : Self) (sights : List Sight) → has_answered first self.old sights
+            → has_answered first self.new (sights ++ Asked result ∷ []) };
 
     /// Reads the next frame, whose payload has at most so many bytes. After an error, nothing more may be read.
     fn next_frame(&mut self, alloc: Global, limit: u32) -> Result<Frame, ReadFrameError>
         ensures frame { IfOk result (λ it. Consumes (Self.remaining self.old) (Self.remaining self.new)
             (frame (view it))) }
         ensures fault { IsFault limit (Self.remaining self.old) result }
-        ensures answered { (first : Self) (answers : List Bool) → has_answered first self.old answers
-            → has_answered first self.new answers };
+        ensures gave { IfOk result (λ it. (first : Self) (sights : List Sight) → has_answered first self.old sights
+            → has_answered first self.new (sights ++ Gave (view it) ∷ [])) };
 
     /// At first it had answered nothing.
     ghost has_answered_none: { (it : Self) → has_answered it it [] };
@@ -50,6 +55,9 @@ pub trait FrameReader: Read {
 
 impl<R: Read> FrameReader for BufReader<R> {
     ghost has_answered = { λ _ _ _. Unit {0} };
+
+    // (of what it has buffered no contract speaks)
+    ghost is_right = { λ _ _. Unit {0} };
 
     fn has_frame(&mut self) -> bool {
         first_frame(FRAME_MAX, self.buffer()).is_ok()
@@ -217,7 +225,7 @@ pub fn consume<R: FrameReader, W: Write, K: Keeper>(
     ensures { (start : K.State) → K.stands setup.now keeper.old start → Converses settings.now
         (record { rules = K.rules setup.now; parks = pace.parks; start = start }) pace.every
         (K.has_kept setup.now keeper.old) (K.stands setup.now) (R.has_answered reader.old) (R.remaining reader.old)
-        (W.contents writer.old) (W.contents writer.new) reader.new keeper.new stop.new result }
+        (W.contents writer.old) (W.contents writer.new) keeper.new stop.new result }
 {
     let mut consumer = Consumer::new(alloc);
     send(writer, PROTOCOL)?;

@@ -32,7 +32,7 @@ pub fn consume_command<R: FrameReader, W: Write, K: Keeps<StreamFollower>>(
 ) -> ConsumeEnding
     requires fit { SettingsFit settings.now }
     ensures { Consumes settings.now pace setup.now (K.has_kept setup.now) (R.has_answered reader.old)
-        (R.remaining reader.old) (W.contents writer.old) (W.contents writer.new) reader.new kept.old kept.new result }
+        (R.remaining reader.old) (W.contents writer.old) (W.contents writer.new) kept.old kept.new result }
 {
     acknowledged_is_saved::<KeptFollower<K>>();
     kept.forget_changes();

@@ -3,7 +3,7 @@
 ghost use Rattle.std.specs.Prelude.{◌≡◌, [], None};
 ghost use Rattle.cdc_follow.specs.Following.{stops_at as stops_following};
 ghost use Rattle.cdc_follow.specs.Stops.{stop_by as why_it_stops};
-ghost use Rattle.cdc_consume_command.specs.Kept.{follower_of, stop_for as stop_if};
+ghost use Rattle.cdc_consume_command.specs.Kept.{follower_of, place_of, stop_for as stop_if};
 
 use cdc_amqp_consumer::{Consumer, End};
 use cdc_amqp_dialogue::Keeper;
@@ -78,8 +78,7 @@ impl<K> KeptFollower<K> {
 
     /// Keeps no changes any longer, so that the next save is of the whole.
     pub(crate) fn forget_changes(&mut self)
-        ensures followed { follower_of self.new ≡ follower_of self.old }
-        ensures counts { self.new.followed.counts ≡ self.old.followed.counts }
+        ensures followed { place_of self.new ≡ place_of self.old }
         ensures store { self.new.store ≡ self.old.store }
         ensures untracked { self.new.followed.tracked.changes ≡ None }
     {
@@ -121,19 +120,19 @@ fn stop_for(following: Following, skips: bool, tag: u64, entry: Entry) -> Option
 }
 
 impl<K: Keeps<StreamFollower>> Keeper for KeptFollower<K> {
-    ghost use Rattle.std.specs.Prelude.{◌≡◌, [], refl};
-    ghost use Rattle.cdc_follow.specs.Following.{FollowState};
-    ghost use Rattle.cdc_consume_command.specs.Kept.{HasKeptFollowers, follower_of, rules_of};
+    ghost use Rattle.std.specs.Prelude.{◌≡◌};
+    ghost use Rattle.cdc_consume_command.specs.Kept.{HasKeptFollowers, place_of, rules_of};
+    ghost use Rattle.cdc_follow_command.specs.declared.followers.Followed.{Followed};
 
     type Setup = FollowSetup;
 
     type Stop = Stop;
 
-    ghost State = { FollowState };
+    ghost State = { Followed };
 
     ghost rules = { rules_of };
 
-    ghost stands = { λ _ it state. follower_of it ≡ state };
+    ghost stands = { λ _ it place. place_of it ≡ place };
 
     ghost has_kept = { λ setup. HasKeptFollowers (K.has_kept setup) };
 
@@ -176,5 +175,5 @@ impl<K: Keeps<StreamFollower>> Keeper for KeptFollower<K> {
         Ok(())
     }
 
-    ghost has_kept_none = { λ setup it. ([], refl, K.has_kept_none setup it.store) };
+    ghost has_kept_none = { λ setup it. K.has_kept_none setup it.store };
 }

@@ -1,4 +1,4 @@
-use Rattle.std.proofs.Common.{◌≡◌, ℕ, ap, ◌∙◌, refl, arith}
+use Rattle.std.proofs.Common.{ℕ, ap, ◌∙◌, refl}
 use Rattle.std.proofs.lemmas.Result.{err_from_is_err_and}
 use Rattle.cdc_amqp_frames.specs.declared.frames.Frame.{Frame}
 use Rattle.cdc_amqp_dialogue.specs.Worlds.{taken_after}
@@ -56,8 +56,7 @@ returns-in-Err g c = λ start stands.
     let done = done_by c.is_save_due-is_due.ensures (saved_le goes) c.in_ok-was_saved.ensures.done
     c.saved_after-saved.ensures in
     let closed = goes_closed _ saved done.closing c.in_ok-was_closed.ensures.closed in
-    rw c.unread.ensures (read_fails Frame _ c.in-Err.error c.payload_limit.ensures
-    (c.in-Err.ensures.answered c.args.reader.now) closed c.in-Err.ensures.fault)
+    rw c.unread.ensures (read_fails Frame _ c.in-Err.error c.payload_limit.ensures closed c.in-Err.ensures.fault)
 
 pub returns-in_err-served : goal.returns-in_err-served
 returns-in_err-served g c = λ start stands.
@@ -72,7 +71,7 @@ returns-in_err-served g c = λ start stands.
     let exit = err_from_is_err_and c.from_residual-in_err-served.result
     c.from_residual-in_err-served.ensures.1 in
     rw (exit.1, exit.2) (serve_failed _ _ _ c.in_err-served.field-0.0 closed done.waits done.paced c.in-Ok.ensures.frame
-    (c.in-Ok.ensures.answered c.args.reader.now) c.in_err-served.ensures.kept c.in_err-served.ensures.served)
+    (c.in-Ok.ensures.gave c.args.reader.now) c.in_err-served.ensures.kept c.in_err-served.ensures.served)
 
 pub loop-preserved : goal.loop-preserved
 loop-preserved g c = record {
@@ -85,7 +84,7 @@ loop-preserved g c = record {
       let done = done_by c.is_save_due-is_due.ensures (saved_le goes) c.in_ok-was_saved.ensures.done
       c.saved_after-saved.ensures in
       let closed = goes_closed _ saved done.closing c.in_ok-was_closed.ensures.closed in
-      (goes_served closed done.waits done.paced c.in-Ok.ensures.frame (c.in-Ok.ensures.answered c.args.reader.now)
+      (goes_served closed done.waits done.paced c.in-Ok.ensures.frame (c.in-Ok.ensures.gave c.args.reader.now)
       c.in_ok-served.ensures.kept
       (c.taken_after-taken.ensures
       ∙ ap (λ (n : ℕ). taken_after c.loop.taken n c.in_ok-served.served.taking) c.delivered-delivered.ensures)
@@ -104,11 +103,11 @@ returns-in-Ended g c = λ start stands.
     c.saved_after-saved.ensures in
     let closed = goes_closed _ saved done.closing c.in_ok-was_closed.ensures.closed in
     let served = goes_served closed done.waits done.paced c.in-Ok.ensures.frame
-    (c.in-Ok.ensures.answered c.args.reader.now) c.in_ok-served.ensures.kept
+    (c.in-Ok.ensures.gave c.args.reader.now) c.in_ok-served.ensures.kept
     (c.taken_after-taken.ensures
     ∙ ap (λ (n : ℕ). taken_after c.loop.taken n c.in_ok-served.served.taking) c.delivered-delivered.ensures)
     c.in_ok-served.ensures.served in
     ends_last _ _ c.save_last.ensures.follower served.0 (served.1 c.in-Ended.end c.in-Ended.is) c.save_last.ensures.saved
 
 pub returns : goal.returns
-returns g c = λ start stands. fails _ refl (λ _ answered. answered) (c.loop.invariant.goes start stands) tt
+returns g c = λ start stands. fails _ refl (c.loop.invariant.goes start stands) tt

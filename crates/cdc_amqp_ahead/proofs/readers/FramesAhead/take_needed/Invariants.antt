@@ -1,6 +1,6 @@
 use Rattle.std.proofs.Common.{◌≡◌}
 use Rattle.cdc_amqp_ahead.specs.Readers.{left_of}
-use Rattle.cdc_amqp_ahead.proofs.readers.FramesAheadFrameReader.has_frame.Given as goal
+use Rattle.cdc_amqp_ahead.proofs.readers.FramesAhead.take_needed.Given as goal
 
 -- what is left to read stayed the same
 abbrev pub invariant-loop : goal.invariant-loop
