@@ -106,9 +106,10 @@ module _ (name : List ℕ) (named : is_name name ≡ true) (chained : Bool) (bin
       (join (codes " SET ") _ (given refl) (join (columns_text (codes ", ") chained binding after) _
       (columns (codes ", ") after (given refl) fit) (join (codes "\nWHERE id = 1 AND ") _ (given refl)
       (join (columns_text (codes " AND ") chained binding before) _ (columns (codes " AND ") before (given refl) fits)
-      (join (codes ";\nIF NOT FOUND THEN RAISE '") _ (given refl)
+      (join (codes ";\n") _ (given refl)
+      (join (codes "IF NOT FOUND THEN RAISE '") _ (given refl)
       (join (book_table name) (codes " is not where this follower left it'; END IF;\nEND$$;\n")
-      (tables (codes "\".book") (given refl)) (given refl))))))))
+      (tables (codes "\".book") (given refl)) (given refl)))))))))
 
   either : (b : Bool) (x y : List ℕ) → NoM x → NoM y → NoM (cond b x y)
   either true x y one two = one

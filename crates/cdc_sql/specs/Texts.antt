@@ -30,8 +30,8 @@ abbrev pub move_text : List ℕ → Bool → List ℕ → Place → Place → Li
 move_text name chained binding before after =
     codes "BEGIN;\nDO $$BEGIN\nUPDATE " ++ (book_table name ++ (codes " SET "
     ++ (columns_text (codes ", ") chained binding after ++ (codes "\nWHERE id = 1 AND "
-    ++ (columns_text (codes " AND ") chained binding before ++ (codes ";\nIF NOT FOUND THEN RAISE '"
-    ++ (book_table name ++ codes " is not where this follower left it'; END IF;\nEND$$;\n")))))))
+    ++ (columns_text (codes " AND ") chained binding before ++ (codes ";\n" ++ (codes "IF NOT FOUND THEN RAISE '"
+    ++ (book_table name ++ codes " is not where this follower left it'; END IF;\nEND$$;\n"))))))))
 
 -- what a transaction has before its commit
 abbrev pub body_text : List ℕ → Bool → List ℕ → Save → List ℕ

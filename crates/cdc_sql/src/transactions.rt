@@ -22,6 +22,13 @@ pub(crate) fn push_book_table(text: &mut Vec<u8>, name: &SchemaName) -> Result<(
     push(text, "\".book")
 }
 
+/// What fails the transaction unless the row was moved, up to its message.
+fn refusal() -> &'static str
+    ensures { result.now ≡ codes "IF NOT FOUND THEN RAISE '" }
+{
+    "IF NOT FOUND THEN RAISE '"
+}
+
 /// Adds what follows the new place in the text that moves the position.
 fn push_fence(
     text: &mut Vec<u8>,
@@ -32,12 +39,13 @@ fn push_fence(
 ) -> Result<(), AllocError>
     ensures { OnOk result (text.new.items ≡ text.old.items ++ (codes "\nWHERE id = 1 AND "
         ++ (columns_text (codes " AND ") chained binding.now before
-        ++ (codes ";\nIF NOT FOUND THEN RAISE '" ++ (book_table name.now.text.items
-        ++ codes " is not where this follower left it'; END IF;\nEND$$;\n"))))) }
+        ++ (codes ";\n" ++ (codes "IF NOT FOUND THEN RAISE '" ++ (book_table name.now.text.items
+        ++ codes " is not where this follower left it'; END IF;\nEND$$;\n")))))) }
 {
     push(text, "\nWHERE id = 1 AND ")?;
     push_columns(text, " AND ", chained, binding, before)?;
-    push(text, ";\nIF NOT FOUND THEN RAISE '")?;
+    push(text, ";\n")?;
+    push(text, refusal())?;
     push_book_table(text, name)?;
     push(
         text,
