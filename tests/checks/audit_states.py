@@ -28,7 +28,7 @@ from piped import Piped
 
 JOBS = 2  # runs at a time
 MOST_CUTS, DRAWN_CUTS = 100, 20  # a stream with more lines is cut at so many drawn ones
-STORE = (1, "fault: store\n")
+STORE, OTHER = (1, "fault: store\n"), (2, "fault: store\n")  # a file that fails, or one that holds something else
 
 
 def own(body):
@@ -153,7 +153,7 @@ def logs(folder):
             check(f"a log that is cut at {place}", state_of(other) == wanted[whole - 1], place)
         else:
             found = run(["--state", other], b"")
-            check(f"a base that is cut at {place}", found[:2] == STORE and read(other) == log[:place], (place, found))
+            check(f"a base that is cut at {place}", found[:2] == OTHER and read(other) == log[:place], (place, found))
         os.remove(other)
     first, second = lines[0].encode(), lines[6].encode()
     size = log.index(b"\n", log.index(b"audit-state 2")) + 1
@@ -174,7 +174,7 @@ def logs(folder):
     ):
         write(other, content)
         found = run(["--state", other], b"")
-        check(f"a log with {name}", found[:2] == STORE and read(other) == content, found)
+        check(f"a log with {name}", found[:2] == OTHER and read(other) == content, found)
         os.remove(other)
     os.remove(state)
 
@@ -225,7 +225,7 @@ def refused(folder):
     run(["--state", state], text_of(stream))
     before = state_of(state).encode()
     found = run(["--foreign", "--state", state], b"")
-    check("a state without --foreign", found[:2] == STORE and f"{state}: store" in found[2], found)
+    check("a state without --foreign", found[:2] == OTHER and f"{state}: store" in found[2], found)
     check("it stays", read(state) == base_of(before), before)
     plain, held = b"plain 1\n", b"held 2 10\n"
     for name, content in [
@@ -252,7 +252,7 @@ def refused(folder):
         for kept in (content, base_of(content)):
             write(other, kept)
             found = run(["--state", other], text_of(stream))
-            check(f"a state that is none: {name}", found[:2] == STORE and f"{other}: store" in found[2], found)
+            check(f"a state that is none: {name}", found[:2] == OTHER and f"{other}: store" in found[2], found)
             check(f"it stays: {name}", read(other) == kept, name)
             os.remove(other)
     check("a folder", run(["--state", folder], b"")[:2] == STORE, folder)

@@ -162,14 +162,14 @@ def states(folder):
     before = read(state)
     for others in ([LEDGER], [POSTED, LEDGER], [LEDGER, POSTED, "all"], ["all ledger=701", POSTED], ["any ledger=700", POSTED]):
         found = run([*options_of(others), "--state", state], text_of([END]))
-        check(f"a state of other queues: {others}", found[:2] == (1, "") and "store" in found[2], found)
+        check(f"a state of other queues: {others}", found[:2] == (2, "") and "store" in found[2], found)
         check(f"it stays: {others}", read(state) == before, read(state))
     for name, text in [*(("cut", before[:place]) for place in range(len(before))), ("before", "\n" + before), ("zero", before.replace("last ", "last 0"))]:
         other = os.path.join(folder, "other.state")
         with open(other, "w", encoding="ascii") as it:
             it.write(text)
         found = run([*options_of(both), "--state", other], text_of([END]))
-        check(f"no state: {name}: {text!r}", found[:2] == (1, "") and "store" in found[2] and read(other) == text, found)
+        check(f"no state: {name}: {text!r}", found[:2] == (2, "") and "store" in found[2] and read(other) == text, found)
     found = run([*options_of(both), "--state", folder], b"")
     check("a state that is a folder", found[:2] == (1, "") and "store" in found[2], found)
     with open(state, "w", encoding="ascii") as it:
@@ -209,7 +209,7 @@ def logs(folder):
 
     for place in range(len(log)):
         whole = sum(end <= place for end in ends)
-        after = (0, log_of(wanted[whole - 1])) if whole else (1, log[:place])
+        after = (0, log_of(wanted[whole - 1])) if whole else (2, log[:place])
         check(f"a log that is cut at {place}", resumed(log[:place]) == after, place)
     two = log_of(*wanted[:2])
     size = two.index("\n", two.index("chain-state 1 bytes")) + 1
@@ -217,7 +217,7 @@ def logs(folder):
     for name, text, after in (
         ("other bytes after it", two + "\0" * 40, (0, log_of(wanted[1]))),
         ("a last frame without a state", wrong, (0, log_of(wanted[0]))),
-        ("a frame without a state before another one", wrong + log[ends[1] : ends[2]], (1, wrong + log[ends[1] : ends[2]])),
+        ("a frame without a state before another one", wrong + log[ends[1] : ends[2]], (2, wrong + log[ends[1] : ends[2]])),
         ("a frame with another number", log_of(wanted[0]) + log[ends[1] : ends[2]], (0, log_of(wanted[0]))),
     ):
         check(f"a log with {name}", resumed(text) == after, (name, resumed(text)))

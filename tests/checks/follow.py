@@ -634,9 +634,9 @@ def books(folder):
     check("nothing is left beside a book", sorted(os.listdir(folder)) == ["a.book"], os.listdir(folder))
     before = open(book, "rb").read()
     found = run(["--book", book], text(lines))
-    check("a book of a chained stream", found[:2] == (1, "fault: store\n") and "store" in found[2], found)
+    check("a book of a chained stream", found[:2] == (2, "fault: store\n") and "store" in found[2], found)
     found = run(["--chained", "--binding", "all ledger=700", "--book", book], text(lines))
-    check("a book of another binding", found[:2] == (1, "fault: store\n") and "store" in found[2], found)
+    check("a book of another binding", found[:2] == (2, "fault: store\n") and "store" in found[2], found)
     check("it stays", open(book, "rb").read() == before, before)
     alone = framed(before)[0]
     for name, content in [
@@ -653,7 +653,7 @@ def books(folder):
         with open(other, "wb") as file:
             file.write(content)
         found = run(["--chained", "--book", other], text(lines))
-        check(f"a book that is none: {name}", found[:2] == (1, "fault: store\n") and f"{other}: store" in found[2], found)
+        check(f"a book that is none: {name}", found[:2] == (2, "fault: store\n") and f"{other}: store" in found[2], found)
         check(f"it stays: {name}", open(other, "rb").read() == content, name)
         os.remove(other)
     found = run(["--chained", "--book", folder], b"")
@@ -700,7 +700,7 @@ def late_starts(folder):
         before = open(path, "rb").read()
         for timestamp in ("10", "19", "21"):
             found = run([*options, timestamp], text(chained(20, event(30))))
-            check(f"{name}: --after {timestamp} of a book at 20", found[:2] == (1, "fault: store\n"), found)
+            check(f"{name}: --after {timestamp} of a book at 20", found[:2] == (2, "fault: store\n"), found)
             check(f"{name}: what is reported then", "bad_record: the last event that it has seen has the timestamp 20, and --after" in found[2], found)
             check(f"{name}: it stays then", open(path, "rb").read() == before, timestamp)
         found = run([*options, "20"], text(chained(10, SECOND)))
@@ -731,7 +731,7 @@ def meanings(folder):
             before = open(path, "rb").read()
             for binding in others:
                 found = run(["--chained", "--book", book, "--binding", binding], text(chained(10, SECOND)))
-                check(f"{name} of {saved!r}: {binding!r}", found[:2] == (1, "fault: store\n") and "bad_record" in found[2], found)
+                check(f"{name} of {saved!r}: {binding!r}", found[:2] == (2, "fault: store\n") and "bad_record" in found[2], found)
                 check(f"{name} of {saved!r}: it stays", open(path, "rb").read() == before, binding)
             for binding in [saved, *same]:
                 found = run(["--chained", "--book", book, "--binding", binding], text(chained(0, FIRST)))
@@ -820,7 +820,7 @@ def cut(path, log, frames, books):
         it.write(log)
     last, text = books[frames - 1]
     found = run(["--chained", "--book", path], b"")
-    wanted = (0, f"saved {last}\n{text}") if frames else (1, "fault: store\n")
+    wanted = (0, f"saved {last}\n{text}") if frames else (2, "fault: store\n")
     kept = kept_in(path) == books[frames - 1] if frames else open(path, "rb").read() == log
     is_right = found[:2] == wanted and kept and not os.path.exists(f"{path}.new")
     os.remove(path)

@@ -388,9 +388,9 @@ def refused(program):
             check(f"the arguments {arguments}", (status, text) == (2, "") and said.startswith("error: "), (status, text, said))
         for more in (["--binding", "all ledger=7"], []):
             status, text, said = called(program, [*more, *(["--chained"] if more else []), "--sql", "bank", "--resume", resume], lines)
-            check(f"another stream: {more}", (status, text) == (1, "") and "bad_record" in said, (status, text, said))
+            check(f"another stream: {more}", (status, text) == (2, "") and "bad_record" in said, (status, text, said))
         status, text, said = called(program, ["--chained", "--sql", "bank", "--resume", resume, "--after", "5"], lines)
-        check("another place", (status, text) == (1, "") and "--after names" in said, (status, text, said))
+        check("another place", (status, text) == (2, "") and "--after names" in said, (status, text, said))
         for close in (0, 100):
             child = subprocess.Popen(
                 [program, "follow", "--chained", "--sql", "bank", "--resume", resume],
@@ -407,7 +407,7 @@ def refused(program):
     for text in ("", at[:-3], at + "account 1 0 0 0 1\n", "book 2" + at[6:], at + at):
         with file_of(text) as resume:
             status, text, said = called(program, ["--chained", "--sql", "bank", "--resume", resume], lines)
-        check("no position", (status, text) == (1, "") and "bad_record" in said, (status, text, said))
+        check("no position", (status, text) == (2, "") and "bad_record" in said, (status, text, said))
     status, text, said = called(program, ["--chained", "--sql", "bank", "--resume", "/nonexistent"], lines)
     check("no file", (status, text) == (1, "") and "read_fault" in said, (status, text, said))
 

@@ -179,7 +179,7 @@ def books(checks):
         checks.same(f"{what}: it is made", 0, checks.run(made)[0])
         shown = next(it for it in asked if it.endswith(name))
         status, _, errors = checks.run([*asked, "stream"])
-        checks.same(what, (1, f"{shown}: store: bad_record: {sentence}\n"), (status, errors))
+        checks.same(what, (2, f"{shown}: store: bad_record: {sentence}\n"), (status, errors))
     for what, data, sentence in [
         ("a later version", b"book 2 chained no seen 0\nbinding all\n",
          "it is of version 2, and this program reads version 1: use the program that wrote it, or name another file"),
@@ -188,7 +188,7 @@ def books(checks):
     ]:
         (checks.room / "book").write_bytes(data)
         status, _, errors = checks.run(["follow", "--book", "book", "stream"])
-        checks.same(what, (1, f"book: store: bad_record: {sentence}\n"), (status, errors))
+        checks.same(what, (2, f"book: store: bad_record: {sentence}\n"), (status, errors))
     for name in ("none/x", "none/x.db"):
         for prefix in ("", "sqlite:"):
             status, _, errors = checks.run(["follow", "--book", f"{prefix}{name}", "stream"])

@@ -41,6 +41,7 @@ import ending
 import needs
 import rooms
 from trying import Stop, cases, consumer, plays, shrinking, streams, tracing, trials, verdicts
+from trying import reports as sentences
 
 TOOLS = str(rooms.TOP / "tools")
 RUNNER = f"{TOOLS}/try-consumer"
@@ -588,11 +589,12 @@ def smallest(checks):
     del tried[:]
     over = shrinking.Shrinker(checks.source, fails, time.monotonic() - 1).shrunk(case, fails(case))
     checks.same("no time: the case is cut", (shrinking.cut(case, fails(case)), 2), (over[0], len(tried)))
-    command = checks.command_of("overwriting.py")
-    status, printed, _ = checks.over("--seed", 2, "--kills", 1, "--shrink", 1, command=command)
-    lines = printed.splitlines()
-    wanted = (1, ["seed 2", "  done", "  smallest case", "  done", "  files", "try-consumer"])
-    checks.same("the report of a smallest case", wanted, (status, [re.split("[,:]", it)[0] for it in lines]))
+    first, best = (trials.Outcome(it, fails(it), plays.Log()) for it in (case, best))
+    lines = [*sentences.lines_of(first), *sentences.lines_of_smallest(first, best, "a folder", "PROGRAM")]
+    wanted = ["seed 2", "  done", "  smallest case", "  done", "  files"]
+    checks.same("the report of a smallest case", wanted, [re.split("[,:]", it)[0] for it in lines])
+    lines = sentences.lines_of_smallest(first, first, "a folder", "PROGRAM")
+    checks.same("and if no smaller one was found", ["  files: 'a folder'; to replay: PROGRAM --replay 'a folder' -- COMMAND"], lines)
 
 
 def failing_at_duplicates():

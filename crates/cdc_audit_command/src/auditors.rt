@@ -80,6 +80,13 @@ impl StreamAuditor {
         &self.auditor
     }
 
+    /// How many duplicates were skipped.
+    pub fn duplicates(&self) -> u64
+        ensures { result ≡ self.now.duplicates }
+    {
+        self.duplicates
+    }
+
     /// The lines that were taken since it was saved, if they are kept.
     pub(crate) fn lines(&self) -> &Option<Vec<u8>>
         ensures { result.now ≡ self.now.lines }

@@ -6,6 +6,7 @@ mod endings;
 mod forms;
 mod json_lines;
 mod laws;
+mod quiet;
 mod refusals;
 mod states;
 mod turns;

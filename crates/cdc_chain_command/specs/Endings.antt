@@ -2,12 +2,13 @@
 use Rattle.std.specs.Prelude.{ℕ}
 use Rattle.cdc_chain.specs.declared.streams.ChainStop.{ChainStop}
 use Rattle.cdc_chain.specs.declared.streams.ChainStop.TheVariants.{AtEnd, AfterEnd, BadLine}
+use Rattle.cdc_streams.specs.Endings.{failed_status}
 use Rattle.cdc_streams.specs.declared.endings.StreamEnding.{StreamEnding}
 use Rattle.cdc_streams.specs.declared.endings.StreamEnding.TheVariants.{Stopped, Failed}
 
--- the exit status: 0 at the end, 1 after a failure, 2 at a bad line, 3 at what contradicts the end
+-- the exit status: 0 at the end; 2 at a bad line; 3 at what contradicts the end; after a failure, whether it may pass
 abbrev pub status_of : StreamEnding ChainStop → ℕ
 status_of (Stopped AtEnd) = 0
 status_of (Stopped (AfterEnd line)) = 3
 status_of (Stopped (BadLine line error)) = 2
-status_of (Failed why) = 1
+status_of (Failed why) = failed_status why

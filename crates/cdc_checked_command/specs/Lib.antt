@@ -5,3 +5,4 @@ pub mod Resuming
 pub mod Texts
 pub mod JsonLines
 pub mod Private
+pub mod Quiet

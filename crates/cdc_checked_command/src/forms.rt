@@ -98,7 +98,7 @@ fn write_progress(text: &mut Vec<u8>, follower: &CheckedFollower) -> io::Result<
 }
 
 /// Adds the line of why following stopped; none if it stopped at the end.
-fn push_stop(text: &mut Vec<u8>, stop: CheckStop) -> Result<(), AllocError>
+pub(crate) fn push_stop(text: &mut Vec<u8>, stop: CheckStop) -> Result<(), AllocError>
     ensures { OnOk result (text.new.items ≡ text.old.items ++ stop_line stop) }
 {
     match stop {

@@ -75,7 +75,11 @@ fn push_saved(
 }
 
 /// Adds the line of the counts of all lines.
-fn push_followed(alloc: Global, lines: &mut Lines, counts: Counts) -> Result<(), AllocError>
+pub(crate) fn push_followed(
+    alloc: Global,
+    lines: &mut Lines,
+    counts: Counts,
+) -> Result<(), AllocError>
     ensures { OnOk result (lines.new.text.items
         ≡ lines.old.text.items ++ json_line (followed_value counts)) }
 {
@@ -153,7 +157,7 @@ fn push_account(
 }
 
 /// Adds the line of why following stopped; none at the end.
-fn push_stop(alloc: Global, lines: &mut Lines, stop: CheckStop) -> Result<(), AllocError>
+pub(crate) fn push_stop(alloc: Global, lines: &mut Lines, stop: CheckStop) -> Result<(), AllocError>
     ensures { OnOk result (lines.new.text.items ≡ lines.old.text.items ++ stop_lines stop) }
 {
     match stop {

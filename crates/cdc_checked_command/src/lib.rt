@@ -6,6 +6,7 @@ pub mod checkers;
 pub mod endings;
 pub mod forms;
 mod json_lines;
+mod quiet;
 pub mod resuming;
 
 pub use books::CheckedLog;

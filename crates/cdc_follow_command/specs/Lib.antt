@@ -3,4 +3,5 @@ pub mod Endings
 pub mod Following
 pub mod JsonLines
 pub mod Private
+pub mod Quiet
 pub mod Texts

@@ -72,7 +72,7 @@ fn push_subscriber(text: &mut Vec<u8>, subscriber: &Subscriber) -> Result<(), Al
 }
 
 /// Adds the line of why following stopped; none if it stopped at the end.
-fn push_stop(text: &mut Vec<u8>, seen: u64, stop: Stop) -> Result<(), AllocError>
+pub(crate) fn push_stop(text: &mut Vec<u8>, seen: u64, stop: Stop) -> Result<(), AllocError>
     ensures { OnOk result (text.new.items ≡ text.old.items ++ stop_line seen stop) }
 {
     match stop {

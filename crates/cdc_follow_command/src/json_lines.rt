@@ -41,7 +41,12 @@ impl FollowForm for Json {
 }
 
 /// Adds the line of why following stopped, where the last event seen has this timestamp; none at the end.
-fn push_stop(alloc: Global, lines: &mut Lines, seen: u64, stop: Stop) -> Result<(), AllocError>
+pub(crate) fn push_stop(
+    alloc: Global,
+    lines: &mut Lines,
+    seen: u64,
+    stop: Stop,
+) -> Result<(), AllocError>
     ensures { OnOk result (lines.new.text.items
         ≡ lines.old.text.items ++ stop_lines seen stop) }
 {
@@ -78,7 +83,11 @@ fn push_saved(
 }
 
 /// Adds the line of the counts of all lines.
-fn push_followed(alloc: Global, lines: &mut Lines, counts: Counts) -> Result<(), AllocError>
+pub(crate) fn push_followed(
+    alloc: Global,
+    lines: &mut Lines,
+    counts: Counts,
+) -> Result<(), AllocError>
     ensures { OnOk result (lines.new.text.items
         ≡ lines.old.text.items ++ json_line (followed_value counts)) }
 {

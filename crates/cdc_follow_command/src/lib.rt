@@ -6,6 +6,7 @@ mod endings;
 mod followers;
 mod forms;
 mod json_lines;
+mod quiet;
 
 pub use books::{BookLog, ResumeError, begin, resume, resume_at};
 pub use endings::{FollowEnding, follow_status};

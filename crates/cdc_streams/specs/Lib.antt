@@ -1,3 +1,4 @@
+pub mod Endings
 pub mod Keeping
 pub mod Lines
 pub mod Saving

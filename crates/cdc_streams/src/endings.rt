@@ -2,7 +2,9 @@
 
 ghost use Rattle.std.specs.Prelude.{◌≡◌, ◌≢◌};
 ghost use Rattle.std.specs.IoError.{error_kind};
+ghost use Rattle.cdc_streams.specs.Endings.{failed_status};
 
+use cdc_files::StoreError;
 use cdc_follow::FollowError;
 use cdc_output::ProgramFault;
 use std::io;
@@ -15,6 +17,17 @@ pub enum StreamEnding<S> {
     Stopped(S),
     /// The command failed.
     Failed(ProgramFault),
+}
+
+/// The exit status of a command that failed: 2 if what its store holds isn't what was asked for, so that it fails again
+/// when it is started again; 1 otherwise, since the failure may pass.
+pub fn failure_status(fault: ProgramFault) -> u8
+    ensures { result ≡ failed_status fault }
+{
+    match fault {
+        ProgramFault::Store(StoreError::BadRecord) => 2,
+        _ => 1,
+    }
 }
 
 /// The program's fault for a failure of reading.
