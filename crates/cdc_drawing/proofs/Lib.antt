@@ -1,0 +1,2 @@
+mod OneMoreStep
+mod RowLemmas

@@ -1,0 +1,4 @@
+mod EventLemmas
+mod OneMoreStep
+mod Pieces
+mod RecordingLemmas
