@@ -1,4 +1,4 @@
 mod EventLemmas
 mod OneMoreStep
-mod Pieces
+mod Joined
 mod RecordingLemmas

@@ -12,8 +12,8 @@ pub step_recorded : (old new : Recording) (seen : List Seen) (s : Seen) → new.
     → (new.steps.items ≡ steps_json new.bindings.items (seen ++ s ∷ [])) × (new.logged ≡ logged_after 0 (seen ++ s ∷ []))
 step_recorded old new seen s same steps logged has = (
   rw same (steps
-  ∙ ap (λ (text : List ℕ). text ++ entry_json old.bindings.items old.logged s) has.0
-  ∙ ap (λ (n : ℕ). steps_json old.bindings.items seen ++ entry_json old.bindings.items n s) has.1
-  ∙ sym (steps_after-more old.bindings.items 0 seen s)),
+      ∙ ap (λ (text : List ℕ). text ++ entry_json old.bindings.items old.logged s) has.0
+      ∙ ap (λ (n : ℕ). steps_json old.bindings.items seen ++ entry_json old.bindings.items n s) has.1
+      ∙ sym (steps_after-more old.bindings.items 0 seen s)),
   logged ∙ sym (logged_after-more 0 seen s),
 )

@@ -15,12 +15,12 @@ HasRecorded recording seen = IfSome recording (λ r.
 -- trace, and the window
 abbrev pub labels_json : List ℕ → List ℕ → List ℕ → ℕ → List ℕ
 labels_json name refusal trace window =
-    codes "{\"format\":1,\"script\":\"" ++ (escaped name ++ (codes "\",\"refusal\":\"" ++ (escaped refusal
-    ++ (codes "\",\"trace\":\"" ++ (escaped trace ++ (codes "\",\"window\":\"" ++ decimal window))))))
+    codes "{\"format\":1," ++ (codes "\"script\":\"" ++ (escaped name ++ (codes "\",\"refusal\":\"" ++ (escaped refusal
+    ++ (codes "\",\"trace\":\"" ++ (escaped trace ++ (codes "\",\"window\":\"" ++ decimal window)))))))
 
 -- the array of the steps, of which place 0 is null
 abbrev pub array_json : List ℕ → List ℕ
-array_json steps = codes "\",\"steps\":[null" ++ (steps ++ codes "]}")
+array_json steps = codes "\",\"steps\":" ++ (codes "[null" ++ (steps ++ codes "]}"))
 
 -- the page of these steps: the text before the data, the data, and the text after it
 abbrev pub page_text : List ℕ → List ℕ → List ℕ → List ℕ → ℕ → List ℕ → List ℕ → List ℕ

@@ -20,7 +20,7 @@ front_json seen =
 -- the events that the ledger logged in a step, if it had n before; place 0 of the array is null
 abbrev pub logged_json : List Arguments → ℕ → Seen → List ℕ
 logged_json bindings n seen =
-    codes ",\"logged\":[null" ++ (events_json bindings (drop n (events seen.history)) ++ codes "]}")
+    codes ",\"logged\":" ++ (codes "[null" ++ (events_json bindings (drop n (events seen.history)) ++ codes "]}"))
 
 -- a step as an object
 abbrev pub entry_json : List Arguments → ℕ → Seen → List ℕ

@@ -59,5 +59,12 @@ fn push_flags(page: &mut Vec<u8>, bindings: &[Binding], event: &Event) -> Result
 fn push_flag(page: &mut Vec<u8>, binding: &Binding, event: &Event) -> Result<(), AllocError>
     ensures { OnOk result (page.new.items ≡ page.old.items ++ taken_flag event.now binding.now) }
 {
-    push(page, if binding.matches(&headers_of(event)) { "1" } else { "0" })
+    push(
+        page,
+        if binding.matches(&headers_of(event)) {
+            "1"
+        } else {
+            "0"
+        },
+    )
 }

@@ -43,7 +43,11 @@ fn head(moved: Moved) -> Sentence
             "\"",
         ),
         Moved::SessionLost { session } => {
-            Sentence::One("{\"move\":\"session_lost\",\"session\":\"", session.into(), "\"")
+            Sentence::One(
+                "{\"move\":\"session_lost\",\"session\":\"",
+                session.into(),
+                "\"",
+            )
         }
         Moved::EventsOffered { count, last, .. } => Sentence::Two(
             "{\"move\":\"events_offered\",\"count\":\"",
@@ -81,7 +85,11 @@ fn head(moved: Moved) -> Sentence
             "\",\"item\":",
         ),
         Moved::QueueRewound { acked } => {
-            Sentence::One("{\"move\":\"queue_rewound\",\"acked\":\"", acked.into(), "\"")
+            Sentence::One(
+                "{\"move\":\"queue_rewound\",\"acked\":\"",
+                acked.into(),
+                "\"",
+            )
         }
         Moved::FlightLost { count, acked } => Sentence::Two(
             "{\"move\":\"flight_lost\",\"count\":\"",
@@ -96,7 +104,11 @@ fn head(moved: Moved) -> Sentence
             "\",\"item\":",
         ),
         Moved::Acknowledged { acked } => {
-            Sentence::One("{\"move\":\"acknowledged\",\"acked\":\"", acked.into(), "\"")
+            Sentence::One(
+                "{\"move\":\"acknowledged\",\"acked\":\"",
+                acked.into(),
+                "\"",
+            )
         }
     }
 }
@@ -136,7 +148,10 @@ fn tail(moved: Moved) -> Sentence
 {
     match moved {
         Moved::EventsOffered { complete: true, .. } => Sentence::Plain(",\"complete\":true}"),
-        Moved::EventsOffered { complete: false, .. } => Sentence::Plain(",\"complete\":false}"),
+        Moved::EventsOffered {
+            complete: false,
+            ..
+        } => Sentence::Plain(",\"complete\":false}"),
         Moved::PacketIgnored {
             next_tag: Some(tag),
             ..

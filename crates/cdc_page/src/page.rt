@@ -91,18 +91,21 @@ fn push_labels(page: &mut Vec<u8>, labels: Labels<'_>) -> Result<(), AllocError>
     ensures { OnOk result (page.new.items ≡ page.old.items ++ labels_json labels.entry.name.now
         labels.entry.refusal.now labels.entry.trace.now labels.entry.window) }
 {
-    push_string(page, "{\"format\":1,\"script\":\"", labels.name)?;
-    push_string(page, "\",\"refusal\":\"", labels.refusal)?;
-    push_string(page, "\",\"trace\":\"", labels.trace)?;
+    push(page, "{\"format\":1,")?;
+    push(page, "\"script\":\"")?;
+    push_inside(page, labels.name)?;
+    push(page, "\",\"refusal\":\"")?;
+    push_inside(page, labels.refusal)?;
+    push(page, "\",\"trace\":\"")?;
+    push_inside(page, labels.trace)?;
     push(page, "\",\"window\":\"")?;
     push_number(page, labels.window as u128)
 }
 
-/// Adds words, and then the inside of a string.
-fn push_string(page: &mut Vec<u8>, before: &str, inside: &str) -> Result<(), AllocError>
-    ensures { OnOk result (page.new.items ≡ page.old.items ++ (before.now ++ escaped inside.now)) }
+/// Adds the inside of a string.
+fn push_inside(page: &mut Vec<u8>, inside: &str) -> Result<(), AllocError>
+    ensures { OnOk result (page.new.items ≡ page.old.items ++ escaped inside.now) }
 {
-    push(page, before)?;
     push_escaped(page, inside.as_bytes())
 }
 
@@ -110,7 +113,15 @@ fn push_string(page: &mut Vec<u8>, before: &str, inside: &str) -> Result<(), All
 fn push_steps(page: &mut Vec<u8>, steps: &[u8]) -> Result<(), AllocError>
     ensures { OnOk result (page.new.items ≡ page.old.items ++ array_json steps.now) }
 {
-    push(page, "\",\"steps\":[null")?;
-    page.extend_from_slice(steps)?;
+    push(page, "\",\"steps\":")?;
+    push(page, "[null")?;
+    push_bytes(page, steps)?;
     push(page, "]}")
+}
+
+/// Adds bytes as they are.
+fn push_bytes(page: &mut Vec<u8>, bytes: &[u8]) -> Result<(), AllocError>
+    ensures { OnOk result (page.new.items ≡ page.old.items ++ bytes.now) }
+{
+    page.extend_from_slice(bytes)
 }

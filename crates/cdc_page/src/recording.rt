@@ -104,7 +104,8 @@ fn push_logged(
     ensures { (seen : Seen) → seen.history ≡ ledger.now
         → OnOk result (page.new.items ≡ page.old.items ++ logged_json bindings.now from seen) }
 {
-    push(page, ",\"logged\":[null")?;
+    push(page, ",\"logged\":")?;
+    push(page, "[null")?;
     push_events(alloc, page, bindings, ledger.log(), from)?;
     push(page, "]}")
 }

@@ -62,5 +62,9 @@ fn digit(number: u8) -> u8
     requires { number < 16 }
     ensures { result ≡ spec.digit number }
 {
-    if number < 10 { b'0' + number } else { b'a' - 10 + number }
+    if number < 10 {
+        b'0' + number
+    } else {
+        b'a' - 10 + number
+    }
 }
