@@ -6,7 +6,8 @@ use Rattle.cdc_drawing.specs.Drawings.{row, rows_after}
 -- one more step is one more row
 pub rows_after-more : (n : ℕ) (seen : List Seen) (s : Seen)
     → rows_after n (seen ++ s ∷ []) ≡ rows_after n seen ++ row (n + length seen + 1) s
-rows_after-more n [] s = append-nil (row (n + 1) s)
+rows_after-more n [] s =
+    let same : n + 1 ≡ n + 0 + 1 = omega arith in append-nil (row (n + 1) s) ∙ ap (λ (k : ℕ). row k s) same
 rows_after-more n (x ∷ seen) s =
     let same : n + 1 + length seen + 1 ≡ n + length (x ∷ seen) + 1 = omega arith in
     ap (λ (rest : List ℕ). row (n + 1) x ++ rest) (rows_after-more (n + 1) seen s)

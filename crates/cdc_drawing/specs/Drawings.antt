@@ -6,11 +6,15 @@ use Rattle.cdc_drawing.specs.declared.rows.Rows.{Rows}
 use Rattle.cdc_drawing.specs.Labels.{label}
 use Rattle.cdc_drawing.specs.Shapes.{shape}
 
+-- where the row of the step of this number is
+abbrev pub place : ℕ → List ℕ
+place n = codes "<g transform=\"translate(0 " ++ decimal (n * 22 + 50) ++ codes ")\">"
+
 -- the row of the step of this number: its shape, the step as a step file has it, and what it moved
 abbrev pub row : ℕ → Seen → List ℕ
 row n seen =
-    codes "<g transform=\"translate(0 " ++ (decimal (n * 22 + 50) ++ (codes ")\">" ++ (shape seen.step seen.did
-    ++ (codes "<text x=\"5\">" ++ (step_line seen.step ++ (label seen.moved ++ codes "</text></g>\n"))))))
+    place n ++ (shape seen.step seen.did
+    ++ (codes "<text x=\"5\">" ++ (step_line seen.step ++ (label seen.moved ++ codes "</text></g>\n"))))
 
 -- the rows of steps after those up to this number
 abbrev pub rows_after : ℕ → List Seen → List ℕ

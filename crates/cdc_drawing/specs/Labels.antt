@@ -33,6 +33,10 @@ item_label position (item.Event timestamp) =
     codes ": position " ++ decimal position ++ codes ", event " ++ decimal timestamp
 item_label position item.EndMark = codes ": position " ++ decimal position ++ codes ", end mark"
 
+-- a confirm of a session and its tag
+abbrev pub confirm_label : ℕ → ℕ → List ℕ
+confirm_label session tag = codes ": tag " ++ decimal tag ++ codes ", session " ++ decimal session
+
 abbrev pub moved_label : Moved → List ℕ
 moved_label (SessionStarted session after) =
     codes ": session " ++ decimal session ++ codes ", after " ++ decimal after
@@ -41,8 +45,7 @@ moved_label (EventsOffered count first last complete) = codes ": events " ++ dec
 moved_label (PacketSent number p) = sent_label number p
 moved_label (PacketTaken p) = packet_label p
 moved_label (PacketIgnored p connection next) = packet_label p
-moved_label (ConfirmReceived session tag running) =
-    codes ": tag " ++ decimal tag ++ codes " of session " ++ decimal session
+moved_label (ConfirmReceived session tag running) = confirm_label session tag
 moved_label (ProgressSaved session timestamp) = codes ": up to " ++ decimal timestamp
 moved_label (DeliverySent position i) = item_label position i
 moved_label (QueueRewound acked) = codes ": acknowledged up to " ++ decimal acked

@@ -29,9 +29,7 @@ fn moved_label(moved: Moved) -> Sentence
         Moved::PacketSent { number, packet } => sent_label(number, packet),
         Moved::PacketTaken { packet } => packet_label(packet),
         Moved::PacketIgnored { packet, .. } => packet_label(packet),
-        Moved::ConfirmReceived { session, tag, .. } => {
-            Sentence::Two(": tag ", tag.into(), " of session ", session.into(), "")
-        }
+        Moved::ConfirmReceived { session, tag, .. } => confirm_label(session, tag),
         Moved::ProgressSaved { timestamp, .. } => Sentence::One(": up to ", timestamp.into(), ""),
         Moved::DeliverySent { position, item } => item_label(position, item),
         Moved::QueueRewound { acked } => Sentence::One(": acknowledged up to ", acked.into(), ""),
@@ -39,6 +37,12 @@ fn moved_label(moved: Moved) -> Sentence
         Moved::DeliveryTaken { position, item } => item_label(position, item),
         Moved::Acknowledged { acked } => Sentence::One(": up to ", acked.into(), ""),
     }
+}
+
+fn confirm_label(session: u64, tag: u64) -> Sentence
+    ensures { sentence_text result ≡ spec.confirm_label session tag }
+{
+    Sentence::Two(": tag ", tag.into(), ", session ", session.into(), "")
 }
 
 fn sent_label(number: u64, packet: PacketName) -> Sentence
@@ -80,7 +84,13 @@ fn item_label(position: u64, item: ItemName) -> Sentence
 {
     match item {
         ItemName::Event(timestamp) => {
-            Sentence::Two(": position ", position.into(), ", event ", timestamp.into(), "")
+            Sentence::Two(
+                ": position ",
+                position.into(),
+                ", event ",
+                timestamp.into(),
+                "",
+            )
         }
         ItemName::EndMark => Sentence::One(": position ", position.into(), ", end mark"),
     }

@@ -1,6 +1,6 @@
 //! An observer that draws.
 
-ghost use Rattle.std.specs.Prelude.{◌≡◌, IfSome, List};
+ghost use Rattle.std.specs.Prelude.{◌≡◌, ◌++◌, ◌∷◌, [], IfSome, List, Some};
 ghost use Rattle.cdc_commands.specs.Seen.{Seen};
 ghost use Rattle.cdc_drawing.specs.Drawings.{HasDrawn, drawing_text};
 
@@ -11,7 +11,7 @@ use cdc_progress::MemoryStore;
 use cdc_script::{Script, StepFile};
 use cdc_types::Step;
 use cdc_world::{Did, Moved, StepError, World};
-use std::alloc::Global;
+use std::alloc::{AllocError, Global};
 
 /// Draws the steps of a simulation while they run.
 #[derive(Drop)]
@@ -58,15 +58,34 @@ impl Observer for DrawingRecorder {
     }
 
     fn see(&mut self, step: &Step, did: &Did, moved: Option<Moved>, _ledger: &Ledger) {
-        let Some(rows) = &mut self.rows else {
-            return;
-        };
-        if rows.push(step, did, moved).is_err() {
-            self.rows = None;
-        }
+        let rows = self.rows.take();
+        self.rows = drawn(rows, step, did, moved);
     }
 
     fn refuse(&mut self, _step: Option<&Step>, _why: StepError, _world: &World<MemoryStore>) {}
 
     fn end(&mut self, _ledger: &Ledger) {}
+}
+
+/// Rows with one more. `None` if there are none, or if memory ran out.
+fn drawn(rows: Option<Rows>, step: &Step, did: &Did, moved: Option<Moved>) -> Option<Rows>
+    ensures { (seen : List Seen) (last : Seen) → last.step ≡ step.now → last.did ≡ did.now → last.moved ≡ moved
+        → HasDrawn rows seen → HasDrawn result (seen ++ last ∷ []) }
+{
+    match rows {
+        Some(rows) => with_row(rows, step, did, moved),
+        None => None,
+    }
+}
+
+/// The same of rows that there are.
+fn with_row(rows: Rows, step: &Step, did: &Did, moved: Option<Moved>) -> Option<Rows>
+    ensures { (seen : List Seen) (last : Seen) → last.step ≡ step.now → last.did ≡ did.now → last.moved ≡ moved
+        → HasDrawn (Some rows) seen → HasDrawn result (seen ++ last ∷ []) }
+{
+    let mut rows = rows;
+    match rows.push(step, did, moved) {
+        Ok(()) => Some(rows),
+        Err(AllocError) => None,
+    }
 }

@@ -3,7 +3,11 @@
 ghost use Rattle.std.specs.Prelude.{◌≡◌, ◌+◌, ◌*◌, ◌++◌, [], IfOk, List, OnOk, codes, decimal, length};
 ghost use Rattle.cdc_commands.specs.Seen.{Seen};
 ghost use Rattle.cdc_diagnostics.specs.Sentences.{sentence_text};
+ghost use Rattle.cdc_diagnostics.specs.StepTexts.{step_line};
+ghost use Rattle.cdc_drawing.specs.Drawings as spec;
 ghost use Rattle.cdc_drawing.specs.Drawings.{drawing_text, row, rows_after};
+ghost use Rattle.cdc_drawing.specs.Labels as labels;
+ghost use Rattle.cdc_drawing.specs.Shapes as shapes;
 
 use crate::labels::label;
 use crate::shapes::shape;
@@ -50,10 +54,17 @@ impl Rows {
         ensures text { (seen : Seen) → seen.step ≡ step.now → seen.did ≡ did.now → seen.moved ≡ moved
             → OnOk result (self.new.text.items ≡ self.old.text.items ++ row (self.old.count + 1) seen) }
     {
-        let number = self.count.checked_add(1).ok_or(AllocError)?;
+        let number = one_more(self.count)?;
         self.count = number;
         push_row(&mut self.text, number, step, did, moved)
     }
+}
+
+/// The number after this one. An error means that there are too many.
+fn one_more(count: usize) -> Result<usize, AllocError>
+    ensures { IfOk result (λ number. number ≡ count + 1) }
+{
+    count.checked_add(1).ok_or(AllocError)
 }
 
 /// Adds the row of the step of this number.
@@ -67,19 +78,51 @@ fn push_row(
     ensures { (seen : Seen) → seen.step ≡ step.now → seen.did ≡ did.now → seen.moved ≡ moved
         → OnOk result (text.new.items ≡ text.old.items ++ row number seen) }
 {
-    push_sentence(text, place(number))?;
-    push_sentence(text, shape(step, did))?;
+    push_place(text, number)?;
+    push_shape(text, step, did)?;
     push(text, "<text x=\"5\">")?;
-    push_sentence(text, step_text(step))?;
-    push_sentence(text, label(moved))?;
+    push_step(text, step)?;
+    push_label(text, moved)?;
     push(text, "</text></g>\n")
 }
 
-/// The place of a row.
-fn place(number: usize) -> Sentence
-    ensures { sentence_text result ≡ codes "<g transform=\"translate(0 " ++ decimal (number * 22 + 50) ++ codes ")\">" }
+/// Adds where a row is.
+fn push_place(text: &mut Vec<u8>, number: usize) -> Result<(), AllocError>
+    ensures { OnOk result (text.new.items ≡ text.old.items ++ spec.place number) }
 {
-    Sentence::One("<g transform=\"translate(0 ", number as u128 * 22 + 50, ")\">")
+    push_sentence(text, place(number))
+}
+
+/// Where a row is.
+fn place(number: usize) -> Sentence
+    ensures { sentence_text result ≡ spec.place number }
+{
+    Sentence::One(
+        "<g transform=\"translate(0 ",
+        number as u128 * 22 + 50,
+        ")\">",
+    )
+}
+
+/// Adds the shape of a step.
+fn push_shape(text: &mut Vec<u8>, step: &Step, did: &Did) -> Result<(), AllocError>
+    ensures { OnOk result (text.new.items ≡ text.old.items ++ shapes.shape step.now did.now) }
+{
+    push_sentence(text, shape(step, did))
+}
+
+/// Adds a step as a step file has it.
+fn push_step(text: &mut Vec<u8>, step: &Step) -> Result<(), AllocError>
+    ensures { OnOk result (text.new.items ≡ text.old.items ++ step_line step.now) }
+{
+    push_sentence(text, step_text(step))
+}
+
+/// Adds what a step moved.
+fn push_label(text: &mut Vec<u8>, moved: Option<Moved>) -> Result<(), AllocError>
+    ensures { OnOk result (text.new.items ≡ text.old.items ++ labels.label moved) }
+{
+    push_sentence(text, label(moved))
 }
 
 /// The drawing of rows, with this style.

@@ -25,14 +25,30 @@ pub(crate) fn shape(step: &Step, did: &Did) -> Sentence
         Step::Crash => Sentence::Plain("<use href=\"#crash\" x=\"135\"/>"),
         Step::Poll => Sentence::Plain("<path class=\"whole\" d=\"M45 0H135\"/>"),
         Step::Publish => Sentence::Plain("<path class=\"out\" d=\"M135 0H180\"/>"),
-        Step::Arrive(_) => arrow(did, "<path class=\"in\" d=\"M180 0H225\"/>", "<path class=\"no\" d=\"M180 0H225\"/>"),
-        Step::Answer(_) => arrow(did, "<path class=\"in\" d=\"M180 0H135\"/>", "<path class=\"no\" d=\"M180 0H135\"/>"),
+        Step::Arrive(_) => arrow(
+            did,
+            "<path class=\"in\" d=\"M180 0H225\"/>",
+            "<path class=\"no\" d=\"M180 0H225\"/>",
+        ),
+        Step::Answer(_) => arrow(
+            did,
+            "<path class=\"in\" d=\"M180 0H135\"/>",
+            "<path class=\"no\" d=\"M180 0H135\"/>",
+        ),
         Step::Save => Sentence::Plain("<use href=\"#save\" x=\"135\"/>"),
         Step::Send(i) => between("<path class=\"out\" d=\"M", queue(*i), middle(*i)),
         Step::Rewind(i) => Sentence::One("<use href=\"#rewind\" x=\"", queue(*i), "\"/>"),
         Step::Break(i) => Sentence::One("<use href=\"#lost\" x=\"", middle(*i), "\"/>"),
         Step::Take(i) => {
-            between(if counts(did) { "<path class=\"in\" d=\"M" } else { "<path class=\"no\" d=\"M" }, middle(*i), subscriber(*i))
+            between(
+                if counts(did) {
+                    "<path class=\"in\" d=\"M"
+                } else {
+                    "<path class=\"no\" d=\"M"
+                },
+                middle(*i),
+                subscriber(*i),
+            )
         }
         Step::Ack(i, _) => between("<path class=\"ack\" d=\"M", subscriber(*i), queue(*i)),
         Step::Close(i) => Sentence::One("<use href=\"#close\" x=\"", subscriber(*i), "\"/>"),
