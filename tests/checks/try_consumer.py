@@ -556,11 +556,25 @@ def reports(checks):
     status, printed, _ = checks.over(*flags, command=command, jobs=2)
     checks.same("--all: the last line", (1, "try-consumer: 0 passed, 4 failed"), (status, printed.splitlines()[-1]))
     checks.same("--all: a line for each", ["seed 2", "seed 3", "seed 4"], re.findall(r"(?m)^seed [2-4]", printed))
+    paged(checks, command)
     status, printed, _ = checks.over("--seeds", 9, "--shrink", 0, "--junit", "some.xml", command=command, jobs=2)
     checks.same("the first failure ends it", "try-consumer: 0 passed, 1 failed, 8 not tried", printed.splitlines()[-1])
     suite = ElementTree.parse(checks.room / "some.xml").getroot()
     counts = tuple(suite.get(it) for it in ("tests", "failures", "skipped"))
     checks.same("JUnit: the rest is skipped", ("9", "1", "8", 8), (*counts, len(suite.findall("testcase/skipped"))))
+
+
+def paged(checks, command):
+    """The page of a failure opens at the step that takes the delivery with the error."""
+    flags = ["--seed", 1, "--shrink", 0, "--files", "paged", "--page", "page.html"]
+    printed = checks.over(*flags, command=command)[1].splitlines()
+    page = checks.room / "page.html"
+    checks.same("the line of the page", f"  page: {page}", printed[3])
+    number = int(re.search(r"delivery (\d+): ", printed[0])[1])
+    delivery = json.loads((checks.room / "paged/given").read_bytes().splitlines()[number - 1])
+    data = json.loads(page.read_text().partition('id="data">')[2].partition("</script>")[0])
+    step = data["steps"][int(data["opens"])]
+    checks.same("the step at which the page opens", (["take", "1"], str(delivery["position"])), (step["step"], step["moved"]["position"]))
 
 
 def without_times(files):
@@ -623,6 +637,9 @@ def usage(checks):
         ("--batches without a book", ["--batches", "2", "--", "cat"], f"--batches {no_answer}"),
         ("two ways", ["--acks", "--answers", "--", "cat"], "argument --answers: not allowed with argument --acks"),
         ("--junit", ["--junit", "none/x", "--", "cat"], "--junit none/x: no such folder"),
+        ("--page", ["--page", "none/x", "--", "cat"], "--page none/x: no such folder"),
+        ("a page of a replay", ["--page", "x", "--replay", "y", "--", "cat"],
+         "--page can't stand beside --replay, which makes no simulation"),
         ("an unknown flag", ["--slow", "--", "cat"], "unrecognized arguments: --slow"),
         ("lossy batches", ["--lossy", "--batches", "2", "--book", "cat", "--", "cat"],
          "--lossy can't stand beside --batches: after a kill it would be open which of them came too early"),

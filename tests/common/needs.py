@@ -6,6 +6,8 @@ import subprocess
 # Where each command comes from that a machine may lack.
 SOURCES = {
     "cc": "Debian package gcc",
+    "chromedriver": "Debian package chromium-driver",
+    "chromium": "Debian package chromium",
     "dpkg-deb": "Debian package dpkg",
     "git": "Debian package git",
     "java": "Debian package default-jdk-headless",

@@ -2,12 +2,13 @@
 import argparse
 import contextlib
 import os
+import shlex
 import shutil
 import sys
 import tempfile
 import time
 
-from . import USAGE, Stop, reports
+from . import USAGE, Stop, pages, reports
 from .plays import ACKS, ANSWERS, BATCHES, Way
 from .streams import Source
 from .trials import Settings, Trials
@@ -108,6 +109,8 @@ def parser_of(text):
     add(group, "--shrink", (0, 60), default=60, metavar="SECONDS",
         help="looks for the smallest case that fails, for at most SECONDS [0-60; default: 60]")
     add(group, "--files", metavar="DIR", help="writes the files of that case to DIR [default: a new temporary folder]")
+    add(group, "--page", metavar="FILE",
+        help="writes the simulation of that case to FILE, as a page that opens at the delivery with the error")
     add(group, "--junit", metavar="FILE", help="writes the outcome of each seed as JUnit XML")
     return parser
 
@@ -119,13 +122,17 @@ def arguments_of(text, given):
     options, command = parser.parse_args(given[:at]), given[at + 1 :]
     if not command:
         parser.error("the command of your consumer is missing: it comes after --")
-    if options.junit and not os.path.isdir(os.path.dirname(os.path.abspath(options.junit))):
-        parser.error(f"--junit {options.junit}: no such folder")
+    for name in ("junit", "page"):
+        path = getattr(options, name)
+        if path and not os.path.isdir(os.path.dirname(os.path.abspath(path))):
+            parser.error(f"--{name} {path}: no such folder")
+    if options.page and options.replay:
+        parser.error("--page can't stand beside --replay, which makes no simulation")
     if (options.acks or options.batches) and not options.book and not options.replay:
         parser.error(f"{'--acks' if options.acks else '--batches'} needs --book, since no answer is compared")
     if options.lossy and options.batches:
         parser.error("--lossy can't stand beside --batches: after a kill it would be open which of them came too early")
-    for name in ("script", "junit", "files"):
+    for name in ("script", "junit", "files", "page"):
         path = getattr(options, name)
         if path:
             setattr(options, name, os.path.abspath(path))
@@ -207,6 +214,9 @@ def report(trials, options, settings, outcomes, measure):
         folder = options.files or tempfile.mkdtemp(prefix="try-consumer-")
         reports.write_case(folder, smallest, settings.way, measure)
         print("\n".join(reports.lines_of_smallest(first, smallest, folder, sys.argv[0])))
+        if options.page:
+            pages.write_page(settings.source, smallest, folder, options.page)
+            print(f"  page: {shlex.quote(options.page)}")
         for it in failed[1:]:
             print(reports.sentence(it))
     return failed

@@ -9,13 +9,14 @@ use cdc_diagnostics::{Asked, Observed, RefusedStep};
 use cdc_world::StepError;
 use std::fs;
 use std::fs::OpenOptions;
+use std::io;
 use std::io::Read;
 
 /// What these flags ask a simulation's observer for.
 pub fn asked(diagnostics: Diagnostics<'_>) -> Asked {
     Asked {
         items: diagnostics.explain,
-        trace: diagnostics.trace,
+        trace: diagnostics.trace || diagnostics.page.is_some(),
         diagram: diagnostics.diagram.is_some(),
     }
 }
@@ -26,7 +27,16 @@ pub fn is_reported(ending: Ending, diagnostics: Diagnostics<'_>) -> bool {
     match ending {
         Ending::Refused(StepError::OutOfMemory) => false,
         Ending::Refused(_) => true,
-        Ending::Done => diagnostics.explain || diagnostics.trace || diagnostics.diagram.is_some(),
+        Ending::Done => {
+            let Diagnostics {
+                explain,
+                trace,
+                diagram,
+                page,
+                svg,
+            } = diagnostics;
+            explain || trace || diagram.is_some() || page.is_some() || svg.is_some()
+        }
         _ => false,
     }
 }
@@ -61,31 +71,64 @@ pub fn report_simulation(
     }
 }
 
-/// The length of `DIAGRAM`, in bytes.
-const DIAGRAM_BYTES: usize = 15;
-
 /// The first bytes of a diagram (Mermaid).
-const DIAGRAM: &[u8; DIAGRAM_BYTES] = b"sequenceDiagram";
+const DIAGRAM: &[u8] = b"sequenceDiagram";
 
-/// Whether the diagram that is asked for can be drawn without the loss of anything else, such as a file that the
-/// command reads. Reports it if not.
+/// The first bytes of a page.
+const PAGE: &[u8] = b"<!DOCTYPE html>\n<!-- Relayplum:";
+
+/// The first bytes of a drawing.
+const DRAWING: &[u8] = b"<svg xmlns=";
+
+/// The most bytes that are compared.
+const MOST_BYTES: usize = 32;
+
+/// Whether what is asked for can be drawn without the loss of anything else, such as a file that the command reads.
+/// Reports it if not.
 pub fn can_draw(rt: &HostRuntime, diagnostics: Diagnostics<'_>, inputs: &[&str]) -> bool {
-    let Some(out) = diagnostics.diagram else {
+    let Diagnostics {
+        diagram,
+        page,
+        svg,
+        ..
+    } = diagnostics;
+    let diagram = diagram.filter(|out| *out != STANDARD_ERROR);
+    is_free(rt, "diagram", diagram, DIAGRAM, &[None, None], inputs)
+        && is_free(rt, "page", page, PAGE, &[diagram, None], inputs)
+        && is_free(rt, "svg", svg, DRAWING, &[diagram, page], inputs)
+}
+
+/// Whether the file that a flag names, if it is given, may get a text that begins with these bytes: it is none of the
+/// other files. Reports it if not.
+fn is_free(
+    rt: &HostRuntime,
+    flag: &str,
+    out: Option<&str>,
+    first: &[u8],
+    others: &[Option<&str>],
+    inputs: &[&str],
+) -> bool {
+    let Some(out) = out else {
         return true;
     };
-    if out == STANDARD_ERROR || !inputs.contains(&out) && may_draw(rt, out) {
+    if !inputs.contains(&out) && !others.contains(&Some(out)) && may_write(rt, out, first) {
         return true;
     }
-    let out = Escaped(out);
-    let _ = eprintln!(rt;
-        "error: --diagram={out}: this file holds something else than a diagram, which would be lost; name another one"
-    );
+    report_loss(rt, flag, out);
     false
 }
 
-/// Whether a diagram may be written to the file of this name without the loss of anything else: the file doesn't
-/// exist, is empty or holds a diagram, or is no regular file, such as a pipe.
-fn may_draw(rt: &HostRuntime, name: &str) -> bool {
+/// Reports that a file holds something that would be lost.
+fn report_loss(rt: &HostRuntime, flag: &str, out: &str) {
+    let out = Escaped(out);
+    let _ = eprintln!(rt;
+        "error: --{flag}={out}: this file holds something else than a {flag}, which would be lost; name another one"
+    );
+}
+
+/// Whether a text that begins with these bytes may be written to the file of this name without the loss of anything
+/// else: the file doesn't exist, is empty or begins with them, or is no regular file, such as a pipe.
+fn may_write(rt: &HostRuntime, name: &str, first: &[u8]) -> bool {
     let Ok(mut file) = OpenOptions::new().read(true).write(true).open(rt, name) else {
         // (a file that can't be written fails when it is written; nobody knows what an unreadable file holds)
         return !holds_something(rt, name) || OpenOptions::new().write(true).open(rt, name).is_err();
@@ -93,8 +136,11 @@ fn may_draw(rt: &HostRuntime, name: &str) -> bool {
     let is_regular = file
         .metadata()
         .is_ok_and(|data| data.is_file() && data.len() > 0);
-    let mut head = [0; DIAGRAM_BYTES];
-    !is_regular || file.read_exact(&mut head).is_ok() && head == *DIAGRAM
+    let mut found = [0; MOST_BYTES];
+    let Some(found) = found.get_mut(..first.len()) else {
+        return false;
+    };
+    !is_regular || file.read_exact(found).is_ok() && &*found == first
 }
 
 /// Whether the file of this name is a regular one with something in it.
@@ -109,7 +155,12 @@ pub fn draw(rt: &HostRuntime, file: &str, diagram: &str) {
         let _ = eprint!(rt; "{diagram}");
         return;
     }
-    match fs::write(rt, file, diagram) {
+    report_unwritten(rt, file, fs::write(rt, file, diagram));
+}
+
+/// Reports a write to the file of this name that failed, unless the file is a pipe that its reader has closed.
+pub(crate) fn report_unwritten(rt: &HostRuntime, file: &str, written: io::Result<()>) {
+    match written {
         Err(error) if !is_reader_gone(error) => {
             let file = Escaped(file);
             let _ = eprintln!(rt; "{file}: write_fault: {error}");

@@ -2,12 +2,11 @@
 
 ghost use Rattle.cdc_types.specs.Windows.{IsWindow};
 
+use crate::observers::Observers;
 use crate::simulation::{Wanted, simulated};
 use cdc_app_inputs::{Kept, Source};
 use cdc_commands::simulate::simulation_of;
 use cdc_commands::{Ended, Form as PrintForm, Output, Report, print_output};
-use cdc_deliveries::{Both, Recorder};
-use cdc_diagnostics::Observation;
 use cdc_enabled_steps::{EnabledSteps, enabled_steps};
 use cdc_output::ProgramFault;
 use cdc_script::{Script, ScriptError, StepFile, parse_script, parse_steps, read_text};
@@ -22,7 +21,7 @@ pub fn print_enabled<F: PrintForm>(
     script: &mut Kept<Source>,
     steps: &mut Kept<Source>,
     wanted: Wanted,
-    observers: &mut Both<Recorder, Observation<'_>>,
+    observers: &mut Observers<'_>,
 ) -> (Ended, usize)
     requires { IsWindow wanted.window }
 {
@@ -38,7 +37,7 @@ fn enabled_output<F: PrintForm>(
     script: &mut Kept<Source>,
     steps: &mut Kept<Source>,
     wanted: Wanted,
-    observers: &mut Both<Recorder, Observation<'_>>,
+    observers: &mut Observers<'_>,
     skipped: &mut usize,
 ) -> Result<Output, ProgramFault>
     requires { IsWindow wanted.window }
@@ -83,7 +82,7 @@ fn faults_of<F: PrintForm>(
     script: &[u8],
     steps: &[u8],
     wanted: Wanted,
-    observers: &mut Both<Recorder, Observation<'_>>,
+    observers: &mut Observers<'_>,
 ) -> Result<Output, ProgramFault>
     requires { IsWindow wanted.window }
 {

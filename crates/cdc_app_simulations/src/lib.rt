@@ -3,8 +3,11 @@
 
 mod diagnostics;
 mod enabled;
+mod observers;
+mod pictures;
 mod random;
 mod simulation;
 
+pub use observers::Observers;
 pub use random::run_random;
 pub use simulation::{Wanted, run_simulation};

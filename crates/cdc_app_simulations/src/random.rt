@@ -3,15 +3,17 @@
 
 ghost use Rattle.cdc_types.specs.Windows.{IsWindow};
 
-use crate::diagnostics::{asked, can_draw, draw, is_reported};
+use crate::diagnostics::{can_draw, draw, is_reported};
+use crate::observers::{Observers, observers_of};
+use crate::pictures::write_pictures;
 use crate::simulation::{Wanted, report_counts, simulated};
 use cdc_app_inputs::{
     Kept, Seen, Source, advise_on_script, escaped_text, report_no_subscriber, shown_name,
 };
 use cdc_arguments::{Diagnostics, Form, STANDARD_ERROR};
 use cdc_commands::{Ended, Ending, Tally, print_fault, print_output};
-use cdc_deliveries::{Both, Recorder};
-use cdc_diagnostics::{Observation, Observed, RefusedStep, notes_text};
+use cdc_deliveries::Both;
+use cdc_diagnostics::{Observed, RefusedStep, notes_text};
 use cdc_output::{Json, ProgramFault, Text};
 use cdc_random_steps::{Chances, RandomSteps, random_steps};
 use cdc_script::{StepFile, read_text};
@@ -45,10 +47,7 @@ pub fn run_random(
     let Ok(name) = escaped_text(rt.alloc(), shown_name(file)) else {
         return abort(rt, seen, ProgramFault::OutOfMemory, form);
     };
-    let mut observers = Both {
-        first: Recorder::new(rt.alloc()),
-        second: Observation::new(rt.alloc(), name.as_str(), asked(diagnostics)),
-    };
+    let mut observers = observers_of(rt, name.as_str(), diagnostics);
     let Ended {
         ending,
         tally,
@@ -56,7 +55,10 @@ pub fn run_random(
     } = simulate(rt, &script, &steps, wanted, &mut observers);
     let Both {
         first: recorder,
-        second: observation,
+        second: Both {
+            first: observation,
+            second: pictures,
+        },
     } = observers;
     match ending {
         Ending::Done | Ending::Refused(_) => {
@@ -65,6 +67,7 @@ pub fn run_random(
             if is_reported(ending, diagnostics) {
                 if let Some(observed) = observation.finish(rt.alloc()) {
                     reported = report(rt, &observed, diagnostics);
+                    write_pictures(rt, shown_name(file), window, &pictures, &observed, diagnostics);
                 }
             }
             if let (Ending::Refused(refusal), false) = (ending, reported) {
@@ -102,7 +105,7 @@ fn simulate(
     script: &[u8],
     steps: &StepFile,
     wanted: Wanted,
-    observers: &mut Both<Recorder, Observation<'_>>,
+    observers: &mut Observers<'_>,
 ) -> Ended
     requires { IsWindow wanted.window }
 {

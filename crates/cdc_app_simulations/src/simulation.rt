@@ -2,8 +2,10 @@
 
 ghost use Rattle.cdc_types.specs.Windows.{IsWindow};
 
-use crate::diagnostics::{asked, can_draw, is_reported, report_simulation};
+use crate::diagnostics::{can_draw, is_reported, report_simulation};
 use crate::enabled::print_enabled;
+use crate::observers::{Observers, observers_of};
+use crate::pictures::write_pictures;
 use cdc_app_inputs::{
     EXPLAIN, Kept, Source, abort, advise_on_steps, escaped_text, hint, note, report_count,
     report_no_subscriber, shown_name,
@@ -12,7 +14,6 @@ use cdc_arguments::{Diagnostics, Form};
 use cdc_commands::simulate::{simulate_command, simulation_of_steps};
 use cdc_commands::{Ended, Ending, Form as PrintForm, Output, Report};
 use cdc_deliveries::{Asked, Both, Recorder, count_of};
-use cdc_diagnostics::Observation;
 use cdc_output::{Json, ProgramFault, Text};
 use cdc_script::StepFile;
 use cdc_types::Limits;
@@ -49,10 +50,7 @@ pub fn run_simulation(
     let Ok(name) = escaped_text(rt.alloc(), shown_name(file)) else {
         return abort(rt, ProgramFault::OutOfMemory, wanted.form);
     };
-    let mut observers = Both {
-        first: Recorder::new(rt.alloc()),
-        second: Observation::new(rt.alloc(), name.as_str(), asked(diagnostics)),
-    };
+    let mut observers = observers_of(rt, name.as_str(), diagnostics);
     let (
         Ended {
             ending,
@@ -63,12 +61,16 @@ pub fn run_simulation(
     ) = print_simulation(rt, &mut script, &mut step_file, wanted, &mut observers);
     let Both {
         first: recorder,
-        second: observation,
+        second: Both {
+            first: observation,
+            second: pictures,
+        },
     } = observers;
     let mut reported = false;
     if is_reported(ending, diagnostics) {
         if let Some(observed) = observation.finish(rt.alloc()) {
             reported = report_simulation(rt, steps, &observed, diagnostics);
+            write_pictures(rt, shown_name(file), wanted.window, &pictures, &observed, diagnostics);
         }
     }
     let seen = script.seen(shown_name(file));
@@ -96,7 +98,7 @@ fn print_simulation(
     script: &mut Kept<Source>,
     steps: &mut Kept<Source>,
     wanted: Wanted,
-    observers: &mut Both<Recorder, Observation<'_>>,
+    observers: &mut Observers<'_>,
 ) -> (Ended, usize)
     requires { IsWindow wanted.window }
 {
@@ -115,7 +117,7 @@ fn print_in<F: PrintForm>(
     script: &mut Kept<Source>,
     steps: &mut Kept<Source>,
     wanted: Wanted,
-    observers: &mut Both<Recorder, Observation<'_>>,
+    observers: &mut Observers<'_>,
 ) -> Ended
     requires { IsWindow wanted.window }
 {
@@ -161,7 +163,7 @@ pub fn simulated<F: PrintForm>(
     script: &[u8],
     steps: &StepFile,
     wanted: Wanted,
-    observers: &mut Both<Recorder, Observation<'_>>,
+    observers: &mut Observers<'_>,
 ) -> Result<Output, ProgramFault>
     requires { IsWindow wanted.window }
 {

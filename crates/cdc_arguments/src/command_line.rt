@@ -117,6 +117,10 @@ pub struct Diagnostics<'a> {
     pub trace: bool,
     /// The file that gets the steps as a diagram; `-` is standard error. None if no diagram is asked for.
     pub diagram: Option<&'a str>,
+    /// The file that gets the steps as a page of HTML. None if no page is asked for.
+    pub page: Option<&'a str>,
+    /// The file that gets the steps as a drawing in SVG. None if no drawing is asked for.
+    pub svg: Option<&'a str>,
 }
 
 /// What standard error reports of a run, besides its fault and the planned faults that never came.

@@ -217,7 +217,7 @@ fn simulate_arguments<'a>(alloc: Global) -> Result<Command<'a>, AllocError> {
         ],
     )?
     .arg(diagram_option(alloc))?;
-    with_arguments(alloc, command, &[json_flag(), check_flag()])
+    with_arguments(alloc, command, &[page_option(), svg_option(), json_flag(), check_flag()])
 }
 
 /// The argument FILE, a script.
@@ -247,6 +247,24 @@ fn diagram_option<'a>(alloc: Global) -> Arg<'a> {
         .help(
             "Draw the steps as a sequence diagram for Mermaid, on standard error or in the file OUT",
         )
+}
+
+fn page_option() -> Argument {
+    Argument::option(
+        "page",
+        "OUT",
+        "Write the steps as a page of HTML, which any browser draws without a network, to the file OUT",
+    )
+    .without(&["check"])
+}
+
+fn svg_option() -> Argument {
+    Argument::option(
+        "svg",
+        "OUT",
+        "Draw the steps as SVG, a row for each step, in the file OUT",
+    )
+    .without(&["check"])
 }
 
 /// The argument STEPS, a file of steps.
@@ -439,6 +457,8 @@ fn asked_diagnostics<'a>(arguments: &ArgMatches<'a>) -> Diagnostics<'a> {
         explain: arguments.get_flag("explain"),
         trace: arguments.get_flag("trace"),
         diagram: arguments.get_str("diagram"),
+        page: arguments.get_str("page"),
+        svg: arguments.get_str("svg"),
     }
 }
 

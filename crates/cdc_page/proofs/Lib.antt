@@ -1,0 +1,4 @@
+mod EventLemmas
+mod OneMoreStep
+mod Joined
+mod RecordingLemmas

@@ -1,0 +1,5 @@
+pub mod Events
+pub mod Moves
+pub mod Pages
+pub mod Recordings
+pub mod Steps
