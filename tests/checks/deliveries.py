@@ -122,7 +122,10 @@ class Trial:
             wanted = model.only_deliveries(report, self.case.subscriber, expects)
             for way in ways:
                 arguments = [*way, *asked, *["--expect"] * expects]
-                self.same(" ".join(arguments), (wanted.status, wanted.text), self.run(*arguments)[:2])
+                status, deliveries, said = self.run(*arguments)
+                self.same(" ".join(arguments), (wanted.status, wanted.text), (status, deliveries))
+                if self.case.subscriber <= self.case.subscribers:
+                    self.counts(report.world, " ".join(arguments), said)
         self.see(report)
         if self.case.is_to_end:
             self.ended(report.world, printed)

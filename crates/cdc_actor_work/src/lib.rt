@@ -1,4 +1,5 @@
 //! What the actors of a run share: their places and faults, what each works with, and how it sends and receives.
+//! Contracts permit that a peer is gone for no reason; tests refuse that.
 #![tactic(auto)]
 
 pub mod faults;

@@ -1,5 +1,6 @@
-//! The actors of a run, each for a thread: what each sends and receives over its links, until it has finished or meets
-//! a fault. A call may wait; its contract states what holds if it returns.
+//! In a turn an actor receives one message at most. The actors of a run are each for a thread: what each sends and
+//! receives over its links, until it has finished or meets a fault. A call may wait; its contract states what holds if
+//! it returns.
 #![tactic(auto)]
 
 mod broker;

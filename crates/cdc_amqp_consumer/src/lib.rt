@@ -1,4 +1,5 @@
-//! AMQP 0-9-1: a consumer as a state machine. It takes frames, and returns what came of each and what to send.
+//! A consumer makes of each frame what the definition of its machine makes of it. It takes frames of AMQP 0-9-1, and
+//! returns what came of each and what to send.
 #![tactic(auto)]
 
 mod consumer;

@@ -1,5 +1,5 @@
-//! AMQP 0-9-1: consuming a queue over a reader and a writer, into a follower that is saved before its deliveries are
-//! acknowledged.
+//! Whatever bytes the server sends, nothing is acknowledged before it is saved, and the follower is the fold over just
+//! the deliveries that came. The crate consumes a queue over a reader and a writer, by AMQP 0-9-1.
 #![tactic(auto)]
 
 mod deliveries;

@@ -1,4 +1,5 @@
-//! AMQP 0-9-1: fields and frames, how they are written and how they are read.
+//! A frame that is written is read back, and a fault, or the end, is just that of the bytes. The crate has the fields
+//! and frames of AMQP 0-9-1.
 #![tactic(auto)]
 
 mod errors;

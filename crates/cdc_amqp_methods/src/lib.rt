@@ -1,4 +1,5 @@
-//! AMQP 0-9-1: the methods that a consumer sends and receives, the headers of contents, and tables of fields.
+//! A method, a header or a table is read by its grammar, or refused, and a request is written as defined. The crate has
+//! those of AMQP 0-9-1 that a consumer sends and receives.
 #![tactic(auto)]
 
 mod closes;

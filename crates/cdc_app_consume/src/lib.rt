@@ -1,4 +1,5 @@
-//! The command `consume` as the program runs it: its password, book and report, and what standard error reports.
+//! The command `consume` as the program runs it: its password, book and report, and what standard error reports. Its
+//! functions have few contracts: tests of the program cover them.
 #![tactic(auto)]
 
 mod advice;

@@ -1,4 +1,5 @@
-//! What the program's commands read, and what standard error reports of each of them.
+//! What the program's commands read, and what standard error reports of each of them. Its functions have few contracts:
+//! tests of the program cover them.
 #![tactic(auto)]
 
 mod advice;

@@ -1,4 +1,5 @@
-//! The command `run` as the program runs it: its files and its threads, and what standard error reports.
+//! The command `run` as the program runs it: its files and its threads, and what standard error reports. Its functions
+//! have few contracts: tests of the program cover them.
 #![tactic(auto)]
 
 mod progress_advice;

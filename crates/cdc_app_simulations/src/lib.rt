@@ -1,4 +1,5 @@
-//! The command `simulate` as the program runs it: its files, and what standard error reports.
+//! The command `simulate` as the program runs it: its files, and what standard error reports. Its functions have few
+//! contracts: tests of the program cover them.
 #![tactic(auto)]
 
 mod diagnostics;

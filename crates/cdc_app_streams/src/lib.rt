@@ -1,4 +1,5 @@
 //! The commands `follow`, `audit` and `chain` as the program runs them: their files, and what standard error reports.
+//! Its functions have few contracts: tests of the program cover them.
 #![tactic(auto)]
 
 mod audit;

@@ -1,4 +1,5 @@
-//! The arguments of the program: what they ask for, usage errors, and help.
+//! Numbers of options are within their limits. The crate has the arguments of the program: what they ask for, usage
+//! errors, and help.
 #![tactic(auto)]
 
 mod arguments;

@@ -1,4 +1,5 @@
-//! An audit of a stream: whether each of its events follows from the events before it.
+//! An audit stops at the first event that breaks a rule, and names the first rule that the event breaks: whether each
+//! event of a stream follows from the events before it.
 #![tactic(auto)]
 
 pub mod apart;

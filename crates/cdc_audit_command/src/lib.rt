@@ -1,4 +1,5 @@
-//! The command `audit`: whether a stream can be what a ledger published.
+//! The audit that is reported is that of the stream's bytes, and each saved state is one that the store was given and
+//! held. This is the command `audit`: whether a stream can be what a ledger published.
 #![tactic(auto)]
 
 mod auditors;

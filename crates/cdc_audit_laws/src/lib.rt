@@ -1,4 +1,5 @@
-//! What an audit shows of a stream, and that a ledger's stream is accepted.
+//! Each prefix of a ledger's stream is accepted, and each accepted stream is a prefix of one, with the premises that
+//! PROOFS names. The crate has what an audit shows of a stream.
 #![tactic(auto)]
 
 mod laws;

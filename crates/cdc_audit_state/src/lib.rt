@@ -1,4 +1,5 @@
-//! The state of an audit as text: how it is saved, and how it is read back.
+//! A saved state of an audit reads back as what was saved, also from a log of it that is cut off, and no other text
+//! does.
 #![tactic(auto)]
 
 pub mod laws;

@@ -1,4 +1,5 @@
-//! Bindings that are compared by what they mean, such as that of a saved book with that of the command line.
+//! Two bindings that mean the same take the same messages. The crate compares them so, such as that of a saved book
+//! with that of the command line.
 #![tactic(auto)]
 
 mod bindings;

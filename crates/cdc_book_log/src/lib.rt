@@ -1,4 +1,5 @@
-//! The log of a follower's book: a base, and a record for each later save, which has what changed since the one before.
+//! A log of saved books that is cut off anywhere after its base reads back as the last book that was saved whole. A log
+//! is a base, and a record for each later save, which has what changed since the one before.
 #![tactic(auto)]
 
 mod accounts;

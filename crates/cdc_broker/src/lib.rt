@@ -1,5 +1,5 @@
-//! A broker in memory. The connector publishes items under its session's number and rising tags. Each item is added
-//! to the queues whose bindings match it. A queue delivers its items and receives acknowledgements.
+//! A broker takes just the items of the latest session, in the order of their tags, and a queue skips no item and
+//! delivers none again that was acknowledged. Each item is added to the queues whose bindings match it.
 #![tactic(auto)]
 
 mod backlog;

@@ -1,4 +1,5 @@
-//! The broker actor and the subscriber actors of a run: what each does over its links, without its faults.
+//! Each subscriber actor receives a prefix of its queue's deliveries, which are a replay of the queue. The crate has
+//! the broker actor and the subscriber actors of a run: what each does over its links, without its faults.
 #![tactic(auto)]
 
 mod broker;

@@ -1,4 +1,5 @@
-//! The chain of a stream: for each queue the lines that it takes, each with the timestamp of the event before it there.
+//! Each queue gets the lines of just the events that its binding takes, in order, each with the timestamp of the event
+//! before it there; a chain that goes on from a saved place prints what it would have printed without a stop.
 #![tactic(auto)]
 
 mod chain;

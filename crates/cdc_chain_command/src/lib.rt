@@ -1,4 +1,5 @@
-//! The command `chain`: prints the lines of several queues of one stream, and saves the place of each queue.
+//! What `chain` printed is a prefix of the lines of its queues, and each saved state is that of lines that were written
+//! whole before. The command prints the lines of several queues of one stream, and saves the place of each queue.
 #![tactic(auto)]
 
 mod chain_log;

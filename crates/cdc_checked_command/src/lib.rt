@@ -1,4 +1,5 @@
-//! The command that follows a stream by checking it: what takes the stream, what is saved, and what is printed.
+//! The command that follows a stream by checking it keeps, stops, counts, saves and prints what its definitions make of
+//! the stream's bytes.
 #![tactic(auto)]
 
 pub mod books;

@@ -1,4 +1,5 @@
-//! Following a stream by checking each event against its two accounts, with no help from the publisher.
+//! Following by checking applies, counts and stops as its definitions make of the stream's bytes. It checks each event
+//! against its two accounts, with no help from the publisher.
 #![tactic(auto)]
 
 pub mod follower;

@@ -1,4 +1,5 @@
-//! What checked following promises of a ledger's events.
+//! Whatever of a ledger's events reaches checked following, for each account the applied events that moved posted money
+//! are a prefix of the ledger's.
 #![tactic(auto)]
 
 mod laws;

@@ -1,4 +1,5 @@
-//! The state of checked following as text: how it is saved, and how it is read back.
+//! A saved state of checked following reads back as what was saved, also from a log of it that is cut off, and no other
+//! text does.
 #![tactic(auto)]
 
 pub mod laws;

@@ -1,4 +1,5 @@
-//! Lines of text that have numbers and flags: how they are written, and how they are read back.
+//! What is written as a line of numbers and flags is read back. The crate has how such lines are written, and how they
+//! are read.
 #![tactic(auto)]
 
 mod reading;

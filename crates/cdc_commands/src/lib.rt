@@ -1,6 +1,6 @@
-//! The commands over a script that need no thread, each in a file of its own: what it makes of the bytes that it
-//! reads, and the command itself, which first reads and then prints, in a form of its caller's choice. Also what
-//! `run` shares with them.
+//! What a command prints is determined by the bytes that it reads, and is the text of its definition, or a fault alone.
+//! The crate has the commands over a script that need no thread, each in a file of its own, which first reads and then
+//! prints, in a form of its caller's choice. Also what `run` shares with them.
 #![tactic(auto)]
 
 mod batches;

@@ -1,4 +1,5 @@
-//! The connector actor of a run: what it does over its links, without its faults.
+//! What the connector actor has sent is what a connector may send of the ledger's events, however often it restarted.
+//! The crate has what it does over its links, without its faults.
 #![tactic(auto)]
 
 mod connector;

@@ -1,4 +1,5 @@
-//! The command `consume`: consumes a queue over AMQP 0-9-1, and acknowledges what its saved book has.
+//! Nothing is acknowledged before the store was given a book that has it. The command `consume` consumes a queue over
+//! AMQP 0-9-1.
 #![tactic(auto)]
 
 mod commands;

@@ -1,4 +1,5 @@
-//! The deliveries of a simulation to one subscriber, as JSON lines, and what must come of each of them.
+//! The deliveries that are printed are those that one subscriber takes in a simulation up to its close, in order, with
+//! what must come of each of them. They are JSON lines.
 #![tactic(auto)]
 
 pub mod arrivals;

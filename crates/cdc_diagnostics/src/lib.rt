@@ -1,5 +1,6 @@
-//! What standard error reports of a command besides what it prints, as texts: why items weren't accepted, why a step
-//! was refused, what each step did, and what a file with an error must have. Nothing here reads or writes.
+//! A trace or a diagram of a simulation has a line for each step, as it happened. The crate has what standard error
+//! reports of a command besides what it prints, as texts: why items weren't accepted, why a step was refused, what each
+//! step did, and what a file with an error must have. Nothing here reads or writes.
 #![tactic(auto)]
 
 mod bindings;

@@ -1,4 +1,4 @@
-//! The steps of a step file that a simulation can take: so any part of a step file is one.
+//! The steps that are kept of a step file are those that a simulation can take: so any part of a step file is one.
 #![tactic(auto)]
 
 mod enabled;

@@ -1,5 +1,5 @@
-//! Laws that say what definitions of the crates below are for: what a run and a world promise in the end, and what
-//! actors have sent when a run is cut off.
+//! Wherever a run is cut off, each subscriber is faithful; and a close decides what a subscriber keeps. These are laws
+//! on what a run and a world promise in the end, and what actors have sent when a run is cut off.
 #![tactic(auto)]
 
 mod actors;

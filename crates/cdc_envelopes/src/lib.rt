@@ -1,5 +1,6 @@
-//! A fast reader of events in envelopes: of the lines that `messages --queue` and `chain` print, of deliveries, and of
-//! objects with a body and a predecessor. It works without a JSON value.
+//! What the fast reader reads is what the JSON reader would read, and it reads each line that `messages --queue` and
+//! `chain` print. It reads events in envelopes, without a JSON value: those lines, deliveries, and objects with a body
+//! and a predecessor.
 #![tactic(auto)]
 
 mod bodies;

@@ -1,4 +1,5 @@
-//! The command `follow --expect`: what comes of each line of a stream, as JSON.
+//! What is printed is the result of each line of the stream, as the follower takes it. This is the command `follow
+//! --expect`, as JSON.
 #![tactic(auto)]
 
 mod commands;

@@ -1,4 +1,5 @@
-//! The expiry times of pending transfers: a set of triples that answers which one is due first.
+//! An index answers the first triple that is due, of all that were added and not removed: the expiry times of pending
+//! transfers. A change in reserved memory can't fail.
 #![tactic(auto)]
 
 pub mod index;

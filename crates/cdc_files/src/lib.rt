@@ -1,4 +1,5 @@
-//! Files that are replaced as a whole: opened and locked, written beside, synced, and put in place.
+//! What a file had stays readable until all of the new text is written and synced: files are opened and locked, written
+//! beside, synced, and put in place. No contract knows a file's bytes, so only tests show this.
 #![tactic(auto)]
 
 pub mod errors;

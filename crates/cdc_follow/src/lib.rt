@@ -1,4 +1,5 @@
-//! A consumer of any stream of messages: it reads lines, applies each event once, and keeps a book.
+//! A follower of a chained stream has seen a chain, whatever lines came. If each line is one of the queue, what it
+//! applied is a prefix of the queue's events, each once. It reads lines, and keeps a book.
 #![tactic(auto)]
 
 pub mod counts;

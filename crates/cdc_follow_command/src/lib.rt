@@ -1,4 +1,5 @@
-//! The command `follow`: follows a stream of messages, keeps its book, and saves it.
+//! Each line `saved` is of a book that its store was given and held. The command `follow` follows a stream of messages,
+//! keeps its book, and saves it.
 #![tactic(auto)]
 
 mod books;

@@ -1,4 +1,4 @@
-//! What a follower of a ledger's events has in its book.
+//! A follower of a ledger's events has the ledger's balances in its book, as of its last event.
 #![tactic(auto)]
 
 mod laws;

@@ -1,5 +1,5 @@
-//! Frames: texts that are appended to one another, each between two lines with its number and its size, so that a frame
-//! which is cut off is found.
+//! A sequence of frames that is cut off anywhere is read back as the frames that were whole. Frames are texts that are
+//! appended to one another, each between two lines with its number and its size.
 #![tactic(auto)]
 
 pub mod frames;

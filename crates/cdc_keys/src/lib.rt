@@ -1,5 +1,5 @@
-//! How a map hashes its keys: with a key that is fixed, or with one that is random, so that nobody can choose ids which
-//! collide.
+//! Which key a map hashes with changes nothing that contracts see. A key is fixed, or random, so that nobody can choose
+//! ids which collide.
 #![tactic(auto)]
 
 pub mod keys;

@@ -1,4 +1,6 @@
-//! The ledger: accounts, transfers and the events that they make (TigerBeetle, Account, Transfer, Change Data Capture).
+//! Each batch is answered exactly as the definitions say, or memory ran out and nothing changed; balances are the sums
+//! of the history's entries. The crate is the ledger: accounts, transfers and the events that they make (TigerBeetle,
+//! Account, Transfer, Change Data Capture).
 #![tactic(auto)]
 
 mod accounts;

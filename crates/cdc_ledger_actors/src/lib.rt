@@ -1,4 +1,5 @@
-//! The ledger actor and the client actors of a run: what each does over its links, without its faults.
+//! Each client's replies are the answers to its batches in one order of all of them. The crate has the ledger actor and
+//! the client actors of a run: what each does over its links, without its faults.
 #![tactic(auto)]
 
 mod client;

@@ -1,4 +1,4 @@
-//! What is wrong with a line of a stream that is no entry, as a sentence: what stands there, and what is expected.
+//! A line of a stream that is no entry gets a sentence: what stands there, and what is expected. Only tests show which.
 //! Nothing here reads or writes.
 #![tactic(auto)]
 

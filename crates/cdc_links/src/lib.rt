@@ -1,5 +1,5 @@
-//! Links: bounded channels with one receiver and any number of senders, under a rule that ties what was received to
-//! what each sender has sent.
+//! What a receiver received, and then what is left in the link, has what each sender sent, in that sender's order.
+//! Links are bounded channels with one receiver and any number of senders.
 #![tactic(auto)]
 
 mod ends;

@@ -1,4 +1,4 @@
-//! The log of events: a list in timestamp order, with memory reserved ahead of each push.
+//! A log is the list of all events that were pushed, in timestamp order, and a push into reserved memory can't fail.
 #![tactic(auto)]
 
 pub mod log;

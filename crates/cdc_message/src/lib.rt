@@ -1,5 +1,5 @@
-//! Messages about the movements of the ledger: the JSON text of an event, the headers that route it, and reading the
-//! text back.
+//! What is read of a message's body is the event that the body was written of. Any other bytes are read as defined, or
+//! refused. The crate has messages about the movements of the ledger: their JSON text, and the headers that route them.
 #![tactic(auto)]
 
 mod decimals;

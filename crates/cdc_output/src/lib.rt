@@ -1,4 +1,5 @@
-//! What every command prints in the same way: the fault that it failed with, lines of text, and lines of JSON.
+//! A command's lines, of text and of JSON, and the fault that it failed with are written whole, or a write failed. The
+//! crate has what every command prints in the same way.
 #![tactic(auto)]
 
 mod faults;

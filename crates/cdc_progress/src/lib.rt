@@ -1,4 +1,5 @@
-//! The progress record of a connector, its text, and the stores that hold it across restarts.
+//! An honest store loads what it holds, and any other store refuses each load. The crate has the progress record of a
+//! connector, its text, and the stores that hold it across restarts.
 #![tactic(auto)]
 
 mod files;

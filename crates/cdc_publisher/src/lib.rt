@@ -1,5 +1,5 @@
-//! A connector's session. It sends the events that it is offered under rising tags, counts their confirms, and saves
-//! how far it has come.
+//! A session sends the events that it is offered in order, under rising tags, and saves a place only after all up to it
+//! were confirmed.
 #![tactic(auto)]
 
 pub mod errors;

@@ -1,4 +1,4 @@
-//! What consumers make of the lines of a queue, whatever carries them.
+//! Whatever carries the lines of a queue, and in whatever order, consumers that follow its chain keep a prefix of it.
 #![tactic(auto)]
 
 mod laws;

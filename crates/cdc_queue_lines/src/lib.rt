@@ -1,5 +1,5 @@
-//! Queues as streams: each message with the timestamp of the message before it in its queue, so that a consumer can see
-//! by itself that nothing is missing.
+//! Each line of a queue names the timestamp of the message before it in that queue, so that a consumer can see by
+//! itself that nothing is missing.
 #![tactic(auto)]
 
 mod laws;

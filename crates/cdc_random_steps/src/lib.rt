@@ -1,4 +1,5 @@
-//! Random steps of a simulation, and the step file that has them, so a failure that they find is a file.
+//! Random steps of a simulation, and the step file that has them, so a failure that they find is a file. No contract
+//! states which steps are made: tests show that all can be taken.
 #![tactic(auto)]
 
 mod making;

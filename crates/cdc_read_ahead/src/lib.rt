@@ -1,5 +1,6 @@
-//! Reading ahead: a thread of its own reads blocks from a reader and sends them over a link, so that what takes them
-//! knows whether anything is ready.
+//! What is taken of a stream that is read ahead is what its reader gives, in order, and a line counts as ready only if
+//! it was received whole. A thread of its own reads blocks and sends them over a link, so that what takes them knows
+//! whether anything is ready.
 //!
 //! - It is for readers that may have to wait, such as a pipe. A regular file is read without it: its bytes are always
 //!   there, and a thread that is slower than its consumer would look like a slow pipe.

@@ -1,5 +1,6 @@
-//! A run in threads: its configuration, the links between its actors, one thread for each actor, and what all of them
-//! come to.
+//! If a run in threads returns a report, one order of all batches gives the ledger and each reply, and each subscriber
+//! may rely on what the theorem states. The crate has its configuration, the links between its actors, one thread for
+//! each actor, and what all of them come to.
 #![tactic(auto)]
 
 pub mod actors;

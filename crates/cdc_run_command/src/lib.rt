@@ -1,5 +1,6 @@
-//! The command `run`, as text and with `--json`: a script's batches, submitted by clients on threads, and the books
-//! of its subscribers, or the deliveries to one of them.
+//! What is printed of a run is the text of its report, or the deliveries to one subscriber, and a failure is that of an
+//! actor. This is the command `run`, as text and with `--json`: a script's batches, submitted by clients on threads,
+//! and the books of its subscribers.
 #![tactic(auto)]
 
 mod arrivals;

@@ -1,4 +1,4 @@
-//! Parsers of scripts and step files: the contents of their lines, or their first fault.
+//! A script or step file is read by its grammar, or refused with its first fault and the place of it.
 #![tactic(auto)]
 
 mod bindings;

@@ -1,4 +1,6 @@
-//! A follower's book in a database: the text of each save, and what executing it does to the tables.
+//! Executing the text of a follower's saves gives the tables of the follower's book. Saves of any followers of a queue,
+//! in any order and also after some that failed, keep the tables of a prefix. The crate has the text of each save, and
+//! what executing it does to the tables.
 #![tactic(auto)]
 
 pub mod laws;

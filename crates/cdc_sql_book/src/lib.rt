@@ -1,4 +1,5 @@
-//! A follower's book in a database: each save is printed as a transaction.
+//! What is printed after each save is the text of the saves so far, which make the follower's tables. Each save of a
+//! follower's book is printed as a transaction of a database.
 #![tactic(auto)]
 
 mod books;

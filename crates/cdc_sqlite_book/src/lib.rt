@@ -1,4 +1,5 @@
-//! A book in SQLite, which others may query while it is kept.
+//! A save makes the rows those of the book, and a crash leaves the old or the new ones. The crate keeps a book in
+//! SQLite, which others may query while it is kept.
 #![tactic(auto)]
 
 pub mod accounts;

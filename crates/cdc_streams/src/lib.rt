@@ -1,5 +1,5 @@
-//! What every command over a stream shares: how its lines are read, what takes them, when and where that is saved, and
-//! how the command ends.
+//! What a command over a stream prints of a save was held by its store before. The crate has what all these commands
+//! share: how lines are read, what takes them, when and where that is saved, and how the command ends.
 #![tactic(auto)]
 
 mod commands;

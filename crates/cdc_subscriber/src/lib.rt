@@ -1,4 +1,5 @@
-//! Subscribers. Each applies an event at most once, if it is later than all events applied before, and keeps a book.
+//! A subscriber applies each event at most once, if it is later than all events applied before, and its book has the
+//! balances that those events show.
 #![tactic(auto)]
 
 pub mod book;

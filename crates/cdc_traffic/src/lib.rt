@@ -1,5 +1,5 @@
-//! The messages of a run in threads: what ledger, clients, connector, broker and subscribers send one another over
-//! links. Contracts state the content of each message, the history that it names, and who may send it when.
+//! Each message of a run in threads follows from what its sender sent and received before. Contracts state the content
+//! of each message, the history that it names, and who may send it when.
 #![tactic(auto)]
 
 mod laws;

@@ -1,4 +1,5 @@
-//! The data of the ledger, of its events and of the batches that make them, with the first check of a request.
+//! A request's first check answers the first line of its table that applies, and each result has the number and the
+//! name that the table gives it. The crate has the data of the ledger, of its events and of the batches that make them.
 #![tactic(auto)]
 
 pub mod accounts;

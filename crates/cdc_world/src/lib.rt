@@ -1,4 +1,5 @@
-//! The world of all actors: ledger, connector, broker and subscribers, moved one action of one actor at a time.
+//! After any sequence of steps, each subscriber may rely on what the theorem states. The world has all actors: ledger,
+//! connector, broker and subscribers, moved one action of one actor at a time.
 #![tactic(auto)]
 
 mod actors;
