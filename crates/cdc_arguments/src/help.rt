@@ -150,7 +150,8 @@ Exit status:
   0  the stream ended
   1  a read, a write, memory or the store of the book failed, which may pass: the last line of standard output names the
      fault, unless a write failed
-  2  the arguments or a line of the stream are bad: standard error reports what was expected, and where
+  2  the arguments or a line of the stream are bad, or the book is another one than was asked for: standard error reports
+     what was expected, and where
   3  there is a gap, a line contradicts the end, or with --checked an event doesn't follow: somebody has to look";
 
 pub const AUDIT: &str = "\
@@ -189,7 +190,8 @@ Exit status:
   0  all events are accepted
   1  a read, a write, memory or the store of the state failed, which may pass: the last line of standard output names the
      fault, unless a write failed
-  2  the arguments or a line of the stream are bad: standard error reports what was expected, and where
+  2  the arguments or a line of the stream are bad, or the state is another one than was asked for: standard error
+     reports what was expected, and where
   3  an event is refused: somebody has to look";
 
 pub const CHAIN: &str = "\
@@ -215,7 +217,8 @@ Examples:
 Exit status:
   0  the stream ended
   1  a read, a write, memory or the store of the state failed, which may pass: standard error reports it
-  2  the arguments or a line of the stream are bad: standard error reports what was expected, and where
+  2  the arguments or a line of the stream are bad, or the state is another one than was asked for: standard error
+     reports what was expected, and where
   3  a line contradicts the end: somebody has to look";
 
 pub const CONSUME: &str = "\
