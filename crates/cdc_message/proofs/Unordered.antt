@@ -1,5 +1,5 @@
 -- A text of JSON is read value by value.
-use Rattle.std.proofs.Common.{◌≡◌, ℕ, ◌<◌, ◌^◌, List, [], ◌∷◌, ◌++◌, Bool, true, false, Some, decimal, refl, sym, ap, ap₂, ◌∙◌, arith, append_assoc, inl, inr}
+use Rattle.std.proofs.Common.{◌≡◌, ℕ, ◌<◌, ◌^◌, List, [], ◌∷◌, ◌++◌, true, false, Some, decimal, refl, sym, ap, ap₂, ◌∙◌, arith, append_assoc, inl, inr}
 use Rattle.std.proofs.lemmas.Bool.Decides.{eqb_tells}
 use Rattle.json.specs.Json as json
 use Rattle.json.specs.Lex.{token, comma, colon, Place, fresh, after_value, after_comma, after_key, lex, between, string_token, begins_colon, may_begin, punctuate}
@@ -22,8 +22,7 @@ use Rattle.cdc_message.specs.Bodies.{in_quotes}
 use Rattle.cdc_message.specs.Fields.{key_of}
 use Rattle.cdc_message.specs.Kinds.{kind_text}
 use Rattle.cdc_message.specs.Reading.{whole_number}
-use Rattle.cdc_message.specs.Unordered.{tokens_at, Gives, GivesMore}
-use Rattle.cdc_message.specs.UsualTexts.{sign_of, usual}
+use Rattle.cdc_message.specs.Unordered.{tokens_at, Gives}
 use Rattle.cdc_message.proofs.Back.{whole_number-wide}
 use Rattle.cdc_message.proofs.Texts.{after_quote, plain_decimal, plain_kind}
 
@@ -114,23 +113,6 @@ unfolding lex
 name_lexes name text a b c rest opened is ended next =
     in_three (key_of name) text a b c opened is ended ∙ lex-plain (key_of name) c (plain_key name)
     ∙ ap (λ ls. token (string (key_of name)) ∷ ls) next
-
--- a name and its colon, as most programs write them
-pub usual_lexes : (name : FieldName) (text all rest : List ℕ) → lex between text ≡ lex between all
-    → all ≡ usual name ++ rest → lex between text ≡ token (string (key_of name)) ∷ colon ∷ lex between rest
-unfolding lex
-usual_lexes name text all rest same is =
-    let opened : all ≡ 34 ∷ (key_of name ++ (34 ∷ 58 ∷ 32 ∷ rest)) =
-    is ∙ ap (λ t. 34 ∷ t) (append_assoc (key_of name) (34 ∷ 58 ∷ 32 ∷ []) rest) in
-    name_lexes name text (key_of name ++ (34 ∷ 58 ∷ 32 ∷ rest)) (34 ∷ 58 ∷ 32 ∷ rest) (58 ∷ 32 ∷ rest) rest
-    (same ∙ ap (λ t. lex between t) opened) refl refl (ap (λ ls. colon ∷ ls) (lex_space 32 rest refl))
-
--- a comma goes on, and a bracket ends an object
-pub more_lexes : (more : Bool) (text all rest : List ℕ) → lex between text ≡ lex between all
-    → all ≡ sign_of more ∷ rest → GivesMore text more rest
-unfolding lex
-more_lexes true text all rest same is = same ∙ ap (λ t. lex between t) is
-more_lexes false text all rest same is = same ∙ ap (λ t. lex between t) is
 
 -- a string is a value
 pub string_gives : (Is : Data → Type 0) (s rest : List ℕ) → after_quote s ≡ s ++ 34 ∷ [] → Is (value.string s)

@@ -15,7 +15,6 @@ pub mod Reading
 pub mod Replays
 pub mod Sending
 pub mod Unordered
-pub mod UsualTexts
 pub mod Values
 pub mod Widths
 pub use Rattle.cdc_types.specs.declared.events.Event

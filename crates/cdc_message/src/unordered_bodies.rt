@@ -11,7 +11,6 @@ ghost use Rattle.cdc_message.specs.Kinds.{kind_text as text_of};
 ghost use Rattle.cdc_message.specs.Reading.{read};
 ghost use Rattle.cdc_message.specs.Unordered.{Gives, GivesNumber, GivesKind, GivesEvent, GivesName, GivesMore};
 ghost use Rattle.cdc_message.specs.Unordered.{IsAccount, IsTransfer, Holds};
-ghost use Rattle.cdc_message.specs.UsualTexts.{sign_of, usual};
 
 use crate::fields::FieldName;
 use crate::kinds::{kind_named, kind_text};
@@ -22,73 +21,29 @@ use cdc_types::{Event, EventAccount, EventKind, EventTransfer};
 // The most members that are read of a part.
 const MOST: usize = 32;
 
-// The name that may stand at the front of a text, by a few of its bytes. The caller has to compare it with the text.
+// The name that may stand at the front of a text, by its length up to the quote and two of its bytes. The caller has to
+// compare it with the text.
 fn likely_name(text: &[u8]) -> Option<FieldName> {
-    let front = text.first_chunk::<12>()?;
-    match (front[0], front[1], front[4]) {
-        (b'i', _, _) => Some(FieldName::Id),
-        (b'a', _, _) => Some(FieldName::Amount),
-        (b'p', _, _) => Some(FieldName::PendingId),
-        (b'f', _, _) => Some(FieldName::Flags),
-        (b't', _, b'o') => Some(FieldName::Timeout),
-        (b't', _, _) => Some(FieldName::Timestamp),
-        (b'u', _, _) => Some(likely_user_data(front[10])),
-        (b'c', b'o', _) => Some(FieldName::Code),
-        (b'c', _, _) => Some(likely_credits(front[9])),
-        (b'd', _, _) => Some(likely_debits(front[8])),
+    let length = text.iter().position(|byte| *byte == b'"')?;
+    if length == 0 {
+        return None;
+    }
+    match (length, text[0], text[length - 1]) {
+        (2, _, _) => Some(FieldName::Id),
+        (4, b'c', _) => Some(FieldName::Code),
+        (5, _, _) => Some(FieldName::Flags),
+        (6, _, _) => Some(FieldName::Amount),
+        (7, _, _) => Some(FieldName::Timeout),
+        (9, _, _) => Some(FieldName::Timestamp),
+        (10, _, _) => Some(FieldName::PendingId),
+        (12, _, b'4') => Some(FieldName::UserData64),
+        (12, _, _) => Some(FieldName::UserData32),
+        (13, b'u', _) => Some(FieldName::UserData128),
+        (13, _, _) => Some(FieldName::DebitsPosted),
+        (14, b'd', _) => Some(FieldName::DebitsPending),
+        (14, _, _) => Some(FieldName::CreditsPosted),
+        (15, _, _) => Some(FieldName::CreditsPending),
         _ => None,
-    }
-}
-
-// The name of user data, by the first digit of its width.
-fn likely_user_data(digit: u8) -> FieldName {
-    match digit {
-        b'1' => FieldName::UserData128,
-        b'6' => FieldName::UserData64,
-        _ => FieldName::UserData32,
-    }
-}
-
-// The name of credits, by the letter after the first of pending or posted.
-fn likely_credits(letter: u8) -> FieldName {
-    match letter {
-        b'e' => FieldName::CreditsPending,
-        _ => FieldName::CreditsPosted,
-    }
-}
-
-// The same of debits.
-fn likely_debits(letter: u8) -> FieldName {
-    match letter {
-        b'e' => FieldName::DebitsPending,
-        _ => FieldName::DebitsPosted,
-    }
-}
-
-// A name in quotes, a colon and a space, as most programs write JSON.
-fn usual_text(name: FieldName) -> &'static [u8]
-    ensures { result.now ≡ usual name }
-{
-    match name {
-        FieldName::Timestamp => b"\"timestamp\": ",
-        FieldName::Kind => b"\"type\": ",
-        FieldName::Ledger => b"\"ledger\": ",
-        FieldName::TransferPart => b"\"transfer\": ",
-        FieldName::DebitAccount => b"\"debit_account\": ",
-        FieldName::CreditAccount => b"\"credit_account\": ",
-        FieldName::Id => b"\"id\": ",
-        FieldName::Amount => b"\"amount\": ",
-        FieldName::PendingId => b"\"pending_id\": ",
-        FieldName::UserData128 => b"\"user_data_128\": ",
-        FieldName::UserData64 => b"\"user_data_64\": ",
-        FieldName::UserData32 => b"\"user_data_32\": ",
-        FieldName::Timeout => b"\"timeout\": ",
-        FieldName::Code => b"\"code\": ",
-        FieldName::Flags => b"\"flags\": ",
-        FieldName::DebitsPending => b"\"debits_pending\": ",
-        FieldName::DebitsPosted => b"\"debits_posted\": ",
-        FieldName::CreditsPending => b"\"credits_pending\": ",
-        FieldName::CreditsPosted => b"\"credits_posted\": ",
     }
 }
 
@@ -107,17 +62,6 @@ fn ends(text: &[u8]) -> bool
         text.first(),
         Some(b',' | b'}' | b' ' | b'\n' | b'\r' | b'\t')
     )
-}
-
-// Whether a byte after a member is a comma. `None` if it doesn't end the object either.
-fn goes_on(byte: u8) -> Option<bool>
-    ensures { IfSome result (λ more. byte ≡ sign_of more) }
-{
-    match byte {
-        b',' => Some(true),
-        b'}' => Some(false),
-        _ => None,
-    }
 }
 
 // A number that has at most 64 bits.
@@ -185,19 +129,6 @@ impl Cursor<'_> {
     fn name(&mut self, name: FieldName) -> Option<()>
         ensures { OnSome result (GivesName self.old.rest.now name self.new.rest.now) }
     {
-        self.spaces();
-        if let Some(rest) = self.rest.strip_prefix(usual_text(name)) {
-            self.rest = rest;
-            return Some(());
-        }
-        self.unusual_name(name)
-    }
-
-    // The same with other white space.
-    #[inline(never)]
-    fn unusual_name(&mut self, name: FieldName) -> Option<()>
-        ensures { OnSome result (GivesName self.old.rest.now name self.new.rest.now) }
-    {
         self.sign(b'"')?;
         self.key(name)?;
         self.byte(b'"')?;
@@ -254,10 +185,13 @@ impl Cursor<'_> {
         ensures { IfSome result (λ more. GivesMore self.old.rest.now more self.new.rest.now) }
     {
         self.spaces();
-        let (first, rest) = self.rest.split_first()?;
-        let more = goes_on(*first)?;
-        self.rest = rest;
-        Some(more)
+        if self.rest.first() == Some(&b',') {
+            self.byte(b',')?;
+            Some(true)
+        } else {
+            self.byte(b'}')?;
+            Some(false)
+        }
     }
 
     // Reads an object of numbers. The last one of a name counts.
