@@ -1,7 +1,8 @@
 #!/usr/bin/env python3
 """The command consume: servers by hand, the transcripts of a real one, mutated streams of a server, and a real RabbitMQ.
 
-  tests/checks/consume.py [PROGRAM] [--streams N]    PROGRAM: crates/cdc_app/out/cdc_app; N mutated streams, 200 by default
+  tests/checks/consume.py [PROGRAM] [--streams N] [--first K]
+  PROGRAM: crates/cdc_app/out/cdc_app; N mutated streams, 200 by default; K: these alone, from number K on
 
 By hand: each status and its reason, what is acknowledged in each case, options at their limits, passwords. Transcripts
 (tests/data/amqp): what a real server sent, with the frames that this consumer asks for besides, in one piece, byte by byte, and cut
@@ -48,19 +49,23 @@ PASSWORD = "s\u00e9cret"
 # The queue by hand: five events, and the end.
 
 
-def queue_of(count):
+def queue_of(count, debit=1, credit=2, start=0):
     """The messages of a chained queue: the body, the headers and the type of each, and the end mark."""
     found, previous = [], 0
     for number in range(1, count + 1):
-        body = event(10 * number, balances=((0, 5 * number, 0, 0), (0, 0, 0, 5 * number)))
+        body = event(start + 10 * number, debit, credit, balances=((0, 5 * number, 0, 0), (0, 0, 0, 5 * number)))
         found.append((own(body).encode(), {"event_type": "single_phase", "previous": str(previous)}, None))
-        previous = 10 * number
+        previous = start + 10 * number
     return [*found, (b"", {"previous": str(previous)}, "end")]
 
 
+def book_after(count, debit=1, credit=2):
+    """The book of the first events: debits posted of one account, credits posted of the other."""
+    return f"account {debit} 0 {5 * count} 0 0\naccount {credit} 0 0 0 {5 * count}\n" if count else ""
+
+
 QUEUE = queue_of(5)
-# The book of its first n events: debits posted of account 1, credits posted of account 2.
-BOOKS = [f"account 1 0 {5 * n} 0 0\naccount 2 0 0 0 {5 * n}\n" if n else "" for n in range(6)]
+BOOKS = [book_after(n) for n in range(6)]
 
 
 def setup():
@@ -519,9 +524,9 @@ def mutated(rng, server):
     return bytes(text)
 
 
-def reordered(rng, server):
+def reordered(rng, messages):
     """The stream with whole deliveries left out, doubled or swapped, and numbered again as a server numbers them."""
-    messages = list(QUEUE)
+    messages = list(messages)
     for _ in range(rng.randint(1, 3)):
         at = rng.randrange(len(messages))
         how = rng.randrange(3)
@@ -535,40 +540,85 @@ def reordered(rng, server):
     return setup() + delivered(messages) + GOODBYE
 
 
-def mutations(count):
-    """Whatever a server sends, what is acknowledged is saved. If its deliveries are messages of the queue, the book is a prefix of it,
-    and a later run over the whole queue completes it."""
-    rng = random.Random(1)
-    server = setup() + delivered(QUEUE) + GOODBYE
+def framed(rng, server):
+    """The stream with frames left out, doubled or swapped, and with frames that a server may send at any time, or to end the connection."""
+    found = amqp.frames_of(server)[0]
+    for _ in range(rng.randint(1, 3)):
+        at, other = rng.randrange(len(found)), rng.randrange(len(found))
+        how = rng.randrange(6)
+        if how == 0:
+            del found[at]
+        elif how == 1:
+            found.insert(at, found[other])
+        elif how == 2:
+            found[at], found[other] = found[other], found[at]
+        else:
+            found[at:at] = amqp.frames_of(rng.choice(AT_ANY_TIME))[0]
+    return bytes_of(found)
+
+
+# What a server may send at any time. A connection or channel that is closed for a cause that may pass, and for others.
+AT_ANY_TIME = (
+    amqp.frame(amqp.HEARTBEAT, 0, b""), amqp.method(0, amqp.BLOCKED, amqp.short("low on memory")), amqp.method(0, amqp.UNBLOCKED),
+    amqp.method(1, amqp.CANCEL, amqp.short("relayplum") + b"\1"),
+    *(amqp.closing(which, code, "") for which in (amqp.CLOSE, amqp.CHANNEL_CLOSE) for code in (0, 320, 403, 404, 406, 530, 65535)),
+)
+
+
+class Chain:
+    """A chained queue of five events: its messages, the timestamp of the event that each body is, and the book of the first events."""
+
+    def __init__(self, debit, credit, start):
+        self.messages = queue_of(5, debit, credit, start)
+        self.known = {body: start + 10 * at for at, (body, _, _) in enumerate(self.messages[:5], 1)}
+        self.books = [book_after(n, debit, credit) for n in range(6)]
+
+    def server(self, most=amqp.FRAME_MAX - 8):
+        return setup() + delivered(self.messages, most=most) + GOODBYE
+
+
+# With small numbers, and with those of a real ledger.
+CHAINS = (Chain(1, 2, 0), Chain(10**36 + 1, 10**36 + 2, 17 * 10**17))
+
+
+def mutations(count, first=1):
+    """So many mutated streams from this number on, each of which follows from its number alone."""
     with rooms.room("consume-") as room:
-        for number in range(count):
+        for number in range(first, first + count):
             folder = fresh(room, str(number))
-            is_whole = number % 2 == 0
-            text = (reordered if is_whole else mutated)(rng, server)
-            parks = number % 3 == 0
-            done = consume(folder, text, "--chained", "--every", str(rng.randint(1, 3)), *(["--park"] if parks else []))
-            check(f"mutation {number}: a status", done.status in (0, 1, 2, 3) and done.reported("status") == str(done.status), done)
-            last = (done.acknowledged() if done.frames() else None) or [0]
-            rejected = (done.rejected() if done.frames() else None) or []
-            before = sum(it < last[-1] for it in rejected)
-            check(f"mutation {number}: acknowledged is saved", last[-1] - before <= taken_by_book(folder, done), (last, done))
-            check(f"mutation {number}: what is rejected is not acknowledged", not set(last) & set(rejected), (last, rejected))
-            compare(f"mutation {number}", text, parks, done, last[-1])
-            if is_whole:
-                check(f"mutation {number}: a prefix", book_of(folder, "--chained") in BOOKS, (book_of(folder, "--chained"), done))
-                done = consume(folder, server, "--chained")
-                check(f"mutation {number}: the whole", book_of(folder, "--chained") == BOOKS[5], done)
+            mutation(folder, number)
             shutil.rmtree(folder)
 
 
-# What each body of the queue is: the timestamp of its event.
-KNOWN = {body: 10 * at for at, (body, _, _) in enumerate(QUEUE[:5], 1)}
+def mutation(folder, number):
+    """Whatever a server sends, what is acknowledged is saved. If its deliveries are messages of the queue, the book is a prefix of it,
+    and a later run over the whole queue completes it."""
+    rng = random.Random(number)
+    chain = rng.choice(CHAINS)
+    is_whole, parks = number % 3 == 0, rng.random() < 0.3
+    if is_whole:
+        text = reordered(rng, chain.messages)
+    else:
+        text = (mutated if number % 3 == 1 else framed)(rng, chain.server(rng.choice((amqp.FRAME_MAX - 8, 300))))
+    done = consume(folder, text, "--chained", "--every", str(rng.randint(1, 3)), *(["--park"] if parks else []))
+    check(f"mutation {number}: a status", done.status in (0, 1, 2, 3) and done.reported("status") == str(done.status), done)
+    last = (done.acknowledged() if done.frames() else None) or [0]
+    rejected = (done.rejected() if done.frames() else None) or []
+    before = sum(it < last[-1] for it in rejected)
+    check(f"mutation {number}: acknowledged is saved", last[-1] - before <= taken_by_book(folder, done), (last, done))
+    check(f"mutation {number}: what is rejected is not acknowledged", not set(last) & set(rejected), (last, rejected))
+    compare(f"mutation {number}", chain, text, parks, done, last[-1])
+    if is_whole:
+        book = book_of(folder, "--chained")
+        check(f"mutation {number}: a prefix", book in chain.books, (book, done))
+        done = consume(folder, chain.server(), "--chained")
+        check(f"mutation {number}: the whole", book_of(folder, "--chained") == chain.books[5], done)
 
 
-def compare(name, text, parks, done, last):
+def compare(name, chain, text, parks, done, last):
     """Compares a run with the model, unless that doesn't know a body."""
     try:
-        wanted = consuming.outcome(text, KNOWN, parks=parks)
+        wanted = consuming.outcome(text, chain.known, parks=parks)
     except consuming.Unknown:
         return
     found = {"status": done.status, "code": done.number("code"), "tag": done.number("tag"),
@@ -759,8 +809,18 @@ def main(arguments):
         commands.begin(arguments[0], "consume")
         within(arguments[arguments.index("--in") + 1])
         return commands.ended()
-    return commands.main(arguments, __doc__, "consume", (whole, frames, stops, parks, servers, options, transcripts, killed, rabbitmq),
-                         mutations, STREAMS)
+    parser = commands.parser_of(__doc__)
+    parser.add_argument("--streams", type=int, default=STREAMS, metavar="N", help="mutated streams; default: %(default)s")
+    parser.add_argument("--first", type=int, metavar="K", help="only mutated streams, from this number on")
+    options = rooms.options_of(parser, arguments)
+    if options.first is None:
+        return commands.main(arguments, __doc__, "consume", PARTS, mutations, STREAMS)
+    commands.begin(options.program, "consume", options.soak)
+    mutations(options.streams, options.first)
+    return commands.ended()
+
+
+PARTS = (whole, frames, stops, parks, servers, options, transcripts, killed, rabbitmq)
 
 
 if __name__ == "__main__":
