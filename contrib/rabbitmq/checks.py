@@ -220,7 +220,7 @@ while [ $# -gt 2 ]; do shift; done
 echo "$1" >>nodes
 exec sh -c 'eval "exec $CONSUME"'
 """
-# In the place of the program: it notes its arguments, and does what the next line of the file `turns` says. The first turn is that of
+# In the place of the program: it notes its arguments, and reports what the next line of the file `turns` has. The first turn is that of
 # the check before the first connection.
 STAND_IN = """\
 #!/bin/sh

@@ -197,6 +197,10 @@ class Cluster:
     def urls(self):
         return [node.url for node in self.nodes]
 
+    def has_logged(self, text):
+        """Whether a node has logged this."""
+        return any(text in it.read_text(errors='replace') for node in self.nodes for it in (node.room / 'logs').glob('*.log'))
+
     def up(self):
         """A node that accepts connections."""
         return next(node for node in self.nodes if node.process is not None and node.listens())

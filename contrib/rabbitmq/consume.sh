@@ -63,6 +63,7 @@ tries=${TRIES:-10} failures=0 seen=
 while :; do
     for node in $nodes; do
         rm -f -- "$report"
+        # shellcheck disable=SC2016
         # -t: the time for the last save once the server has ended the connection; -T: a server that sends no heartbeat is dead.
         timeout --foreground "${RENEW:-3600}" socat -t 30 -T 120 "$node" SYSTEM:'eval \"exec $CONSUME\"'
         status=$(reported status)

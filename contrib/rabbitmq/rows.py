@@ -127,22 +127,22 @@ class Rows(Bench):
             stream.has_all(1, second.book)
             stream.takes_all(2)
 
-    def stopped(self, stream, *arguments):
-        """A consumer of the first queue that is stopped before it has anything, with all messages of the queue delivered to it; its process."""
+    def stopped(self, stream, *arguments, prefetch):
+        """A consumer of the first queue that is stopped before it has anything, while the bridge sends everything; and its process."""
         with self.channel() as channel:
             channel.queue_declare(f'{stream.name}.1', durable=True, arguments=QUORUM)
-        consumer = stream.consumer(1, renew=3600)
+        consumer = stream.consumer(1, '--prefetch', prefetch, '--heartbeat', 0, renew=3600)
         wait_for('the consumer is there', lambda: self.consumers_of(f'{stream.name}.1') == 1)
         process = consumer.part(stream.program_name)
         os.kill(process, signal.SIGSTOP)
         stream.ends(stream.bridge(*arguments), 0, '300 events confirmed')
-        wait_for('the consumer has the messages', lambda: self.ready_in(f'{stream.name}.1') == 0)
         return consumer, process
 
     def row_consumer_killed_before_its_save(self):
         """What wasn't saved isn't acknowledged: messages wait for a consumer that is stopped, and then all of it is killed."""
         with contextlib.closing(self.stream('unsaved')) as stream:
-            consumer, _ = self.stopped(stream, '--end')
+            consumer, _ = self.stopped(stream, '--end', prefetch=1000)
+            wait_for('the consumer has the messages', lambda: self.ready_in('unsaved.1') == 0)
             consumer.kill(whole=True)
             same('events in the book', 0, stream.applied(1))
             for place in stream.places:
@@ -151,15 +151,15 @@ class Rows(Bench):
             stream.takes_all(1)
 
     def row_consumer_timeout(self):
-        """A consumer that acknowledges too late has its channel closed, reports that, and goes on with the redelivery, all of it duplicates."""
+        """A consumer that acknowledges too late has its channel closed, reports that, and goes on with the redelivery, which it has already."""
         with contextlib.closing(self.stream('late')) as stream:
             with self.limits_of_consumers(1000):
-                consumer, process = self.stopped(stream)
-                wait_for('the messages are back', lambda: self.ready_in('late.1') > 0)
+                consumer, process = self.stopped(stream, prefetch=10)
+                wait_for('the server closes the channel', lambda: self.cluster.has_logged('timed out waiting for delivery acknowledgement'))
             os.kill(process, signal.SIGCONT)
             wait_for('the channel was closed', lambda: 'delivery acknowledgement on channel 1 timed out' in consumer.said())
             stream.ends(stream.bridge('--end'), 0, '')
-            stream.reports(consumer, 0, reason='end', applied='0', duplicates='300')
+            stream.reports(consumer, 0, reason='end', applied=str(EVENTS - 10), duplicates='10')
             stream.has_all(1, consumer.book)
             stream.takes_all(2)
 

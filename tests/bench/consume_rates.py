@@ -102,9 +102,9 @@ class Series:
 
     def consume(self, book):
         """The arguments of a run of the program behind socat."""
-        words = [self.options.program, 'consume', '--queue', QUEUE, '--chained', '--book', book, '--report', str(self.room / 'report'),
-                 '--prefetch', str(self.options.prefetch), '--every', str(EVERY)]
-        return [shutil.which('socat'), '-t', '30', f'TCP:127.0.0.1:{self.port}', f'EXEC:{" ".join(words)}']
+        command = [self.options.program, 'consume', '--queue', QUEUE, '--chained', '--book', book, '--report', str(self.room / 'report'),
+                   '--prefetch', str(self.options.prefetch), '--every', str(EVERY)]
+        return [shutil.which('socat'), '-t', '30', f'TCP:127.0.0.1:{self.port}', f'EXEC:{" ".join(command)}'.replace('sqlite:', 'sqlite\\:')]
 
     def arguments(self, name):
         self.runs += 1
@@ -153,6 +153,7 @@ def main(arguments):
         return 2
     from cluster import Cluster
 
+    os.environ['RELAYPLUM_PASSWORD'] = 'guest'
     load = os.getloadavg()[0]
     with Cluster(1) as cluster, tempfile.TemporaryDirectory(prefix='consume-rates-') as room:
         names = contenders(room)

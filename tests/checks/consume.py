@@ -6,14 +6,16 @@
 
 By hand: each status and its reason, what is acknowledged in each case, options at their limits, passwords. Transcripts
 (tests/data/amqp): what a real server sent, with the frames that this consumer asks for besides, in one piece, byte by byte, and cut
-at places. Mutated: bytes of such a stream are changed, left out or doubled, or it is cut; or whole deliveries are left out, doubled or
-swapped. Whatever comes, no tag is acknowledged above the number of deliveries that the saved book has. Where the deliveries are the
-queue's, the book is a prefix of it, and a run over the whole queue completes it. Killed: a run ends at
-each open, read, write, sync and rename, or that or an allocation is refused; what is acknowledged is saved, and a run over the whole
-queue completes the book. RabbitMQ: a node of its own, reached through socat; a whole queue, parked messages, a gap, kill -9 and redelivery, heartbeats, a queue that is deleted, what a server refuses.
+at places. Mutated: bytes of such a stream are changed, left out or doubled, or it is cut; or frames are left out, doubled, swapped or
+inserted; or whole deliveries are left out, doubled or swapped. Whatever comes, no tag is acknowledged above the number of deliveries
+that the saved book has, and the rest is what a model in Python makes of the stream. If the deliveries are the queue's, the book is a
+prefix of it, and a run over the whole queue completes it. Killed: a run ends at each open, read, write, sync and rename, or that or an
+allocation is refused, or signal 9 ends it there, also in the middle of a write; what is acknowledged is saved, and a run over the whole
+queue completes the book. RabbitMQ: a node of its own, reached through socat; a whole queue, parked messages, a gap, kill -9 and
+redelivery, heartbeats, a queue that is deleted, what a server refuses. contrib/rabbitmq/check.sh has a cluster of three nodes.
 
-Killed needs a C compiler, `cc`. The part with RabbitMQ needs `socat` and `rabbitmq-server`; without them it is named as not tried. The last line is `consume: N
-passed, M failed`; the status is 1 where one failed.
+Killed needs a C compiler, `cc`, and a kernel that lets a process be traced. The part with RabbitMQ needs `socat` and
+`rabbitmq-server`. What is missing is named. The last line is `consume: N passed, M failed`; the status is 1 if one failed.
 """
 import json
 import os
@@ -35,6 +37,7 @@ import consuming
 import ending
 import interrupted
 import rooms
+import stepping
 from commands import check
 from follow import event, own
 
@@ -647,38 +650,98 @@ def taken_by(book):
 # Runs that end at a call, or for which it is refused.
 
 
+class SteppedConsumer(stepping.Stepped):
+    """A run whose thread that reads ahead runs on between the stops; the other one saves and acknowledges."""
+
+    def printed(self):
+        """What it has sent, a character for each byte, and standard error."""
+        self.out.seek(0)
+        sent = self.out.read().decode("latin-1")
+        return [sent, super().printed()[1]]
+
+
 class KilledConsumer(interrupted.Interrupted):
     """A consumer that is interrupted: what it has acknowledged is saved, and a run over the whole queue completes the book."""
 
     stream = setup() + delivered(QUEUE) + GOODBYE
+    is_killed_everywhere = False
+    rows = 20
+    kept_in = ""
+
+    def __init__(self, library, folder):
+        super().__init__(library, folder)
+        with open(self.path("secret"), "w", encoding="utf-8") as it:
+            it.write(PASSWORD)
+
+    def book(self, name):
+        return self.kept_in + self.path(name)
+
+    def arguments(self, name):
+        return ["--queue", "q", "--chained", "--every", "2", "--password-file", self.path("secret"), "--book", self.book(name),
+                "--report", self.path(f"{name}.report")]
 
     def run(self, name, **plan):
-        env = dict(os.environ, RELAYPLUM_PASSWORD=PASSWORD, **({"LD_PRELOAD": self.library} if plan else {}), **plan)
-        arguments = ["--queue", "q", "--chained", "--every", "2", "--book", self.path(name), "--report", self.path(f"{name}.report")]
+        env = dict(os.environ, **({"LD_PRELOAD": self.library} if plan else {}), **plan)
         with open(self.path("stream"), "rb") as server:
-            done = subprocess.run([commands.program, "consume", *arguments], stdin=server, capture_output=True, env=env,
+            done = subprocess.run([commands.program, "consume", *self.arguments(name)], stdin=server, capture_output=True, env=env,
                                   timeout=SECONDS)
         return Done(done.returncode, done.stdout, done.stderr.decode(errors="replace"), read(self.path(f"{name}.report")))
 
+    def stepped(self, name):
+        with open(self.path("stream"), "rb") as stream:
+            return SteppedConsumer([commands.program, commands.command, *self.arguments(name)], stream)
+
+    def unsaved(self, name, sent):
+        """What is wrong with what an interrupted run has sent, the last of which may be a part of a frame: it may have acknowledged only
+        what the book has. Each run gets the whole queue."""
+        frames = amqp.frames_of(sent[8:])[0]
+        acks = [struct.unpack(">Q", it[2][4:12])[0] for it in frames if amqp.method_of(it) == amqp.ACK]
+        taken = taken_by(self.book(name)) if os.path.exists(self.path(name)) else 0
+        return f"{acks} acknowledged, {taken} saved" if (acks or [0])[-1] > taken else None
+
+    def incomplete(self, name):
+        """What is wrong after it went on: the book has to be whole."""
+        again = self.run(name)
+        return repr(again) if again.status != 0 or taken_by(self.book(name)) != 6 else None
+
     def complaint(self, number, plan):
-        """What is wrong after the run was ended or a call was refused, and after it went on."""
         name = f"{number}.saved"
         done = self.run(name, FAULT=plan)
-        # (a part of a frame may have been written last)
-        sent = amqp.frames_of(done.sent[8:])[0]
-        acks = [struct.unpack(">Q", it[2][4:12])[0] for it in sent if amqp.method_of(it) == amqp.ACK]
-        taken = taken_by(self.path(name)) if os.path.exists(self.path(name)) else 0
-        if (acks or [0])[-1] > taken:
-            return f"{plan}: {acks} acknowledged, {taken} saved: {done!r}"
-        again = self.run(name)
-        if again.status != 0 or taken_by(self.path(name)) != 6:
-            return f"{plan}: {done!r}, then {again!r}"
-        return None if "end" in plan or done.status in (0, 1, 2) else f"{plan}: {done!r}"
+        wrong = self.unsaved(name, done.sent) or self.incomplete(name)
+        if wrong or not ("end" in plan or done.status in (0, 1, 2)):
+            return f"{plan}: {done!r}, then {wrong}"
+        return None
+
+    def complaint_of_kill(self, number, point):
+        name = f"{number}.killed"
+        status, sent = self.kill_at(name, point)
+        # (how often it saves isn't the same in each run, so one may end before)
+        wrong = self.unsaved(name, sent.encode("latin-1")) or self.incomplete(name)
+        return f"{point}: status {status}, then {wrong}" if wrong or status not in (0, -signal.SIGKILL) else None
+
+    def complaint_of_row(self, seed):
+        chosen, name, wrong = random.Random(seed), f"{seed}.row", None
+        for _ in range(chosen.choice([2, 2, 3])):
+            run = self.stepped(name)
+            if all(run.step() for _ in range(chosen.randrange(self.stops))):
+                run.kill()
+            wrong = wrong or self.unsaved(name, run.printed()[0].encode("latin-1"))
+        wrong = wrong or self.incomplete(name)
+        return f"kills in a row, seed {seed}: {wrong}" if wrong else None
+
+
+class KilledRows(KilledConsumer):
+    """The same with a book in SQLite."""
+
+    rows = 5
+    kept_in = "sqlite:"
 
 
 def killed(room):
-    """Runs that end at each call, or for which it is refused."""
-    interrupted.check_plans(KilledConsumer, room)
+    """Runs that end at each call, or for which it is refused; that are killed by signal 9 before each call that changes something, or once
+    a write of a save or of an acknowledgement has written a part; and that are killed again after that."""
+    interrupted.check_all(KilledConsumer, room)
+    interrupted.check_kills(KilledRows, fresh(room, "rows"))
 
 
 # ---------------------------------------------------------------------------------------------------------------------
