@@ -7,8 +7,8 @@ Each subscriber I of the script has a quorum queue NAME.I, which gets the events
 timestamp of the event before it in the queue as the header `previous`. Which queue takes what, and what comes before it,
 is printed by `relayplum messages --json`. At most N messages have no confirm at a time. If a message is returned or refused,
 if a confirm doesn't come or the connection is lost, the bridge connects to the next URL, and sends everything again from the
-first message that isn't confirmed. So a queue has duplicates, and messages may stand in it too early; a consumer of the
-chained stream (take.py) applies each once, in order.
+first message that isn't confirmed. So a queue has duplicates, and after a refusal or a return messages may stand in it too early. A
+consumer of the chained stream (`relayplum consume --chained`) applies each once, in order, and stops at one that is too early.
 
 How far it is stands in the queue NAME.progress, and the next bridge goes on from there. Only one bridge of a name runs.
 """

@@ -1,8 +1,9 @@
 #!/usr/bin/env bash
-# Checks the bridge: first what needs no broker (checks.py), then, over a cluster of three nodes that it starts itself, what
-# once lost messages (rows.py), and random kills and stops (storm.py). It takes at most ten minutes, and prints its seed.
+# Checks the bridge, and `consume` behind socat: first what needs no broker (checks.py), then, over a cluster of three nodes that it
+# starts itself, what once lost messages, and how a consumer ends (rows.py), and random kills and stops (storm.py). It takes ten
+# minutes, and prints its seed.
 #   contrib/rabbitmq/check.sh [PROGRAM [SEED]]    PROGRAM: crates/cdc_app/out/cdc_app; SEED: a random one
-# The status is 1 if something differs, and 2 if nothing was sent through a broker: RabbitMQ, pika or the program isn't there.
+# The status is 1 if something differs, and 2 if nothing was sent through a broker: RabbitMQ, pika, socat or the program isn't there.
 set -uo pipefail
 case ${1-} in
 -h | --help)
@@ -22,5 +23,6 @@ not_tried() {
 "$python" "$here/checks.py" || exit 1
 [ -x /usr/lib/rabbitmq/bin/rabbitmq-server ] || not_tried 'there is no RabbitMQ here: on Debian apt-get install rabbitmq-server'
 "$python" -c 'import pika' 2>/dev/null || not_tried "$python has no pika: on Debian apt-get install python3-pika"
+command -v socat >/dev/null || not_tried 'there is no socat: on Debian apt-get install socat'
 [ -x "$program" ] || not_tried "there is no $program: ./relayplum books FILE builds it"
 exec "$python" "$here/storm.py" --rows --program "$program" ${2:+--seed "$2"}

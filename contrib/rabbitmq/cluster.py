@@ -26,7 +26,8 @@ from console import USAGE_ERROR, Stop
 
 # The distribution's own scripts: those in /usr/sbin start as another user.
 SCRIPTS = pathlib.Path('/usr/lib/rabbitmq/bin')
-START_SECONDS, END_SECONDS, CALL_SECONDS = 120, 10, 30
+# How long a node and a call may take: guards against what hangs, for a machine that is busy with other work.
+START_SECONDS, END_SECONDS, CALL_SECONDS = 600, 60, 120
 LEADER = re.compile(r"'([\w-]+)@localhost'\}$")
 # Small nodes: one scheduler each. A stopped node is noticed within ten seconds.
 ERLANG_ARGUMENTS = '+S 1:1 +SDcpu 1:1 +SDio 4 +sbwt none -kernel net_ticktime 8 -kernel inet_dist_use_interface {127,0,0,1}'
@@ -195,6 +196,10 @@ class Cluster:
     @property
     def urls(self):
         return [node.url for node in self.nodes]
+
+    def has_logged(self, text):
+        """Whether a node has logged this."""
+        return any(text in it.read_text(errors='replace') for node in self.nodes for it in (node.room / 'logs').glob('*.log'))
 
     def up(self):
         """A node that accepts connections."""

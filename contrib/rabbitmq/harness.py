@@ -15,10 +15,13 @@ from console import Stop
 from pika.exceptions import AMQPError
 
 HERE = pathlib.Path(__file__).resolve().parent
-SECONDS = 120
+# How long something may take that a check waits for: a guard against what hangs, for a machine that is busy with other work.
+SECONDS = 300
 EVENTS, HELD_AFTER = 300, 150
 CONFIRMED = re.compile(r'^bridge: \d+ events confirmed, up to (\d+)', re.MULTILINE)
 APPLIED = re.compile(r'^subscriber 1 applied (\d+) ', re.MULTILINE)
+# How many connections in a row without a new event end a consumer, how long it waits between two, and after how long it makes a new one.
+TRIES, WAIT_SECONDS, RENEW_SECONDS = 300, 0.2, 30
 # Reads what a program prints, and waits after some lines until somebody opens the pipe.
 HELD = """\
 #!{python}
@@ -42,8 +45,16 @@ DROPS = '[{<<"max-length">>, 50}, {<<"overflow">>, <<"drop-head">>}]'
 REFUSES = '[{<<"max-length">>, 200}, {<<"overflow">>, <<"reject-publish">>}]'
 MIRRORS = '[{<<"ha-mode">>, <<"all">>}, {<<"ha-sync-mode">>, <<"manual">>}, {<<"ha-promote-on-failure">>, <<"always">>}]'
 
+# How long a consumer may hold a message, and how often a channel looks at that, both in milliseconds.
+HOLDS = '[application:set_env(rabbit, consumer_timeout, {timeout}), application:set_env(rabbit, channel_tick_interval, {interval})]'
+LONG_TIMEOUT, LONG_INTERVAL = 1_800_000, 60_000
 WATERMARK = 'vm_memory_monitor:set_vm_memory_high_watermark({{absolute, {bytes}}})'
 CONSUMERS = '{{ok, Q}} = rabbit_amqqueue:lookup(rabbit_misc:r(<<"/">>, queue, <<"{queue}">>)), length(rabbit_amqqueue:consumers(Q))'
+# The operator's `close_connection`, for each consumer of a queue.
+CLOSES = (
+    '{{ok, Q}} = rabbit_amqqueue:lookup(rabbit_misc:r(<<"/">>, queue, <<"{queue}">>)), '
+    '[begin [{{connection, C}}] = rabbit_channel:info(element(1, It), [connection]), rabbit_networking:close_connection(C, "by hand") end '
+    '|| It <- rabbit_amqqueue:consumers(Q)]')
 READY = '{{ok, Q}} = rabbit_amqqueue:lookup(rabbit_misc:r(<<"/">>, queue, <<"{queue}">>)), proplists:get_value(messages_ready, rabbit_amqqueue:info(Q, [messages_ready]))'
 MIRRORED = 'case rabbit_amqqueue:lookup(rabbit_misc:r(<<"/">>, queue, <<"{queue}">>)) of {{ok, Q}} -> length(amqqueue:get_slave_pids(Q)) end'
 
@@ -75,12 +86,12 @@ def script_of(events, subscribers=('all', 'any transfer_code=2 event_type=two_ph
 class Actor:
     """A bridge or a consumer: a process whose standard error stands in a file."""
 
-    def __init__(self, log, script, *arguments):
+    def __init__(self, log, command, environment=None):
         self.log = log
-        command = [sys.executable, HERE / script, *map(str, arguments)]
         with open(log, 'ab') as errors:
             self.process = subprocess.Popen(
-                command, stdin=subprocess.DEVNULL, stdout=subprocess.PIPE, stderr=errors, text=True, start_new_session=True)
+                [*map(str, command)], env={**os.environ, **(environment or {})}, stdin=subprocess.DEVNULL, stdout=subprocess.PIPE, stderr=errors,
+                text=True, start_new_session=True)
         self.printed = None
 
     def said(self):
@@ -115,6 +126,42 @@ class Actor:
         if 'Traceback' in said:
             raise Failed(f'{self.log.name} has a traceback: {self.failures()}')
         return self.process.returncode, self.printed
+
+
+class Consumer(Actor):
+    """`consume` behind socat, in the loop over the nodes."""
+
+    def __init__(self, log, queue, nodes, program, book, *options, user='guest', tries=TRIES, renew=RENEW_SECONDS):
+        self.report, self.book = log.with_suffix('.report'), book
+        addresses = [f'TCP:127.0.0.1:{node.port}' for node in nodes]
+        command = [HERE / 'consume.sh', self.report, *addresses, '--', '--queue', queue, '--chained', '--book', book, '--user', user, *options]
+        environment = {'RELAYPLUM': program, 'RELAYPLUM_PASSWORD': 'guest', 'TRIES': tries, 'WAIT': WAIT_SECONDS, 'RENEW': renew}
+        super().__init__(log, command, {name: str(it) for name, it in environment.items()})
+
+    def reported(self):
+        """The lines of the report, by their names."""
+        try:
+            return dict(it.split(' ', 1) for it in self.report.read_text().splitlines())
+        except FileNotFoundError:
+            return {}
+
+    def part(self, name):
+        """The process of this name in the loop, such as socat; None if there is none now."""
+        found = [self.process.pid]
+        for process in found:
+            with contextlib.suppress(OSError):
+                found += children_of(process)
+                if pathlib.Path(f'/proc/{process}/comm').read_text().strip() == name:
+                    return process
+        return None
+
+    def kill_part(self, name):
+        """Kills one process of the loop, which goes on with the next node; whether there was one."""
+        process = self.part(name)
+        with contextlib.suppress(ProcessLookupError):
+            if process is not None:
+                os.kill(process, signal.SIGKILL)
+        return process is not None
 
 
 class Stream:
@@ -153,20 +200,34 @@ class Stream:
     def urls(self):
         return [it for url in self.cluster.urls for it in ('--url', url)]
 
-    def start(self, log, script, *arguments):
-        actor = Actor(self.room / log, script, *arguments, *([] if '--name' in arguments else ('--name', self.name)), *([] if '--url' in arguments else self.urls))
+    def started(self, actor):
         self.actors.append(actor)
         return actor
 
     def bridge(self, *arguments, program=None, log='bridge'):
-        return self.start(log, 'bridge.py', self.script, '--program', program or self.program, '--confirm-timeout', 10, *arguments)
+        defaults = [*([] if '--name' in arguments else ('--name', self.name)), *([] if '--url' in arguments else self.urls)]
+        command = [sys.executable, HERE / 'bridge.py', self.script, '--program', program or self.program, '--confirm-timeout', 10, *arguments, *defaults]
+        return self.started(Actor(self.room / log, command))
 
-    def consumer(self, place, *arguments, log=None, book=None):
+    def consumer(self, place, *options, log=None, book=None, nodes=None, **how):
+        options = options if '--every' in options else ('--every', 20, *options)
         book = book or self.book(place)
-        return self.start(log or f'take-{place}', 'take.py', place, '--program', self.program, '--book', book, '--every', 20, *arguments)
+        return self.started(Consumer(
+            self.room / (log or f'consume-{place}'), client.queue_of(self.name, place), nodes or self.cluster.nodes, self.program, book, *options, **how))
 
     def book(self, place):
         return self.room / f'book-{place}'
+
+    @property
+    def program_name(self):
+        """The name of the program's processes."""
+        return pathlib.Path(self.program).name[:15]
+
+    def close_connections(self, place):
+        """Closes the connection of each consumer of a queue, as an operator does."""
+        with contextlib.suppress(Stop):
+            # (a channel that ends meanwhile has no connection)
+            self.cluster.up().evaluate(CLOSES.format(queue=client.queue_of(self.name, place)))
 
     def hold(self, lines):
         """The program, but `messages` waits after so many lines; and what lets it go on."""
@@ -182,12 +243,17 @@ class Stream:
         return bisect.bisect(self.timestamps, int(found[-1])) if found else 0
 
     def applied(self, place):
-        """How many events the book on the disk has."""
+        """How many events the book on the disk has: the last frame of its log counts."""
         try:
-            found = APPLIED.search(self.book(place).read_text())
+            found = APPLIED.findall(self.book(place).read_text())
         except FileNotFoundError:
             return 0
-        return int(found[1]) if found else 0
+        return int(found[-1]) if found else 0
+
+    def shown(self, book):
+        """What `follow` prints of a saved book, without the saves."""
+        done = subprocess.run([self.program, 'follow', '--chained', '--book', str(book)], stdin=subprocess.DEVNULL, capture_output=True, text=True)
+        return ''.join(it for it in done.stdout.splitlines(True) if not it.startswith('saved '))
 
     def ends(self, actor, status, pattern):
         """An actor has to end with this status, and to report this."""
@@ -196,10 +262,22 @@ class Stream:
             raise Failed(f'{actor.log.name}: status {found}, not {status}, with {pattern!r}: {printed[:300]} {actor.failures()}')
         return printed
 
-    def takes_all(self, place, *arguments, **how):
-        """A consumer of this queue has to come to the book that `books` prints."""
-        printed = self.ends(self.consumer(place, '--gap-timeout', 10, *arguments, **how), 0, '')
-        same(f'the book of subscriber {place}', self.books[place], printed)
+    def reports(self, consumer, status, **lines):
+        """A consumer has to end with this status, and to report these lines."""
+        found, _ = consumer.wait()
+        reported = {name: consumer.reported().get(name) for name in lines}
+        if (found, reported) != (status, lines):
+            raise Failed(f'{consumer.log.name}: status {found}, not {status}; {reported}, not {lines}: {consumer.failures()}')
+
+    def takes_all(self, place, *options, **how):
+        """A consumer of this queue has to come to its end, and to the book that `books` prints."""
+        consumer = self.consumer(place, *options, **how)
+        self.reports(consumer, 0, reason='end')
+        self.has_all(place, consumer.book)
+
+    def has_all(self, place, book):
+        """A book has to be the one that `books` prints."""
+        same(f'the book of subscriber {place}', self.books[place], self.shown(book))
 
     def held_lines(self, place):
         """What a queue holds up to its end mark, as lines of `messages --queue`; that is taken from it."""
@@ -278,17 +356,32 @@ class Bench:
         yield
         self.cluster.up().evaluate(f'rabbit_policy:delete(<<"/">>, <<"{stream.name}">>, <<"guest">>)')
 
+    @contextlib.contextmanager
+    def limits_of_consumers(self, milliseconds):
+        """How long a consumer may hold a message, for as long as the block runs."""
+        try:
+            for node in self.cluster.nodes:
+                node.evaluate(HOLDS.format(timeout=milliseconds, interval=milliseconds))
+            yield
+        finally:
+            for node in self.cluster.nodes:
+                node.evaluate(HOLDS.format(timeout=LONG_TIMEOUT, interval=LONG_INTERVAL))
+
     def urls(self, first):
         """All nodes, this one first."""
         nodes = sorted(self.cluster.nodes, key=lambda it: it is not first)
         return [it for node in nodes for it in ('--url', node.url)]
 
-    def is_sent_again(self, stream, place, last):
-        """The consumer of a queue has to name the gap after this event; the bridge sends what is missing, and the book is whole."""
-        gap = f'a gap in queue {client.queue_of(stream.name, place)} after event {last}: '
-        stream.ends(stream.consumer(place, '--quiet', 1, '--gap-timeout', 2), 1, gap)
+    def is_sent_again(self, stream, place):
+        """The consumer of a queue has to stop at a gap, and to report the last event before it. The queue is emptied, since what waits in it
+        comes too early; the bridge sends what is missing, and the book is whole. Returns that event."""
+        consumer = stream.consumer(place, log=f'gap-{place}')
+        stream.reports(consumer, 3, reason='gap')
+        last = int(consumer.reported()['seen'])
+        self.purge(client.queue_of(stream.name, place))
         stream.ends(stream.bridge('--queue', place, '--start-after', last, '--end'), 0, ' events confirmed')
         stream.takes_all(place)
+        return last
 
     def consumers_of(self, queue):
         """How many consumers a queue has, the ones that aren't active too."""

@@ -5,7 +5,7 @@
 
 A script of transfers between two accounts, with one subscriber, goes through one queue: the bridge at a window of 1 (a tenth of the
 events), 64 and 1,024, and then a consumer up to the end mark. Each is timed as a whole process, with its start, the ledger or
-`follow`. Printed are the median, the least and the greatest.
+the follower. Printed are the median, the least and the greatest.
 """
 import argparse
 import os

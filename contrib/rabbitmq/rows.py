@@ -3,8 +3,9 @@
 
     contrib/rabbitmq/rows.py [--program PATH] [WORD]      WORD: only the rows with this in their names
 
-It starts a cluster of three nodes. In each row nothing may be lost, or a bridge or a consumer has to end with status 1 and name
-the place; then the bridge sends what is missing again. In the end each book has to be, byte for byte, what `books` prints.
+It starts a cluster of three nodes. In each row nothing may be lost, or a bridge has to end with status 1, or a consumer with status
+2 or 3, and name the place; then the bridge sends what is missing again. In the end each book has to be, byte for byte, what `books`
+prints.
 """
 import argparse
 import contextlib
@@ -22,7 +23,7 @@ import console
 from bridge import PROGRAM
 from client import pika
 from cluster import Cluster
-from harness import DROPS, EVENTS, HELD_AFTER, HERE, MIRRORED, MIRRORS, REFUSES, WATERMARK, Bench, Failed, children_of, same, script_of, wait_for
+from harness import DROPS, EVENTS, HELD_AFTER, HERE, MIRRORED, MIRRORS, REFUSES, WATERMARK, Bench, Failed, same, script_of, wait_for
 
 # How the bridge declares a queue.
 QUORUM = {'x-queue-type': 'quorum', 'x-single-active-consumer': True}
@@ -52,7 +53,8 @@ def odd_messages(stream):
         yield 'wrong_type', body, pika.BasicProperties(headers={'previous': previous})
         yield 'wrong_type', *end_mark(previous)
     yield 'out_of_range', *end_mark('9' * 5000)
-    yield 'missing', *end_mark(None)
+    yield 'wrong_type', *end_mark(None)
+    yield 'missing', b'', pika.BasicProperties(type='end')
     yield 'missing', body, pika.BasicProperties()
     yield 'not_json', b'', pika.BasicProperties(type=b'\xff', headers=after)
 
@@ -99,47 +101,93 @@ class Rows(Bench):
         with self.held('two') as (stream, bridge, go_on):
             first = stream.consumer(1)
             wait_for('the first consumer has a book', lambda: stream.applied(1) == HELD_AFTER)
-            other = stream.consumer(1, '--gap-timeout', 2, log='other', book=stream.book('other'))
+            other = stream.consumer(1, log='other', book=stream.book('other'))
             wait_for('the other consumer is there', lambda: self.consumers_of('two.1') == 2)
             go_on()
             stream.ends(bridge, 0, '300 events confirmed')
             wait_for('the first consumer has all', lambda: stream.applied(1) == EVENTS)
             first.kill(whole=True)
             stream.ends(stream.bridge('--end'), 0, '')
-            stream.ends(other, 1, 'a gap in queue two.1 after event 0: (the next message|the end of the queue) comes after 22')
+            stream.reports(other, 3, reason='gap', applied='0', seen='0')
             for place in stream.places:
                 stream.takes_all(place)
 
     def row_consumer_that_lingers(self):
         """A consumer with the book of one that is stopped waits for the book, and goes on with it."""
         with contextlib.closing(self.stream('lingers')) as stream:
-            first = stream.consumer(1, '--prefetch', 20, '--every', 1)
             stream.ends(stream.bridge(), 0, '300 events confirmed')
+            first = stream.consumer(1, '--prefetch', 20, '--every', 1)
             wait_for('the first consumer has a book', lambda: stream.applied(1) > 0)
             first.send(signal.SIGSTOP)
-            second = stream.consumer(1, '--tries', 1000, log='second')
-            wait_for('the book is locked', lambda: 'fault: store' in second.said())
+            second = stream.consumer(1, log='second')
+            wait_for('the book is locked', lambda: second.reported().get('status') == '1')
             first.kill(whole=True)
             stream.ends(stream.bridge('--end'), 0, '')
-            same('the book', stream.books[1], stream.ends(second, 0, ''))
+            stream.reports(second, 0, reason='end')
+            stream.has_all(1, second.book)
             stream.takes_all(2)
 
+    def stopped(self, stream, *arguments, prefetch):
+        """A consumer of the first queue that is stopped before it has anything, while the bridge sends everything; and its process."""
+        with self.channel() as channel:
+            channel.queue_declare(f'{stream.name}.1', durable=True, arguments=QUORUM)
+        consumer = stream.consumer(1, '--prefetch', prefetch, '--heartbeat', 0, renew=3600)
+        wait_for('the consumer is there', lambda: self.consumers_of(f'{stream.name}.1') == 1)
+        process = consumer.part(stream.program_name)
+        os.kill(process, signal.SIGSTOP)
+        stream.ends(stream.bridge(*arguments), 0, '300 events confirmed')
+        return consumer, process
+
     def row_consumer_killed_before_its_save(self):
-        """What wasn't saved isn't acknowledged: `follow` is stopped, so that messages wait for it, and then all is killed."""
+        """What wasn't saved isn't acknowledged: messages wait for a consumer that is stopped, and then all of it is killed."""
         with contextlib.closing(self.stream('unsaved')) as stream:
-            with self.channel() as channel:
-                channel.queue_declare('unsaved.1', durable=True, arguments=QUORUM)
-            consumer = stream.consumer(1)
-            wait_for('the consumer is there', lambda: self.consumers_of('unsaved.1') == 1)
-            wait_for('`follow` runs', lambda: children_of(consumer.process.pid))
-            os.kill(children_of(consumer.process.pid)[0], signal.SIGSTOP)
-            stream.ends(stream.bridge('--end'), 0, '300 events confirmed')
+            consumer, _ = self.stopped(stream, '--end', prefetch=1000)
             wait_for('the consumer has the messages', lambda: self.ready_in('unsaved.1') == 0)
             consumer.kill(whole=True)
             same('events in the book', 0, stream.applied(1))
             for place in stream.places:
                 stream.takes_all(place)
             # A consumer whose book has the end has nothing to wait for.
+            stream.takes_all(1)
+
+    def row_consumer_timeout(self):
+        """A consumer that acknowledges too late has its channel closed, reports that, and goes on with the redelivery, which it has already."""
+        with contextlib.closing(self.stream('late')) as stream:
+            with self.limits_of_consumers(1000):
+                consumer, process = self.stopped(stream, prefetch=10)
+                wait_for('the server closes the channel', lambda: self.cluster.has_logged('timed out waiting for delivery acknowledgement'))
+            os.kill(process, signal.SIGCONT)
+            wait_for('the channel was closed', lambda: 'delivery acknowledgement on channel 1 timed out' in consumer.said())
+            stream.ends(stream.bridge('--end'), 0, '')
+            stream.reports(consumer, 0, reason='end', applied=str(EVENTS - 10), duplicates='10')
+            stream.has_all(1, consumer.book)
+            stream.takes_all(2)
+
+    def row_connection_closed_by_the_operator(self):
+        """A consumer whose connection an operator closes reports that, and its loop goes on with the next node."""
+        with self.held('operator') as (stream, bridge, go_on):
+            consumer = stream.consumer(1)
+            wait_for('the consumer has a book', lambda: stream.applied(1) == HELD_AFTER)
+            stream.close_connections(1)
+            wait_for('the consumer is gone', lambda: '320' in consumer.said())
+            go_on()
+            stream.ends(bridge, 0, '300 events confirmed')
+            stream.ends(stream.bridge('--end'), 0, '')
+            stream.reports(consumer, 0, reason='end')
+            stream.has_all(1, consumer.book)
+            stream.takes_all(2)
+
+    def row_events_too_early(self):
+        """An event that comes too early is a gap, though what is missing comes later. Once the queue is emptied, and sent again, the book is
+        whole."""
+        with contextlib.closing(self.stream('early', script_of(20))) as stream:
+            with self.channel() as channel:
+                channel.queue_declare('early.1', durable=True, arguments=QUORUM)
+            self.publish('early.1', *(stream.event(1, it) for it in (1, 2, 4, 5, 3, 4, 5)))
+            for again in range(2):
+                stream.reports(stream.consumer(1, log=f'early-{again}'), 3, reason='gap', tag='1' if again else '3', seen='2001')
+            same('left', 5, self.purge('early.1'))
+            stream.ends(stream.bridge('--queue', 1, '--start-after', 2001, '--end'), 0, '18 events confirmed')
             stream.takes_all(1)
 
     def row_queue_deleted_and_declared_again(self):
@@ -150,7 +198,7 @@ class Rows(Bench):
                 channel.queue_declare('deleted.1', durable=True, arguments=QUORUM)
             go_on()
             stream.ends(bridge, 0, '300 events confirmed')
-            self.is_sent_again(stream, 1, 0)
+            same('the last event before the gap', 0, self.is_sent_again(stream, 1))
             stream.ends(stream.bridge('--end'), 0, '')
             stream.takes_all(2)
 
@@ -173,7 +221,7 @@ class Rows(Bench):
             with self.policy(stream, DROPS):
                 go_on()
                 stream.ends(bridge, 0, '300 events confirmed')
-            self.is_sent_again(stream, 1, 0)
+            same('the last event before the gap', 0, self.is_sent_again(stream, 1))
             stream.ends(stream.bridge('--end'), 0, '')
             stream.takes_all(2)
 
@@ -199,7 +247,7 @@ class Rows(Bench):
                 home.start()
                 home.wait()
                 for place in stream.places:
-                    self.is_sent_again(stream, place, 0)
+                    same('the last event before the gap', 0, self.is_sent_again(stream, place))
 
     def row_leader_killed_at_window_64(self):
         """What a lost session may have left too early in the queue is applied in order."""
@@ -222,9 +270,12 @@ class Rows(Bench):
                 node.send(signal.SIGSTOP)
             go_on()
             stream.ends(bridge, 1, r'a confirm did not come within 1 s[\s\S]*failed after 2 tries: .*; confirmed up to 2149; .* is for queue majority.1')
+            # A consumer that starts meanwhile waits for the majority.
+            early = stream.consumer(1)
             for node in others:
                 node.send(signal.SIGCONT)
             stream.ends(stream.bridge('--end'), 0, ' events confirmed, 150 skipped')
+            stream.reports(early, 0, reason='end')
             for place in stream.places:
                 stream.takes_all(place)
 
@@ -273,18 +324,20 @@ class Rows(Bench):
             saved.write_text(saved.read_text().replace('relayplum-cluster', 'another-cluster'))
             stream.ends(stream.bridge('--resume', saved), 1, 'saved has the progress of another cluster: another-cluster')
             stream.ends(stream.bridge('--end'), 0, '150 events confirmed, 150 skipped up to 2149')
-            for place in stream.places:
-                stream.takes_all(place)
+            # What the bridge with a file sent comes too early.
+            same('the last event before the gap', 2149, self.is_sent_again(stream, 1))
+            same('the last event before the gap', 2148, self.is_sent_again(stream, 2))
 
     def row_refused(self):
         """A login, a virtual host and a name that the broker refuses."""
         with contextlib.closing(self.stream('refused')) as stream:
             url = self.cluster.nodes[0].url
-            for place, (script, first) in enumerate((('bridge.py', stream.script), ('take.py', 1))):
-                more = ('--program', self.program, *(('--book', stream.book(1)) if place else ()))
-                stream.ends(stream.start(f'login-{place}', script, first, *more, '--url', url.replace('guest@', 'wrong@')), 1, 'the broker refuses guest to / at .*ACCESS_REFUSED')
-                stream.ends(stream.start(f'host-{place}', script, first, *more, '--url', url.replace('%2F', 'elsewhere')), 1, 'the broker refuses guest to elsewhere at .*NOT_ALLOWED')
+            stream.ends(stream.bridge('--url', url.replace('guest@', 'wrong@'), log='login'), 1, 'the broker refuses guest to / at .*ACCESS_REFUSED')
+            stream.ends(stream.bridge('--url', url.replace('%2F', 'elsewhere'), log='host'), 1, 'the broker refuses guest to elsewhere at .*NOT_ALLOWED')
             stream.ends(stream.bridge('--name', 'amq.match'), 1, '^bridge: the broker refuses queue amq.match.lock: 403 ')
+            stream.reports(stream.consumer(1, log='user', user='nobody'), 2, reason='closed', code='403')
+            stream.reports(stream.consumer(1, '--vhost', 'elsewhere', log='vhost'), 2, reason='closed', code='530')
+            stream.reports(stream.consumer(1, log='queue'), 2, reason='channel_closed', code='404')
 
     def row_no_event(self):
         """Whatever a message has, the consumer names it and ends with status 2, and the message stays in the queue; what came before it is in
@@ -293,75 +346,95 @@ class Rows(Bench):
             stream.ends(stream.bridge(log='first'), 0, '20 events confirmed')
             for at, (name, body, properties) in enumerate(odd_messages(stream)):
                 self.publish('odd.1', (body, properties), stream.event(1, 20))
-                printed = stream.ends(stream.consumer(1, log=f'odd-{at}'), 2, f'delivery {1 if at else 21} of queue odd.1 is no event: {name}; it stays there')
-                same('the book', stream.books[1].replace('ended yes', 'ended no'), printed.partition('fault:')[0])
+                stream.reports(stream.consumer(1, log=f'odd-{at}'), 2, reason=name, tag='1' if at else '21', seen='2019')
+                same('the book', stream.books[1].replace('ended yes', 'ended no'), stream.shown(stream.book(1)))
                 same('left', 2, self.purge('odd.1'))
             stream.ends(stream.bridge('--end', log='end'), 0, '')
             stream.takes_all(1)
 
-    def row_headers_that_cannot_be_read(self):
-        """A message that pika can't read is named too, once everything before it is in the book."""
+    def row_headers_of_strangers(self):
+        """A header that other clients can't read doesn't matter, unless it is the one that names the predecessor."""
         with contextlib.closing(self.stream('headers', script_of(20))) as stream:
             stream.ends(stream.bridge(log='first'), 0, '20 events confirmed')
+            stream.reports(stream.consumer(1, '--limit', '20'), 0, reason='limit', seen='2019')
+            body, properties = stream.event(1, 20)
             with mock.patch('pika.data.encode_value', lambda pieces, _: (pieces.append(NO_TIME), len(NO_TIME))[1]):
-                self.publish('headers.1', stream.event(1, 20))
+                self.publish('headers.1', (body, properties))
             for again in range(2):
-                stream.ends(stream.consumer(1, '--prefetch', 64, log=f'take-{again}'), 2, "of queue headers.1 is no event: its headers can't be read, OverflowError.*; it stays there")
-                same('events in the book', 20, stream.applied(1))
+                stream.reports(stream.consumer(1, '--prefetch', 64, log=f'consume-{again}'), 2, reason='wrong_type', tag='1', seen='2019')
             same('left', 1, self.purge('headers.1'))
+            encoded = pika.data.encode_value
+            with mock.patch('pika.data.encode_value', lambda pieces, it: encoded(pieces, it) if it else (pieces.append(NO_TIME), len(NO_TIME))[1]):
+                self.publish('headers.1', (body, pika.BasicProperties(headers={**properties.headers, 'x': ''})))
             stream.ends(stream.bridge('--end', log='end'), 0, '')
-            stream.takes_all(1)
+            consumer = stream.consumer(1, log='last')
+            stream.reports(consumer, 0, reason='end', duplicates='1')
+            stream.has_all(1, consumer.book)
+
+    def row_messages_that_are_parked(self):
+        """With --park what is no event goes to the queue's dead-letter exchange, and the book is whole."""
+        with contextlib.closing(self.stream('parked', script_of(20))) as stream, self.channel() as channel:
+            channel.queue_declare('parked.dead')
+            channel.queue_declare('parked.1', durable=True, arguments={**QUORUM, 'x-dead-letter-exchange': '', 'x-dead-letter-routing-key': 'parked.dead'})
+            odd = [(body, properties) for _, body, properties in odd_messages(stream)]
+            events = [stream.event(1, it) for it in range(1, 21)]
+            self.publish('parked.1', *odd[:20], *events[:10], *odd[20:], *events[10:], end_mark('2019'))
+            consumer = stream.consumer(1, '--park')
+            stream.reports(consumer, 0, reason='end', parked=str(len(odd)), applied='20')
+            stream.has_all(1, consumer.book)
+            wait_for('all are in the other queue', lambda: self.ready_in('parked.dead') == len(odd))
+            same('left', 0, self.purge('parked.1'))
+            channel.queue_delete('parked.dead')
 
     def row_events_after_the_end(self):
-        """What contradicts the end stays in the queue, and what comes after it; no start of the consumer ends well."""
+        """After the end nothing is taken: what comes after it stays in the queue."""
         with contextlib.closing(self.stream('after', script_of(20))) as stream:
             stream.ends(stream.bridge('--end'), 0, '20 events confirmed')
+            before = dict(stream.books)
             stream.script.write_text('\n'.join(script_of(40)) + '\n')
             stream.ends(stream.bridge('--queue', 1, '--start-after', 2019, '--end'), 0, '20 events confirmed')
-            for place in (22, 1):
-                reason = f'delivery {place} of queue after.1 contradicts the end of the queue after event 2019: it is event 2020 after 2019; it stays there'
-                printed = stream.ends(stream.consumer(1, log=f'take-{place}'), 1, reason)
-                same('the book', stream.books[1], printed.partition('after_end:')[0])
+            for again in range(2):
+                consumer = stream.consumer(1, log=f'consume-{again}')
+                stream.reports(consumer, 0, reason='end', seen='2019')
+                same('the book', before[1], stream.shown(consumer.book))
             same('left', 21, self.purge('after.1'))
 
     def row_other_end_marks(self):
         """An end mark that doesn't name the last event isn't the end, and stays in the queue, even if the end comes after it."""
         with contextlib.closing(self.stream('marks', script_of(40))) as stream:
             stream.ends(stream.bridge(log='first'), 0, '40 events confirmed')
-            for last, reason in (
-                (2009, 'after event 2039: the end of the queue comes after 2009. The book is past that'),
-                (2050, 'after event 2039: the end of the queue comes after 2050. `bridge.py FILE --queue 1 --start-after 2039` sends again'),
-            ):
+            for last, tag in ((2009, 41), (2050, 1)):
                 self.publish('marks.1', end_mark(str(last)))
-                stream.ends(stream.consumer(1, '--gap-timeout', 1, log=f'take-{last}'), 1, f'a gap in queue marks.1 {reason}')
+                stream.reports(stream.consumer(1, log=f'consume-{last}'), 3, reason='gap', tag=str(tag), seen='2039')
                 same('left', 1, self.purge('marks.1'))
             self.publish('marks.1', end_mark('2009'))
             stream.ends(stream.bridge('--end', log='end'), 0, '')
-            reason = 'delivery 1 of queue marks.1 contradicts the end of the queue after event 2039: it is an end mark after 2009; it stays there'
-            printed = stream.ends(stream.consumer(1, '--gap-timeout', 1), 1, reason)
-            same('the book', stream.books[1], printed.partition('after_end:')[0])
-            same('left', 1, self.purge('marks.1'))
+            stream.reports(stream.consumer(1), 3, reason='gap', tag='1', seen='2039')
+            same('the book', stream.books[1].replace('ended yes', 'ended no'), stream.shown(stream.book(1)))
+            same('left', 2, self.purge('marks.1'))
 
     def row_duplicates(self):
-        """Duplicates alone, more than may wait at a time, are acknowledged, and so are more end marks of the same end."""
+        """Duplicates, more than may be delivered at a time, are acknowledged; what comes after the end isn't taken."""
         with contextlib.closing(self.stream('duplicates', script_of(40))) as stream:
             stream.ends(stream.bridge(log='first'), 0, '40 events confirmed')
-            for again in range(3):
-                for _ in range(2):
-                    stream.ends(stream.bridge('--queue', 1, '--end', log='bridge'), 0, '40 events confirmed')
-                stream.takes_all(1, '--prefetch', 16, log=f'take-{again}')
-                same('left', 0, self.purge('duplicates.1'))
+            for _ in range(2):
+                stream.ends(stream.bridge('--queue', 1, log='bridge'), 0, '40 events confirmed')
+            stream.ends(stream.bridge('--queue', 1, '--end', log='bridge'), 0, '40 events confirmed')
+            consumer = stream.consumer(1, '--prefetch', 16)
+            stream.reports(consumer, 0, reason='end', applied='40', duplicates='120')
+            stream.has_all(1, consumer.book)
+            same('left', 0, self.purge('duplicates.1'))
 
     def row_book_in_sqlite(self):
         """A consumer whose book is in SQLite goes on with it, and after the end has nothing to wait for."""
         with self.held('sqlite') as (stream, bridge, go_on):
             book = f'sqlite:{stream.book(1)}'
-            stream.ends(stream.consumer(1, '--quiet', 1, book=book), 0, '')
+            stream.reports(stream.consumer(1, '--limit', HELD_AFTER, book=book), 0, reason='limit', applied=str(HELD_AFTER))
             go_on()
             stream.ends(bridge, 0, '300 events confirmed')
             stream.ends(stream.bridge('--end'), 0, '')
             for again in range(2):
-                stream.takes_all(1, book=book, log=f'take-{again}')
+                stream.takes_all(1, book=book, log=f'consume-{again}')
 
     def run(self, name):
         """Runs a row; whether it failed."""

@@ -4,9 +4,10 @@
     contrib/rabbitmq/storm.py [--program PATH] [--rows] [--seed N] [--cases N] [--only CASE]
 
 It starts a cluster of three nodes. Each case sends a script through it, with a window of 1, 64 or 1,024, and has some faults:
-kill -9 or SIGSTOP of the node that leads a queue, of one that follows, of the bridge, or of a consumer, each after a random
-number of events. What was killed is started again. In the end each consumer has to end with status 0, and its book has to be,
-byte for byte, what `books` prints. The seed is printed; the same seed gives the same scripts, windows and faults.
+kill -9 or SIGSTOP of the node that leads a queue, of one that follows, of the bridge, or of a consumer: of `consume`, of its
+socat or of its whole loop; and an operator closes a consumer's connection. Each comes after a random number of events. What was
+killed is started again, and a loop goes on with the next node. In the end each consumer has to end with status 0, and its book
+has to be, byte for byte, what `books` prints. The seed is printed; the same seed gives the same scripts, windows and faults.
 """
 import argparse
 import collections
@@ -30,22 +31,21 @@ WINDOWS = (1, 64, 1024)
 # How many events a case has: what a window of this size sends in some seconds.
 EVENTS = {1: (120, 240), 64: (600, 1800), 1024: (1500, 4000)}
 # A fault for each case in turn; nodes take long to start, so they have it less often.
-KILL, STOP = 'kill', 'stop'
-NODES = ('leader', 'follower')
-TURNS = [(KILL, 'leader'), (STOP, 'bridge'), (KILL, 'consumer'), (STOP, 'leader'), (KILL, 'bridge'), (STOP, 'consumer'),
-         (KILL, 'follower'), (STOP, 'bridge'), (KILL, 'consumer'), (STOP, 'follower'), (KILL, 'bridge'), (STOP, 'consumer')]
+KILL, STOP, CLOSE = 'kill', 'stop', 'close'
+NODES, CONSUMERS = ('leader', 'follower'), ('loop', 'socat', 'consume')
+TURNS = [(KILL, 'leader'), (STOP, 'bridge'), (KILL, 'consume'), (STOP, 'leader'), (CLOSE, 'consume'), (KILL, 'bridge'), (STOP, 'loop'),
+         (KILL, 'follower'), (KILL, 'socat'), (CLOSE, 'consume'), (STOP, 'follower'), (KILL, 'loop')]
 LONGEST_STOP = 3.0
 MOST_STARTS = 20
 
 
 @dataclass(frozen=True)
 class Fault:
-    """What happens to whom, after how many events; for how long, if it is a stop; whether all of a consumer's processes die."""
+    """What happens to whom, after how many events; for how long, if it is a stop."""
     how: str
     victim: str
     after: int
     seconds: float
-    whole: bool
 
     def __str__(self):
         return f'{self.how} {self.victim} after {self.after}'
@@ -55,7 +55,7 @@ def faults_of(random, case, events):
     """The fault whose turn it is, and one or two of the bridge or the first consumer, in order."""
     others = [it for it in TURNS if it[1] not in NODES]
     chosen = [TURNS[case % len(TURNS)], *random.choices(others, k=random.randint(1, 2))]
-    made = [Fault(how, victim, random.randrange(events * 4 // 5), random.uniform(0.2, LONGEST_STOP), random.random() < 0.5) for how, victim in chosen]
+    made = [Fault(how, victim, random.randrange(events * 4 // 5), random.uniform(0.2, LONGEST_STOP)) for how, victim in chosen]
     return sorted(made, key=lambda it: it.after)
 
 
@@ -68,7 +68,7 @@ class Case:
         self.events = chance.randint(*EVENTS[self.window])
         self.faults = faults_of(chance, number, self.events)
         self.stream = Stream(cluster, program, room, f'storm-{number}', script_of(self.events))
-        self.cluster, self.nodes = cluster, nodes
+        self.cluster, self.nodes, self.number = cluster, nodes, number
         self.bridge, self.consumers = None, {}
         self.starts = collections.Counter()
         # The faults that hit something that ran.
@@ -83,7 +83,8 @@ class Case:
             for fault in self.faults:
                 self.await_turn(fault)
                 self.hits[f'{fault.how} {fault.victim}'] += self.is_hit(fault)
-                getattr(self, f'{fault.how}_{"node" if fault.victim in NODES else fault.victim}')(fault)
+                who = 'node' if fault.victim in NODES else 'consumer' if fault.victim in CONSUMERS else fault.victim
+                getattr(self, f'{fault.how}_{who}')(fault)
             self.await_state('the bridge has sent everything', self.bridge_is_done)
             for place in self.stream.places:
                 self.compare(place)
@@ -103,8 +104,10 @@ class Case:
         self.bridge = self.stream.bridge('--window', self.window, '--every', 10, '--end', '--standby')
 
     def start_consumer(self, place):
+        """Starts a consumer, which begins with another node each time."""
+        first = (self.number + place + self.starts[place]) % len(self.cluster.nodes)
         self.starts[place] += 1
-        self.consumers[place] = self.stream.consumer(place, '--gap-timeout', 30)
+        self.consumers[place] = self.stream.consumer(place, nodes=self.cluster.nodes[first:] + self.cluster.nodes[:first])
 
     def bridge_is_done(self):
         """Whether the bridge has ended well; one that has ended otherwise is started again, as a supervisor would."""
@@ -121,7 +124,7 @@ class Case:
     def await_turn(self, fault):
         """Waits until the bridge, or the victim, is as far as the fault wants it."""
         def is_so():
-            if fault.victim == 'consumer':
+            if fault.victim in CONSUMERS:
                 return self.stream.applied(1) >= fault.after
             return self.bridge_is_done() or self.stream.confirmed() >= fault.after
 
@@ -138,7 +141,8 @@ class Case:
 
     def is_hit(self, fault):
         """Whether a fault comes before its victim, or those that a node serves, have ended."""
-        victims = {'bridge': [self.bridge], 'consumer': [self.consumers[1]]}.get(fault.victim, [self.bridge, *self.consumers.values()])
+        everyone = [self.bridge, *self.consumers.values()]
+        victims = everyone if fault.victim in NODES else [self.bridge] if fault.victim == 'bridge' else [self.consumers[1]]
         return any(not it.is_over() for it in victims)
 
     def kill_node(self, fault):
@@ -167,8 +171,17 @@ class Case:
         self.pause(self.bridge, fault)
 
     def kill_consumer(self, fault):
-        self.consumers[1].kill(fault.whole)
-        self.start_consumer(1)
+        """Kills all of a consumer, which is started again, or one of its processes, after which its loop goes on."""
+        if fault.victim == 'loop':
+            self.consumers[1].kill(whole=True)
+            self.start_consumer(1)
+        else:
+            self.consumers[1].kill_part('socat' if fault.victim == 'socat' else self.stream.program_name)
+
+    def close_consumer(self, _):
+        """An operator closes the connection of the queue's consumer."""
+        with self.nodes:
+            self.stream.close_connections(1)
 
     def stop_consumer(self, fault):
         self.pause(self.consumers[1], fault)
@@ -181,10 +194,8 @@ class Case:
 
     def compare(self, place):
         """The consumer has to end well, with the book that `books` prints."""
-        status, printed = self.consumers[place].wait()
-        if status != 0:
-            raise Failed(f'consumer {place} ends by {status}: {printed[:300]} {self.consumers[place].failures()}')
-        same(f'the book of subscriber {place}', self.stream.books[place], printed)
+        self.stream.reports(self.consumers[place], 0, reason='end')
+        self.stream.has_all(place, self.consumers[place].book)
 
 
 def run_case(cluster, program, room, seed, number, nodes):

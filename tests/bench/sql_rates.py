@@ -1,9 +1,11 @@
 #!/usr/bin/env python3
 """How many events a second a book in PostgreSQL takes: `follow --sql` into psql, beside a consumer that uses psycopg.
 
-  tests/bench/sql_rates.py [PROGRAM] [--events N] [--every N] [--accounts N,..] [--table]    PROGRAM: crates/cdc_app/out/cdc_app
+  tests/bench/sql_rates.py [PROGRAM] [--events N] [--every N] [--accounts N,..] [--times N] [--table]
+  PROGRAM: crates/cdc_app/out/cdc_app
 
-For each number of accounts one stream, of random accounts, and one series of runs over a server that the script starts itself:
+For each number of accounts one stream, of random accounts, and one series of runs over a server that the script starts itself, in turn
+and then the other way round:
 
   follow     the program alone, its text into a file
   psql       psql alone, over that text
@@ -12,13 +14,16 @@ For each number of accounts one stream, of random accounts, and one series of ru
   upserts    psycopg: for each event two upserts, committed with the position after each save
   batches    psycopg: the accounts that changed, by execute_values, committed with the position after each save
 
---table: with the table of events (the program's runs only). Printed are events a second, and the server's CPU time an event in
-microseconds. psycopg is of Debian's package python3-psycopg2, for /usr/bin/python3; without it the last two are left out.
+--table: with the table of events (the program's runs only). Printed are the medians of events a second, with the least and the greatest,
+and the CPU time of an event in microseconds, that of the server and that of its clients. psycopg is of Debian's package
+python3-psycopg2, for /usr/bin/python3; without it the last two are left out.
 """
 import argparse
 import json
 import os
 import random
+import resource
+import statistics
 import subprocess
 import sys
 import tempfile
@@ -26,6 +31,7 @@ import time
 
 sys.dont_write_bytecode = True
 sys.path += [os.path.join(os.path.dirname(os.path.realpath(__file__)), "..", it) for it in ("common", "faults", "checks")]
+import ending
 import sql
 
 COLUMNS = ("debits_pending", "debits_posted", "credits_pending", "credits_posted")
@@ -76,6 +82,19 @@ def spent(server):
     return total / TICKS
 
 
+def spent_here():
+    """The CPU time of this process and of those that it has waited for, in seconds."""
+    return sum(it.ru_utime + it.ru_stime for it in map(resource.getrusage, (resource.RUSAGE_SELF, resource.RUSAGE_CHILDREN)))
+
+
+def has_psycopg():
+    try:
+        import psycopg2  # noqa: F401
+    except ImportError:
+        return False
+    return True
+
+
 class Series:
     def __init__(self, server, program, lines, every, name):
         self.server, self.program, self.lines, self.every, self.name = server, program, lines, every, name
@@ -93,18 +112,35 @@ class Series:
         if done[0] != 0:
             sys.exit(done[2])
 
-    def timed(self, what, run):
+    def timed(self, run):
+        """Events a second of a run, and microseconds of CPU time an event: the server's, and its clients'."""
         self.made()
-        cpu, start = spent(self.server), time.monotonic()
+        server, clients, start = spent(self.server), spent_here(), time.monotonic()
         run()
         seconds = time.monotonic() - start
-        cpu = spent(self.server) - cpu
-        print(f"  {what:8} {len(self.lines) / seconds:10,.0f} events/s  {1e6 * cpu / len(self.lines):6.0f} us", flush=True)
+        server, clients = spent(self.server) - server, spent_here() - clients
+        count = len(self.lines)
+        return count / seconds, 1e6 * server / count, 1e6 * clients / count
+
+    def contenders(self):
+        """What is measured, by its name."""
+        text, other = os.path.join(self.folder, "text"), os.path.join(self.folder, "unnest")
+        self.unnest(other)
+        found = {
+            "follow": lambda: self.text(text),
+            "psql": lambda: self.psql(text),
+            "both": self.both,
+            "unnest": lambda: (self.plain(), self.psql(other)),
+        }
+        if has_psycopg():
+            found["upserts"] = lambda: self.upserts(False)
+            found["batches"] = lambda: self.upserts(True)
+        return found
 
     def follow(self, out):
         more = ["--events"] if hasattr(sql, "keeps_events") and sql.keeps_events(self.name) else []
         arguments = ["follow", "--chained", "--sql", self.name, "--resume", self.at, "--every", str(self.every), *more, self.stream]
-        return subprocess.Popen([self.program, *arguments], stdout=out)
+        return subprocess.Popen([self.program, *arguments], stdout=out, stderr=subprocess.DEVNULL)
 
     def text(self, path):
         with open(path, "w") as file:
@@ -175,36 +211,43 @@ class Series:
         connection.close()
 
 
-def main():
+def main(arguments):
     parser = argparse.ArgumentParser(description=__doc__, formatter_class=argparse.RawDescriptionHelpFormatter)
     parser.add_argument("program", nargs="?", default=os.path.join(os.path.dirname(__file__), "../../crates/cdc_app/out/cdc_app"))
     parser.add_argument("--events", type=int, default=20_000, metavar="N")
     parser.add_argument("--every", type=int, default=1000, metavar="N")
     parser.add_argument("--accounts", type=lambda it: [int(x) for x in it.split(",")], default=[10, 1000, 100_000], metavar="N,..")
+    parser.add_argument("--times", type=int, default=5, metavar="N")
     parser.add_argument("--table", action="store_true")
-    options = parser.parse_args()
+    options = parser.parse_args(arguments)
+    if not has_psycopg():
+        print(f"left out: upserts, batches: {sys.executable} has no psycopg2 (Debian package python3-psycopg2, for /usr/bin/python3)")
+    if sql.tools() is None:
+        print("sql_rates: not tried: there is no PostgreSQL (Debian package postgresql)")
+        return 2
     server = sql.Server(tempfile.mkdtemp(prefix="rates-", dir="/tmp"))
     try:
         for accounts in options.accounts:
-            print(f"{accounts:,} accounts, {options.events:,} events, saves of {options.every:,}")
+            load = os.getloadavg()[0]
             series = Series(server, options.program, stream_of(accounts, options.events), options.every, "events" if options.table else "bank")
-            path = os.path.join(series.folder, "text")
-            series.timed("follow", lambda: series.text(path))
-            series.timed("psql", lambda: series.psql(path))
-            series.timed("both", series.both)
-            other = os.path.join(series.folder, "unnest")
-            series.unnest(other)
-            series.timed("unnest", lambda: (series.plain(), series.psql(other)))
-            try:
-                import psycopg2  # noqa: F401
-            except ImportError:
-                continue
-            series.timed("upserts", lambda: series.upserts(False))
-            series.timed("batches", lambda: series.upserts(True))
+            contenders = series.contenders()
+            found = {name: [] for name in contenders}
+            for at in range(options.times):
+                # (psql needs the text that follow makes)
+                for name in contenders if at % 2 == 0 else reversed(contenders):
+                    found[name].append(series.timed(contenders[name]))
+            loads = f"load {load:.1f} to {os.getloadavg()[0]:.1f}"
+            print(f"{accounts:,} accounts, {options.events:,} events, saves of {options.every:,}, {options.times} runs of each, {loads}")
+            for name, runs in found.items():
+                rates, servers, clients = zip(*runs)
+                spread = f"({min(rates):,.0f} to {max(rates):,.0f})"
+                print(f"  {name:8} {statistics.median(rates):10,.0f} events/s {spread:22} server {statistics.median(servers):5.0f} us, "
+                      f"clients {statistics.median(clients):5.0f} us", flush=True)
     finally:
         server.stop("immediate")
         subprocess.run(["rm", "-rf", server.folder], check=False)
+    return 0
 
 
 if __name__ == "__main__":
-    main()
+    ending.run(main)

@@ -1,18 +1,21 @@
 #!/usr/bin/env python3
 """The command consume: servers by hand, the transcripts of a real one, mutated streams of a server, and a real RabbitMQ.
 
-  tests/checks/consume.py [PROGRAM] [--streams N]    PROGRAM: crates/cdc_app/out/cdc_app; N mutated streams, 200 by default
+  tests/checks/consume.py [PROGRAM] [--streams N] [--first K]
+  PROGRAM: crates/cdc_app/out/cdc_app; N mutated streams, 200 by default; K: these alone, from number K on
 
 By hand: each status and its reason, what is acknowledged in each case, options at their limits, passwords. Transcripts
 (tests/data/amqp): what a real server sent, with the frames that this consumer asks for besides, in one piece, byte by byte, and cut
-at places. Mutated: bytes of such a stream are changed, left out or doubled, or it is cut; or whole deliveries are left out, doubled or
-swapped. Whatever comes, no tag is acknowledged above the number of deliveries that the saved book has. Where the deliveries are the
-queue's, the book is a prefix of it, and a run over the whole queue completes it. Killed: a run ends at
-each open, read, write, sync and rename, or that or an allocation is refused; what is acknowledged is saved, and a run over the whole
-queue completes the book. RabbitMQ: a node of its own, reached through socat; a whole queue, parked messages, a gap, kill -9 and redelivery, heartbeats, a queue that is deleted, what a server refuses.
+at places. Mutated: bytes of such a stream are changed, left out or doubled, or it is cut; or frames are left out, doubled, swapped or
+inserted; or whole deliveries are left out, doubled or swapped. Whatever comes, no tag is acknowledged above the number of deliveries
+that the saved book has, and the rest is what a model in Python makes of the stream. If the deliveries are the queue's, the book is a
+prefix of it, and a run over the whole queue completes it. Killed: a run ends at each open, read, write, sync and rename, or that or an
+allocation is refused, or signal 9 ends it there, also in the middle of a write; what is acknowledged is saved, and a run over the whole
+queue completes the book. RabbitMQ: a node of its own, reached through socat; a whole queue, parked messages, a gap, kill -9 and
+redelivery, heartbeats, a queue that is deleted, what a server refuses. contrib/rabbitmq/check.sh has a cluster of three nodes.
 
-Killed needs a C compiler, `cc`. The part with RabbitMQ needs `socat` and `rabbitmq-server`; without them it is named as not tried. The last line is `consume: N
-passed, M failed`; the status is 1 where one failed.
+Killed needs a C compiler, `cc`, and a kernel that lets a process be traced. The part with RabbitMQ needs `socat` and
+`rabbitmq-server`. What is missing is named. The last line is `consume: N passed, M failed`; the status is 1 if one failed.
 """
 import json
 import os
@@ -34,6 +37,7 @@ import consuming
 import ending
 import interrupted
 import rooms
+import stepping
 from commands import check
 from follow import event, own
 
@@ -48,19 +52,23 @@ PASSWORD = "s\u00e9cret"
 # The queue by hand: five events, and the end.
 
 
-def queue_of(count):
+def queue_of(count, debit=1, credit=2, start=0):
     """The messages of a chained queue: the body, the headers and the type of each, and the end mark."""
     found, previous = [], 0
     for number in range(1, count + 1):
-        body = event(10 * number, balances=((0, 5 * number, 0, 0), (0, 0, 0, 5 * number)))
+        body = event(start + 10 * number, debit, credit, balances=((0, 5 * number, 0, 0), (0, 0, 0, 5 * number)))
         found.append((own(body).encode(), {"event_type": "single_phase", "previous": str(previous)}, None))
-        previous = 10 * number
+        previous = start + 10 * number
     return [*found, (b"", {"previous": str(previous)}, "end")]
 
 
+def book_after(count, debit=1, credit=2):
+    """The book of the first events: debits posted of one account, credits posted of the other."""
+    return f"account {debit} 0 {5 * count} 0 0\naccount {credit} 0 0 0 {5 * count}\n" if count else ""
+
+
 QUEUE = queue_of(5)
-# The book of its first n events: debits posted of account 1, credits posted of account 2.
-BOOKS = [f"account 1 0 {5 * n} 0 0\naccount 2 0 0 0 {5 * n}\n" if n else "" for n in range(6)]
+BOOKS = [book_after(n) for n in range(6)]
 
 
 def setup():
@@ -519,9 +527,9 @@ def mutated(rng, server):
     return bytes(text)
 
 
-def reordered(rng, server):
+def reordered(rng, messages):
     """The stream with whole deliveries left out, doubled or swapped, and numbered again as a server numbers them."""
-    messages = list(QUEUE)
+    messages = list(messages)
     for _ in range(rng.randint(1, 3)):
         at = rng.randrange(len(messages))
         how = rng.randrange(3)
@@ -535,40 +543,85 @@ def reordered(rng, server):
     return setup() + delivered(messages) + GOODBYE
 
 
-def mutations(count):
-    """Whatever a server sends, what is acknowledged is saved. If its deliveries are messages of the queue, the book is a prefix of it,
-    and a later run over the whole queue completes it."""
-    rng = random.Random(1)
-    server = setup() + delivered(QUEUE) + GOODBYE
+def framed(rng, server):
+    """The stream with frames left out, doubled or swapped, and with frames that a server may send at any time, or to end the connection."""
+    found = amqp.frames_of(server)[0]
+    for _ in range(rng.randint(1, 3)):
+        at, other = rng.randrange(len(found)), rng.randrange(len(found))
+        how = rng.randrange(6)
+        if how == 0:
+            del found[at]
+        elif how == 1:
+            found.insert(at, found[other])
+        elif how == 2:
+            found[at], found[other] = found[other], found[at]
+        else:
+            found[at:at] = amqp.frames_of(rng.choice(AT_ANY_TIME))[0]
+    return bytes_of(found)
+
+
+# What a server may send at any time. A connection or channel that is closed for a cause that may pass, and for others.
+AT_ANY_TIME = (
+    amqp.frame(amqp.HEARTBEAT, 0, b""), amqp.method(0, amqp.BLOCKED, amqp.short("low on memory")), amqp.method(0, amqp.UNBLOCKED),
+    amqp.method(1, amqp.CANCEL, amqp.short("relayplum") + b"\1"),
+    *(amqp.closing(which, code, "") for which in (amqp.CLOSE, amqp.CHANNEL_CLOSE) for code in (0, 320, 403, 404, 406, 530, 65535)),
+)
+
+
+class Chain:
+    """A chained queue of five events: its messages, the timestamp of the event that each body is, and the book of the first events."""
+
+    def __init__(self, debit, credit, start):
+        self.messages = queue_of(5, debit, credit, start)
+        self.known = {body: start + 10 * at for at, (body, _, _) in enumerate(self.messages[:5], 1)}
+        self.books = [book_after(n, debit, credit) for n in range(6)]
+
+    def server(self, most=amqp.FRAME_MAX - 8):
+        return setup() + delivered(self.messages, most=most) + GOODBYE
+
+
+# With small numbers, and with those of a real ledger.
+CHAINS = (Chain(1, 2, 0), Chain(10**36 + 1, 10**36 + 2, 17 * 10**17))
+
+
+def mutations(count, first=1):
+    """So many mutated streams from this number on, each of which follows from its number alone."""
     with rooms.room("consume-") as room:
-        for number in range(count):
+        for number in range(first, first + count):
             folder = fresh(room, str(number))
-            is_whole = number % 2 == 0
-            text = (reordered if is_whole else mutated)(rng, server)
-            parks = number % 3 == 0
-            done = consume(folder, text, "--chained", "--every", str(rng.randint(1, 3)), *(["--park"] if parks else []))
-            check(f"mutation {number}: a status", done.status in (0, 1, 2, 3) and done.reported("status") == str(done.status), done)
-            last = (done.acknowledged() if done.frames() else None) or [0]
-            rejected = (done.rejected() if done.frames() else None) or []
-            before = sum(it < last[-1] for it in rejected)
-            check(f"mutation {number}: acknowledged is saved", last[-1] - before <= taken_by_book(folder, done), (last, done))
-            check(f"mutation {number}: what is rejected is not acknowledged", not set(last) & set(rejected), (last, rejected))
-            compare(f"mutation {number}", text, parks, done, last[-1])
-            if is_whole:
-                check(f"mutation {number}: a prefix", book_of(folder, "--chained") in BOOKS, (book_of(folder, "--chained"), done))
-                done = consume(folder, server, "--chained")
-                check(f"mutation {number}: the whole", book_of(folder, "--chained") == BOOKS[5], done)
+            mutation(folder, number)
             shutil.rmtree(folder)
 
 
-# What each body of the queue is: the timestamp of its event.
-KNOWN = {body: 10 * at for at, (body, _, _) in enumerate(QUEUE[:5], 1)}
+def mutation(folder, number):
+    """Whatever a server sends, what is acknowledged is saved. If its deliveries are messages of the queue, the book is a prefix of it,
+    and a later run over the whole queue completes it."""
+    rng = random.Random(number)
+    chain = rng.choice(CHAINS)
+    is_whole, parks = number % 3 == 0, rng.random() < 0.3
+    if is_whole:
+        text = reordered(rng, chain.messages)
+    else:
+        text = (mutated if number % 3 == 1 else framed)(rng, chain.server(rng.choice((amqp.FRAME_MAX - 8, 300))))
+    done = consume(folder, text, "--chained", "--every", str(rng.randint(1, 3)), *(["--park"] if parks else []))
+    check(f"mutation {number}: a status", done.status in (0, 1, 2, 3) and done.reported("status") == str(done.status), done)
+    last = (done.acknowledged() if done.frames() else None) or [0]
+    rejected = (done.rejected() if done.frames() else None) or []
+    before = sum(it < last[-1] for it in rejected)
+    check(f"mutation {number}: acknowledged is saved", last[-1] - before <= taken_by_book(folder, done), (last, done))
+    check(f"mutation {number}: what is rejected is not acknowledged", not set(last) & set(rejected), (last, rejected))
+    compare(f"mutation {number}", chain, text, parks, done, last[-1])
+    if is_whole:
+        book = book_of(folder, "--chained")
+        check(f"mutation {number}: a prefix", book in chain.books, (book, done))
+        done = consume(folder, chain.server(), "--chained")
+        check(f"mutation {number}: the whole", book_of(folder, "--chained") == chain.books[5], done)
 
 
-def compare(name, text, parks, done, last):
+def compare(name, chain, text, parks, done, last):
     """Compares a run with the model, unless that doesn't know a body."""
     try:
-        wanted = consuming.outcome(text, KNOWN, parks=parks)
+        wanted = consuming.outcome(text, chain.known, parks=parks)
     except consuming.Unknown:
         return
     found = {"status": done.status, "code": done.number("code"), "tag": done.number("tag"),
@@ -597,38 +650,98 @@ def taken_by(book):
 # Runs that end at a call, or for which it is refused.
 
 
+class SteppedConsumer(stepping.Stepped):
+    """A run whose thread that reads ahead runs on between the stops; the other one saves and acknowledges."""
+
+    def printed(self):
+        """What it has sent, a character for each byte, and standard error."""
+        self.out.seek(0)
+        sent = self.out.read().decode("latin-1")
+        return [sent, super().printed()[1]]
+
+
 class KilledConsumer(interrupted.Interrupted):
     """A consumer that is interrupted: what it has acknowledged is saved, and a run over the whole queue completes the book."""
 
     stream = setup() + delivered(QUEUE) + GOODBYE
+    is_killed_everywhere = False
+    rows = 20
+    kept_in = ""
+
+    def __init__(self, library, folder):
+        super().__init__(library, folder)
+        with open(self.path("secret"), "w", encoding="utf-8") as it:
+            it.write(PASSWORD)
+
+    def book(self, name):
+        return self.kept_in + self.path(name)
+
+    def arguments(self, name):
+        return ["--queue", "q", "--chained", "--every", "2", "--password-file", self.path("secret"), "--book", self.book(name),
+                "--report", self.path(f"{name}.report")]
 
     def run(self, name, **plan):
-        env = dict(os.environ, RELAYPLUM_PASSWORD=PASSWORD, **({"LD_PRELOAD": self.library} if plan else {}), **plan)
-        arguments = ["--queue", "q", "--chained", "--every", "2", "--book", self.path(name), "--report", self.path(f"{name}.report")]
+        env = dict(os.environ, **({"LD_PRELOAD": self.library} if plan else {}), **plan)
         with open(self.path("stream"), "rb") as server:
-            done = subprocess.run([commands.program, "consume", *arguments], stdin=server, capture_output=True, env=env,
+            done = subprocess.run([commands.program, "consume", *self.arguments(name)], stdin=server, capture_output=True, env=env,
                                   timeout=SECONDS)
         return Done(done.returncode, done.stdout, done.stderr.decode(errors="replace"), read(self.path(f"{name}.report")))
 
+    def stepped(self, name):
+        with open(self.path("stream"), "rb") as stream:
+            return SteppedConsumer([commands.program, commands.command, *self.arguments(name)], stream)
+
+    def unsaved(self, name, sent):
+        """What is wrong with what an interrupted run has sent, the last of which may be a part of a frame: it may have acknowledged only
+        what the book has. Each run gets the whole queue."""
+        frames = amqp.frames_of(sent[8:])[0]
+        acks = [struct.unpack(">Q", it[2][4:12])[0] for it in frames if amqp.method_of(it) == amqp.ACK]
+        taken = taken_by(self.book(name)) if os.path.exists(self.path(name)) else 0
+        return f"{acks} acknowledged, {taken} saved" if (acks or [0])[-1] > taken else None
+
+    def incomplete(self, name):
+        """What is wrong after it went on: the book has to be whole."""
+        again = self.run(name)
+        return repr(again) if again.status != 0 or taken_by(self.book(name)) != 6 else None
+
     def complaint(self, number, plan):
-        """What is wrong after the run was ended or a call was refused, and after it went on."""
         name = f"{number}.saved"
         done = self.run(name, FAULT=plan)
-        # (a part of a frame may have been written last)
-        sent = amqp.frames_of(done.sent[8:])[0]
-        acks = [struct.unpack(">Q", it[2][4:12])[0] for it in sent if amqp.method_of(it) == amqp.ACK]
-        taken = taken_by(self.path(name)) if os.path.exists(self.path(name)) else 0
-        if (acks or [0])[-1] > taken:
-            return f"{plan}: {acks} acknowledged, {taken} saved: {done!r}"
-        again = self.run(name)
-        if again.status != 0 or taken_by(self.path(name)) != 6:
-            return f"{plan}: {done!r}, then {again!r}"
-        return None if "end" in plan or done.status in (0, 1, 2) else f"{plan}: {done!r}"
+        wrong = self.unsaved(name, done.sent) or self.incomplete(name)
+        if wrong or not ("end" in plan or done.status in (0, 1, 2)):
+            return f"{plan}: {done!r}, then {wrong}"
+        return None
+
+    def complaint_of_kill(self, number, point):
+        name = f"{number}.killed"
+        status, sent = self.kill_at(name, point)
+        # (how often it saves isn't the same in each run, so one may end before)
+        wrong = self.unsaved(name, sent.encode("latin-1")) or self.incomplete(name)
+        return f"{point}: status {status}, then {wrong}" if wrong or status not in (0, -signal.SIGKILL) else None
+
+    def complaint_of_row(self, seed):
+        chosen, name, wrong = random.Random(seed), f"{seed}.row", None
+        for _ in range(chosen.choice([2, 2, 3])):
+            run = self.stepped(name)
+            if all(run.step() for _ in range(chosen.randrange(self.stops))):
+                run.kill()
+            wrong = wrong or self.unsaved(name, run.printed()[0].encode("latin-1"))
+        wrong = wrong or self.incomplete(name)
+        return f"kills in a row, seed {seed}: {wrong}" if wrong else None
+
+
+class KilledRows(KilledConsumer):
+    """The same with a book in SQLite."""
+
+    rows = 5
+    kept_in = "sqlite:"
 
 
 def killed(room):
-    """Runs that end at each call, or for which it is refused."""
-    interrupted.check_plans(KilledConsumer, room)
+    """Runs that end at each call, or for which it is refused; that are killed by signal 9 before each call that changes something, or once
+    a write of a save or of an acknowledgement has written a part; and that are killed again after that."""
+    interrupted.check_all(KilledConsumer, room)
+    interrupted.check_kills(KilledRows, fresh(room, "rows"))
 
 
 # ---------------------------------------------------------------------------------------------------------------------
@@ -759,8 +872,18 @@ def main(arguments):
         commands.begin(arguments[0], "consume")
         within(arguments[arguments.index("--in") + 1])
         return commands.ended()
-    return commands.main(arguments, __doc__, "consume", (whole, frames, stops, parks, servers, options, transcripts, killed, rabbitmq),
-                         mutations, STREAMS)
+    parser = commands.parser_of(__doc__)
+    parser.add_argument("--streams", type=int, default=STREAMS, metavar="N", help="mutated streams; default: %(default)s")
+    parser.add_argument("--first", type=int, metavar="K", help="only mutated streams, from this number on")
+    options = rooms.options_of(parser, arguments)
+    if options.first is None:
+        return commands.main(arguments, __doc__, "consume", PARTS, mutations, STREAMS)
+    commands.begin(options.program, "consume", options.soak)
+    mutations(options.streams, options.first)
+    return commands.ended()
+
+
+PARTS = (whole, frames, stops, parks, servers, options, transcripts, killed, rabbitmq)
 
 
 if __name__ == "__main__":

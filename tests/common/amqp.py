@@ -6,6 +6,8 @@ import struct
 HEADER = b"AMQP\x00\x00\x09\x01"
 METHOD, CONTENT_HEADER, BODY, HEARTBEAT = 1, 2, 3, 8
 END_OCTET = b"\xce"
+# The size of a frame that a server offers, and the greatest that a consumer takes.
+FRAME_MAX = 131072
 # Class and method of each method that is named here.
 START, START_OK, TUNE, TUNE_OK, OPEN, OPEN_OK = (10, 10), (10, 11), (10, 30), (10, 31), (10, 40), (10, 41)
 CLOSE, CLOSE_OK, BLOCKED, UNBLOCKED = (10, 50), (10, 51), (10, 60), (10, 61)
@@ -62,7 +64,7 @@ def method(channel, which, arguments=b""):
     return frame(METHOD, channel, struct.pack(">HH", *which) + arguments)
 
 
-def content(body, headers=None, kind=None, most=131064):
+def content(body, headers=None, kind=None, most=FRAME_MAX - 8):
     """The frames of a content: its header with the properties `headers` and `type`, and its body in frames of at most this size."""
     flags = (0x2000 if headers is not None else 0) | (0x0020 if kind is not None else 0)
     properties = (table(headers) if headers is not None else b"") + (short(kind) if kind is not None else b"")
@@ -116,10 +118,12 @@ class Client:
         self.socket.sendall(method(1, which, arguments))
         return self.wait(answer)
 
-    def declare(self, queue, passive=False, dead_letters=None):
-        """Declares a durable queue, and returns how many messages are ready in it. `dead_letters`: the queue of those that are rejected."""
+    def declare(self, queue, passive=False, dead_letters=None, kind=None):
+        """Declares a durable queue, and returns how many messages are ready in it. `dead_letters`: the queue of those that are rejected;
+        `kind`: that of the queue, such as quorum."""
         bits = 1 if passive else 2
         found = {} if dead_letters is None else {"x-dead-letter-exchange": "", "x-dead-letter-routing-key": dead_letters}
+        found.update({} if kind is None else {"x-queue-type": kind})
         answer = self.ask(DECLARE, b"\0\0" + short(queue) + bytes([bits]) + table(found), DECLARE_OK)
         return struct.unpack(">I", answer[1 + answer[0]:5 + answer[0]])[0]
 

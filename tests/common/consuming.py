@@ -7,7 +7,6 @@ import json
 
 import amqp
 
-FRAME_MAX = 131072
 MOST = 65536
 FINISHED, CLOSED, CHANNEL_CLOSED, CANCELED = "finished", "closed", "channel_closed", "canceled"
 # What is awaited while the connection is set up, in order: the method and the channel on which it comes.
@@ -92,7 +91,7 @@ class Consumer:
 
     def __init__(self, known, seen=0, parks=False):
         self.known, self.seen, self.parks = known, seen, parks
-        self.phase, self.limit = 0, FRAME_MAX - 8
+        self.phase, self.limit = 0, amqp.FRAME_MAX - 8
         self.delivered, self.current, self.closing, self.stop = 0, None, 0, None
         self.ended, self.applied, self.duplicates, self.taken, self.rejected = False, 0, 0, 0, []
 
@@ -162,7 +161,7 @@ class Consumer:
         elif not self.closing and self.phase < len(SETTING_UP) and SETTING_UP[self.phase][0] == method:
             self.phase += 1
             if method == amqp.TUNE:
-                self.limit = max(0, min(arguments[1] or FRAME_MAX, FRAME_MAX) - 8)
+                self.limit = max(0, min(arguments[1] or amqp.FRAME_MAX, amqp.FRAME_MAX) - 8)
         else:
             raise Fault
 
