@@ -248,9 +248,9 @@ a line of the counts. The file has the status, the reason, the code and the text
 the delivery at which the command stopped and its redelivery, the counts, and the timestamp of the last event seen.
 
 Examples:
-  socat TCP:rabbit:5672 EXEC:'relayplum consume --queue relayplum.1 --chained --book ann.book --user ann
+  socat -t 30 TCP:rabbit:5672 EXEC:'relayplum consume --queue relayplum.1 --chained --book ann.book --user ann
   --password-file secret --report ann.status'
-  socat OPENSSL:rabbit:5671,cafile=ca.pem EXEC:'relayplum consume --queue relayplum.1 --chained --book ann.book'
+  socat -t 30 OPENSSL:rabbit:5671,cafile=ca.pem EXEC:'relayplum consume --queue relayplum.1 --chained --book ann.book'
 
 Exit status:
   0  the stream ended, or --limit was reached
