@@ -85,10 +85,7 @@ fn check_bytes(
         return Ok(CheckTurn::Stops(stop));
     }
     let following = following_of(binding, &entry.content, checking);
-    Ok(CheckTurn::GoesOn(
-        Taken::Entry(entry, following),
-        refusal_of(checking),
-    ))
+    Ok(CheckTurn::GoesOn(Taken::Entry(entry, following), refusal_of(checking)))
 }
 
 /// Reads the line of this number into the buffer and follows it.

@@ -84,7 +84,7 @@ part_prints (Err why) text wanted old new is prints = tt
 pub part_fails : {T : Type 0} (answer : Result T ProgramFault) (text wanted : List ℕ) (old new : Option (List ℕ))
     → text ≡ wanted → PrintsAll old new text answer → IfErr answer (λ why. PrintsFirst why wanted old new)
 part_fails (Ok done) text wanted old new is prints = tt
-part_fails (Err why) text wanted old new is prints = write_fails (Err why) text wanted old new is prints
+part_fails {T = T} (Err why) text wanted old new is prints = write_fails {T = T} (Err why) text wanted old new is prints
 
 -- the text of a turn was printed
 pub write_prints : (answer : Result Turn ProgramFault) (number : ℕ) (turn : Turn) (kept : SubscriberState)

@@ -99,8 +99,10 @@ fn expect_line<B: BufRead, W: Write>(
         Ok(turn) => turn,
         Err(error) => return Err(fault_of(error)),
     };
-    print_turn(alloc, writer, number, &turn, kept_of(follower))?;
-    Ok(turn)
+    match print_turn(alloc, writer, number, &turn, kept_of(follower)) {
+        Ok(()) => Ok(turn),
+        Err(fault) => Err(fault),
+    }
 }
 
 /// Prints what came of the line of this number, after which this is kept.

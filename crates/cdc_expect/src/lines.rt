@@ -72,12 +72,7 @@ pub(crate) fn push_result(
 }
 
 /// Adds the line of a line whose event is applied.
-fn push_event(
-    text: &mut Vec<u8>,
-    number: u64,
-    event: &Event,
-    kept: Kept,
-) -> Result<(), AllocError>
+fn push_event(text: &mut Vec<u8>, number: u64, event: &Event, kept: Kept) -> Result<(), AllocError>
     ensures { OnOk result (text.new.items ≡ text.old.items ++ spec.event_text number event.now kept) }
 {
     push_head(text, number, "applied")?;

@@ -35,12 +35,7 @@ fn kept_of(subscriber: &Subscriber) -> Kept
 }
 
 /// Adds the line of what came of the line of this number.
-fn push_turn(
-    text: &mut Vec<u8>,
-    number: u64,
-    turn: &Turn,
-    kept: Kept,
-) -> Result<(), AllocError>
+fn push_turn(text: &mut Vec<u8>, number: u64, turn: &Turn, kept: Kept) -> Result<(), AllocError>
     ensures { OnOk result (text.new.items ≡ text.old.items ++ spec.kept_turn_text number turn.now kept) }
 {
     match turn {
@@ -63,4 +58,3 @@ fn push_stop(text: &mut Vec<u8>, stop: Stop, kept: Kept) -> Result<(), AllocErro
         Stop::BadLine(line, error) => push_bad_line(text, line, error, kept),
     }
 }
-
