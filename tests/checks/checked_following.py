@@ -5,9 +5,11 @@
 
 PROGRAM: crates/cdc_app/out/cdc_app; N random streams, 2,000 by default. --soak tries 100,000.
 
-By hand: each exception, each fault and status, what standard error reports, JSON, the binding, and the saved book.
+By hand: each exception, each fault and status, what standard error reports, JSON, the results of --expect, the binding, and the saved
+book.
 Random streams: each has some events of a random ledger of `soak`, lost, reordered and repeated, in TigerBeetle's form and in ours, with
-ignored lines. They are cut in two, and the second run goes on from the book of the first. What is printed has to be that of the model.
+ignored lines. They are cut in two, and the second run goes on from the book of the first. What is printed has to be that of the model, and so have
+the results of --expect over the whole stream.
 What the model applies is checked against the ledger's whole list:
 
 - before an applied event of an account, the missed events of the account moved nothing posted, and released as much as they held;
@@ -28,7 +30,9 @@ import concurrent.futures
 import json
 import os
 import random
+import subprocess
 import sys
+import tempfile
 
 sys.dont_write_bytecode = True
 HERE = os.path.dirname(os.path.realpath(__file__))
@@ -79,6 +83,11 @@ def reason(checked, event, answer):
     text = f'balances: account {account} has {name} {shown}, after {known}'
     text += f" and this transfer's {added}" if added else ''
     return text + (f" less the pending transfer's {released}" if released else '')
+
+
+def event_account(id, balances):
+    """The object of an account of an event."""
+    return {'id': str(id), **{name: str(getattr(balances, name)) for name in FIELDS}}
 
 
 class Followed:
@@ -133,6 +142,35 @@ class Followed:
         row = lambda id, it: f"account {id} {' '.join(str(getattr(it, name)) for name in FIELDS)}\n"
         head = f"subscriber 1 applied {self.taken} last {self.last} ended {'yes' if self.ended else 'no'} closed no\n"
         return head + ''.join(row(id, it) for id, it in self.book.items())
+
+    def refused(self, event):
+        """Of an event that is refused the members of its rule; of any other one None. (The model doesn't name the rules of how a pending
+        transfer is settled.)"""
+        why = self.checked.refusal(event)
+        if why is None or event.timestamp <= max(self.checked.lasts.get(id, 0) for id in model.accounts_of(event)):
+            return None
+        if why == 'not pending':
+            return {'rule': 'pending', 'transfer': str(model.settled_by(event))}
+        if why != 'balances':
+            return {'rule': None}
+        members = ('account', 'field', 'shown', 'before', 'added', 'released')
+        return {'rule': 'balances', **{name: str(it) for name, it in zip(members, next(self.checked.mismatches(event)))}}
+
+    def expected(self, contents, skips):
+        """The objects that --expect prints of these lines."""
+        for number, content in enumerate(contents, 1):
+            is_event = content not in (None, 'end')
+            refused = self.refused(content) if is_event else None
+            before, ended = dict(self.counts), self.ended
+            stopped = self.take(content, skips)
+            counted = [name for name in self.counts if self.counts[name] != before[name]]
+            results = {'applied': 'applied', 'duplicates': 'duplicate', 'passed': 'passed', 'skipped': 'nothing'}
+            result = 'gap' if refused else 'end' if content == 'end' and not ended else results[counted[0]]
+            both = (event_account(*it) for it in zip(model.accounts_of(content), (content.debit_balances, content.credit_balances))) if result == 'applied' else ()
+            kept = {'applied': self.taken, 'last': str(self.last), 'accounts': list(both)}
+            yield {'kind': 'expect', 'line': number, 'result': result, **(refused or {}), **kept}
+            if stopped is not None:
+                return
 
     def run(self, contents, skips):
         """Takes what these lines have. Returns the status, and the text at the end with what comes before the reason of a stop."""
@@ -245,6 +283,8 @@ def rows():
     yield 'a hold and its void are lost', [], VOIDED[2:], 0, head(1, 130) + seven, counted(1)
     said = 'pending transfer 50 isn\'t open'
     yield 'a hold is lost', [], VOIDED[1:], 3, head(0, 0) + 'gap: line 1: pending: no pending transfer 50 came before\n', counted() + said
+    filtered = "gap: line 1: balances: account 1 has debits_pending 5, after 0\n"
+    yield 'a stream without its holds', [], LATE[1:2], 3, head(0, 0) + filtered, counted() + 'again from there, with all kinds and codes'
     held = "gap: line 2: balances: account 1 has debits_pending 0, after 5\n"
     yield 'a void is lost', [], [VOIDED[0], VOIDED[2]], 3, head(1, 110) + 'account 1 5 0 0 0\naccount 2 0 0 5 0\n' + held, counted(1) + ':2: gap'
     # A void and a new hold of the same amount are lost: the payment passes, and the void of the new hold doesn't, for ever.
@@ -284,7 +324,7 @@ def late_rows():
 
 
 USAGE = [
-    ['--chained'], ['--after', '5'], ['--from-book'], ['--busy', '1'], ['--expect'], ['--book', 'sqlite:a.db'], ['--binding', 'some'], ['--every', '0'], ['a', 'b'],
+    ['--chained'], ['--after', '5'], ['--from-book'], ['--busy', '1'], ['--expect', '--json'], ['--expect', '--book', 'a.book'], ['--book', 'sqlite:a.db'], ['--binding', 'some'], ['--every', '0'], ['a', 'b'],
 ]
 
 
@@ -322,6 +362,63 @@ def as_json(folder):
     saved = [json.loads(it) for it in found[1].splitlines() if '"saved"' in it]
     wanted = [{'kind': 'saved', 'timestamp': time, **counts, 'applied': place} for place, time in ((1, '110'), (2, '120'))]
     check('saves in JSON', saved[:2] == wanted, saved)
+
+
+SHOWN = '{"id":"%s","debits_pending":"%s","debits_posted":"%s","credits_pending":"%s","credits_posted":"%s"}'
+FIRST_SHOWN = f"{SHOWN % (1, 0, 5, 0, 0)},{SHOWN % (2, 0, 0, 0, 5)}"
+LOST = '"rule":"balances","account":"2","field":"credits_posted","shown":"12","before":"5","added":"0","released":"0",'
+
+
+def result(number, name, applied, last, more='', accounts=''):
+    """The line that --expect prints of a line."""
+    return '{"kind":"expect","line":%s,"result":"%s",%s"applied":%s,"last":"%s","accounts":[%s]}\n' % (number, name, more, applied, last, accounts)
+
+
+def result_rows():
+    """Each row: what it is, the options, the lines, the status, what --expect prints, and what standard error reports."""
+    one, two, three, four = PAID
+    skips, first = ['--skip-gaps'], result(1, 'applied', 1, 110, accounts=FIRST_SHOWN)
+    yield 'nothing', [], [], 0, '', ''
+    lost = first + result(2, 'gap', 1, 110, LOST)
+    yield 'a lost payment', [], [one, three, four], 3, lost, 'standard input:2: gap: balances: the event shows account 2'
+    later = result(3, 'applied', 2, 140, accounts=f"{SHOWN % (3, 0, 1, 0, 0)},{SHOWN % (4, 0, 0, 0, 1)}")
+    yield 'a lost payment is skipped', skips, [one, three, four], 0, lost + later, ''
+    held = result(1, 'gap', 0, 0, '"rule":"pending","transfer":"50",')
+    yield 'a hold is lost', [], VOIDED[1:], 3, held, "the pending transfer 50 isn't open"
+    ends = result(2, 'end', 1, 110) + result(3, 'duplicate', 1, 110) + result(4, 'duplicate', 1, 110)
+    yield 'the end, and what came before', [], [one, '{"end":true}', '{"end":true}', one], 0, first + ends, ''
+    passed = result(1, 'passed', 0, 110) + result(2, 'nothing', 0, 110) + result(3, 'gap', 0, 110, LOST)
+    yield 'a binding', ['--binding', 'all ledger=7'], [one, 'event_type=x', three], 3, passed, ':3: gap: balances'
+    bad = first + result(2, 'bad_line', 1, 110, '"name":"not_json",')
+    yield 'no JSON', skips, [one, 'x', two], 2, bad, ':2:1: not_json'
+    high = first + result(2, 'bad_line', 1, 110, '"name":"out_of_range",')
+    yield 'a timestamp out of range', skips, [one, follow.own(follow.event(2**63)), two], 2, high, ':2: out_of_range'
+    known = result(1, 'applied', 1, 120, accounts=f"{SHOWN % (1, 5, 1, 0, 0)},{SHOWN % (2, 0, 0, 5, 1)}")
+    less = '"rule":"balances","account":"1","field":"debits_pending","shown":"3","before":"5","added":"0","released":"4",'
+    yield 'it begins late', ['--baseline'], [LATE_MORE[1], LATE_MORE[3]], 3, known + result(2, 'gap', 1, 120, less), ':2: gap'
+
+
+def results(folder):
+    """The results of --expect."""
+    for name, options, lines, status, printed, said in result_rows():
+        found = run(['--expect', *options], lines)
+        is_said = said in found[2] if said else not found[2]
+        check(f'--expect: {name}', found[:2] == (status, printed) and is_said, found)
+    other = os.path.join(folder, 'other.book')
+    run(['--book', other], VOIDED[:1])
+    before = read(other)
+    voided = result(1, 'applied', 2, 120, accounts=f"{SHOWN % (1, 0, 0, 0, 0)},{SHOWN % (2, 0, 0, 0, 0)}")
+    found = run(['--expect', '--from-book', other], VOIDED[1:2])
+    check('--expect goes on from another book', found[:2] == (0, voided) and read(other) == before, found)
+    for options in (['--baseline'], ['--binding', 'all ledger=700']):
+        found = run(['--expect', '--from-book', other, *options], VOIDED[1:])
+        check(f'--expect of a book of another kind: {options}', found[:2] == (1, '{"kind":"fault","name":"store"}\n') and 'other.book' in found[2], found)
+    check('no file was made', os.listdir(folder) == ['other.book'], os.listdir(folder))
+    with open('/dev/full', 'wb') as full, tempfile.TemporaryFile() as lines:
+        lines.write(text_of(PAID))
+        lines.seek(0)
+        done = subprocess.run([commands.program, 'follow', '--checked', '--expect'], stdin=lines, stdout=full, stderr=subprocess.PIPE, timeout=commands.SECONDS)
+    check('--expect: a write fails', done.returncode == 1 and b'standard output: write_fault' in done.stderr, done)
 
 
 def books(folder):
@@ -537,7 +634,21 @@ def wrong_run(rng, seed, stream, baseline):
             is_right = at_end.startswith(printed) if status else at_end == printed
             if found[0] != status or not is_right or not found[2].startswith(counted(**wanted.counts)):
                 return f'{seed}: {arguments}: {found!r}, not {(status, printed, wanted.counts)!r}'
-    return None
+    return wrong_results(seed, contents, lines, binding, baseline, skips)
+
+
+def wrong_results(seed, contents, lines, binding, baseline, skips):
+    """What is wrong with what --expect prints of a stream, or None."""
+    wanted = list(Followed(binding, baseline).expected(contents, skips))
+    arguments = ['--expect', '--binding', binding, *['--skip-gaps'] * skips, *['--baseline'] * baseline]
+    found = run(arguments, lines)
+    printed = found[1].splitlines()
+    for one, line in zip(wanted, printed):
+        if one.get('rule', '') is None:
+            one['rule'] = json.loads(line).get('rule')
+    text = [json.dumps(it, separators=(',', ':')) for it in wanted]
+    status = 3 if wanted and wanted[-1]['result'] == 'gap' and not skips else 0
+    return None if found[0] == status and printed == text else f'{seed}: {arguments}: {found!r}, not {text!r}'
 
 
 def random_streams(count):
@@ -596,7 +707,7 @@ def main(arguments):
     options = rooms.options_of(parser, arguments)
     commands.begin(options.program, 'follow', options.soak)
     with rooms.room('checked-following-') as folder:
-        for part in (by_hand, as_json, books, copies, killed):
+        for part in (by_hand, as_json, results, books, copies, killed):
             room = os.path.join(folder, part.__name__)
             os.mkdir(room)
             part(room)

@@ -1,5 +1,6 @@
 //! The flag `--checked` of `follow`: a stream in, each event of which is checked, and its book out.
 
+use crate::expect_checked::expect_checked;
 use crate::failures::print_failure;
 use crate::follow_advice::{advise_on_book, advise_on_counts, advise_on_line};
 use crate::held::{Asked, advise_on_held};
@@ -27,16 +28,16 @@ use std::{fs, io};
 
 /// How a new book begins.
 #[derive(Clone, Copy)]
-struct CheckStart<'p> {
+pub(crate) struct CheckStart<'p> {
     /// Whether the first event of an account is taken as it is.
-    baseline: bool,
+    pub baseline: bool,
     /// The file of the checked book of which it is a copy; `None`: it begins with nothing.
-    from_book: Option<&'p str>,
+    pub from_book: Option<&'p str>,
 }
 
 /// Why checked following can't begin.
 #[derive(Clone, Copy)]
-enum StartError<'p> {
+pub(crate) enum StartError<'p> {
     /// The file of this name fails, or it has no checked book of the binding.
     File(Option<&'p str>, StoreError),
     /// The book in the file of this name has another state than the one of which it is to be a copy.
@@ -60,7 +61,7 @@ pub fn run_checked<T: Threads + Wait + Copy + Send + 'static>(
         book,
         every,
         busy: _,
-        expects: _,
+        expects,
         checks: _,
         baseline,
         from_book,
@@ -80,6 +81,18 @@ pub fn run_checked<T: Threads + Wait + Copy + Send + 'static>(
         baseline,
         from_book,
     };
+    if expects {
+        return expect_checked(
+            rt,
+            threads,
+            file,
+            key,
+            start,
+            setup.skips_gaps,
+            &binding,
+            asked.as_slice(),
+        );
+    }
     let (store, mut checker) = match open_checked(
         rt,
         key,
@@ -265,7 +278,7 @@ fn compare<'p>(
 }
 
 /// The follower with which a new book begins.
-fn begun_follower<'p>(
+pub(crate) fn begun_follower<'p>(
     rt: &HostRuntime,
     key: HashKey,
     start: CheckStart<'p>,
@@ -319,7 +332,7 @@ fn refuse_checked(
 }
 
 /// Prints the fault of checked following that can't begin, and reports why on standard error.
-fn refuse_start(
+pub(crate) fn refuse_start(
     rt: &HostRuntime,
     file: &str,
     error: StartError<'_>,
@@ -361,7 +374,7 @@ fn refuse_content(
 }
 /// Reports why following stopped before the end of the stream in the file of this name, whose book is in that file. The
 /// line that was read last has these bytes.
-fn advise_on_checked(
+pub(crate) fn advise_on_checked(
     rt: &HostRuntime,
     file: &str,
     book: Option<&str>,
@@ -399,12 +412,13 @@ fn advise_on_refusal(rt: &HostRuntime, place: &str, line: u64, why: Refusal) -> 
             eprintln!(rt;
                 "{place}:{line}: gap: {rule}: the event shows account {account} with {field} {shown}, and the balance \
                  known before it is {before}, to which it adds {added} and of which it releases {released}: an \
-                 earlier event of one of its accounts is missing; send its accounts' events again from there"
+                 earlier event of one of its accounts is missing; send its accounts' events again from there, with all \
+                 kinds and codes"
             )
         }
         Refusal::NotPending(transfer) => eprintln!(rt;
             "{place}:{line}: gap: {rule}: the pending transfer {transfer} isn't open: the event that stored it is \
-             missing; if this remains after all events were sent again, only a new book helps"
+             missing; send its accounts' events again, with all kinds and codes; if this remains, only a new book helps"
         ),
         _ => eprintln!(rt;
             "{place}:{line}: gap: {rule}: the event doesn't settle the pending transfer that it names: the stream is \

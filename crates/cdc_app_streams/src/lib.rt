@@ -6,6 +6,7 @@ mod audit;
 mod chain;
 mod checked;
 mod expect;
+mod expect_checked;
 mod failures;
 mod follow;
 mod follow_advice;

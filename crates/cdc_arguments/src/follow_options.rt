@@ -86,7 +86,7 @@ pub fn follow_arguments<'a>(alloc: Global) -> Result<Command<'a>, AllocError> {
                 "checked",
                 "Apply an event only if the balances that it shows follow from the events applied before",
             )
-            .without(&["chained", "after", "busy", "expect"]),
+            .without(&["chained", "after", "busy"]),
             Argument::flag(
                 "baseline",
                 "Take the first event of each account as it is, so that the stream may begin anywhere; needs --checked",

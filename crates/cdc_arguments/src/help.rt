@@ -120,7 +120,8 @@ previous, else at the first later event. A saved book is resumed only if that ev
 
 With --expect, the output is the expected result of each line instead: an object with its number, its result (applied,
 duplicate, gap, passed, end or nothing), how many events are applied, the last one's timestamp, and the accounts that it
-changed. So a consumer of your own can be tried with any stream, also with one that lacks messages.
+changed. With --checked, a gap also has the rule, and the balance that does not follow or the pending transfer that is
+not open. So a consumer of your own can be tried with any stream, also with one that lacks messages.
 
 With --book sqlite:FILE, the book is kept in an SQLite file, which other programs may read between saves: the table
 accounts has the balances, and the table book the timestamp of the last event applied and the count of these events.

@@ -14,6 +14,7 @@ use Rattle.cdc_streams.specs.Saving.{IfStopped}
 use Rattle.cdc_streams.specs.Taking.{LeadsOn}
 use Rattle.cdc_streams.specs.declared.endings.StreamEnding.{StreamEnding}
 use Rattle.cdc_streams.specs.declared.endings.StreamEnding.TheVariants.{Stopped, Failed}
+use Rattle.cdc_audit.specs.declared.refusals.Refusal.{Refusal}
 use Rattle.cdc_checked_follow.specs.declared.streams.CheckStop.{CheckStop}
 use Rattle.cdc_checked_follow.specs.declared.turns.CheckTurn.TheVariants.{GoesOn, Stops}
 use Rattle.cdc_checked_follow.specs.Checking.{Checked, CheckedState, bytes_checked, lines_checked}
@@ -62,18 +63,18 @@ turns_at_start start old skips number mid turn same turns =
 
 -- one more line is counted
 counted_on : (binding : Arguments) (skips : Bool) (start old new : CheckedState) (front : List (List ℕ))
-    (before counts : Counts) (number : ℕ) (line : List ℕ) (made : Taken)
+    (before counts : Counts) (number : ℕ) (line : List ℕ) (made : Taken) (why : Option Refusal)
     → HasCounted binding skips start front old before number → number < 2 ^ 64
-    → counts ≡ counts_with saturated made before → GoesOn made ≡ line_turn binding skips old number line
+    → counts ≡ counts_with saturated made before → GoesOn made why ≡ line_turn binding skips old number line
     → new ≡ line_state old line → HasCounted binding skips start (front ++ line ∷ []) new counts (number + 1)
-counted_on binding skips start old new front before counts number line made has fits is turns next =
+counted_on binding skips start old new front before counts number line made why has fits is turns next =
     let exact : counts ≡ counts_with one_more made before =
     is ∙ counts_exact made number before has.below fits in record {
       all = λ rest.
           let later = line_counts binding skips new (number + 1) rest in
           ap (line_counts binding skips start 1) (append_assoc front (line ∷ []) rest)
           ∙ has.all (line ∷ rest)
-          ∙ ap (counts_sum before) (counts_on binding skips old new number line rest made turns next)
+          ∙ ap (counts_sum before) (counts_on binding skips old new number line rest made why turns next)
           ∙ sum_with made before later
           ∙ ap (λ (all : Counts). counts_sum all later) (sym exact);
       below = subst (AreBelow (number + 1)) (sym exact) (below_with made number before has.below);
@@ -81,13 +82,13 @@ counted_on binding skips start old new front before counts number line made has 
 
 -- one more line was followed
 leads_on : (setup : CheckSetup) (start old : BoundFollower) (bytes : List ℕ) (count number : ℕ) (mid : List ℕ)
-    (new : CheckedFollowerState) (counts : Counts) (made : Taken) (left : Option (List ℕ))
+    (new : CheckedFollowerState) (counts : Counts) (made : Taken) (why : Option Refusal) (left : Option (List ℕ))
     → HasChecked setup start bytes count old number mid → number < 2 ^ 64
     → counts ≡ counts_with saturated made old.counts
     → StepLeadsTo start.binding setup.skips_gaps number old.follower mid None new left
-    → StepTurns start.binding setup.skips_gaps number old.follower mid (GoesOn made)
+    → StepTurns start.binding setup.skips_gaps number old.follower mid (GoesOn made why)
     → LineLeads setup start bytes count number None (Next old new counts) left
-leads_on setup start old bytes count number mid new counts made left has fits is step turns =
+leads_on setup start old bytes count number mid new counts made why left has fits is step turns =
     let skips = setup.skips_gaps in
     let line = step.0 in
     let rest = step.1 in
@@ -116,9 +117,9 @@ leads_on setup start old bytes count number mid new counts made left has fits is
         counted = λ none state stands.
             let so_far = has.goes state stands in
             let on = step.4 so_far.next so_far.stands in
-            counted_on start.binding skips state so_far.next on.next before old.counts counts number line made
+            counted_on start.binding skips state so_far.next on.next before old.counts counts number line made why
             (has.counted none state stands) fits is
-            (turns_of_line start.binding skips number old.follower mid line rest (GoesOn made) step.3 turns so_far.next
+            (turns_of_line start.binding skips number old.follower mid line rest (GoesOn made why) step.3 turns so_far.next
             so_far.stands) on.next_is;
       },
     )
@@ -183,17 +184,18 @@ leads_to_stop setup start old bytes count number mid new stop left has step turn
 
 -- the same of bytes that may be unknown
 pub line_on : (setup : CheckSetup) (old : BoundFollower) (number : ℕ) (new : CheckedFollowerState) (counts : Counts)
-    (made : Taken) (known left : Option (List ℕ)) → number < 2 ^ 64 → counts ≡ counts_with saturated made old.counts
+    (made : Taken) (why : Option Refusal) (known left : Option (List ℕ)) → number < 2 ^ 64
+    → counts ≡ counts_with saturated made old.counts
     → IfSome known (λ bytes. StepLeadsTo old.binding setup.skips_gaps number old.follower bytes None new left)
-    → IfSome known (λ bytes. StepTurns old.binding setup.skips_gaps number old.follower bytes (GoesOn made))
+    → IfSome known (λ bytes. StepTurns old.binding setup.skips_gaps number old.follower bytes (GoesOn made why))
     → IfSome known (λ mid. (start : BoundFollower) (bytes : List ℕ) (count : ℕ)
     → HasChecked setup start bytes count old number mid
     → LineLeads setup start bytes count number None (Next old new counts) left)
-line_on setup old number new counts made None left fits is step turns = tt
-line_on setup old number new counts made (Some mid) left fits is step turns = λ start bytes count has.
-    leads_on setup start old bytes count number mid new counts made left has fits is
+line_on setup old number new counts made why None left fits is step turns = tt
+line_on setup old number new counts made why (Some mid) left fits is step turns = λ start bytes count has.
+    leads_on setup start old bytes count number mid new counts made why left has fits is
     (step_at_start start old setup.skips_gaps number mid None new left has.same step)
-    (turns_at_start start old setup.skips_gaps number mid (GoesOn made) has.same turns)
+    (turns_at_start start old setup.skips_gaps number mid (GoesOn made why) has.same turns)
 
 pub line_stops : (setup : CheckSetup) (old : BoundFollower) (number : ℕ) (new : CheckedFollowerState) (stop : CheckStop)
     (known left : Option (List ℕ))

@@ -156,7 +156,7 @@ impl<F: CheckForm> Consumer<F> for StreamChecker {
             &mut self.bound.follower,
         )?;
         match turn {
-            CheckTurn::GoesOn(taken) => {
+            CheckTurn::GoesOn(taken, _) => {
                 self.bound.counts.count(&taken);
                 self.keep_line(line.as_slice());
                 Ok(None)

@@ -1,6 +1,7 @@
 -- Counts of lines that are checked one after another.
-use Rattle.std.proofs.Common.{◌≡◌, ℕ, ◌+◌, Bool, List, [], ◌∷◌, refl, sym, ap, ◌∙◌}
+use Rattle.std.proofs.Common.{◌≡◌, ℕ, ◌+◌, Bool, List, [], ◌∷◌, Option, refl, sym, ap, ◌∙◌}
 use Rattle.cdc_match.specs.Arguments.{Arguments}
+use Rattle.cdc_audit.specs.declared.refusals.Refusal.{Refusal}
 use Rattle.cdc_follow.specs.Counts.{counts_with, no_counts, one_more}
 use Rattle.cdc_follow.specs.declared.streams.Taken.{Taken}
 use Rattle.cdc_checked_follow.specs.declared.streams.CheckStop.{CheckStop}
@@ -23,10 +24,10 @@ module _ (binding : Arguments) (skips : Bool) where
 
   -- the counts from a line on, after which following goes on
   pub counts_on : (state next : CheckedState) (number : ℕ) (line : List ℕ) (rest : List (List ℕ)) (made : Taken)
-      → GoesOn made ≡ line_turn binding skips state number line → next ≡ line_state state line
+      (why : Option Refusal) → GoesOn made why ≡ line_turn binding skips state number line → next ≡ line_state state line
       → line_counts binding skips state number (line ∷ rest)
       ≡ counts_with one_more made (line_counts binding skips next (number + 1) rest)
-  counts_on state next number line rest made turns is =
+  counts_on state next number line rest made why turns is =
       counts_first state number line rest
       ∙ ap (λ turn. counts_by turn (line_counts binding skips (line_state state line) (number + 1) rest)) (sym turns)
       ∙ ap (λ after. counts_with one_more made (line_counts binding skips after (number + 1) rest)) (sym is)

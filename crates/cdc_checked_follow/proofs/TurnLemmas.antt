@@ -7,6 +7,7 @@ use Rattle.cdc_types.specs.declared.events.Headers.{Headers}
 use Rattle.cdc_message.specs.Headers.{headers_of_event}
 use Rattle.cdc_match.specs.Arguments.{Arguments}
 use Rattle.cdc_match.specs.Matching.{matches}
+use Rattle.cdc_audit.specs.declared.refusals.Refusal.{Refusal}
 use Rattle.cdc_follow.specs.declared.entries.Content.{Content}
 use Rattle.cdc_follow.specs.declared.entries.Content.TheVariants as content
 use Rattle.cdc_follow.specs.declared.follower.Following.TheVariants.{Applied, PassedBy}
@@ -28,7 +29,7 @@ use Rattle.cdc_checked_follow.specs.declared.turns.CheckTurn.{CheckTurn}
 use Rattle.cdc_checked_follow.specs.declared.turns.CheckTurn.TheVariants.{GoesOn, Stops}
 use Rattle.cdc_checked_follow.specs.Checking.{CheckedState, content_outcome, stop_for}
 use Rattle.cdc_checked_follow.specs.Standing.{CheckedFollowerState, StandsFor}
-use Rattle.cdc_checked_follow.specs.Turns.{LineTurns, StepTurns, applied_as, first_turn, following_of, line_turn, read_turn, turn_by}
+use Rattle.cdc_checked_follow.specs.Turns.{LineTurns, StepTurns, applied_as, first_turn, following_of, line_turn, read_turn, refusal_of, turn_by}
 
 -- what becomes of an applied event, by whether the binding takes it
 pub applied_by : (binding : Arguments) (c : Content) (e : Event) (headers : Headers) (taken answer : Bool)
@@ -52,12 +53,12 @@ module _ (binding : Arguments) (skips : Bool) (number : ℕ) (line : List ℕ) (
 
   -- a line without an entry
   pub turns_when_none : (read : Option Entry) → GivesUnlessMemory (Ok read) (line_entry false line) → read ≡ None
-      → LineTurns binding skips number line old (GoesOn taken.Nothing)
+      → LineTurns binding skips number line old (GoesOn taken.Nothing None)
   turns_when_none read gives is state stands = sym (turn_read state (Ok None) (read_as read None gives is))
 
   -- what comes of an entry of which this becomes
   abbrev turn_of : Entry → Checking → CheckTurn
-  turn_of entry c = turn_by (stop_for skips c number) (taken.Entry entry (following_of binding entry.content c))
+  turn_of entry c = turn_by (stop_for skips c number) (taken.Entry entry (following_of binding entry.content c)) (refusal_of c)
 
   turn_is : (state : CheckedState) (read : Option Entry) (entry : Entry) (c : Checking)
       → GivesUnlessMemory (Ok read) (line_entry false line) → read ≡ Some entry
@@ -67,14 +68,16 @@ module _ (binding : Arguments) (skips : Bool) (number : ℕ) (line : List ℕ) (
 
   -- a line with an entry, after which following goes on
   pub turns_when_on : (read : Option Entry) (entry : Entry) (c : Checking) (answer : Option CheckStop)
-      (made : Following) → GivesUnlessMemory (Ok read) (line_entry false line) → read ≡ Some entry
-      → answer ≡ stop_for skips c number → answer ≡ None → made ≡ following_of binding entry.content c
+      (made : Following) (why : Option Refusal) → GivesUnlessMemory (Ok read) (line_entry false line)
+      → read ≡ Some entry → answer ≡ stop_for skips c number → answer ≡ None
+      → made ≡ following_of binding entry.content c → why ≡ refusal_of c
       → ((state : CheckedState) → StandsFor binding old state → c ≡ content_outcome state entry.content)
-      → LineTurns binding skips number line old (GoesOn (taken.Entry entry made))
-  turns_when_on read entry c answer made gives is stops on becomes answers state stands =
+      → LineTurns binding skips number line old (GoesOn (taken.Entry entry made) why)
+  turns_when_on read entry c answer made why gives is stops on becomes refused answers state stands =
       let entry_made = taken.Entry entry (following_of binding entry.content c) in
-      ap (λ (made : Following). GoesOn (taken.Entry entry made)) becomes
-      ∙ sym (ap (λ answer. turn_by answer entry_made) (sym stops ∙ on))
+      ap (λ (made : Following). GoesOn (taken.Entry entry made) why) becomes
+      ∙ ap (λ (why : Option Refusal). GoesOn entry_made why) refused
+      ∙ sym (ap (λ answer. turn_by answer entry_made (refusal_of c)) (sym stops ∙ on))
       ∙ turn_is state read entry c gives is (answers state stands)
 
   -- a line with an entry, at which following stops
@@ -85,7 +88,7 @@ module _ (binding : Arguments) (skips : Bool) (number : ℕ) (line : List ℕ) (
       → LineTurns binding skips number line old (Stops why)
   turns_when_stop read entry c answer why gives is stops stopped answers state stands =
       let entry_made = taken.Entry entry (following_of binding entry.content c) in
-      sym (ap (λ answer. turn_by answer entry_made) (sym stops ∙ stopped))
+      sym (ap (λ answer. turn_by answer entry_made (refusal_of c)) (sym stops ∙ stopped))
       ∙ turn_is state read entry c gives is (answers state stands)
 
   -- a line that is no entry

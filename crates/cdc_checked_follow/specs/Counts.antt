@@ -12,7 +12,7 @@ use Rattle.cdc_checked_follow.specs.Turns.{line_state, line_turn}
 -- the counts of a line, by what comes of it, and of those after it: a line at which following stops isn't counted, and
 -- neither is any after it
 abbrev pub counts_by : CheckTurn → Counts → Counts
-counts_by (GoesOn made) later = counts_with one_more made later
+counts_by (GoesOn made why) later = counts_with one_more made later
 counts_by (Stops stop) later = no_counts
 
 -- the counts of lines, numbered from this one on

@@ -9,6 +9,7 @@ use Rattle.cdc_follow.specs.declared.follower.Following.{Following}
 use Rattle.cdc_follow.specs.declared.follower.Following.TheVariants.{Applied, PassedBy, Duplicate, Gap, Ended, OutOfRange}
 use Rattle.cdc_follow.specs.declared.streams.Taken.{Taken}
 use Rattle.cdc_follow.specs.declared.streams.Taken.TheVariants as taken
+use Rattle.cdc_audit.specs.declared.refusals.Refusal.{Refusal}
 use Rattle.cdc_follow.specs.Entries.{line_entry}
 use Rattle.cdc_follow.specs.Lines.{lines_of}
 use Rattle.cdc_checked_follow.specs.declared.follower.Checking.{Checking}
@@ -33,20 +34,26 @@ following_of binding c (checking.Refused why) = Gap
 following_of binding c checking.Ended = Ended
 following_of binding c checking.OutOfRange = OutOfRange
 
--- following stops at an entry, or it is taken so
-abbrev pub turn_by : Option CheckStop → Taken → CheckTurn
-turn_by None made = GoesOn made
-turn_by (Some stop) made = Stops stop
+-- why an entry of which this becomes is refused, if it is
+abbrev pub refusal_of : Checking → Option Refusal
+refusal_of (checking.Refused why) = Some why
+refusal_of _ = None
+
+-- following stops at an entry, or it is taken so, and was refused for this reason, if at all
+abbrev pub turn_by : Option CheckStop → Taken → Option Refusal → CheckTurn
+turn_by None made why = GoesOn made why
+turn_by (Some stop) made why = Stops stop
 
 -- what comes of an entry of the line of this number
 abbrev pub entry_turn : Arguments → Bool → CheckedState → ℕ → Entry → CheckTurn
 entry_turn binding skips state number entry =
     turn_by (stop_for skips (content_outcome state entry.content) number)
     (taken.Entry entry (following_of binding entry.content (content_outcome state entry.content)))
+    (refusal_of (content_outcome state entry.content))
 
 -- what comes of the line of this number, by what it is read as
 abbrev pub read_turn : Arguments → Bool → CheckedState → ℕ → Result (Option Entry) LineError → CheckTurn
-read_turn binding skips state number (Ok None) = GoesOn taken.Nothing
+read_turn binding skips state number (Ok None) = GoesOn taken.Nothing None
 read_turn binding skips state number (Ok (Some entry)) = entry_turn binding skips state number entry
 read_turn binding skips state number (Err error) = Stops (BadLine number error)
 
@@ -71,7 +78,7 @@ first_turn binding skips state number (line ∷ rest) = line_turn binding skips 
 
 -- why following stops at a line, if it does
 abbrev pub stop_of : CheckTurn → Option CheckStop
-stop_of (GoesOn made) = None
+stop_of (GoesOn made why) = None
 stop_of (Stops stop) = Some stop
 
 -- whatever the follower stood for, this comes of the line of this number

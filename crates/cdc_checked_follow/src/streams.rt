@@ -8,7 +8,7 @@ ghost use Rattle.cdc_checked_follow.specs.Streams.{Checks, IsTaken, KeepsFirst, 
 ghost use Rattle.cdc_checked_follow.specs.Turns.{LineTurns, StepTurns, stop_of};
 
 use crate::follower::{CheckedFollower, Checking};
-use crate::turns::{CheckTurn, following_of};
+use crate::turns::{CheckTurn, following_of, refusal_of};
 use cdc_audit::Refusal;
 use cdc_follow::{FollowError, LineError, ReadError, Taken, read_entry, read_line};
 use cdc_match::Binding;
@@ -77,7 +77,7 @@ fn check_bytes(
 {
     let entry = match read_entry(alloc, line, false) {
         Ok(Some(entry)) => entry,
-        Ok(None) => return Ok(CheckTurn::GoesOn(Taken::Nothing)),
+        Ok(None) => return Ok(CheckTurn::GoesOn(Taken::Nothing, None)),
         Err(error) => return stop_at_line(number, error),
     };
     let checking = follower.take(binding, &entry)?;
@@ -85,7 +85,7 @@ fn check_bytes(
         return Ok(CheckTurn::Stops(stop));
     }
     let following = following_of(binding, &entry.content, checking);
-    Ok(CheckTurn::GoesOn(Taken::Entry(entry, following)))
+    Ok(CheckTurn::GoesOn(Taken::Entry(entry, following), refusal_of(checking)))
 }
 
 /// Reads the line of this number into the buffer and follows it.

@@ -5,6 +5,7 @@ ghost use Rattle.cdc_checked_follow.specs.Turns as spec;
 
 use crate::follower::Checking;
 use crate::streams::CheckStop;
+use cdc_audit::Refusal;
 use cdc_follow::{Content, Following, Taken};
 use cdc_match::Binding;
 use cdc_message::headers_of;
@@ -12,8 +13,9 @@ use cdc_message::headers_of;
 /// What comes of a line.
 #[derive(Clone, Copy, Debug, PartialEq, Eq)]
 pub enum CheckTurn {
-    /// It was taken so, and the lines after it are to be followed too.
-    GoesOn(Taken),
+    /// It was taken so, and the lines after it are to be followed too. An event that is skipped was refused for this
+    /// reason.
+    GoesOn(Taken, Option<Refusal>),
     /// Following stops at it.
     Stops(CheckStop),
 }
@@ -31,6 +33,16 @@ fn applied_as(binding: &Binding, content: &Content) -> Following
             }
         }
         Content::End => Following::Ended,
+    }
+}
+
+/// Why an entry of which this becomes is refused, if it is.
+pub(crate) fn refusal_of(checking: Checking) -> Option<Refusal>
+    ensures { result ≡ spec.refusal_of checking }
+{
+    match checking {
+        Checking::Refused(why) => Some(why),
+        _ => None,
     }
 }
 

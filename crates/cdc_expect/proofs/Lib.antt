@@ -1,2 +1,4 @@
 pub mod PrintLemmas
 pub mod TextLemmas
+pub mod CheckedTextLemmas
+pub mod CheckedPrintLemmas

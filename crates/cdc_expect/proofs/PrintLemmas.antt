@@ -1,7 +1,7 @@
 -- What is printed so far, line by line.
 use Rattle.std.proofs.Common.{◌≡◌, ℕ, ◌+◌, List, [], ◌++◌, length, take, append_assoc, append-nil, Bool, true, false}
 use Rattle.std.proofs.Common.{Option, None, Some, Result, Ok, Err, refl, sym, ap, ◌∙◌, subst}
-use Rattle.std.specs.Prelude.{IfErr, IfOk, IfSome}
+use Rattle.std.specs.Prelude.{IfErr, IfOk, IfSome, OnOk}
 use Rattle.std.specs.Io.KnownBytes.{Appends}
 use Rattle.std.proofs.KnownBytes.{Appends-trans}
 use Rattle.std.proofs.Math.Seq.{take-append-add, take-append_seam}
@@ -18,7 +18,7 @@ use Rattle.cdc_follow.specs.declared.streams.Turn.TheVariants.{GoesOn, Stops}
 use Rattle.cdc_follow.specs.Following.{FollowState}
 use Rattle.cdc_follow.specs.Turns.{StepTurns}
 use Rattle.cdc_follow.proofs.StopLemmas.{Follows}
-use Rattle.cdc_streams.specs.Saving.{IfStopped, PrintsBy, PrintsFault, is_write_fault}
+use Rattle.cdc_streams.specs.Saving.{IfStopped, PrintsAll, PrintsBy, PrintsFault, is_write_fault}
 use Rattle.cdc_streams.specs.declared.endings.StreamEnding.{StreamEnding}
 use Rattle.cdc_streams.specs.declared.endings.StreamEnding.TheVariants.{Stopped, Failed}
 use Rattle.cdc_streams.proofs.SavingLemmas.{appends_nothing, fault_prints, part_more, prints_all}
@@ -42,7 +42,7 @@ pub first_none : (why : ProgramFault) (text : List ℕ) (known : Option (List �
 first_none why text known = first_whole why [] text text known known refl (appends_nothing known)
 
 -- a part of it was
-first_part : (why : ProgramFault) (failed : Bool) (done more text : List ℕ) (old new : Option (List ℕ))
+pub first_part : (why : ProgramFault) (failed : Bool) (done more text : List ℕ) (old new : Option (List ℕ))
     → text ≡ done ++ more → PrintsBy failed old new done → PrintsFirst why text old new
 first_part why true done more text old new is part =
     let n = part.0 in
@@ -58,7 +58,7 @@ by_after true done rest count old mid new first part = part_more done (take coun
 by_after false done rest count old mid new first adds =
     Appends-trans old mid new done (take count rest) first adds
 
-first_after : (why : ProgramFault) (done rest text : List ℕ) (old mid new : Option (List ℕ)) → text ≡ done ++ rest
+pub first_after : (why : ProgramFault) (done rest text : List ℕ) (old mid new : Option (List ℕ)) → text ≡ done ++ rest
     → Appends old mid done → PrintsFirst why rest mid new → PrintsFirst why text old new
 first_after why done rest text old mid new is first later = (
   length done + later.0,
@@ -74,6 +74,17 @@ pub write_fails : {T : Type 0} (answer : Result T ProgramFault) (text wanted : L
 write_fails (Ok done) text wanted old new is prints = tt
 write_fails (Err why) text wanted old new is prints =
     first_part why (is_write_fault why) text [] wanted old new (sym is ∙ sym (append-nil text)) prints
+
+-- a text was written, or a part of it if a write failed
+pub part_prints : {T : Type 0} (answer : Result T ProgramFault) (text wanted : List ℕ) (old new : Option (List ℕ))
+    → text ≡ wanted → PrintsAll old new text answer → OnOk answer (Appends old new wanted)
+part_prints (Ok done) text wanted old new is prints = subst (Appends old new) is prints
+part_prints (Err why) text wanted old new is prints = tt
+
+pub part_fails : {T : Type 0} (answer : Result T ProgramFault) (text wanted : List ℕ) (old new : Option (List ℕ))
+    → text ≡ wanted → PrintsAll old new text answer → IfErr answer (λ why. PrintsFirst why wanted old new)
+part_fails (Ok done) text wanted old new is prints = tt
+part_fails {T = T} (Err why) text wanted old new is prints = write_fails {T = T} (Err why) text wanted old new is prints
 
 -- the text of a turn was printed
 pub write_prints : (answer : Result Turn ProgramFault) (number : ℕ) (turn : Turn) (kept : SubscriberState)

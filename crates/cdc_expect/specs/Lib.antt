@@ -1,2 +1,4 @@
+pub mod Lines
 pub mod Expect
+pub mod Checked
 pub mod Printing

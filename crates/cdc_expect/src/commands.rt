@@ -8,7 +8,7 @@ ghost use Rattle.cdc_streams.specs.Saving.{IfStopped, PrintsBy, is_write_fault};
 ghost use Rattle.cdc_expect.specs.Expect.{expect_text, lines_text, turn_text as text_of_turn};
 ghost use Rattle.cdc_expect.specs.Printing.{PrintsExpected, PrintsFirst, PrintsFront};
 
-use crate::lines::turn_text;
+use crate::turns::turn_text;
 use cdc_follow::{Follower, Rules, Stop, Turn, follow_line};
 use cdc_match::Binding;
 use cdc_output::{FaultForm, ProgramFault};

@@ -1,66 +1,41 @@
-//! The JSON line of what comes of a line.
+//! The parts of the JSON lines, and the lines that both ways of following print.
 
-ghost use Rattle.std.specs.Prelude.{◌≡◌, ◌++◌, IfOk, OnOk};
-ghost use Rattle.cdc_expect.specs.Expect as spec;
+ghost use Rattle.std.specs.Prelude.{◌≡◌, ◌++◌, OnOk};
+ghost use Rattle.cdc_expect.specs.Lines as spec;
 
-use cdc_follow::{Content, Entry, Following, LineError, Stop, Taken, Turn};
+use cdc_follow::{Content, Entry, Following, LineError};
 use cdc_output::{push, push_named};
-use cdc_subscriber::Subscriber;
 use cdc_types::{Event, EventAccount};
-use std::alloc::{AllocError, Global};
+use std::alloc::AllocError;
 
-/// The JSON line of what came of the line of this number, after which the subscriber is as it is; no text if there was
-/// no line.
-pub(crate) fn turn_text(
-    alloc: Global,
-    number: u64,
-    turn: &Turn,
-    subscriber: &Subscriber,
-) -> Result<Vec<u8>, AllocError>
-    ensures { IfOk result (λ text. text.items ≡ spec.turn_text number turn.now subscriber.now) }
-{
-    let mut text = Vec::new(alloc);
-    push_turn(&mut text, number, turn, subscriber)?;
-    Ok(text)
-}
-
-/// Adds the line of what came of the line of this number.
-fn push_turn(
-    text: &mut Vec<u8>,
-    number: u64,
-    turn: &Turn,
-    subscriber: &Subscriber,
-) -> Result<(), AllocError>
-    ensures { OnOk result (text.new.items ≡ text.old.items ++ spec.turn_text number turn.now subscriber.now) }
-{
-    match turn {
-        Turn::GoesOn(Taken::Nothing) => push_result(text, number, "nothing", subscriber),
-        Turn::GoesOn(Taken::Entry(entry, following)) => {
-            push_entry(text, number, entry, *following, subscriber)
-        }
-        Turn::Stops(stop) => push_stop(text, *stop, subscriber),
-    }
+/// What each line shows of a follower.
+#[derive(Clone, Copy)]
+pub(crate) struct Kept {
+    /// How many events its book has. The count saturates at 2^64-1.
+    pub applied: u64,
+    /// The timestamp of the last event that was applied, in nanoseconds; 0 before the first.
+    pub last: u64,
 }
 
 /// Adds the line of a line with this entry, of which this became.
-fn push_entry(
+pub(crate) fn push_entry(
     text: &mut Vec<u8>,
     number: u64,
     entry: &Entry,
     following: Following,
-    subscriber: &Subscriber,
+    kept: Kept,
 ) -> Result<(), AllocError>
     ensures { OnOk result (text.new.items
-        ≡ text.old.items ++ spec.entry_text number entry.now.content following subscriber.now) }
+        ≡ text.old.items ++ spec.entry_text number entry.now.content following kept) }
 {
     match following {
-        Following::Applied => push_applied(text, number, &entry.content, subscriber),
-        Following::PassedBy => push_result(text, number, "passed", subscriber),
-        Following::Duplicate => push_result(text, number, "duplicate", subscriber),
-        Following::Gap => push_result(text, number, "gap", subscriber),
-        Following::Ended => push_result(text, number, "end", subscriber),
-        Following::AfterEnd => push_result(text, number, "after_end", subscriber),
-        Following::OutOfRange => push_result(text, number, "out_of_range", subscriber),
+        Following::Applied => push_applied(text, number, &entry.content, kept),
+        Following::PassedBy => push_result(text, number, "passed", kept),
+        Following::Duplicate => push_result(text, number, "duplicate", kept),
+        Following::Gap => push_result(text, number, "gap", kept),
+        Following::Ended => push_result(text, number, "end", kept),
+        Following::AfterEnd => push_result(text, number, "after_end", kept),
+        Following::OutOfRange => push_result(text, number, "out_of_range", kept),
     }
 }
 
@@ -69,56 +44,39 @@ fn push_applied(
     text: &mut Vec<u8>,
     number: u64,
     content: &Content,
-    subscriber: &Subscriber,
+    kept: Kept,
 ) -> Result<(), AllocError>
     ensures { OnOk result (text.new.items
-        ≡ text.old.items ++ spec.applied_text number content.now subscriber.now) }
+        ≡ text.old.items ++ spec.applied_text number content.now kept) }
 {
     match content {
-        Content::Event(event) => push_event(text, number, event, subscriber),
-        Content::End => push_result(text, number, "applied", subscriber),
-    }
-}
-
-/// Adds the line of why following stopped; none if it stopped at the end.
-fn push_stop(text: &mut Vec<u8>, stop: Stop, subscriber: &Subscriber) -> Result<(), AllocError>
-    ensures { OnOk result (text.new.items ≡ text.old.items ++ spec.stop_text stop subscriber.now) }
-{
-    match stop {
-        Stop::AtEnd => Ok(()),
-        Stop::Gap(line, _) => push_result(text, line, "gap", subscriber),
-        Stop::AfterEnd(line, _) => push_result(text, line, "after_end", subscriber),
-        Stop::BadLine(line, error) => push_bad_line(text, line, error, subscriber),
+        Content::Event(event) => push_event(text, number, event, kept),
+        Content::End => push_result(text, number, "applied", kept),
     }
 }
 
 /// Adds the line of a line with this result, which changes no account.
-fn push_result(
+pub(crate) fn push_result(
     text: &mut Vec<u8>,
     number: u64,
     name: &str,
-    subscriber: &Subscriber,
+    kept: Kept,
 ) -> Result<(), AllocError>
     ensures { OnOk result (text.new.items
-        ≡ text.old.items ++ spec.result_text number name.now subscriber.now) }
+        ≡ text.old.items ++ spec.result_text number name.now kept) }
 {
     push_head(text, number, name)?;
-    push_kept(text, subscriber)?;
+    push_kept(text, kept)?;
     push(text, "]}\n")?;
     Ok(())
 }
 
 /// Adds the line of a line whose event is applied.
-fn push_event(
-    text: &mut Vec<u8>,
-    number: u64,
-    event: &Event,
-    subscriber: &Subscriber,
-) -> Result<(), AllocError>
-    ensures { OnOk result (text.new.items ≡ text.old.items ++ spec.event_text number event.now subscriber.now) }
+fn push_event(text: &mut Vec<u8>, number: u64, event: &Event, kept: Kept) -> Result<(), AllocError>
+    ensures { OnOk result (text.new.items ≡ text.old.items ++ spec.event_text number event.now kept) }
 {
     push_head(text, number, "applied")?;
-    push_kept(text, subscriber)?;
+    push_kept(text, kept)?;
     push_account(text, &event.debit_account)?;
     push(text, ",")?;
     push_account(text, &event.credit_account)?;
@@ -127,26 +85,26 @@ fn push_event(
 }
 
 /// Adds the line of a line that is no entry, for this reason.
-fn push_bad_line(
+pub(crate) fn push_bad_line(
     text: &mut Vec<u8>,
     number: u64,
     error: LineError,
-    subscriber: &Subscriber,
+    kept: Kept,
 ) -> Result<(), AllocError>
     ensures { OnOk result (text.new.items
-        ≡ text.old.items ++ spec.bad_line_text number error subscriber.now) }
+        ≡ text.old.items ++ spec.bad_line_text number error kept) }
 {
     push_head(text, number, "bad_line")?;
     push(text, ",\"name\":\"")?;
     push(text, error.name())?;
     push(text, "\"")?;
-    push_kept(text, subscriber)?;
+    push_kept(text, kept)?;
     push(text, "]}\n")?;
     Ok(())
 }
 
 /// Adds the first members: those of the line of this number, which has this result.
-fn push_head(text: &mut Vec<u8>, number: u64, name: &str) -> Result<(), AllocError>
+pub(crate) fn push_head(text: &mut Vec<u8>, number: u64, name: &str) -> Result<(), AllocError>
     ensures { OnOk result (text.new.items ≡ text.old.items ++ spec.head_text number name.now) }
 {
     push_named(text, "{\"kind\":\"expect\",\"line\":", number)?;
@@ -156,12 +114,12 @@ fn push_head(text: &mut Vec<u8>, number: u64, name: &str) -> Result<(), AllocErr
     Ok(())
 }
 
-/// Adds the members of what the subscriber keeps, and begins that of the accounts.
-fn push_kept(text: &mut Vec<u8>, subscriber: &Subscriber) -> Result<(), AllocError>
-    ensures { OnOk result (text.new.items ≡ text.old.items ++ spec.kept_text subscriber.now) }
+/// Adds the members of what a follower keeps, and begins that of the accounts.
+pub(crate) fn push_kept(text: &mut Vec<u8>, kept: Kept) -> Result<(), AllocError>
+    ensures { OnOk result (text.new.items ≡ text.old.items ++ spec.kept_text kept) }
 {
-    push_named(text, ",\"applied\":", subscriber.applied_count())?;
-    push_named(text, ",\"last\":\"", subscriber.last())?;
+    push_named(text, ",\"applied\":", kept.applied)?;
+    push_named(text, ",\"last\":\"", kept.last)?;
     push(text, "\",\"accounts\":[")?;
     Ok(())
 }

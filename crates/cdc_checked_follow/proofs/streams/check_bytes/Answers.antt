@@ -49,8 +49,8 @@ pub returns-clause-turns : goal.returns-clause-turns
 returns-clause-turns c =
     turns_when_on c.args.binding.now c.args.skips_gaps c.args.number c.args.line.now c.args.follower.now
     c.in-Ok-Some.field-0 c.in-Ok-Some.entry c.in_ok-checking.checking c.stop_for.result c.following_of-following.result
-    c.in-Ok-Some.ensures c.in-Ok-Some.field-0-is c.stop_for.ensures c.in_default.is c.following_of-following.ensures
-    c.in_ok-checking.ensures.answer
+    c.refusal_of.result c.in-Ok-Some.ensures c.in-Ok-Some.field-0-is c.stop_for.ensures c.in_default.is
+    c.following_of-following.ensures c.refusal_of.ensures c.in_ok-checking.ensures.answer
 
 pub returns-in-Ok-None-clause-taken : goal.returns-in-Ok-None-clause-taken
 returns-in-Ok-None-clause-taken c = λ _ number.

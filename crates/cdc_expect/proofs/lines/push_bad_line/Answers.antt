@@ -1,6 +1,6 @@
 use Rattle.std.specs.Prelude.{codes}
 use Rattle.cdc_follow.specs.LineErrors.{line_error_name}
-use Rattle.cdc_expect.specs.Expect.{head_text, kept_text}
+use Rattle.cdc_expect.specs.Lines.{head_text, kept_text}
 use Rattle.cdc_output.proofs.TextLemmas.{pieces}
 use Rattle.cdc_expect.proofs.lines.push_bad_line.Goals as goal
 
@@ -11,5 +11,5 @@ returns c =
     (pieces _ c.push.new.text.items _ (codes ",\"name\":\"") _ c.in_ok-push.ensures
     (pieces _ c.push-2.new.text.items _ (line_error_name c.args.error) _ named
     (pieces _ c.push-3.new.text.items _ (codes "\"") _ c.in_ok-push-3.ensures
-    (pieces _ c.push_kept.new.text.items _ (kept_text c.args.subscriber.now) _ c.in_ok-push_kept.ensures
+    (pieces _ c.push_kept.new.text.items _ (kept_text c.args.kept) _ c.in_ok-push_kept.ensures
     c.in_ok-push-4.ensures))))

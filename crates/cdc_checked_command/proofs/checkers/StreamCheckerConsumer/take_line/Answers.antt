@@ -9,7 +9,7 @@ use Rattle.cdc_checked_command.proofs.checkers.StreamCheckerConsumer.take_line.G
 pub returns-in-GoesOn-clause-leads : goal.returns-in-GoesOn-clause-leads
 returns-in-GoesOn-clause-leads g c =
     rw c.keep_line.ensures.bound (line_on c.args.setup.now c.args.self.now.bound c.args.number
-    c.check_line.new.follower c.count.new.self c.in-GoesOn.taken (g.B.Read.remaining c.args.reader.now)
+    c.check_line.new.follower c.count.new.self c.in-GoesOn.taken c.in-GoesOn.field-1 (g.B.Read.remaining c.args.reader.now)
     (g.B.Read.remaining c.check_line.new.reader) c.ranges.number.fits c.count.ensures
     (rw c.in-GoesOn.is at c.in_ok-turn.ensures.leads) (rw c.in-GoesOn.is at c.in_ok-turn.ensures.turns))
 
