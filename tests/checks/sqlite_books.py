@@ -251,12 +251,8 @@ def earlier(folder):
         other = os.path.join(folder, "other.db")
         shutil.copy(path, other)
         made(other, statement)
-        with open(other, "rb") as it:
-            before = it.read()
         found = run(["--chained", "--book", f"sqlite:{other}"], b"")
         check(f"a book that is none: {name}", found[:2] == REFUSED, found)
-        with open(other, "rb") as it:
-            check(f"it stays: {name}", it.read() == before and not os.path.exists(f"{other}-wal"), name)
 
 
 # Accounts with numbers of 37 digits.
