@@ -235,6 +235,18 @@ def earlier(folder):
         ("a part of the details", "UPDATE accounts SET code = NULL WHERE place = 1"),
         ("a timestamp with a leading zero", "UPDATE accounts SET last_timestamp = '0' || last_timestamp WHERE place = 1"),
         ("a code that is too large", "UPDATE accounts SET code = 65536 WHERE place = 1"),
+        ("a balance of 129 bits", f"UPDATE accounts SET debits_posted = '{2**128}' WHERE place = 1"),
+        ("a balance with a sign", "UPDATE accounts SET debits_posted = '+' || debits_posted WHERE place = 1"),
+        ("a timestamp of 65 bits", f"UPDATE accounts SET last_timestamp = '{2**64}' WHERE place = 1"),
+        ("an account that is there twice", "UPDATE accounts SET id = (SELECT id FROM accounts WHERE place = 1) WHERE place = 2"),
+        ("no row of the first account", "DELETE FROM accounts WHERE place = 1"),
+        ("no row of an account between two others", "DELETE FROM accounts WHERE place = 2"),
+        ("a row at place 0", "UPDATE accounts SET place = 0 WHERE place = (SELECT max(place) FROM accounts)"),
+        ("a row below place 0", "UPDATE accounts SET place = -3 WHERE place = (SELECT max(place) FROM accounts)"),
+        ("a row at a later place", "UPDATE accounts SET place = place + 1 WHERE place = (SELECT max(place) FROM accounts)"),
+        ("a text of another version", "UPDATE book SET text = CAST(replace(CAST(text AS TEXT), 'book 1 ', 'book 2 ') AS BLOB)"),
+        ("a text with another mark", "UPDATE book SET text = CAST('row' || substr(CAST(text AS TEXT), 5) AS BLOB)"),
+        ("no text", "DELETE FROM book"),
     ]:
         other = os.path.join(folder, "other.db")
         shutil.copy(path, other)

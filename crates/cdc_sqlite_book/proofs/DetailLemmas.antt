@@ -1,7 +1,6 @@
 -- What is known of accounts, after what was shown of some is put into it.
 use Rattle.std.proofs.Common.{◌≡◌, ◌==◌, ℕ, suc, List, [], ◌∷◌, ◌++◌, Bool, true, false, ◌||◌, Option, Some, None, cond, take, is_some, refl, sym, ap, ◌∙◌, inl, inr}
 use Rattle.std.specs.Prelude.{nat_eq, option_map, slice_get}
-use Rattle.std.specs.Map.{lookup}
 use Rattle.indexmap.specs.IndexMap.{insert_entry}
 use Rattle.std.proofs.lemmas.Bool.{cases_Bool}
 use Rattle.std.proofs.lemmas.Bool.Decides.{eqb_tells}
@@ -27,7 +26,7 @@ holds_same text kept known other db same holds = record {
 }
 
 -- an account that comes last is among them
-among_last : (before : List BookEntry) (entry : BookEntry) (id : ℕ) → (entry.id == id) ≡ true
+pub among_last : (before : List BookEntry) (entry : BookEntry) (id : ℕ) → (entry.id == id) ≡ true
     → is_among id (ids_of (before ++ entry ∷ [])) ≡ true
 among_last [] entry id is = rw is refl
 among_last (b ∷ before) entry id is = elim (cases_Bool (b.id == id)) [
@@ -36,7 +35,7 @@ among_last (b ∷ before) entry id is = elim (cases_Bool (b.id == id)) [
 ]
 
 -- and any other one, if it is among those before
-among_others : (before : List BookEntry) (entry : BookEntry) (id : ℕ) → (entry.id == id) ≡ false
+pub among_others : (before : List BookEntry) (entry : BookEntry) (id : ℕ) → (entry.id == id) ≡ false
     → is_among id (ids_of (before ++ entry ∷ [])) ≡ is_among id (ids_of before)
 among_others [] entry id is = rw is refl
 among_others (b ∷ before) entry id is = ap (λ more. (b.id == id) || more) (among_others before entry id is)
@@ -75,7 +74,7 @@ twice true x y z = refl
 twice false x y z = refl
 
 -- what is known once details are put
-details_put : (known : List (ℕ × Details)) (id : ℕ) (details : Details) (other : ℕ)
+pub details_put : (known : List (ℕ × Details)) (id : ℕ) (details : Details) (other : ℕ)
     → details_in (insert_entry nat_eq known id details) other ≡ cond (id == other) (Some details) (details_in known other)
 details_put [] id details other = rw (eq_swap other id) refl
 details_put (first ∷ more) id details other = elim (eqb_tells id first.0) [

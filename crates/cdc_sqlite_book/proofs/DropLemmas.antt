@@ -1,5 +1,5 @@
 -- What DROP TABLE leaves.
-use Rattle.std.proofs.Common.{◌≡◌, ◌⊎◌, inl, inr, ℕ, List, [], codes, None, Ok, Err, Result, OnOk, refl, ap, subst, ◌∙◌}
+use Rattle.std.proofs.Common.{◌≡◌, inl, inr, ℕ, List, [], codes, None, Ok, Err, Result, OnOk, refl, ap, subst, ◌∙◌}
 use Rattle.sqlite.specs.Command.TheVariants.{DropTable}
 use Rattle.sqlite.specs.Does.{Tally, Does}
 use Rattle.sqlite_tied.specs.Compute.{everything}

@@ -1,5 +1,5 @@
 -- What reading and replacing a book leaves of a crash.
-use Rattle.std.proofs.Common.{◌≡◌, inl, inr, ℕ, List, Bool, true, false, cond, Option, Some, None, is_some, is_none, not, option_map, IsSomeAnd, Ok, Err, Result, OnOk, refl, sym, ap, subst}
+use Rattle.std.proofs.Common.{◌≡◌, inl, inr, ℕ, List, Bool, true, false, Option, Some, None, is_some, is_none, not, option_map, IsSomeAnd, Ok, Err, Result, OnOk, refl, ap}
 use Rattle.sqlite.specs.Schema.{Schema}
 use Rattle.sqlite.specs.Effect.{Database}
 use Rattle.sqlite.specs.State.{State, Survives}
@@ -8,7 +8,6 @@ use Rattle.sqlite.proofs.StateLemmas.{survives_weaker}
 use Rattle.cdc_subscriber.specs.SubscriberState.{SubscriberState}
 use Rattle.cdc_subscriber.specs.declared.book.BookEntry.{BookEntry}
 use Rattle.cdc_book_log.specs.declared.details.Details.{Details}
-use Rattle.cdc_book_log.specs.Details.{details_in}
 use Rattle.cdc_sqlite_book.specs.Tables.{no_schema, HasTables, HoldsBook, HoldsText, IsOfBook, IsSchemaIf, MayHold, MayChange}
 
 -- a fact holds after a success

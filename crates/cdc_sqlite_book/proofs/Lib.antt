@@ -1,9 +1,11 @@
 pub mod CreateLemmas
 pub mod DetailLemmas
 pub mod DropLemmas
+pub mod FindLemmas
 pub mod InsertLemmas
 pub mod KeptLemmas
 pub mod PlaceLemmas
+pub mod ReadLemmas
 pub mod ReplaceLemmas
 pub mod RowLemmas
 pub mod SelectLemmas

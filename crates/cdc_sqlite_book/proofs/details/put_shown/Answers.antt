@@ -1,4 +1,4 @@
-use Rattle.std.proofs.Common.{◌∙◌, sym}
+use Rattle.std.proofs.Common.{sym}
 use Rattle.std.proofs.lemmas.Result.{IfOk-at_ok}
 use Rattle.cdc_sqlite_book.proofs.DetailLemmas.{none_put, some_put}
 use Rattle.cdc_sqlite_book.proofs.details.put_shown.Goals as goal
