@@ -41,7 +41,7 @@ use Rattle.sqlite.specs.Effect.{Database, Reads, ReadsFirst, RefusesQuery, Refus
 use Rattle.sqlite.specs.State.{State, QueriesRow, CommitsShowing, Shown, FailsToQuery, Fails, IsNotRun, IsNoStatement}
 use Rattle.sqlite.proofs.Callers.{IsPlain, command_of, first_as, never_commits, reads_as}
 use Rattle.sqlite_rules.specs.Lists.{Has}
-use Rattle.cdc_sqlite_book.specs.Loading.{is_failure, IsNone, account_text, shown_of, IsDetailed, IsAt, IsStray, Finds, TellsStray}
+use Rattle.cdc_sqlite_book.specs.Loading.{is_failure, IsNone, account_text, shown_of, IsDetailed, IsAt, IsStray, Finds, HasStray}
 use Rattle.cdc_sqlite_book.specs.Tables.{book_schema, earlier_schema}
 
 -- ---- the rows of a table that pass a test
@@ -147,12 +147,12 @@ IsWhole sql count (Err e) = ⊥
 
 -- the store failed
 failed : (old new : State) (e : Error) → Fails old new ⊥ e → is_failure e ≡ true
-failed old new e (cause.OutOfMemory, is, why, rolled, told) = ap is_failure is
-failed old new e (cause.Io, is, why, rolled, told) = ap is_failure is
-failed old new e (cause.Corrupt, is, why, rolled, told) = ap is_failure is
-failed old new e (cause.Full, is, why, rolled, told) = ap is_failure is
-failed old new e (cause.Broken, is, why, rolled, told) = ap is_failure is
-failed old new e (cause.Unstorable, is, why, rolled, told) = absurd why
+failed old new e (cause.OutOfMemory, is, why, rolled, answered) = ap is_failure is
+failed old new e (cause.Io, is, why, rolled, answered) = ap is_failure is
+failed old new e (cause.Corrupt, is, why, rolled, answered) = ap is_failure is
+failed old new e (cause.Full, is, why, rolled, answered) = ap is_failure is
+failed old new e (cause.Broken, is, why, rolled, answered) = ap is_failure is
+failed old new e (cause.Unstorable, is, why, rolled, answered) = absurd why
 
 -- no row of one table overflows a sum
 no_fold : (test : Term) (project : List Term) (trees : Trees) (params : Row)
@@ -511,7 +511,7 @@ module _ (detailed : Bool) (place : ℕ) (old new : State) (has : IsDetailed det
       )
 
   pub stray_found : (row : Row) → QueriesRow stray_text (Int (pos place) ∷ []) old new (Ok row)
-      → TellsStray place (old.now.trees 1) true
+      → HasStray place (old.now.trees 1) true
   stray_found row h =
       let got = first_is is_stray (col 1 0 ∷ []) (codes "place" ∷ []) old.now (Int (pos place) ∷ []) row
       (first_as stray_text (Int (pos place) ∷ []) old new (schema_of detailed)
@@ -520,7 +520,7 @@ module _ (detailed : Bool) (place : ℕ) (old new : State) (has : IsDetailed det
       (got.0, got.1, passes_stray place got.0 got.2)
 
   pub stray_missing : (e : Error) → QueriesRow stray_text (Int (pos place) ∷ []) old new (Err e)
-      → IsMissing e (TellsStray place (old.now.trees 1) false) old new
+      → IsMissing e (HasStray place (old.now.trees 1) false) old new
   unfolding QueriesRow
   stray_missing e (inl h) = inl (fails stray_text is_stray (col 1 0 ∷ []) (codes "place" ∷ [])
       (Int (pos place) ∷ []) old new (schema_of detailed) (is_schema detailed old.now.schema has) (stray_is detailed)
@@ -585,7 +585,7 @@ found_is detailed place n rows others found row finds is same equal =
     subst (λ r. Finds detailed n r (Some row)) equal
     (subst (λ m. Finds detailed m rows (Some row)) same (subst (Finds detailed place rows) is finds))
 
-pub none_stray : (place n : ℕ) (rows others : List Row) (stray : Bool) → TellsStray place rows stray → stray ≡ false
+pub none_stray : (place n : ℕ) (rows others : List Row) (stray : Bool) → HasStray place rows stray → stray ≡ false
     → place ≡ n → rows ≡ others → (row : Row) → Has others row → ¬ IsStray n row
-none_stray place n rows others stray tells is same equal =
-    subst (TellsStray n others) is (subst (λ r. TellsStray n r stray) equal (subst (λ m. TellsStray m rows stray) same tells))
+none_stray place n rows others stray holds_so is same equal =
+    subst (HasStray n others) is (subst (λ r. HasStray n r stray) equal (subst (λ m. HasStray m rows stray) same holds_so))

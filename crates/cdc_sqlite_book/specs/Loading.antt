@@ -75,9 +75,9 @@ Finds detailed place rows (Some shown) =
 Finds detailed place rows None = (row : Row) → Has rows row → ¬ IsAt place row
 
 -- whether a row is at none of the first so many places
-abbrev pub TellsStray : ℕ → List Row → Bool → Type 0
-TellsStray count rows true = (row : Row) × Has rows row × IsStray count row
-TellsStray count rows false = (row : Row) → Has rows row → ¬ IsStray count row
+abbrev pub HasStray : ℕ → List Row → Bool → Type 0
+HasStray count rows true = (row : Row) × Has rows row × IsStray count row
+HasStray count rows false = (row : Row) → Has rows row → ¬ IsStray count row
 
 -- what is read of a row is the number and the balances of an account, each as a save writes it
 pub record HasEntry (row : Row) (entry : BookEntry) : Type 0 where

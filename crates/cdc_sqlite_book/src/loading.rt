@@ -9,7 +9,7 @@ ghost use Rattle.cdc_subscriber.specs.declared.book.BookEntry.{BookEntry as Entr
 ghost use Rattle.cdc_book_log.specs.declared.details.Details.{Details as Known};
 ghost use Rattle.cdc_follow.specs.Saved.{CanBeSaved, EntryFits, book_text};
 ghost use Rattle.cdc_follow.specs.Following.{FollowState};
-ghost use Rattle.cdc_sqlite_book.specs.Loading.{AddsRow, AreAccountsOf, DetailsFit, Finds, HasDetails, HasEntry, HasKnown, HasNulls, IsDetailed, IsNone, IsKnown, ReadsAs, IsWholeText, TellsStray, account_text, is_failure, with_book};
+ghost use Rattle.cdc_sqlite_book.specs.Loading.{AddsRow, AreAccountsOf, DetailsFit, Finds, HasDetails, HasEntry, HasKnown, HasNulls, IsDetailed, IsNone, IsKnown, ReadsAs, IsWholeText, HasStray, account_text, is_failure, with_book};
 ghost use Rattle.cdc_sqlite_book.specs.Tables.{HasTables, rows_mark};
 
 use crate::books::NO_BOOK;
@@ -237,7 +237,7 @@ fn has_stray<S: Alter>(conn: &mut Connection<S>, count: u32, detailed: bool) -> 
     ensures mode { conn.old.in_transaction ≡ false → conn.new.in_transaction ≡ false }
     ensures found { HasCleanDisk (state S.Store conn.new)
         → IsDetailed detailed (state S.Store conn.old).now.schema
-        → MatchResult result (TellsStray count ((state S.Store conn.old).now.trees 1)) (λ e. IsTrue (is_failure e)) }
+        → MatchResult result (HasStray count ((state S.Store conn.old).now.trees 1)) (λ e. IsTrue (is_failure e)) }
     ensures same { HasCleanDisk (state S.Store conn.new)
         → IsDetailed detailed (state S.Store conn.old).now.schema
         → OnOk result ((state S.Store conn.new).now ≡ (state S.Store conn.old).now) }

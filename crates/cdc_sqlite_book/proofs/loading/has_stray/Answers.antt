@@ -1,7 +1,7 @@
 use Rattle.std.proofs.Common.{false}
 use Rattle.sqlite.specs.Held.{state}
 use Rattle.sqlite.proofs.StateLemmas.{survives_weaker}
-use Rattle.cdc_sqlite_book.specs.Loading.{TellsStray}
+use Rattle.cdc_sqlite_book.specs.Loading.{HasStray}
 use Rattle.cdc_sqlite_book.proofs.FindLemmas.{stray_commits_nothing, stray_found, stray_keeps, stray_missing, none_found, none_keeps}
 use Rattle.cdc_sqlite_book.proofs.loading.has_stray.Goals as goal
 
@@ -27,7 +27,7 @@ returns-clause-found g c clean has =
     let old = state g.S.Store c.args.conn.now in
     let new = state g.S.Store c.query_row.new.self in
     none_found c.in-Err.error false c.no_stray.result
-    (TellsStray c.args.count (old.now.trees 1)) old new c.no_stray.ensures
+    (HasStray c.args.count (old.now.trees 1)) old new c.no_stray.ensures
     (stray_missing c.args.detailed c.args.count old new has _ (rw c.params-to_sql.ensures at (c.in-Err.ensures.row clean)))
 
 pub returns-clause-same : goal.returns-clause-same
