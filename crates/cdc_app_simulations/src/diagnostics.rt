@@ -7,10 +7,9 @@ use cdc_arguments::{Diagnostics, STANDARD_ERROR};
 use cdc_commands::Ending;
 use cdc_diagnostics::{Asked, Observed, RefusedStep};
 use cdc_world::StepError;
-use std::fs;
 use std::fs::OpenOptions;
-use std::io;
 use std::io::Read;
+use std::{fs, io};
 
 /// What these flags ask a simulation's observer for.
 pub fn asked(diagnostics: Diagnostics<'_>) -> Asked {

@@ -1,12 +1,11 @@
 //! What observes a simulation.
 
+use crate::diagnostics::asked;
 use cdc_arguments::Diagnostics;
 use cdc_deliveries::{Both, Recorder};
 use cdc_diagnostics::Observation;
 use cdc_drawing::DrawingRecorder;
 use cdc_page::PageRecorder;
-
-use crate::diagnostics::asked;
 
 /// What observes a simulation: the steps of deliveries, the texts that are asked for, and the pictures.
 pub type Observers<'a> = Both<Recorder, Both<Observation<'a>, Pictures>>;

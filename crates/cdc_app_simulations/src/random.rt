@@ -67,7 +67,14 @@ pub fn run_random(
             if is_reported(ending, diagnostics) {
                 if let Some(observed) = observation.finish(rt.alloc()) {
                     reported = report(rt, &observed, diagnostics);
-                    write_pictures(rt, shown_name(file), window, &pictures, &observed, diagnostics);
+                    write_pictures(
+                        rt,
+                        shown_name(file),
+                        window,
+                        &pictures,
+                        &observed,
+                        diagnostics,
+                    );
                 }
             }
             if let (Ending::Refused(refusal), false) = (ending, reported) {

@@ -70,7 +70,14 @@ pub fn run_simulation(
     if is_reported(ending, diagnostics) {
         if let Some(observed) = observation.finish(rt.alloc()) {
             reported = report_simulation(rt, steps, &observed, diagnostics);
-            write_pictures(rt, shown_name(file), wanted.window, &pictures, &observed, diagnostics);
+            write_pictures(
+                rt,
+                shown_name(file),
+                wanted.window,
+                &pictures,
+                &observed,
+                diagnostics,
+            );
         }
     }
     let seen = script.seen(shown_name(file));

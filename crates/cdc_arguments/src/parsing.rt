@@ -217,7 +217,11 @@ fn simulate_arguments<'a>(alloc: Global) -> Result<Command<'a>, AllocError> {
         ],
     )?
     .arg(diagram_option(alloc))?;
-    with_arguments(alloc, command, &[page_option(), svg_option(), json_flag(), check_flag()])
+    with_arguments(
+        alloc,
+        command,
+        &[page_option(), svg_option(), json_flag(), check_flag()],
+    )
 }
 
 /// The argument FILE, a script.
