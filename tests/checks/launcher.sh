@@ -18,6 +18,8 @@ start books x
 check 'the second call builds nothing' '' "$calls"
 check 'the second call prints nothing else' '' "$err"
 check 'the second call runs the program' 'run with books x' "$out"
+start signals
+has 'the signal of the limit on sizes (25) is ignored' '^SigIgn:.*[13579bdf]......$' "$out"
 check 'the second call starts no Python' '' "$(cat "$CALLS.python" 2>/dev/null)"
 
 touch "$low"

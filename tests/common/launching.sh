@@ -121,7 +121,7 @@ cat >"$room/kit/bin/rattle-link" <<'LINK'
 #!/usr/bin/env bash
 if [ -f "$DO/link" ]; then . "$DO/link"; fi
 while [ "$1" != -o ]; do shift; done
-printf '#!/bin/sh\n# of %s\necho "run with $*"\n[ "$1" != fail ]\n' "$(cat "$3")" >"$2"
+printf '#!/bin/sh\n# of %s\necho "run with $*"\n[ "$1" != signals ] || grep SigIgn /proc/self/status\n[ "$1" != fail ]\n' "$(cat "$3")" >"$2"
 chmod +x "$2"
 LINK
 # Python as the launcher finds it, which writes down that it was asked.
