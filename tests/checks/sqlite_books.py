@@ -4,7 +4,8 @@
   tests/checks/sqlite_books.py [PROGRAM] [--soak]    PROGRAM: crates/cdc_app/out/cdc_app
 
 What a book has to hold comes from the model of follow.py, and is read by Python's own sqlite3. What the rows have of accounts besides
-balances is also compared with rows by hand, of events at real sizes. Other files are refused, and stay as they are. A program that has the file open, and reads nothing at that time, keeps no save waiting; one amid its rows does. Killed and
+balances is also compared with rows by hand, of events at real sizes. Other files are refused, and stay as they are. A book keeps its
+mode and owner, and a save that meets a limit on sizes is a failed one. A program that has the file open, and reads nothing at that time, keeps no save waiting; one amid its rows does. Killed and
 refused: the program ends at each open, read, write and sync of a stream with a book, or one of these is refused; sqlite3 has to find
 a whole book, of what was reported as saved or of later events, and following goes on to the book of a run without a stop. The same of
 runs that are killed by signal 9 before each system call that changes something, and amid each write. Rivalry: 50 pairs of followers
@@ -17,7 +18,9 @@ import contextlib
 import fcntl
 import json
 import os
+import resource
 import shutil
+import signal
 import sqlite3
 import subprocess
 import sys
@@ -29,6 +32,7 @@ import ending
 import follow
 import frames
 import interrupted
+import keeping
 import rivals
 import rooms
 from commands import check, run
@@ -398,6 +402,45 @@ def moved(folder):
     check("and it has all events", rows_of(path)[0] == expected(model_of(lines[:3])), "")
 
 
+def owned(folder):
+    """A book keeps its mode and, if root follows, its owner; no file beside it can be read by more users."""
+    lines, path = follow.stream_of(12), os.path.join(folder, "a.db")
+    arguments = ["--chained", "--book", f"sqlite:{path}"]
+    for mode in keeping.MODES:
+        run(arguments, text_of(lines[:6]))
+        os.chmod(path, mode)
+        if os.geteuid() == 0:
+            os.chown(path, keeping.NOBODY, keeping.NOBODY)
+        before = keeping.owner_of(path)
+        found = run(arguments, text_of(lines))
+        check(f"a book of mode {mode:o} keeps it, and its owner", (found[0], keeping.owner_of(path)) == (0, before), (found, before))
+        check(f"beside a book of mode {mode:o}", os.listdir(folder) == ["a.db"], os.listdir(folder))
+        os.remove(path)
+
+
+def limited(folder):
+    """If a limit on sizes is met, and its signal is ignored as the launcher ignores it, the save has failed; what was saved stays."""
+    lines, path = follow.stream_of(24), os.path.join(folder, "a.db")
+    command = [commands.program, "follow", "--chained", "--every", "1", "--book", f"sqlite:{path}"]
+    for limit in (1, 4096, 5000, 8192, 12288, 20000):
+        done = subprocess.run(command, input=text_of(lines), capture_output=True, timeout=commands.SECONDS, restore_signals=False,
+                              preexec_fn=lambda: ignored_at(limit))
+        check(f"files of at most {limit} bytes", done.returncode == 1 and done.stdout.endswith(b"fault: store\n"), done)
+        saved = [it for it in done.stdout.decode().splitlines() if it.startswith("saved ")]
+        if saved:
+            wanted = [it for it in map(json.loads, lines) if "end" not in it and int(it["timestamp"]) <= int(saved[-1].split()[1])]
+            check(f"what was saved within {limit} bytes", rows_of(path)[0] == expected(model_of(lines[: len(wanted)])), saved)
+        found = run(["--chained", "--book", f"sqlite:{path}"], text_of(lines))
+        check(f"after files of at most {limit} bytes", found[0] == 0 and rows_of(path)[0] == expected(model_of(lines)), found)
+        os.remove(path)
+
+
+def ignored_at(limit):
+    """Limits the sizes of files of a run, whose signal is ignored."""
+    signal.signal(signal.SIGXFSZ, signal.SIG_IGN)
+    resource.setrlimit(resource.RLIMIT_FSIZE, (limit, limit))
+
+
 # ---------------------------------------------------------------------------------------------------------------------
 # Readers.
 
@@ -549,7 +592,7 @@ def main(arguments):
     options = rooms.options_of(commands.parser_of(__doc__), arguments)
     commands.begin(options.program, "follow", options.soak)
     with rooms.room("sqlite-books-") as folder:
-        for part in (tables, details, others, earlier, written, leftovers, moved, readers, killed, rivalry):
+        for part in (tables, details, others, earlier, written, leftovers, moved, owned, limited, readers, killed, rivalry):
             room = os.path.join(folder, part.__name__)
             os.mkdir(room)
             part(room)
