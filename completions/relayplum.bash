@@ -35,7 +35,7 @@ _relayplum() {
                 ;;
             simulate)
                 words='--random --to-end --steps --faults --skip-refused --deliveries --expect --window --explain'
-                words+=' --trace --diagram --json --check -h --help'
+                words+=' --trace --diagram --page --svg --json --check -h --help'
                 ;;
             run)
                 words='--window --prefetch --lose-confirm --lose-publish --restart-after --repeat --close'

@@ -25,6 +25,8 @@ complete -c relayplum -n '__fish_seen_subcommand_from simulate run' -l expect -d
 complete -c relayplum -n '__fish_seen_subcommand_from simulate run' -l window -x -a '1 2 8 64' -d 'Set the number of events that a session waits for at a time'
 complete -c relayplum -n '__fish_seen_subcommand_from simulate' -l trace -d 'Print on standard error what each step did'
 complete -c relayplum -n '__fish_seen_subcommand_from simulate' -l diagram -d 'Draw the steps as a sequence diagram for Mermaid, on standard error or in the file OUT'
+complete -c relayplum -n '__fish_seen_subcommand_from simulate' -l page -r -d 'Write the steps as a page of HTML, which any browser draws without a network, to the file OUT'
+complete -c relayplum -n '__fish_seen_subcommand_from simulate' -l svg -r -d 'Draw the steps as SVG, a row for each step, in the file OUT'
 complete -c relayplum -n '__fish_seen_subcommand_from run' -l prefetch -x -d 'Set the number of deliveries that a queue may have unacknowledged'
 complete -c relayplum -n '__fish_seen_subcommand_from run' -l lose-confirm -x -d 'Lose the confirm of the Nth accepted publish'
 complete -c relayplum -n '__fish_seen_subcommand_from run' -l lose-publish -x -d 'Lose the Nth publish that comes to the broker'

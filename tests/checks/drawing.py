@@ -472,10 +472,13 @@ def check_browser(checks, program, room, keep):
 
 
 def check_many(checks, program, room, keep):
-    page = room / "many.html"
-    ran(program, "simulate", EXAMPLES / "marketplace.script", "--random", 7, "--steps", MANY, "--faults", 2000, "--page", page)
+    page, steps = room / "many.html", room / "many.steps"
+    again = ["rewind 1", "send 1", "take 1"]
+    lines = (EXAMPLES / "two-phase.steps").read_text().splitlines()
+    steps.write_text("\n".join(lines + again * ((MANY - len(lines)) // len(again))) + "\n")
+    ran(program, "simulate", EXAMPLES / "two-phase.script", steps, "--page", page)
     count = len(data_of(text_of(page))["steps"]) - 1
-    checks.true("many steps", count > MANY // 2)
+    checks.true("many steps", count > MANY - 100)
     with browser.Browser() as tab:
         started = time.monotonic()
         tab.go(page)
