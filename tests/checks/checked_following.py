@@ -412,7 +412,7 @@ def results(folder):
     check('--expect goes on from another book', found[:2] == (0, voided) and read(other) == before, found)
     for options in (['--baseline'], ['--binding', 'all ledger=700']):
         found = run(['--expect', '--from-book', other, *options], VOIDED[1:])
-        check(f'--expect of a book of another kind: {options}', found[:2] == (1, '{"kind":"fault","name":"store"}\n') and 'other.book' in found[2], found)
+        check(f'--expect of a book of another kind: {options}', found[:2] == (2, '{"kind":"fault","name":"store"}\n') and 'other.book' in found[2], found)
     check('no file was made', os.listdir(folder) == ['other.book'], os.listdir(folder))
     with open('/dev/full', 'wb') as full, tempfile.TemporaryFile() as lines:
         lines.write(text_of(PAID))
@@ -433,7 +433,7 @@ def books(folder):
     check('it goes on', found[0] == 0 and found[1].endswith(head(4, 140) + 'account 1 0 12 0 4\naccount 2 0 4 0 12\naccount 3 0 1 0 0\naccount 4 0 0 0 1\n'), found)
     check('events that it has are duplicates', found[2] == counted(2, 2), found)
     found = run([*kept, '--binding', 'any'], [])
-    check('another text', found[0] == 1, found)
+    check('another text', found[0] == 2, found)
     before = read(path)
     check('its first line', before.split(b'\n')[1].startswith(b'checked-book 1 applied '), before[:80])
     for options in (['--checked', '--binding', 'all ledger=700'], [], ['--chained']):
@@ -479,7 +479,8 @@ def copies(folder):
         ('not by baseline', ['--from-book', other, '--baseline']),
     ):
         found = run(['--book', new, *options], PAID)
-        check(f'a copy of {name}', found[:2] == (2, 'fault: store\n') and not os.path.exists(new), found)
+        status = 1 if name == 'no file' else 2  # a file that can't be opened may be there later
+        check(f'a copy of {name}', found[:2] == (status, 'fault: store\n') and not os.path.exists(new), found)
     late = os.path.join(folder, 'late.book')
     found = run(['--book', late, '--baseline'], PAID[1:])
     check('a book by baseline', found[0] == 0 and b' baseline yes\n' in read(late), found)
