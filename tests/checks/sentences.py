@@ -163,7 +163,7 @@ def rows():
     yield [*follow, "something/book"], 1, f"something/book: store: {UNOPENED}"
     yield [*follow, "/proc/self/mem"], 1, f"/proc/self/mem: store: {TAKEN}"
     yield [*follow, "nowhere/book"], 1, f"nowhere/book: store: {NO_FOLDER}"
-    yield [*follow, "something"], 1, f"something: store: {NO_BOOK}"
+    yield [*follow, "something"], 2, f"something: store: {NO_BOOK}"
     tip = "\nFor random steps: 'relayplum simulate one.script --random 1'.\n"
     usage = "error: the following required arguments were not provided:\n  <STEPS>\n"
     yield ["simulate", "one.script"], 2, (usage, tip)
