@@ -183,6 +183,21 @@ def others(folder):
         check(f"a file that holds no book: {name}", found[:2] == OTHER and f"sqlite:{path}: store" in found[2], found)
         check(f"it stays: {name}", folder_of(room) == before, (name, sorted(os.listdir(room))))
         shutil.rmtree(room)
+    for name, statement in [
+        ("a table", "CREATE TABLE note (title TEXT)"),
+        ("an index", "CREATE INDEX of_ids ON accounts (id)"),
+        ("a view", "CREATE VIEW ids AS SELECT id FROM accounts"),
+        ("a trigger", "CREATE TRIGGER of_rows AFTER INSERT ON accounts BEGIN SELECT 1; END"),
+    ]:
+        os.mkdir(room)
+        path = os.path.join(room, "a.db")
+        run(["--chained", "--book", f"sqlite:{path}"], text_of(lines[:3]))
+        made(path, statement)
+        before = folder_of(room)
+        found = run(["--chained", "--book", f"sqlite:{path}"], text_of(lines))
+        check(f"a book that has more: {name}", found[:2] == OTHER and f"sqlite:{path}: store" in found[2], found)
+        check(f"it stays: {name}", folder_of(room) == before, (name, sorted(os.listdir(room))))
+        shutil.rmtree(room)
     os.mkdir(room)
     path = os.path.join(room, "a.db")
     found = run(["--chained", "--book", f"sqlite:{path}"], text_of(lines))
