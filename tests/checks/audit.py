@@ -626,6 +626,11 @@ def rows_of_times():
     yield "the second of two expiries of one time", [*both, expiry(UP_BOTH, LATE, 10)], (
         f"accepted 3 last {UP}\nrefused: line 4: expiries: " + late
     ), 3
+    # (no ledger's stream begins so, since the second one has no timestamp left: the one exception of the law)
+    yield "one of two expiries of one time at the greatest timestamp", [*both, expiry(GREATEST, LONG, 5)], f"accepted 4 last {GREATEST}\n", 0
+    yield "one of them a timestamp before", [*both, expiry(GREATEST - 1, LONG, 5), expiry(GREATEST, LATE, 0)], (
+        f"accepted 5 last {GREATEST}\n"
+    ), 0
     yield "the greatest timestamp", [at(GREATEST, PAID)], f"accepted 1 last {GREATEST}\n", 0
     yield "a greater timestamp", [at(GREATEST + 1, PAID)], (
         f"accepted 0 last 0\nrefused: line 1: timestamps: {GREATEST + 1} is above the greatest timestamp\n"
