@@ -5,11 +5,12 @@ the one that LLVM makes, which is built first, as `./relayplum --optimised` does
     tests/bench/bench.py [--program PATH] [--times N] [--jobs N] [--only SCRIPT_OR_STREAM].. [--write]
 
 The scripts have 1,000 events, as many as a script has room for, as many between 5,000 accounts, and as many for eight
-subscribers. Streams of 20,000 and of 1,000,000 events are followed and audited, as the connector writes their bodies, as
-TigerBeetle documents them, and in envelopes (streams.py); those of a million have no count. Streams of 20,000 events with ids of 37
-digits and timestamps of 19, between 12, 1,000 and 100,000 accounts, are followed without a book, with a text one and with one in SQLite,
-and audited without a state and with one, which are saved every 1,000 lines; those in SQLite have no count. Of each command that works on one thread Valgrind counts the instructions, which other work on the machine
-doesn't change; `run` looks for messages while it waits, so its instructions say nothing. The most memory is what the
+subscribers. Streams have a real ledger's numbers, ids of 37 digits and timestamps of 19. Those of 20,000 and of 200,000 events
+between 12 accounts are followed and audited, as the connector writes their bodies, as TigerBeetle documents them, and in envelopes
+(streams.py); those of 200,000 have no count. Streams of 20,000 events between 12, 1,000 and 100,000 accounts are followed with a text
+book and with one in SQLite, and audited with a state, which are saved every 1,000 lines; those in SQLite have no count. Of
+each command that works on one thread Valgrind counts the instructions, which other work on the machine doesn't
+change; `run` looks for messages while it waits, so its instructions say nothing. The most memory is what the
 system has of a run (spent.c, which wants `cc`). For the wall-clock times the commands of a script are run in turn, --times
 times (15, and no fewer count as a measure): the least and the median, with the load before and after.
 
@@ -60,8 +61,9 @@ SCRIPTS = {
 
 
 # How many events a stream has; whether its instructions are counted.
-STREAMS = {'20,000 messages': (20_000, True), '1,000,000 messages': (1_000_000, False)}
-# How many accounts a stream with a real ledger's numbers has, and how many events.
+STREAMS, STREAM_ACCOUNTS = {'20,000 messages': (20_000, True), '200,000 messages': (200_000, False)}, 12
+STREAM_FORMS = ('own', 'documented', 'chained', 'message')
+# How many accounts a stream has that is followed with a book, and how many events.
 REAL, REAL_EVENTS = {'12 real accounts': 12, '1,000 real accounts': 1_000, '100,000 real accounts': 100_000}, 20_000
 
 
@@ -103,13 +105,15 @@ def stream_commands():
         'follow': ['follow', 'own.stream'],
         'follow, documented bodies': ['follow', 'documented.stream'],
         'follow --chained': ['follow', '--chained', 'chained.stream'],
+        'follow --chained, queue lines': ['follow', '--chained', 'message.stream'],
         'audit': ['audit', 'own.stream'],
         'audit, documented bodies': ['audit', 'documented.stream'],
+        'audit, queue lines': ['audit', 'message.stream'],
     }
 
 
 def real_commands():
-    """The commands over a stream with a real ledger's numbers by their names."""
+    """The commands over a stream between so many accounts by their names."""
     return {
         'follow': ['follow', 'own.stream'],
         'follow --book FILE': ['follow', 'own.stream', '--book', 'kept.book'],
@@ -149,14 +153,14 @@ class Bench:
         """Measures each command on a stream."""
         folder = pathlib.Path(self.folder) / name.replace(' ', '-')
         folder.mkdir()
-        for form in streams.FORMS:
+        for form in STREAM_FORMS:
             with open(folder / f'{form}.stream', 'w', encoding='ascii') as file:
-                file.writelines(streams.lines(events, form))
+                file.writelines(streams.real_lines(events, STREAM_ACCOUNTS, form))
         commands = stream_commands()
         self.measure_commands(name, folder, commands, events, commands if is_counted else [])
 
     def measure_real(self, name, accounts):
-        """Measures each command on a stream with a real ledger's numbers."""
+        """Measures each command on a stream between so many accounts."""
         folder = pathlib.Path(self.folder) / name.replace(' ', '-')
         folder.mkdir()
         with open(folder / 'own.stream', 'w', encoding='ascii') as file:
@@ -262,7 +266,8 @@ def main(arguments):
                 bench.measure(name, *script_of(name))
     processors = len(os.sched_getaffinity(0))
     load = f'a load of {before:.1f} before and {os.getloadavg()[0]:.1f} after'
-    by = f'By `tests/bench/bench.py` over the program of `{commit()}`, {datetime.date.today()}'
+    compiler = "Rattle's compiler" if counting.is_by_rattle(options.program) else 'LLVM'
+    by = f'By `tests/bench/bench.py` over the program of `{commit()}` by {compiler}, {datetime.date.today()}'
     about = f'{by}: {options.times} wall-clock runs of each, {processors} processors, {load}. `--write` replaces this table.\n'
     print(bench.table(), end='')
     more = [*changes(bench.rows, last_table())]

@@ -1,55 +1,16 @@
-"""Streams to follow and to audit: the events of a ledger with twelve accounts, and those of one with numbers of a real ledger's size."""
+"""Streams to follow and to audit: the events of a ledger whose numbers have a real ledger's size."""
 import json
 import random
 
-ACCOUNTS = 12
 # Of a real ledger: its first account and transfer, with ids of 37 digits, and the timestamps, of 19, of its first account and event.
 REAL_ID, REAL_TRANSFER = 10**36, 2 * 10**36
 REAL_CREATED, REAL_TIMESTAMP = 1_745_000_000_000_000_000, 1_745_328_372_000_000_000
-FORMS = ('own', 'documented', 'chained')
-# The same, and lines as `messages --queue` and `chain` print them.
-REAL_FORMS = (*FORMS, 'message', 'numbered')
-
-
-def account_of(number, balances):
-    debits, credits = balances[number]
-    return {
-        'code': 1, 'credits_pending': '0', 'credits_posted': str(credits), 'debits_pending': '0', 'debits_posted': str(debits),
-        'flags': 0, 'id': str(number), 'timestamp': str(number), 'user_data_128': '0', 'user_data_32': 0, 'user_data_64': '0',
-    }
-
-
-def bodies(count):
-    """So many single-phase transfers, each of 1, as the bodies that a connector writes."""
-    balances = {number: [0, 0] for number in range(1, ACCOUNTS + 1)}
-    for place in range(count):
-        debit, credit = place % ACCOUNTS + 1, (place + 1 + place // ACCOUNTS % (ACCOUNTS - 1)) % ACCOUNTS + 1
-        if debit == credit:
-            credit = credit % ACCOUNTS + 1
-        balances[debit][0] += 1
-        balances[credit][1] += 1
-        timestamp = str(1_745_328_372_000_000_000 + place)
-        transfer = {
-            'amount': '1', 'code': 1, 'flags': 0, 'id': str(place + 1), 'pending_id': '0', 'timeout': 0, 'timestamp': timestamp,
-            'user_data_128': '0', 'user_data_32': 0, 'user_data_64': '0',
-        }
-        yield {
-            'credit_account': account_of(credit, balances), 'debit_account': account_of(debit, balances), 'ledger': 700,
-            'timestamp': timestamp, 'transfer': transfer, 'type': 'single_phase',
-        }
-
-
-def lines(count, form):
-    """The lines of a stream: bodies as a connector writes them, as TigerBeetle documents them, or in envelopes that name the
-    timestamp of the event before."""
-    last = '0'
-    for body in bodies(count):
-        yield line_of(body, form, last)
-        last = body['timestamp']
 
 
 def line_of(body, form, last):
-    """The line of an event, in one of the forms; `last` is the timestamp of the event before."""
+    """The line of an event; `last` is the timestamp of the event before. The forms are bodies as a connector writes them ('own') and as
+    TigerBeetle documents them, in envelopes that name the event before ('chained'), and in lines as `messages --queue` and `chain` print
+    them ('message', 'numbered')."""
     own = json.dumps(body, sort_keys=True, separators=(',', ':'))
     if form == 'own':
         return own + '\n'
@@ -67,8 +28,12 @@ def line_of(body, form, last):
 
 
 def real_account(number, balances):
-    shown = {**account_of(number, {number: balances}), 'id': str(REAL_ID + number)}
-    return {**shown, 'timestamp': str(REAL_CREATED + number)}
+    debits, credits = balances
+    return {
+        'code': 1, 'credits_pending': '0', 'credits_posted': str(credits), 'debits_pending': '0', 'debits_posted': str(debits), 'flags': 0,
+        'id': str(REAL_ID + number), 'timestamp': str(REAL_CREATED + number), 'user_data_128': '0', 'user_data_32': 0,
+        'user_data_64': '0',
+    }
 
 
 def real_lines(count, accounts, form='own'):

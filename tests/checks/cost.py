@@ -29,7 +29,7 @@ import ending
 import rooms
 import spent
 import streams
-from counting import bytes_of, counted, tool_arguments, total_of
+from counting import bytes_of, counted, is_by_rattle, tool_arguments, total_of
 from scripts import BATCH_ITEMS, SCRIPT_BYTES, TRANSFERS, batches, most_transfers, opened, script, single_phase, transfer
 
 # The limits.
@@ -109,8 +109,7 @@ class Counter:
 
     def __init__(self, program, folder, jobs, is_long):
         self.program, self.is_long = program, is_long
-        with open(program, "rb") as it:
-            self.compiler = 1 if b" backend=rattle " in it.read() else 0
+        self.compiler = 1 if is_by_rattle(program) else 0
         self.folder = folder
         self.pool = concurrent.futures.ThreadPoolExecutor(jobs)
         self.made = 0

@@ -1,4 +1,4 @@
-"""What Valgrind counts of a run: the instructions, or the bytes that are asked for."""
+"""What Valgrind counts of a run: the instructions, or the bytes that are asked for; and whose compiler made the program."""
 import os
 import re
 import subprocess
@@ -37,3 +37,9 @@ def bytes_of(out):
     if asked is None:
         sys.exit("cost: Valgrind has written no bytes")
     return int(asked[1].replace(",", ""))
+
+
+def is_by_rattle(program):
+    """Whether Rattle's own compiler made the program, and not LLVM."""
+    with open(program, "rb") as it:
+        return b" backend=rattle " in it.read()
