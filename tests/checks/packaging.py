@@ -3,13 +3,13 @@
 
   tests/checks/packaging.py [PROGRAM]    PROGRAM: crates/cdc_app/out/cdc_app
 
-- `systemd-analyze verify` has nothing to report on any unit of contrib/systemd.
+- `systemd-analyze verify` has nothing to report on any unit of contrib/systemd, and `man --warnings` nothing on the man page.
 - The commands of the units, run by a shell with the folders that systemd would make: `follow` over a FIFO, through two
   connectors, and `audit` of yesterday's file and of one that is wrong.
 - `tools/deb` writes a package that has each file in its place and depends on the C library that the program needs. dpkg
   installs and removes it in a folder; the installed program and try-consumer run. lintian reports no error.
 
-Without systemd-analyze, dpkg-deb or lintian, what needs them is left out, which the line before the last reports. The last line
+Without systemd-analyze, man, dpkg-deb or lintian, what needs them is left out, which the line before the last reports. The last line
 is `packaging: N passed, M failed`; the status is 1 if one failed.
 """
 import datetime
@@ -109,6 +109,16 @@ def units(checks):
     if checks.has("systemd-analyze", "whether the units are valid"):
         for it in sorted(UNITS.iterdir()):
             checks.same(f"{it.name}: systemd-analyze verify", (0, ""), checks.call("systemd-analyze", "verify", "--man=no", it))
+
+
+def man_page(checks):
+    """man formats the page, and warns of nothing."""
+    if checks.has("man", "what man warns of"):
+        command = ["man", "--warnings", "--local-file", rooms.TOP / "docs/relayplum.1"]
+        done = subprocess.run(command, stdin=subprocess.DEVNULL, capture_output=True, timeout=checked.SECONDS,
+                              env={**os.environ, "LC_ALL": "C.UTF-8", "MANWIDTH": "100"})
+        checks.same("man --warnings", (0, b""), (done.returncode, done.stderr))
+        checks.same("man: the page", True, b"relayplum follow" in done.stdout)
 
 
 def following(checks):
@@ -219,7 +229,7 @@ def main(arguments):
     program = rooms.options_of(rooms.parser_of_first(__doc__), arguments).program
     with rooms.room("packaging-") as room:
         checks = Packaging(program, room)
-        for part in (units, following, auditing, package):
+        for part in (units, man_page, following, auditing, package):
             part(checks)
     if checks.left_out:
         print(f"packaging: left out: {'; '.join(f'{what}: {why}' for why, what in checks.left_out.items())}")

@@ -14,6 +14,7 @@ SOURCES = {
     "javac": "Debian package default-jdk-headless",
     "jq": "Debian package jq",
     "lintian": "Debian package lintian",
+    "man": "Debian package man-db",
     "node": "Debian package nodejs",
     "python3": "Debian package python3",
     "rt": "part of the Rattle toolchain",
